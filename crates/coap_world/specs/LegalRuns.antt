@@ -1,21 +1,19 @@
--- Legal runs of a few events, with the datagrams that the ends give out in them (RFC 7252, sections 4 and 5; RFC 7641;
--- RFC 7959): the laws of the whole world are laws of something. Each is the newest event, or datagram, first.
-use Rattle.std.specs.Prelude.{◌≡◌, ◌≤◌, ℕ, true, false, Option, Some, None, List, [], ◌∷◌, ◌++◌, codes}
-use Rattle.coap_types.specs.Past.{Sometime, all_of}
+-- Legal runs of a few events, with the datagrams that the ends give out in them (RFC 7252, sections 4 and 5): the laws
+-- of the whole world are laws of something. Each has the newest event, or datagram, first.
+use Rattle.std.specs.Prelude.{◌≡◌, ◌≤◌, ℕ, false, Option, Some, None, List, [], ◌∷◌, ◌++◌, codes}
+use Rattle.coap_types.specs.Past.{all_of}
 use Rattle.coap_types.specs.declared.endpoint.Endpoint.{Endpoint}
-use Rattle.coap_types.specs.declared.message.TheConstants.Code.{PRECONDITION_FAILED}
-use Rattle.coap_types.specs.declared.request.Method.TheVariants.{Get, Post, Put, Delete}
+use Rattle.coap_types.specs.declared.request.Method.TheVariants.{Get, Post}
 use Rattle.coap_resource.specs.declared.tally.TheConstants.{MAX_CHANGES_PER_WINDOW as max_changes}
-use Rattle.coap_client.specs.Trace.{Request, Report, Body, Failed, Timeout, Reported}
+use Rattle.coap_client.specs.Trace.{Request, Report, Body, Timeout, Reported}
 use Rattle.coap_client.specs.Follows.Gives as C
 use Rattle.coap_server.specs.Trace.{Delay}
-use Rattle.coap_world.specs.Events.{client_end, server_end, localhost, Config, What, Calls, Sets, TickClient}
-use Rattle.coap_world.specs.Events.{TickServer, Deliver}
-use Rattle.coap_world.specs.Events.{StrangerToServer, StrangerToClient, Event}
+use Rattle.coap_world.specs.Events.{client_end, server_end, Config, What, Calls, Sets, TickClient}
+use Rattle.coap_world.specs.Events.{TickServer, Deliver, Event}
 use Rattle.coap_world.specs.Legal.{Legal}
 use Rattle.coap_world.specs.LegalEvents.{event, comes_at}
 use Rattle.coap_world.specs.Record.{Given, Turn, given_in, RecordOf, entries_of, client_of}
-use Rattle.coap_world.specs.Words.{AppliesFor, holds_at}
+use Rattle.coap_world.specs.Words.{holds_at}
 
 -- words 0, blocks of 1,024 bytes, as many changes a window as there may be
 abbrev pub with_delays : List Delay → Config
@@ -65,19 +63,21 @@ token = 0 ∷ 0 ∷ 0 ∷ 0 ∷ 0 ∷ 0 ∷ 0 ∷ 0 ∷ []
 abbrev pub tag : ℕ → List ℕ
 tag version = 0 ∷ 0 ∷ 0 ∷ 0 ∷ 0 ∷ 0 ∷ 0 ∷ version ∷ []
 
--- the formats text/plain and application/json
+-- the format text/plain
 abbrev pub plain : ℕ
 plain = 0
-
-abbrev pub json : ℕ
-json = 50
 
 -- the path of most of the runs
 abbrev pub t : List (List ℕ)
 t = codes "t" ∷ []
 
+-- a change of what it holds
+
+abbrev pub puts : List ℕ → What
+puts body = Sets t (Some plain) body
+
 abbrev pub hi : What
-hi = Sets t (Some plain) (codes "hi")
+hi = puts (codes "hi")
 
 -- The server holds `hi` at `t`; a client gets it (RFC 7252, section 5.2.1).
 
@@ -107,17 +107,6 @@ pub record Gets : Type 0 where
   pub run : Runs config gets (from_server 5 client_end content_bytes ∷ from_client 0 get_bytes ∷ [])
   pub reports : Reports run (reported (Body (Some (tag 1)) (Some plain) (codes "hi")) ∷ [])
 
--- The same where the server meets want of memory: the turn is refused, the datagram comes again, and is answered.
-
-abbrev pub gets_again : List Event
-gets_again = event 9 (Deliver 1) ∷ event 5 (Deliver 0) ∷ event 5 (Deliver 0) ∷ event 0 TickClient ∷ event 0
-    (Calls get) ∷ event 0 hi ∷ []
-
-pub record GetsAgain : Type 0 where
-  pub run : Runs config gets_again (from_server 5 client_end content_bytes ∷ from_client 0 get_bytes ∷ [])
-  pub refused : Sometime (λ past turn. turn.refused ≡ true) run.turns
-  pub reports : Reports run (reported (Body (Some (tag 1)) (Some plain) (codes "hi")) ∷ [])
-
 -- A datagram that was given out at 0 comes so late: the server holds nothing at `t`, and answers 4.04.
 
 abbrev pub not_found_bytes : List ℕ
@@ -126,47 +115,6 @@ not_found_bytes = 0x68 ∷ 0x84 ∷ 0 ∷ 0 ∷ token
 abbrev pub MayComeTill : ℕ → Type 0
 MayComeTill last = (at : ℕ) → at ≤ last → Runs config (comes_at at get)
     (from_server at client_end not_found_bytes ∷ from_client 0 get_bytes ∷ [])
-
--- a stranger, and a change of what `t` holds
-
-abbrev pub stranger : Endpoint
-stranger = record { ip = localhost; port = 9 }
-
-abbrev pub puts : List ℕ → What
-puts body = Sets t (Some plain) body
-
--- A PUT that asks for version 2, where version 1 is held: 4.12, and nothing changes (RFC 7252, section 5.10.8.1).
-
-abbrev pub put : Request
-put = record {
-  method = Put;
-  path = t;
-  format = Some json;
-  body = codes "a";
-  etags = [];
-  if_match = tag 2 ∷ [];
-  if_none_match = false;
-  accept = None;
-}
-
-abbrev pub refusals : List Event
-refusals = event 9 (Deliver 1) ∷ event 5 (Deliver 0) ∷ event 0 TickClient ∷ event 0 (Calls put) ∷ event 0 hi ∷ []
-
--- If-Match, Uri-Path and Content-Format
-abbrev pub put_bytes : List ℕ
-put_bytes = 0x48 ∷ 3 ∷ 0 ∷ 0 ∷ token ++ 0x18 ∷ tag 2 ++ 0xa1 ∷ codes "t" ++ 0x11 ∷ json ∷ 0xff ∷ codes "a"
-
--- 4.12 (Precondition Failed)
-abbrev pub precondition_failed : ℕ
-precondition_failed = PRECONDITION_FAILED.0
-
-abbrev pub refused_bytes : List ℕ
-refused_bytes = 0x68 ∷ 0x8c ∷ 0 ∷ 0 ∷ token
-
-pub record Refuses : Type 0 where
-  pub run : Runs config refusals (from_server 5 client_end refused_bytes ∷ from_client 0 put_bytes ∷ [])
-  pub reports : Reports run (reported (Failed precondition_failed) ∷ [])
-  pub holds : Holds run t 1 (Some plain) (codes "hi")
 
 -- The server answers requests to `t` 1,000 ms later: an Empty acknowledgement, a CON of its own with the response, and
 -- the Empty acknowledgement of that (RFC 7252, section 5.2.2).
@@ -197,37 +145,11 @@ pub record Defers : Type 0 where
       client_end empty_ack ∷ from_client 0 get_bytes ∷ [])
   pub reports : Reports run (reported (Body (Some (tag 1)) (Some plain) (codes "hi")) ∷ [])
 
--- A POST comes four times from one endpoint in EXCHANGE_LIFETIME, is answered alike and applied once; 1 ms later it is
--- new (RFC 7252, section 4.5).
+-- A POST is never acknowledged: it goes out five times, and Timeout is reported. That says nothing of the server: the
+-- last copy comes later, and is applied (RFC 7252, sections 4.2 and 4.8.2).
 
 abbrev pub log : List (List ℕ)
 log = codes "log" ∷ []
-
--- with the token 1 and the Message ID 0a01, and 2.04 (Changed)
-abbrev pub post_bytes : List ℕ
-post_bytes = 0x41 ∷ 2 ∷ 0x0a ∷ 1 ∷ 1 ∷ 0xb3 ∷ codes "log" ++ 0xff ∷ codes "a"
-
-abbrev pub posted_bytes : List ℕ
-posted_bytes = 0x61 ∷ 0x44 ∷ 0x0a ∷ 1 ∷ 1 ∷ []
-
-abbrev pub posts : ℕ → Event
-posts at = event at (StrangerToServer stranger post_bytes)
-
-abbrev pub repeats : List Event
-repeats = posts 247000 ∷ posts 147000 ∷ posts 60000 ∷ posts 0 ∷ event 0 (Sets log (Some plain) (codes "x")) ∷ []
-
-abbrev pub posted : ℕ → Given
-posted at = from_server at stranger posted_bytes
-
-pub record Repeats : Type 0 where
-  pub run : Runs config repeats (posted 247000 ∷ posted 147000 ∷ posted 60000 ∷ posted 0 ∷ [])
-  pub holds : Holds run log 2 (Some plain) (codes "xa")
-  pub later : Runs config (posts 247001 ∷ repeats)
-      (posted 247001 ∷ posted 247000 ∷ posted 147000 ∷ posted 60000 ∷ posted 0 ∷ [])
-  pub holds_later : Holds later log 3 (Some plain) (codes "xaa")
-
--- A POST is never acknowledged: it goes out five times, and Timeout is reported. That says nothing of the server: the
--- last copy comes later, and is applied (RFC 7252, sections 4.2 and 4.8.2).
 
 abbrev pub post : Request
 post = record get { method = Post; path = log; body = codes "a" }
@@ -258,47 +180,3 @@ pub record TimesOut : Type 0 where
       from_client 2000 call_bytes ∷ from_client 0 call_bytes ∷ [])
   pub reports : Reports run (reported Timeout ∷ [])
   pub holds : Holds run log 2 (Some plain) (codes "xa")
-
--- A stranger's DELETE, under the token of a call, is applied, and not for that call (RFC 7252, section 5.8.4).
-
-abbrev pub delete : Request
-delete = record {
-  method = Delete;
-  path = t;
-  format = None;
-  body = [];
-  etags = [];
-  if_match = [];
-  if_none_match = false;
-  accept = None;
-}
-
-abbrev pub delete_bytes : ℕ → List ℕ
-delete_bytes id = 0x48 ∷ 4 ∷ 0 ∷ id ∷ token ++ 0xb1 ∷ codes "t"
-
-abbrev pub deleted_bytes : List ℕ
-deleted_bytes = 0x68 ∷ 0x42 ∷ 0 ∷ 1 ∷ token
-
-abbrev pub interferes : List Event
-interferes = event 0 (StrangerToServer stranger (delete_bytes 1)) ∷ event 0 TickClient ∷ event 0
-    (Calls delete) ∷ event 0 hi ∷ []
-
-pub record Interferes : Type 0 where
-  pub run : Runs config interferes (from_server 0 stranger deleted_bytes ∷ from_client 0 (delete_bytes 0) ∷ [])
-  pub gone : holds_at config t (entries_of run.turns) ≡ None
-  pub for_none : Sometime (AppliesFor config 0 (entries_of run.turns)) (entries_of run.turns) → ⊥
-
--- A stranger pings each end with an Empty CON, and each answers with a Reset (RFC 7252, section 4.3).
-
-abbrev pub ping : List ℕ
-ping = 0x40 ∷ 0 ∷ 0 ∷ 1 ∷ []
-
-abbrev pub pong : List ℕ
-pong = 0x70 ∷ 0 ∷ 0 ∷ 1 ∷ []
-
-abbrev pub pings : List Event
-pings = event 1 (StrangerToClient stranger ping) ∷ event 0 (StrangerToServer stranger ping) ∷ []
-
-abbrev pub Pings : Type 0
-Pings = Runs config pings (record { at = 1; from = client_end; packet = record { to = stranger; bytes = pong } } ∷
-    from_server 0 stranger pong ∷ [])

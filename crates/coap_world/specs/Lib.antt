@@ -19,10 +19,7 @@ pub mod Agrees
 pub mod Bounds
 pub mod GoesOn
 pub mod LegalRuns
-pub mod CallRuns
 pub mod Rising
 pub mod ObservationRuns
-pub mod BlockRuns
 pub mod LateRuns
-pub mod RefusedRuns
 pub mod Run

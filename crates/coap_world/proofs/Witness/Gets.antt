@@ -9,12 +9,10 @@ use Rattle.coap_world.specs.Legal.{IsRequest, AllLegal}
 use Rattle.coap_world.specs.LegalEvents.{event}
 use Rattle.coap_world.specs.Record.{OfClient, OfServer, Turn, Makes}
 use Rattle.coap_world.specs.LegalRuns.{from_client, from_server, plain, t, hi, get, get_bytes, content_bytes, Gets}
-use Rattle.coap_world.specs.LegalRuns.{GetsAgain}
 use Rattle.coap_types.proofs.Facts.Bytes.{bytes_are}
 use Rattle.coap_world.proofs.Witness.InWords.{config_range, t_is, no_tags}
-use Rattle.coap_world.proofs.Witness.TurnsMade.{a_turn, refused_turn, client_turn, server_turn, to_server, to_client}
+use Rattle.coap_world.proofs.Witness.TurnsMade.{a_turn, client_turn, server_turn, to_server, to_client}
 use Rattle.coap_world.proofs.Witness.TurnsMade.{on_client, on_server, legal_at}
-use Rattle.coap_world.proofs.Witness.TurnsMade.{legal_refused}
 use Rattle.coap_world.proofs.Witness.Gets.Client as client
 use Rattle.coap_world.proofs.Witness.Gets.Server as server
 
@@ -106,68 +104,5 @@ gotten = record {
     legal = record { range = config_range; events = legal };
     gives = refl;
   };
-  reports = refl;
-}
-
--- .. where it comes twice, and the server meets want of memory at first
-
-abbrev turns_again : List Turn
-turns_again =
-    a_turn (event 9 (Deliver 1)) (map OfClient (client_turn (client.got ∷ []) [] (client.hears ∷ []))) ∷
-    a_turn (event 5 (Deliver 0)) (map OfServer (server_turn (to_client content_bytes ∷ []) (server.serves ∷ []))) ∷
-    refused_turn (event 5 (Deliver 0)) (map OfServer (server_turn [] [])) ∷
-    turns_before
-
-made_again : Always (λ past t. Makes past t.event.at t.event.word t.event.what t.refused t.entries) turns_again
-made_again = (
-  (
-    from_server 5 client_end content_bytes,
-    inl (refl, refl),
-    inr (
-      refl,
-      client.hears ∷ [],
-      (_, (_, _, _, _, _, _, refl), refl),
-      on_client (client.got ∷ []) [] (client.hears ∷ []),
-    ),
-  ),
-  (
-    (
-      from_client 0 get_bytes,
-      inl (refl, refl),
-      inl (
-        refl,
-        server.serves ∷ [],
-        (_, (_, _, _, _, refl), refl),
-        on_server (to_client content_bytes ∷ []) (server.serves ∷ []),
-      ),
-    ),
-    ((from_client 0 get_bytes, inl (refl, refl), inl (refl, [], refl, on_server [] [])), made_before),
-  ),
-)
-
-legal_again : AllLegal turns_again
-legal_again = (
-  legal_at 9 (Deliver 1) (omega arith) tt (omega arith)
-      (from_server 5 client_end content_bytes, inl (refl, refl), inl refl, omega arith),
-  (
-    legal_at 5 (Deliver 0) (omega arith) tt (omega arith)
-        (from_client 0 get_bytes, inl (refl, refl), inr refl, omega arith),
-    (
-      legal_refused 5 (Deliver 0) (omega arith) tt (omega arith)
-          (from_client 0 get_bytes, inl (refl, refl), inr refl, omega arith),
-      legal_before,
-    ),
-  ),
-)
-
-pub gotten_again : GetsAgain
-gotten_again = record {
-  run = record {
-    turns = turns_again;
-    made = record { events_are = refl; made = made_again; client = client.lawful; server = server.lawful_again };
-    legal = record { range = config_range; events = legal_again };
-    gives = refl;
-  };
-  refused = inr (inr (inl refl));
   reports = refl;
 }

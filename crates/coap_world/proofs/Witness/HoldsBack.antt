@@ -13,11 +13,10 @@ use Rattle.coap_world.specs.Words.{AppliesFor, SentFor}
 use Rattle.coap_world.specs.LegalRuns.{from_client, from_server, reported}
 use Rattle.coap_types.proofs.Facts.Bytes.{bytes_are}
 use Rattle.coap_world.proofs.Witness.TurnsMade.{a_turn, client_turn, to_server, on_client, rests, legal_at}
-use Rattle.coap_world.specs.BlockRuns.{key, by_16, answer_bytes}
+use Rattle.coap_world.specs.LateRuns.{key, by_16, answer_bytes}
 use Rattle.coap_world.specs.LateRuns.{uploading, continue, second_done, lost_body, held_body, lost_first, lost_second}
 use Rattle.coap_world.specs.LateRuns.{held_first, held_second, held_third, HoldsBack}
-use Rattle.coap_world.proofs.Witness.Uploads.Client.{answer}
-use Rattle.coap_world.proofs.Witness.LateTurns.{called, begins, goes_on, ends, copies, copied, expires, drops}
+use Rattle.coap_world.proofs.Witness.LateTurns.{called, begins, answer, goes_on, ends, copies, copied, expires, drops}
 use Rattle.coap_world.proofs.Witness.LateTurns.{answers, range}
 use Rattle.coap_world.proofs.Witness.LateTurns.{to_the_client, to_the_server, by_16_range}
 use Rattle.coap_world.proofs.Witness.HoldsBack.Client as client

@@ -5,7 +5,7 @@ use Rattle.std.proofs.Common.{arith}
 use Rattle.std.specs.Prelude.{codes}
 use Rattle.coap_types.specs.Bytes.{AreBytes}
 use Rattle.coap_types.specs.CoapOption.{CoapOption}
-use Rattle.coap_types.specs.declared.message.Kind.TheVariants.{Con}
+use Rattle.coap_types.specs.declared.message.Kind.TheVariants.{Con, Ack}
 use Rattle.coap_codec.specs.Message.{Message}
 use Rattle.coap_codec.specs.Spelling.{option_bytes, options_bytes}
 use Rattle.coap_layer.proofs.Facts.Sendable.{sendable_when_short}
@@ -20,12 +20,10 @@ use Rattle.coap_server.specs.Trace as S
 use Rattle.coap_world.specs.Events.{client_end, server_end}
 use Rattle.coap_world.specs.Legal.{IsConfig, IsRequest}
 use Rattle.coap_world.specs.Record.{Given, OfClient, OfServer, FeedsClient, FeedsServer, Delivers}
-use Rattle.coap_world.specs.BlockRuns.{key, by_16, answer_bytes, block_bytes}
-use Rattle.coap_world.specs.LateRuns.{uploading, continue}
+use Rattle.coap_world.specs.LateRuns.{key, by_16, answer_bytes, block_bytes, uploading, continue}
 use Rattle.coap_world.proofs.Witness.InWords.{config_range, t_is, no_tags}
 use Rattle.coap_world.proofs.Witness.TurnsMade.{client_turn, server_turn, to_server, to_client, asks, rests, on_client}
 use Rattle.coap_world.proofs.Witness.TurnsMade.{on_server}
-use Rattle.coap_world.proofs.Witness.Uploads.Client.{answer}
 
 -- of the client: a call is taken; a tick sends its first request
 
@@ -35,7 +33,17 @@ called at number body = C.Calls at (uploading body) (Ok number) ∷ []
 abbrev pub begins : ℕ → ℕ → List C.Call
 begins at id = rests at ∷ asks at id (key id) ∷ []
 
--- a 2.31 comes, and the next block is sent; the last response comes
+-- a response; a 2.31 comes, and the next block is sent; the last response comes
+
+abbrev pub answer : ℕ → ℕ → ℕ → Message
+answer code n block = record {
+  kind = Ack;
+  code = code;
+  id = n;
+  token = key n;
+  options = record { number = 27; value = block ∷ [] } ∷ [];
+  payload = [];
+}
 
 abbrev pub goes_on : ℕ → ℕ → ℕ → ℕ → C.Call
 goes_on at id value next =
@@ -104,30 +112,12 @@ pub step : {old : State} {now : ℕ} {call : L.Call} → May old call
     → Step old now call (answer_of old (moment old now call) call) (forgotten (after old (made old now call)))
 step may = record { may = may; right = refl; new_is = refl }
 
--- what goes out is spelled: a block and a body of at most 16 bytes, and a response with and without Block1
+-- what goes out is spelled: a block of at most 16 bytes, and a response with Block1
 
 pub block_spelled : (id value : ℕ) (payload : List ℕ) → length payload ≤ 16
     → IsSpelled (record { code = 3; token = key id; options = (block id value payload).options; payload = payload })
 unfolding option_bytes options_bytes
 block_spelled id value payload few = (sendable_when_short _ (record {
-  some = omega arith;
-  code = omega arith;
-  id = omega arith;
-  token = omega arith;
-  order = refl;
-  numbers = refl;
-  short = refl;
-}) (omega (arith, few))).spelled
-
-pub body_spelled : (id : ℕ) (payload : List ℕ) → length payload ≤ 16
-    → IsSpelled (record {
-      code = 3;
-      token = key id;
-      options = record { number = 11; value = codes "t" } ∷ [];
-      payload = payload;
-    })
-unfolding option_bytes options_bytes
-body_spelled id payload few = (sendable_when_short _ (record {
   some = omega arith;
   code = omega arith;
   id = omega arith;
@@ -144,18 +134,6 @@ pub response_spelled : (code id value : ℕ) → 0 < code → code < 256
     → IsSpelled (says code id (record { number = 27; value = value ∷ [] } ∷ []))
 unfolding option_bytes options_bytes
 response_spelled code id value some small = (sendable_when_short _ (record {
-  some = omega (arith, some);
-  code = omega (arith, small);
-  id = omega arith;
-  token = omega arith;
-  order = refl;
-  numbers = refl;
-  short = refl;
-}) (omega arith)).spelled
-
-pub bare_spelled : (code id : ℕ) → 0 < code → code < 256 → IsSpelled (says code id [])
-unfolding option_bytes options_bytes
-bare_spelled code id some small = (sendable_when_short _ (record {
   some = omega (arith, some);
   code = omega (arith, small);
   id = omega arith;

@@ -92,7 +92,7 @@ legal_before = (
 
 abbrev turns : List Turn
 turns =
-    a_turn (event 5 (Deliver 3)) (map OfServer (server_turn [] (server.acknowledged 5))) ∷
+    a_turn (event 5 (Deliver 3)) (map OfServer (server_turn [] server.acknowledged)) ∷
     a_turn (event 4 (Deliver 2)) (map OfClient (client_turn (client.value 2 (codes "b") ∷ [])
     (to_server empty_ack ∷ []) client.notified)) ∷
     a_turn (event 3 TickServer) (map OfServer (server_turn (to_client second_bytes ∷ []) server.ticked)) ∷
@@ -105,7 +105,7 @@ made = (
     from_client 4 empty_ack,
     inl (refl, refl),
     inl
-        (refl, server.acknowledged 5, (_, (_, _, _, _, refl), refl), on_server [] (server.acknowledged 5)),
+        (refl, server.acknowledged, (_, (_, _, _, _, refl), refl), on_server [] server.acknowledged),
   ),
   (
     (

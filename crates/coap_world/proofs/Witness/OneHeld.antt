@@ -40,26 +40,3 @@ further now path old new tally = record {
   paths = ap (λ (held : Option Held). 1 + (if is_some held then 1 else 0)) (there path old tally);
   tally = refl;
 }
-
--- .. and its removal
-abbrev pub empty : Tally → Content
-empty tally = record { holds = λ other. None; paths = 0; tally = tally }
-
-pub removed : (now : ℕ) (path : List (List ℕ)) (held : Held) (tally : Tally)
-    → Changes (one path held tally) now path None (empty (counted tally now))
-removed now path held tally = record {
-  there = refl;
-  others = λ other apart. sym (elsewhere path other held tally apart);
-  paths = ap (λ (o : Option Held). 0 + (if is_some o then 1 else 0)) (there path held tally);
-  tally = refl;
-}
-
--- .. and what it is given then
-pub anew : (now : ℕ) (path : List (List ℕ)) (held : Held) (tally : Tally)
-    → Changes (empty tally) now path (Some held) (one path held (counted tally now))
-anew now path held tally = record {
-  there = there path held (counted tally now);
-  others = λ other apart. elsewhere path other held (counted tally now) apart;
-  paths = refl;
-  tally = refl;
-}

@@ -4,19 +4,21 @@ pub mod Server
 use Rattle.std.proofs.Common.{◌≡◌, inl, inr, Some, List, [], ◌∷◌, map, refl, arith}
 use Rattle.std.specs.Prelude.{codes}
 use Rattle.coap_types.specs.Past.{Always}
+use Rattle.coap_types.specs.Path.{IsPath}
 use Rattle.coap_world.specs.Events.{Calls, Sets, TickClient, Deliver, client_end}
 use Rattle.coap_world.specs.Legal.{IsRequest, AllLegal}
 use Rattle.coap_world.specs.LegalEvents.{event}
 use Rattle.coap_world.specs.Record.{OfClient, OfServer, Turn, Makes}
 use Rattle.coap_types.proofs.Facts.Bytes.{bytes_are}
-use Rattle.coap_world.proofs.Witness.InWords.{config_range, no_tags}
+use Rattle.coap_world.proofs.Witness.InWords.{config_range, path_of_one, no_tags}
 use Rattle.coap_world.proofs.Witness.TurnsMade.{a_turn, client_turn, server_turn, to_server, to_client, on_client}
 use Rattle.coap_world.proofs.Witness.TurnsMade.{on_server, legal_at}
 use Rattle.coap_world.specs.LegalRuns.{from_client, from_server, plain, log, post, call_bytes, changed_bytes, TimesOut}
-use Rattle.coap_world.proofs.Witness.Repeats.{log_is}
-use Rattle.coap_world.proofs.Witness.Repeats.Server.{set}
 use Rattle.coap_world.proofs.Witness.TimesOut.Client as client
 use Rattle.coap_world.proofs.Witness.TimesOut.Server as server
+
+log_is : IsPath log
+log_is = path_of_one (codes "log") (omega arith) (bytes_are (codes "log") refl)
 
 range : IsRequest post
 range = record {
@@ -38,7 +40,7 @@ turns =
     a_turn (event 2000 TickClient) (map OfClient (client.copied 2000)) ∷
     a_turn (event 0 TickClient) (map OfClient (client_turn [] (to_server call_bytes ∷ []) client.ticked)) ∷
     a_turn (event 0 (Calls post)) (map OfClient (client_turn [] [] client.called)) ∷
-    a_turn (event 0 (Sets log (Some plain) (codes "x"))) (map OfServer (server_turn [] set)) ∷
+    a_turn (event 0 (Sets log (Some plain) (codes "x"))) (map OfServer (server_turn [] server.set)) ∷
     []
 
 made : Always (λ past t. Makes past t.event.at t.event.word t.event.what t.refused t.entries) turns
@@ -86,7 +88,7 @@ made = (
               ),
               (
                 (client.called, (_, (_, refl), refl), on_client [] [] client.called),
-                ((set, (_, (_, _, refl), refl), on_server [] set), tt),
+                ((server.set, (_, (_, _, refl), refl), on_server [] server.set), tt),
               ),
             ),
           ),

@@ -3,8 +3,6 @@ use Rattle.std.proofs.Common.{◌<◌, ◌^◌, ℕ, true, false, Some, None, Li
 use Rattle.coap_layer.specs.Trace as L
 use Rattle.coap_exchange.specs.declared.asker.Turn.TheVariants as turn
 use Rattle.coap_client.specs.Trace as C
-use Rattle.coap_client.specs.Law.{ClientLaw}
-use Rattle.coap_layer.specs.Machine.State as layer
 use Rattle.coap_server.specs.Trace as S
 use Rattle.coap_world.specs.Events.{client_end, server_end, Event, Calls, Sets, TickClient, Deliver}
 use Rattle.coap_world.specs.Legal.{NotBefore, IsLegal, InRange, MayCome}
@@ -15,9 +13,6 @@ use Rattle.coap_world.specs.Record.{Entry, OfClient, OfServer, Turn, OnClient, O
 -- none meets want of memory
 abbrev pub a_turn : Event → List Entry → Turn
 a_turn e entries = record { event = e; refused = false; entries = entries }
-
-abbrev pub refused_turn : Event → List Entry → Turn
-refused_turn e entries = record { event = e; refused = true; entries = entries }
 
 abbrev pub to_server : List ℕ → L.Packet
 to_server bytes = record { to = server_end; bytes = bytes }
@@ -58,13 +53,3 @@ pub legal_at : {past : List Turn} {es : List Entry} (at : ℕ) (what : events.Wh
     → IsLegal past (a_turn (may.event at what) es)
 legal_at at what small range later comes = record
     { at = small; word = omega arith; range = range; later = later; comes = comes }
-
-pub legal_refused : {past : List Turn} {es : List Entry} (at : ℕ) (what : events.What) → at < 2 ^ 64 → InRange what
-    → NotBefore past at → MayCome past at what
-    → IsLegal past (refused_turn (may.event at what) es)
-legal_refused at what small range later comes =
-    record { at = small; word = omega arith; range = range; later = later; comes = comes }
-
--- a client that is not called
-pub no_calls : ClientLaw server_end 6 0 []
-no_calls = record { rows = tt; exchanges = record { rows = tt; left = layer.start 0; layer = refl } }

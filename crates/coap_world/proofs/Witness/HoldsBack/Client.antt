@@ -15,11 +15,10 @@ use Rattle.coap_world.specs.Events.{server_end}
 use Rattle.coap_world.specs.LegalRuns.{reported}
 use Rattle.coap_types.proofs.Facts.Bytes.{bytes_are}
 use Rattle.coap_world.proofs.Witness.TurnsMade.{client_turn, to_server, rests}
-use Rattle.coap_world.proofs.Witness.Uploads.Client.{answer}
-use Rattle.coap_world.specs.BlockRuns.{answer_bytes}
+use Rattle.coap_world.specs.LateRuns.{answer_bytes}
 use Rattle.coap_world.specs.LateRuns.{continue, second_done, lost_body, held_body, lost_first, lost_second, held_first}
 use Rattle.coap_world.specs.LateRuns.{held_second, held_third}
-use Rattle.coap_world.proofs.Witness.LateTurns.{called, begins, goes_on, ends, copied, expires, drops, step}
+use Rattle.coap_world.proofs.Witness.LateTurns.{called, begins, answer, goes_on, ends, copied, expires, drops, step}
 use Rattle.coap_world.proofs.Witness.LateTurns.{block_spelled}
 
 -- its calls, a few turns after the others

@@ -23,7 +23,7 @@ use Rattle.coap_world.specs.Events.{client_end}
 use Rattle.coap_world.specs.LegalRuns.{t}
 use Rattle.coap_types.proofs.Facts.Bytes.{bytes_are}
 use Rattle.coap_world.proofs.Witness.OneHeld as store
-use Rattle.coap_world.specs.BlockRuns.{answer_bytes}
+use Rattle.coap_world.specs.LateRuns.{answer_bytes}
 use Rattle.coap_world.specs.LateRuns.{continue, held_body, lost_first, lost_second, held_first, held_second, held_third}
 use Rattle.coap_world.proofs.Witness.LateTurns.{block, takes, answers, answered, step, response_spelled}
 

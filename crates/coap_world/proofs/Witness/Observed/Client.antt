@@ -1,6 +1,6 @@
 -- The client of a legal run: it observes, and takes two values (RFC 7641, sections 3.1 and 3.2).
-use Rattle.std.proofs.Common.{ℕ, true, false, Some, None, List, [], ◌∷◌, ◌++◌, Ok, refl, arith}
-use Rattle.std.specs.Prelude.{codes, replicate}
+use Rattle.std.proofs.Common.{ℕ, true, false, Some, List, [], ◌∷◌, ◌++◌, Ok, refl, arith}
+use Rattle.std.specs.Prelude.{codes}
 use Rattle.coap_types.specs.declared.message.Kind.TheVariants.{Con, Ack}
 use Rattle.coap_codec.specs.Message.{Message}
 use Rattle.coap_codec.specs.Spelling.{option_bytes, options_bytes}
@@ -8,7 +8,7 @@ use Rattle.coap_codec.specs.Reading.{extended, value_at, nibbles_at, option_at, 
 use Rattle.coap_codec.specs.Reading.{body_at}
 use Rattle.coap_codec.specs.Decoded.{decoded}
 use Rattle.coap_layer.proofs.Facts.Sendable.{sendable_when_short}
-use Rattle.coap_layer.specs.Machine.State.{State, start}
+use Rattle.coap_layer.specs.Machine.State.{start}
 use Rattle.coap_layer.specs.Machine.Steps.{Asked, Steps, left_after}
 use Rattle.coap_layer.specs.Trace as L
 use Rattle.coap_exchange.specs.declared.asker.Event.TheVariants as event
@@ -158,60 +158,3 @@ steps = (
 
 pub lawful : ClientLaw server_end 6 0 calls
 lawful = record { rows = rows; exchanges = record { rows = asked; left = left_after (start 0) run; layer = steps } }
-
--- .. until it is registered
-
-abbrev run_before : List Asked
-run_before = asker.lower_of server_end 0 (lower_of 6 (calls_before))
-
-abbrev pub left_before : State
-left_before = record (start 0) { clock = 2; upcoming = 1; last_used = Some 0 ∷ replicate 15 None }
-
-pub steps_before : Steps (start 0) run_before left_before
-unfolding decoded frame_fault body_at walk walk_of option_at nibbles_at value_at extended payload_at option_bytes
-    options_bytes
-steps_before = (
-  _,
-  (
-    _,
-    (
-      _,
-      (
-        _,
-        (
-          _,
-          (
-            _,
-            (
-              _,
-              (
-                _,
-                (_, refl, record { may = tt; right = refl; new_is = refl }),
-                record { may = tt; right = refl; new_is = refl },
-              ),
-              record {
-                may = (sendable_when_short _ (record {
-                  some = omega arith;
-                  code = omega arith;
-                  id = omega arith;
-                  token = omega arith;
-                  order = refl;
-                  numbers = refl;
-                  short = refl;
-                }) (omega arith)).spelled;
-                right = refl;
-                new_is = refl;
-              },
-            ),
-            record { may = tt; right = refl; new_is = refl },
-          ),
-          record { may = tt; right = refl; new_is = refl },
-        ),
-        record { may = tt; right = refl; new_is = refl },
-      ),
-      record { may = bytes_are first_bytes refl; right = refl; new_is = refl },
-    ),
-    record { may = tt; right = refl; new_is = refl },
-  ),
-  record { may = tt; right = refl; new_is = refl },
-)

@@ -13,7 +13,9 @@ use Rattle.coap_layer.specs.Rows.{IsSpelled}
 use Rattle.coap_layer.specs.Machine.State.{start}
 use Rattle.coap_layer.specs.Machine.Steps.{Asked, Steps, left_after}
 use Rattle.coap_layer.specs.Trace as L
-use Rattle.coap_resource.specs.Serves.{Question}
+use Rattle.coap_resource.specs.Content.{Content, Held, Changes, nothing}
+use Rattle.coap_resource.specs.Rate.{counted, unused}
+use Rattle.coap_resource.specs.Serves.{Question, Reply}
 use Rattle.coap_exchange.specs.AnswererLaw as answerer
 use Rattle.coap_exchange.specs.AnswererSteps.{asked_of, content_of}
 use Rattle.coap_server.specs.Trace as S
@@ -26,12 +28,29 @@ use Rattle.coap_exchange.specs.declared.answerer.Asked.{Asked as Request}
 use Rattle.coap_exchange.specs.declared.answerer.Due.TheVariants as due
 use Rattle.coap_exchange.specs.AnswererSteps.{content_with}
 use Rattle.coap_server.specs.Notifying.{notification}
-use Rattle.coap_world.specs.LegalRuns.{token, plain, t, empty_ack}
+use Rattle.coap_world.specs.LegalRuns.{token, tag, plain, t, empty_ack}
 use Rattle.coap_world.specs.ObservationRuns.{observe_bytes, first_bytes, second_bytes}
-use Rattle.coap_world.proofs.Witness.Watches.Server.{a, b, content, first_change, second}
+use Rattle.coap_world.proofs.Witness.OneHeld.{one, first, further}
 use Rattle.coap_world.proofs.Witness.TurnsMade.{server_turn, to_client}
 
--- the request, and whom it registers
+-- what the path holds, in version 1 and in version 2
+
+abbrev held : ℕ → List ℕ → Held
+held version body = record { version = version; format = Some plain; body = body }
+
+abbrev pub a : Content
+a = one t (held 1 (codes "a")) (counted (unused 4194303) 0)
+
+abbrev pub b : Content
+b = one t (held 2 (codes "b")) (counted a.tally 3)
+
+first_change : Changes (nothing 4194303) 0 t (Some (held 1 (codes "a"))) a
+first_change = first 4194303 0 t (held 1 (codes "a"))
+
+second : Changes a 3 t (Some (held 2 (codes "b"))) b
+second = further 3 t (held 1 (codes "a")) (held 2 (codes "b")) a.tally
+
+-- the request, what it is answered, and whom it registers
 
 abbrev pub request : Message
 request = record {
@@ -48,6 +67,16 @@ asked = asked_of client_end request
 
 abbrev pub question : Question
 question = record { method = Get; path = t; options = request.options; body = []; szx = 6 }
+
+abbrev pub content : ℕ → List ℕ → Reply
+content version body = record {
+  code = 69;
+  tag = Some (tag version);
+  format = Some plain;
+  block2 = None;
+  part = body;
+  offset = 0;
+}
 
 abbrev pub observer : Observer
 observer = record { to = client_end; token = token; path = t; szx = 6; marked = true }
@@ -70,8 +99,8 @@ ticked =
     S.Ticks 3 0 L.Idle false due.Idle 0 (S.Notifies observer (content 2 (codes "b"))) 0 true ∷
     []
 
-abbrev pub acknowledged : ℕ → List S.Call
-acknowledged at = S.Feeds at client_end empty_ack 0 (L.Becomes (L.Acked 0)) None S.Silent L.Nothing ∷ []
+abbrev pub acknowledged : List S.Call
+acknowledged = S.Feeds 5 client_end empty_ack 0 (L.Becomes (L.Acked 0)) None S.Silent L.Nothing ∷ []
 
 abbrev pub calls_before : List S.Call
 calls_before =
@@ -79,9 +108,9 @@ calls_before =
     ++ (server_turn [] second_set ++ (server_turn (to_client first_bytes ∷ []) fed ++ server_turn [] first_set))
 
 abbrev pub calls : List S.Call
-calls = server_turn [] (acknowledged 5) ++ calls_before
+calls = server_turn [] acknowledged ++ calls_before
 
-pub answer_sendable : IsSpelled (content_of asked (response_to a [] asked question (content 1 (codes "a"))))
+answer_sendable : IsSpelled (content_of asked (response_to a [] asked question (content 1 (codes "a"))))
 unfolding option_bytes options_bytes
 answer_sendable = (sendable_when_short _ (record {
   some = omega arith;
@@ -93,7 +122,7 @@ answer_sendable = (sendable_when_short _ (record {
   short = refl;
 }) (omega arith)).spelled
 
-pub notice_sendable : IsSpelled (content_with token (notification b observer (content 2 (codes "b"))))
+notice_sendable : IsSpelled (content_with token (notification b observer (content 2 (codes "b"))))
 unfolding option_bytes options_bytes
 notice_sendable = (sendable_when_short _ (record {
   some = omega arith;

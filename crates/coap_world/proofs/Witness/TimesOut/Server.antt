@@ -1,5 +1,5 @@
 -- The server of a legal run: a POST comes 100,000 ms after it was sent (RFC 7252, section 4.8.2).
-use Rattle.std.proofs.Common.{true, Some, List, [], ◌∷◌, ◌++◌, refl, arith}
+use Rattle.std.proofs.Common.{ℕ, true, Some, List, [], ◌∷◌, ◌++◌, Ok, refl, arith}
 use Rattle.std.specs.Prelude.{codes}
 use Rattle.coap_types.specs.declared.message.Kind.TheVariants.{Con}
 use Rattle.coap_types.specs.declared.request.Method.TheVariants.{Post}
@@ -13,8 +13,8 @@ use Rattle.coap_layer.specs.Rows.{IsSpelled}
 use Rattle.coap_layer.specs.Machine.State.{start}
 use Rattle.coap_layer.specs.Machine.Steps.{Asked, Steps, left_after}
 use Rattle.coap_layer.specs.Trace as L
-use Rattle.coap_resource.specs.Content.{Content, Changes}
-use Rattle.coap_resource.specs.Rate.{counted}
+use Rattle.coap_resource.specs.Content.{Content, Held, Changes, nothing}
+use Rattle.coap_resource.specs.Rate.{counted, unused}
 use Rattle.coap_resource.specs.Serves.{Question, bare}
 use Rattle.coap_exchange.specs.AnswererLaw as answerer
 use Rattle.coap_exchange.specs.AnswererSteps.{asked_of, content_of}
@@ -23,13 +23,23 @@ use Rattle.coap_server.specs.Serving.{response_to}
 use Rattle.coap_server.specs.Law.{ServerLaw, ServerRows, lower_of}
 use Rattle.coap_world.specs.Events.{client_end}
 use Rattle.coap_types.proofs.Facts.Bytes.{bytes_are}
-use Rattle.coap_world.specs.LegalRuns.{token, log, call_bytes, changed_bytes}
+use Rattle.coap_world.specs.LegalRuns.{token, plain, log, call_bytes, changed_bytes}
 use Rattle.coap_world.proofs.Witness.OneHeld as store
-use Rattle.coap_world.proofs.Witness.Repeats.Server.{a, held, set, first_change}
 use Rattle.coap_world.proofs.Witness.TurnsMade.{server_turn, to_client}
+
+-- what the path holds, in version 1 and 2
+
+abbrev held : ℕ → List ℕ → Held
+held version body = record { version = version; format = Some plain; body = body }
+
+abbrev pub a : Content
+a = store.one log (held 1 (codes "x")) (counted (unused 4194303) 0)
 
 abbrev pub late : Content
 late = store.one log (held 2 (codes "xa")) (counted a.tally 130000)
+
+first_change : Changes (nothing 4194303) 0 log (Some (held 1 (codes "x"))) a
+first_change = store.first 4194303 0 log (held 1 (codes "x"))
 
 changes : Changes a 130000 log (Some (held 2 (codes "xa"))) late
 changes = store.further 130000 log (held 1 (codes "x")) (held 2 (codes "xa")) a.tally
@@ -50,6 +60,9 @@ abbrev pub question : Question
 question = record { method = Post; path = log; options = request.options; body = codes "a"; szx = 6 }
 
 -- the calls of each turn, the newest first
+
+abbrev pub set : List S.Call
+set = S.Sets 0 log (Some plain) (codes "x") (Ok 1) a ∷ []
 
 abbrev pub serves : List S.Call
 serves = S.Feeds 130000 client_end call_bytes 0 (L.Becomes (L.Request request true))
