@@ -19,7 +19,7 @@ use Rattle.coap_world.proofs.Witness.Observed.Server as server
 
 -- until the answer comes
 
-abbrev pub turns_asked : List Turn
+abbrev turns_asked : List Turn
 turns_asked =
     a_turn (event 1 (Deliver 0)) (map OfServer (server_turn (to_client first_bytes ∷ []) server.fed)) ∷
     a_turn (event 0 TickClient) (map OfClient (client_turn [] (to_server observe_bytes ∷ []) client.ticked)) ∷
@@ -27,7 +27,7 @@ turns_asked =
     a_turn (event 0 (puts (codes "a"))) (map OfServer (server_turn [] server.first_set)) ∷
     []
 
-pub made_asked : Always (λ past t. Makes past t.event.at t.event.word t.event.what t.refused t.entries) turns_asked
+made_asked : Always (λ past t. Makes past t.event.at t.event.word t.event.what t.refused t.entries) turns_asked
 made_asked = (
   (
     from_client 0 observe_bytes,
@@ -47,7 +47,7 @@ made_asked = (
   ),
 )
 
-pub legal_asked : AllLegal turns_asked
+legal_asked : AllLegal turns_asked
 legal_asked = (
   legal_at 1 (Deliver 0) (omega arith) tt (omega arith)
       (from_client 0 observe_bytes, inl (refl, refl), inr refl, omega arith),
@@ -62,11 +62,11 @@ legal_asked = (
 
 -- .. and with it
 
-abbrev pub turns_before : List Turn
+abbrev turns_before : List Turn
 turns_before = a_turn (event 2 (Deliver 1)) (map OfClient
     (client_turn (client.value 1 (codes "a") ∷ []) [] client.registered)) ∷ turns_asked
 
-pub made_before : Always (λ past t. Makes past t.event.at t.event.word t.event.what t.refused t.entries) turns_before
+made_before : Always (λ past t. Makes past t.event.at t.event.word t.event.what t.refused t.entries) turns_before
 made_before = (
   (
     from_server 1 client_end first_bytes,
@@ -81,7 +81,7 @@ made_before = (
   made_asked,
 )
 
-pub legal_before : AllLegal turns_before
+legal_before : AllLegal turns_before
 legal_before = (
   legal_at 2 (Deliver 1) (omega arith) tt (omega arith)
       (from_server 1 client_end first_bytes, inl (refl, refl), inl refl, omega arith),

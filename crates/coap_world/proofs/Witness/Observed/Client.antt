@@ -53,7 +53,7 @@ abbrev pub notified : List C.Call
 notified = C.Feeds 4 server_end second_bytes 0 (L.Becomes (L.Response (content Con 2 (codes "b")))) false
     (Some (event.Notice (content Con 2 (codes "b")))) L.Nothing (Ok []) false ∷ []
 
-abbrev pub calls_before : List C.Call
+abbrev calls_before : List C.Call
 calls_before = client_turn (value 1 (codes "a") ∷ []) [] registered
     ++ (client_turn [] (to_server observe_bytes ∷ []) ticked ++ client_turn [] [] observing)
 

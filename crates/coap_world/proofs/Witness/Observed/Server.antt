@@ -102,7 +102,7 @@ ticked =
 abbrev pub acknowledged : List S.Call
 acknowledged = S.Feeds 5 client_end empty_ack 0 (L.Becomes (L.Acked 0)) None S.Silent L.Nothing ∷ []
 
-abbrev pub calls_before : List S.Call
+abbrev calls_before : List S.Call
 calls_before =
     server_turn (to_client second_bytes ∷ []) ticked
     ++ (server_turn [] second_set ++ (server_turn (to_client first_bytes ∷ []) fed ++ server_turn [] first_set))
