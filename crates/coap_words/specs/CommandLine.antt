@@ -1,8 +1,9 @@
 -- The command line of the program, as a value: `coap show HEX`, `coap answer PATH BODY HEX`, `coap pair PATH BODY`,
 -- `coap serve PORT COUNT` and `coap get PORT PATH`, where these three take `--word N`, and `coap sim FILE`, which takes
--- `--store list|map`.
-use Rattle.std.specs.Prelude.{Some, true, codes}
-use Rattle.clap.specs.Words.{App, Rule, Text, new_app, new_rule, with_rule, with_subcommand}
+-- `--store list|map`. The program builds it of a table of its own.
+use Rattle.std.specs.Prelude.{List, [], ◌∷◌, Some, true, false, codes}
+use Rattle.clap.specs.Simple.{new_shape}
+use Rattle.clap.specs.Words.{App, Rule, Text, new_app, new_rule}
 use Rattle.clap.specs.declared.builder.ArgAction.TheVariants.{Set}
 
 -- a word that has to be there
@@ -21,37 +22,36 @@ word_option = option_of (codes "word")
 abbrev pub store_option : Rule
 store_option = option_of (codes "store")
 
+-- a command with these arguments and no subcommand
+abbrev pub leaf : Text → List Rule → App
+leaf name rules = record { top = record (new_shape name) { rules = rules }; subs = [] }
+
 abbrev pub show_app : App
-show_app = with_rule (new_app (codes "show")) (required_word (codes "HEX"))
+show_app = leaf (codes "show") (required_word (codes "HEX") ∷ [])
 
 abbrev pub answer_app : App
-answer_app = with_rule (with_rule (with_rule (new_app (codes "answer")) (required_word (codes "PATH")))
-    (required_word (codes "BODY"))) (required_word (codes "HEX"))
+answer_app = leaf (codes "answer")
+    (required_word (codes "PATH") ∷ required_word (codes "BODY") ∷ required_word (codes "HEX") ∷ [])
 
 abbrev pub pair_app : App
-pair_app = with_rule (with_rule (with_rule (new_app (codes "pair")) (required_word (codes "PATH")))
-    (required_word (codes "BODY"))) word_option
+pair_app = leaf (codes "pair") (required_word (codes "PATH") ∷ required_word (codes "BODY") ∷ word_option ∷ [])
 
 abbrev pub serve_app : App
-serve_app = with_rule (with_rule (with_rule (new_app (codes "serve")) (required_word (codes "PORT")))
-    (required_word (codes "COUNT"))) word_option
+serve_app = leaf (codes "serve") (required_word (codes "PORT") ∷ required_word (codes "COUNT") ∷ word_option ∷ [])
 
 abbrev pub get_app : App
-get_app = with_rule (with_rule (with_rule (new_app (codes "get")) (required_word (codes "PORT")))
-    (required_word (codes "PATH"))) word_option
+get_app = leaf (codes "get") (required_word (codes "PORT") ∷ required_word (codes "PATH") ∷ word_option ∷ [])
 
 abbrev pub sim_app : App
-sim_app = with_rule (with_rule (new_app (codes "sim")) (required_word (codes "FILE"))) store_option
+sim_app = leaf (codes "sim") (required_word (codes "FILE") ∷ store_option ∷ [])
 
 -- the program, without its subcommands
 abbrev pub base_app : App
 base_app = record (new_app (codes "coap")) { top = record (new_app (codes "coap")).top { subcommand_required = true } }
 
--- the program, of the subcommands that need no socket
-abbrev pub datagram_app : App
-datagram_app = with_subcommand (with_subcommand base_app show_app.top) answer_app.top
-
 -- the program, whose words name one of its subcommands
 abbrev pub coap_app : App
-coap_app = with_subcommand (with_subcommand (with_subcommand (with_subcommand datagram_app pair_app.top) serve_app.top)
-    get_app.top) sim_app.top
+coap_app = record {
+  top = record base_app.top { is_leaf = false };
+  subs = show_app.top ∷ answer_app.top ∷ pair_app.top ∷ serve_app.top ∷ get_app.top ∷ sim_app.top ∷ [];
+}

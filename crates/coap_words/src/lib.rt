@@ -2,10 +2,12 @@
 //! them.
 #![tactic(auto)]
 
+mod arguments;
 mod command_line;
 mod orders;
 mod path_text;
 mod put_away;
+mod tables;
 mod words;
 
 pub use command_line::coap_command;

@@ -1,0 +1,10 @@
+use Rattle.std.proofs.Common.{◌∙◌, ap₂, sym, refl, arith}
+use Rattle.std.proofs.lemmas.List.Sums.{fold_more}
+use Rattle.clap.specs.Words.{with_subcommand}
+use Rattle.coap_words.specs.CommandLine.{base_app}
+use Rattle.coap_words.proofs.command_line.coap_command.Goals as goal
+
+pub loop-subcommand-preserved : goal.loop-subcommand-preserved
+loop-subcommand-preserved c =
+    c.in_ok-program.ensures ∙ ap₂ with_subcommand c.loop-subcommand.invariant refl
+    ∙ sym (fold_more _ base_app c.as_slice-subcommands.result.now c.loop-subcommand.subcommand-index _ (omega arith))

@@ -1,0 +1,30 @@
+//! What a table of subcommands is made of.
+
+/// How an argument is given.
+pub(crate) enum Form {
+    /// A word that has to be there.
+    Required,
+    /// `--NAME VALUE`, which may be left out.
+    Single {
+        /// How help names the value.
+        value_name: &'static str,
+    },
+}
+
+/// An argument of a subcommand.
+pub(crate) struct Argument {
+    pub(crate) form: Form,
+    /// Its name, which for an option is the word behind the two hyphens.
+    pub(crate) name: &'static str,
+    /// What help says of it.
+    pub(crate) help: &'static str,
+}
+
+/// A subcommand.
+pub(crate) struct Subcommand {
+    pub(crate) name: &'static str,
+    /// What help says of it.
+    pub(crate) about: &'static str,
+    /// Its arguments. Words are given in this order.
+    pub(crate) arguments: &'static [Argument],
+}

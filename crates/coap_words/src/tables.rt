@@ -1,0 +1,102 @@
+//! The subcommands of the program, and the arguments of each.
+use crate::arguments::{Argument, Form, Subcommand};
+
+const HEX: Argument = Argument {
+    form: Form::Required,
+    name: "HEX",
+    help: "the bytes of a datagram, as 40010001",
+};
+
+const PATH: Argument = Argument {
+    form: Form::Required,
+    name: "PATH",
+    help: "segments joined by /, as sensors/temperature",
+};
+
+// BODY of `answer`.
+const HELD_BODY: Argument = Argument {
+    form: Form::Required,
+    name: "BODY",
+    help: "what the server holds there, as text",
+};
+
+// BODY of `pair`.
+const PUT_BODY: Argument = Argument {
+    form: Form::Required,
+    name: "BODY",
+    help: "what is put there, as text",
+};
+
+// PORT of a server that is run.
+const OWN_PORT: Argument = Argument {
+    form: Form::Required,
+    name: "PORT",
+    help: "the UDP port, as 5683",
+};
+
+// PORT of a server that is asked.
+const SERVER_PORT: Argument = Argument {
+    form: Form::Required,
+    name: "PORT",
+    help: "the server's UDP port, as 5683",
+};
+
+const COUNT: Argument = Argument {
+    form: Form::Required,
+    name: "COUNT",
+    help: "how many datagrams",
+};
+
+const FILE: Argument = Argument {
+    form: Form::Required,
+    name: "FILE",
+    help: "the file of the script, as examples/get.sim",
+};
+
+const WORD: Argument = Argument {
+    form: Form::Single { value_name: "N" },
+    name: "word",
+    help: "the word that an end begins with, 1 where it is left out",
+};
+
+const STORE: Argument = Argument {
+    form: Form::Single {
+        value_name: "list|map",
+    },
+    name: "store",
+    help: "what the server keeps its resources in, a list or a map; the map where it is left out",
+};
+
+/// The subcommands, in the order in which help lists them.
+pub(crate) static SUBCOMMANDS: [Subcommand; 6] = [
+    Subcommand {
+        name: "show",
+        about: "Prints the message in a datagram, or its first fault",
+        arguments: &[HEX],
+    },
+    Subcommand {
+        name: "answer",
+        about: "Prints what a server that holds BODY at PATH replies to a datagram",
+        arguments: &[PATH, HELD_BODY, HEX],
+    },
+    Subcommand {
+        name: "pair",
+        about: "Puts BODY at PATH and gets it back, between a client and a server of this program over UDP",
+        arguments: &[PATH, PUT_BODY, WORD],
+    },
+    Subcommand {
+        name: "serve",
+        about: "Serves the resource temperature on 127.0.0.1 until COUNT datagrams came",
+        arguments: &[OWN_PORT, COUNT, WORD],
+    },
+    Subcommand {
+        name: "get",
+        about: "Prints what the server at a port of 127.0.0.1 holds at PATH",
+        arguments: &[SERVER_PORT, PATH, WORD],
+    },
+    Subcommand {
+        name: "sim",
+        about: "Runs a script over a client and a server, and prints what comes of it",
+        arguments: &[FILE, STORE],
+    },
+];
