@@ -152,8 +152,8 @@ pub fn server_law()
     ensures stays { (limit szx word : ℕ) (t : List Call) → ServerLaw limit szx word t → EndsSo limit szx t }
 {}
 
-/// What has to happen at a server whose calls stand in that law: who is registered and marked, what goes on waiting, and
-/// what each tick begins.
+/// What has to happen at a server whose calls stand in that law: who is registered and marked, what goes on waiting,
+/// and what each tick begins.
 pub fn server_must_law()
     // A GET with Observe 0 that is answered 2.05 with the start of the body makes the last registration, unmarked, in
     // place of one of its endpoint and token, where fewer than 64 others observe (RFC 7641, section 4.1).

@@ -102,11 +102,14 @@ module _ (limit szx word : ℕ) (t : List Call) (now w : ℕ) where
   responds_next below room due.Copied passed h id answer a law k = absurd k
   responds_next below room due.Expired passed h id answer a law k = absurd k
   responds_next below room due.Idle passed (Notifies o reply) id answer a law (inl e) = absurd (cc e)
-  responds_next below room due.Idle passed (Notifies o reply) id answer a law (inr k) = absurd (idle_responds below room passed a k)
+  responds_next below room due.Idle passed (Notifies o reply) id answer a law (inr k) =
+      absurd (idle_responds below room passed a k)
   responds_next below room due.Idle passed Silent id answer a law k = absurd (idle_responds below room passed a k)
   responds_next below room due.Idle passed (Replies r) id answer a law k = absurd (idle_responds below room passed a k)
-  responds_next below room due.Idle passed (Serves q reply left) id answer a law k = absurd (idle_responds below room passed a k)
-  responds_next below room due.Idle passed (Waits q delay) id answer a law k = absurd (idle_responds below room passed a k)
+  responds_next below room due.Idle passed (Serves q reply left) id answer a law k =
+      absurd (idle_responds below room passed a k)
+  responds_next below room due.Idle passed (Waits q delay) id answer a law k =
+      absurd (idle_responds below room passed a k)
 
   -- a notification
   notifies_next : (below : L.Answer) (room : Bool) (d : Due) (passed : ℕ) (o : Observer) (reply : _) (id : ℕ)

@@ -47,7 +47,8 @@ tick_kinds n [] = inl refl
 tick_kinds n (c ∷ cs) = by (is_failed n c) (is_copy_due n c) (tick_kinds n cs)
   where
     by : (f d : Bool)
-        → (tick_of n cs ≡ L.Idle) ⊎ ((o : Option Deferred) (room : Bool) → due.Idle ≡ P.due_of (tick_of n cs) o room → ⊥)
+        → (tick_of n cs ≡ L.Idle)
+        ⊎ ((o : Option Deferred) (room : Bool) → due.Idle ≡ P.due_of (tick_of n cs) o room → ⊥)
         → (cond f (L.Expired c.to c.id) (cond d (L.Copied c.to c.id) (tick_of n cs)) ≡ L.Idle)
         ⊎ ((o : Option Deferred) (room : Bool)
         → due.Idle ≡ P.due_of (cond f (L.Expired c.to c.id) (cond d (L.Copied c.to c.id) (tick_of n cs))) o room → ⊥)
@@ -129,8 +130,8 @@ module _ (limit szx word : ℕ) (t : List Call) (now w : ℕ) where
     pub was_idle : d ≡ due.Idle → below ≡ L.Idle
     was_idle is =
         let ready : Option Deferred = P.ready_if below (P.ready_at (W.own_of calls) at) in
-        let c = steps_split (S.start word) one_law.left (P.asking_room at ready room ++ asked at L.Ticks below ∷ []) base
-        one_law.layer in
+        let c = steps_split (S.start word) one_law.left (P.asking_room at ready room ++ asked at L.Ticks below ∷ [])
+        base one_law.layer in
         let e = steps_split c.0 one_law.left (P.asking_room at ready room) (asked at L.Ticks below ∷ []) c.2 in
         let right = e.1.2.right in
         let s = e.1.0 in
@@ -150,7 +151,8 @@ module _ (limit szx word : ℕ) (t : List Call) (now w : ℕ) where
     before = earlier L.Idle room d passed h id answer law
 
     clocks : (left_after (S.start word) base).clock ≡ clock (layer_of limit szx word t)
-    clocks = ap (λ (z : S.State). z.clock) (sym (left_is (S.start word) before.exchanges.left base before.exchanges.layer)
+    clocks = ap (λ (z : S.State). z.clock)
+        (sym (left_is (S.start word) before.exchanges.left base before.exchanges.layer)
         ∙ (layer_led word calls before.exchanges).kept)
 
     steps_by : (o : Option Deferred) → P.ready_at (W.own_of calls) at ≡ o
@@ -162,7 +164,8 @@ module _ (limit szx word : ℕ) (t : List Call) (now w : ℕ) where
     stands_by o is = subst (λ z. LayerLaw word (entries (S.start word) (asking z room))) is
         (layer_stands word (E.Ticks at L.Idle room d ∷ calls) one)
 
-    quiet_by : (o : Option Deferred) → Steps (S.start word) (asking o room) one.left → Quiet word base at (asking o room)
+    quiet_by : (o : Option Deferred) → Steps (S.start word) (asking o room) one.left
+        → Quiet word base at (asking o room)
     quiet_by None steps = quiet_tick word base at one.left steps clocks
     quiet_by (Some x) steps = quiet_room word base at (asked at L.Ticks L.Idle ∷ base)
         (quiet_tick word base at steps.0 steps.1 clocks) x.asked.from room
@@ -200,8 +203,8 @@ module _ (limit szx word : ℕ) (t : List Call) (now w : ℕ) where
 
     ready_next : (r : Bool) → ServerLaw limit szx word
         (Ticks now w L.Idle r (due.Ready a) passed (Serves q reply left) id answer ∷ t)
-        → IsNextResponse limit szx word t (Ticks now w L.Idle r (due.Ready a) passed (Serves q reply left) id answer) now
-        a
+        → IsNextResponse limit szx word t (Ticks now w L.Idle r (due.Ready a) passed (Serves q reply left) id answer)
+        now a
     ready_next false law =
         let h : Handling = Serves q reply left in
         let f = found_ready L.Idle (P.ready_at (W.own_of calls) at) false a
@@ -244,7 +247,8 @@ module _ (limit szx word : ℕ) (t : List Call) (now w : ℕ) where
     pub none_ready : NoId limit szx word t now ⊎ NoneToAnswer limit szx word t now
     none_ready = by (P.ready_at (W.own_of calls) at) refl
       where
-        busy_no : (x : Deferred) → P.ready_at (W.own_of calls) at ≡ Some x → (r : Bool) → Says word base at x.asked.from r
+        busy_no : (x : Deferred) → P.ready_at (W.own_of calls) at ≡ Some x → (r : Bool)
+            → Says word base at x.asked.from r
             → due.Idle ≡ P.due_if (Some x) r
             → NoId limit szx word t now ⊎ NoneToAnswer limit szx word t now
         busy_no x is true says e = absurd (cc e)

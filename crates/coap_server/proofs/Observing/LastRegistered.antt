@@ -60,7 +60,8 @@ module _ (limit szx word : ℕ) where
             ∙ ap (λ b. cond b
             (registered x.asked.from x.asked.token x.question.path
             (szx_by (block_of x.question.options) x.question.szx) (own t).observers)
-            (cond (observes 1 x.question) (removed x.asked.from x.asked.token (own t).observers) (own t).observers)) so);
+            (cond (observes 1 x.question) (removed x.asked.from x.asked.token (own t).observers)
+            (own t).observers)) so);
         says = s.says ∙ ap (λ b. sequence_if b ((own t).store.holds x.question.path)) so;
       }
 

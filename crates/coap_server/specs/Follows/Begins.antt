@@ -39,8 +39,8 @@ module _ (limit szx word : ℕ) where
   abbrev pub NoneToNotify : List Call → Type 0
   NoneToNotify past = Each (λ o. CanNotify past o → ⊥) (own_of limit szx past).observers
 
-  -- A tick that does nothing leaves nothing that can be answered and nobody who can be notified, unless no Message ID is
-  -- free.
+  -- A tick that does nothing leaves nothing that can be answered and nobody who can be notified, unless no Message ID
+  -- is free.
   abbrev pub NoneLeft : List Call → Type 0
   NoneLeft t = Always (λ past c. (now : ℕ) → IsTick now false c
       → NoId limit szx word past now ⊎ (NoneToAnswer past now × NoneToNotify past)) t

@@ -26,7 +26,8 @@ module _ (limit szx : ℕ) where
   pub data TakesMark (to : Endpoint) (token : List ℕ) (past : List Call) (c : Call) : Type 0 where
     notifies : (x : Notice) → notice c ≡ Some x → x.observer.to ≡ to → x.observer.token ≡ token
         → TakesMark to token past c
-    renews : registering (own_of limit szx past) c ≡ Some (record { to = to; token = token }) → TakesMark to token past c
+    renews : registering (own_of limit szx past) c ≡ Some (record { to = to; token = token })
+        → TakesMark to token past c
     ends : Ends limit szx to token past c → TakesMark to token past c
 
   -- What is due stays due until then.
