@@ -2,3 +2,8 @@ pub mod AttendedAtOnce
 pub mod FirstAnswered
 pub mod HandedOn
 pub mod LayerIsLed
+pub mod NextBegun
+pub mod RoomAsked
+pub mod TickTurns
+pub mod WaitOn
+pub mod WhatCanGo

@@ -1,11 +1,15 @@
+pub mod ChangesMark
 pub mod ConsAreAcknowledged
 pub mod EndsObservation
+pub mod LastRegistered
 pub mod LatestRegistration
+pub mod MarksStay
 pub mod ObservationEnds
 pub mod ObservationStays
 pub mod ObserversWereMade
 pub mod OneRegistration
 pub mod Outcomes
+pub mod ServedObservers
 pub mod StoreChanges
 pub mod ToldInOrder
 pub mod VersionsRise

@@ -1,5 +1,6 @@
 pub mod Adds
 pub mod Attended
+pub mod Begins
 pub mod Brings
 pub mod Counts
 pub mod EmptyPackets
@@ -9,9 +10,11 @@ pub mod GoesOn
 pub mod HandedUpAsOften
 pub mod Holds
 pub mod Latest
+pub mod Marks
 pub mod Observes
 pub mod Outs
 pub mod Reads
+pub mod Registered
 pub mod Rests
 pub mod Serves
 pub mod Shows

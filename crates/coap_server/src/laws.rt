@@ -1,5 +1,8 @@
 ghost use Rattle.std.specs.Prelude.{◌≡◌, ℕ, List, [], ◌∷◌, ◌++◌};
+ghost use Rattle.coap_server.specs.Follows.Begins.{AllBeginNext, FirstIsNotified, NoneLeft};
 ghost use Rattle.coap_server.specs.Follows.Latest.{AreLatest};
+ghost use Rattle.coap_server.specs.Follows.Marks.{AllMark, StayDue};
+ghost use Rattle.coap_server.specs.Follows.Registered.{AllRegister};
 ghost use Rattle.coap_server.specs.Follows.Exact.{IsExact};
 ghost use Rattle.coap_server.specs.Examples.Observation as example;
 ghost use Rattle.coap_server.specs.Examples.Upload as upload_example;
@@ -30,7 +33,7 @@ ghost use Rattle.coap_server.specs.Follows.GoesOn.{GoesOn};
 ghost use Rattle.coap_server.specs.Follows.Attended.{AllAttended, AllHandedOn, FirstIsAnswered};
 ghost use Rattle.coap_server.specs.Trace.{Call};
 ghost use Rattle.coap_server.specs.Examples.ObserverTold.{IsTold};
-ghost use Rattle.coap_server.specs.Follows.Waits.{ReadyAreServed, WaitsAsDeferred};
+ghost use Rattle.coap_server.specs.Follows.Waits.{ReadyAreServed, WaitOn, WaitsAsDeferred};
 
 /// What leads to the state of a server stands in its whole law, uploads in blocks and observers among it, and what
 /// follows from that.
@@ -147,6 +150,32 @@ pub fn server_law()
     ensures gone { (limit szx word : ℕ) (t : List Call) → ServerLaw limit szx word t → EndsOnNotice limit szx t }
     // .. and nothing else.
     ensures stays { (limit szx word : ℕ) (t : List Call) → ServerLaw limit szx word t → EndsSo limit szx t }
+{}
+
+/// What has to happen at a server whose calls stand in that law: who is registered and marked, what goes on waiting,
+/// and what each tick begins.
+pub fn server_must_law()
+    // A GET with Observe 0 that is answered 2.05 with the start of the body makes the last registration, unmarked, in
+    // place of one of its endpoint and token, where fewer than 64 others observe (RFC 7641, section 4.1).
+    ensures registers { (limit szx word : ℕ) (t : List Call) → ServerLaw limit szx word t → AllRegister limit szx t }
+    // A change of a path marks each observer of it, and leaves the others as they were (RFC 7641, section 4.2) ..
+    ensures marks { (limit szx word : ℕ) (t : List Call) → ServerLaw limit szx word t → AllMark limit szx t }
+    // .. and a mark stays until the observer is notified or registers anew, or its observation ends (RFC 7641, section
+    // 4.2).
+    ensures stays_due { (limit szx word : ℕ) (t : List Call) → ServerLaw limit szx word t → StayDue limit szx t }
+    // What waits goes on waiting until a call sends its response (RFC 7252, section 5.2.2).
+    ensures waits_on { (limit szx word : ℕ) (t : List Call) → ServerLaw limit szx word t → WaitOn limit szx t }
+    // A tick that does nothing leaves nothing that can be answered and nobody who can be notified, unless no Message ID
+    // is free (RFC 7252, sections 4.4 and 4.7) ..
+    ensures none_left { (limit szx word : ℕ) (t : List Call) → ServerLaw limit szx word t
+        → NoneLeft limit szx word t }
+    // .. a tick notifies the first that can be, where nothing else is to be done (RFC 7641, section 4.5) ..
+    ensures notified { (limit szx word : ℕ) (t : List Call) → ServerLaw limit szx word t
+        → FirstIsNotified limit szx word t }
+    // .. and what it begins is the next: the first of what waits that can be answered, and where none can, the first
+    // observer that can be notified (RFC 7252, sections 4.7 and 5.2.2; RFC 7641, section 4.5).
+    ensures begins { (limit szx word : ℕ) (t : List Call) → ServerLaw limit szx word t
+        → AllBeginNext limit szx word t }
 {}
 
 /// Histories that stand in that law, with their bytes.

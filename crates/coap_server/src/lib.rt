@@ -5,6 +5,6 @@ mod laws;
 mod limits;
 mod server;
 
-pub use laws::{server_law, server_runs};
+pub use laws::{server_law, server_must_law, server_runs};
 pub use limits::MAX_DELAYS;
 pub use server::{Applied, Delay, DelayRefusal, Server, give_delay};

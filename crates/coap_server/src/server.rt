@@ -16,14 +16,16 @@ mod serving;
 mod turning;
 mod uploading;
 
-ghost use Rattle.std.specs.Prelude.{◌≡◌, ◌≢◌, ◌<◌, ◌^◌, ℕ, max, Bool, true, false, Option, List, [], ◌∷◌, Ok, Err};
+ghost use Rattle.std.specs.Prelude.{◌≡◌, ◌≢◌, ◌<◌, ◌^◌, ℕ, max, Bool, true, false, Option, Some, List, [], ◌∷◌, Ok};
+ghost use Rattle.std.specs.Prelude.{Err};
 ghost use Rattle.std.specs.Prelude.{is_ok, is_some, length, IfNone, IfOk, IfSome, IsOk, OnErr, OnOk, option_copied};
 ghost use Rattle.coap_codec.specs.Message.{Message};
 ghost use Rattle.coap_layer.specs.Machine.State.{answer_of, copies, made};
 ghost use Rattle.coap_layer.specs.Machine.Ups.{IsQuiet};
 ghost use Rattle.coap_layer.specs.Trace as below;
-ghost use Rattle.coap_resource.specs.Content.{nothing};
+ghost use Rattle.coap_resource.specs.Content.{nothing, put_refusal};
 ghost use Rattle.coap_resource.specs.Shown.{shown};
+ghost use Rattle.coap_resource.specs.declared.refusal.StoreRefusal.{StoreRefusal as StoreRefusalSpec};
 ghost use Rattle.coap_resource.specs.declared.refusal.StoreRefusal.TheVariants as store_refusals;
 ghost use Rattle.coap_exchange.specs.declared.answerer.Asked.{Asked as AskedSpec};
 ghost use Rattle.coap_exchange.specs.declared.answerer.Due.{Due};
@@ -195,6 +197,10 @@ impl<S: Store<A>, A: Allocator + Copy, H: BuildHasher> Server<S, A, H> {
             → Led limit szx begin (Sets now.0 path.now format body.now result
             (state_of S.content self.new).own.store ∷ t) (state_of S.content self.new) }
         ensures memory { result ≡ Err store_refusals.Memory → self.new ≡ self.old }
+        // Where the store has a reason not to put it there at that moment, that is the answer, and never Memory.
+        ensures refused { (why : StoreRefusalSpec) → put_refusal (state_of S.content self.old).own.store
+            (max (state_of S.content self.old).own.clock now.0) path.now (length body.now) ≡ Some why
+            → result ≡ Err why }
     {
         set_parts(&mut self.parts, now, path, format, body)
     }

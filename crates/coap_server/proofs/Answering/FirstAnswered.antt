@@ -41,7 +41,7 @@ use Rattle.coap_server.proofs.Serving.Waiting.{mirrors, ready_are_served}
 
 -- where a CON is unacknowledged
 
-busy_ever : (to : Endpoint) (cs : List Open) → is_busy to cs ≡ true
+pub busy_ever : (to : Endpoint) (cs : List Open) → is_busy to cs ≡ true
     → Ever (λ (c : Open). same_endpoint c.to to ≡ true) cs
 busy_ever to [] h = absurd (cc h)
 busy_ever to (c ∷ cs) h = by (same_endpoint c.to to) refl (busy_ever to cs) h
@@ -52,7 +52,7 @@ busy_ever to (c ∷ cs) h = by (same_endpoint c.to to) refl (busy_ever to cs) h
     by true is f k = inl is
     by false is f k = inr (f k)
 
-ever_busy : (to : Endpoint) (cs : List Open) → Ever (λ (c : Open). same_endpoint c.to to ≡ true) cs
+pub ever_busy : (to : Endpoint) (cs : List Open) → Ever (λ (c : Open). same_endpoint c.to to ≡ true) cs
     → is_busy to cs ≡ true
 ever_busy to [] h = absurd h
 ever_busy to (c ∷ cs) (inl h) = ap (λ b. b || is_busy to cs) h
@@ -64,7 +64,7 @@ ever_busy to (c ∷ cs) (inr h) = by (same_endpoint c.to to) (ever_busy to cs h)
 
 -- the first that is ready
 
-not_ready : (d : Deferred) (at : ℕ) (xs : List Separate)
+pub not_ready : (d : Deferred) (at : ℕ) (xs : List Separate)
     → (d.delay ≤ at - d.at.0 → (is_waited_for d.asked.from xs ≡ true → ⊥) → ⊥) → is_ready at xs d ≡ false
 not_ready d at xs never = by (nat_le d.delay (at - d.at.0)) (is_waited_for d.asked.from xs) refl refl
   where
@@ -74,7 +74,7 @@ not_ready d at xs never = by (nat_le d.delay (at - d.at.0)) (is_waited_for d.ask
         (λ k. (let z : true ≡ false = sym k ∙ f in cc z)))
     by false c e f = refl
 
-so_ready : (d : Deferred) (at : ℕ) (xs : List Separate) → d.delay ≤ at - d.at.0
+pub so_ready : (d : Deferred) (at : ℕ) (xs : List Separate) → d.delay ≤ at - d.at.0
     → (is_waited_for d.asked.from xs ≡ true → ⊥) → is_ready at xs d ≡ true
 so_ready d at xs passed alone = by (is_waited_for d.asked.from xs) alone
   where

@@ -1,5 +1,5 @@
--- What follows from the whole law of a server: the clauses of `server_law`, for proofs above, and some that rest on its
--- rows alone.
+-- What follows from the whole law of a server: the clauses of `server_law` and `server_must_law`, for proofs above, and
+-- some that rest on its rows alone.
 use Rattle.std.proofs.Common.{ℕ, List, ◌++◌}
 use Rattle.coap_types.specs.Past.{Always}
 use Rattle.coap_layer.specs.Channel.{RepliesSo}
@@ -8,24 +8,32 @@ use Rattle.coap_exchange.proofs.Facts.ServerSide as E
 use Rattle.coap_server.specs.Trace.{Call}
 use Rattle.coap_server.specs.Law.{ServerLaw, lower_of, layer_of}
 use Rattle.coap_server.specs.Follows.Attended.{AllAttended, FirstIsAnswered}
+use Rattle.coap_server.specs.Follows.Begins.{AllBeginNext, FirstIsNotified, NoneLeft}
 use Rattle.coap_server.specs.Follows.Brings.{AreHandedUp, BlocksCome}
 use Rattle.coap_server.specs.Follows.HandedUpAsOften.{Counted}
 use Rattle.coap_server.specs.Follows.Gives.{NoneContinues, SentResponses}
 use Rattle.coap_server.specs.Follows.GoesOn.{GoesOn}
 use Rattle.coap_server.specs.Follows.Holds.{AllServed}
+use Rattle.coap_server.specs.Follows.Marks.{AllMark, StayDue}
 use Rattle.coap_server.specs.Follows.Reads.{VerdictsRead}
+use Rattle.coap_server.specs.Follows.Registered.{AllRegister}
 use Rattle.coap_server.specs.Follows.Rests.{ComesToRest}
 use Rattle.coap_server.specs.Follows.Serves.{ServedOnce}
 use Rattle.coap_server.specs.Follows.Table.{AllMethods, AllUploads, VerdictsAsk}
 use Rattle.coap_server.specs.Follows.Tags.{AreStamped, OneTag}
 use Rattle.coap_server.specs.Follows.Tells.{Follows}
-use Rattle.coap_server.specs.Follows.Waits.{ReadyAreServed}
+use Rattle.coap_server.specs.Follows.Waits.{ReadyAreServed, WaitOn}
 use Rattle.coap_server.proofs.Answering.AttendedAtOnce.{all_attended}
 use Rattle.coap_server.proofs.Answering.FirstAnswered.{first_answered}
+use Rattle.coap_server.proofs.Answering.NextBegun as N
+use Rattle.coap_server.proofs.Answering.WaitOn.{wait_on}
 use Rattle.coap_server.proofs.Holding.OneTag.{one_tag}
 use Rattle.coap_server.proofs.Holding.Holds as H
 use Rattle.coap_server.proofs.Holding.Stamps.{are_stamped}
+use Rattle.coap_server.proofs.Observing.ChangesMark.{all_mark}
 use Rattle.coap_server.proofs.Observing.EndsObservation.{none_continues}
+use Rattle.coap_server.proofs.Observing.LastRegistered.{all_register}
+use Rattle.coap_server.proofs.Observing.MarksStay.{stay_due}
 use Rattle.coap_server.proofs.Observing.ToldInOrder as O
 use Rattle.coap_server.proofs.Progress.GoesOn.{goes_on}
 use Rattle.coap_server.proofs.Replying.RepliesAtOnce.{replies_at_once}
@@ -107,3 +115,24 @@ module _ (limit szx word : ℕ) where
 
     pub uploads : AllUploads limit szx t
     uploads = all_uploads limit szx t law.rows
+
+    pub registers : AllRegister limit szx t
+    registers = all_register limit szx word t law
+
+    pub marks : AllMark limit szx t
+    marks = all_mark limit szx word t law
+
+    pub stays_due : StayDue limit szx t
+    stays_due = stay_due limit szx t law.rows
+
+    pub waits_on : WaitOn limit szx t
+    waits_on = wait_on limit szx word t law
+
+    pub none_left : NoneLeft limit szx word t
+    none_left = N.none_left limit szx word t law
+
+    pub notified : FirstIsNotified limit szx word t
+    notified = N.first_is_notified limit szx word t law
+
+    pub begins : AllBeginNext limit szx word t
+    begins = N.all_begin_next limit szx word t law

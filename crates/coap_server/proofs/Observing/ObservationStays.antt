@@ -34,7 +34,7 @@ abbrev asked_of : Endpoint → List ℕ → Observer
 asked_of by bytes = record { to = by; token = bytes; path = []; szx = 0; marked = false }
 
 -- the same endpoint and token, or another
-is_pair : (to : Endpoint) (token : List ℕ) (by : Endpoint) (bytes : List ℕ)
+pub is_pair : (to : Endpoint) (token : List ℕ) (by : Endpoint) (bytes : List ℕ)
     → ((by ≡ to) × (bytes ≡ token)) ⊎ IsOther to token by bytes
 is_pair to token by bytes = by_answer (is_of to token (asked_of by bytes)) refl
   where

@@ -1,13 +1,14 @@
 -- What waits at a server is what its exchanges defer, and what they say is ready is served then (RFC 7252, section
 -- 5.2.2).
-use Rattle.std.specs.Prelude.{◌≡◌, ℕ, Option, Some, None, List, map}
-use Rattle.coap_types.specs.Past.{Always}
+use Rattle.std.specs.Prelude.{◌≡◌, ◌⊎◌, ℕ, Option, Some, None, List, ◌∷◌, map}
+use Rattle.coap_types.specs.Past.{Ever, Always}
 use Rattle.coap_exchange.specs.declared.answerer.Asked.{Asked}
 use Rattle.coap_exchange.specs.declared.answerer.Due.TheVariants as due
 use Rattle.coap_exchange.specs.declared.separate.Deferred.{Deferred}
 use Rattle.coap_exchange.specs.AnswererLaw as E
 use Rattle.coap_server.specs.Trace.{Waiting, Call, Ticks}
 use Rattle.coap_server.specs.Law.{own_of, lower_of}
+use Rattle.coap_server.specs.Follows.Attended.{AnswersIt}
 use Rattle.coap_server.specs.Follows.Serves.{Serving, serving}
 
 abbrev pub deferred_as : Waiting → Deferred
@@ -27,3 +28,12 @@ module _ (limit szx : ℕ) where
   abbrev pub ReadyAreServed : List Call → Type 0
   ReadyAreServed t = Always (λ past c. (a : Asked) → ready_in c ≡ Some a
       → (x : Serving) × (serving (own_of limit szx past) c ≡ Some x) × (x.asked ≡ a)) t
+
+  -- it waits after these calls
+  abbrev pub WaitsStill : Waiting → List Call → Type 0
+  WaitsStill x t = Ever (λ y. y ≡ x) (own_of limit szx t).waiting
+
+  -- What waits goes on waiting until a call sends its response.
+  abbrev pub WaitOn : List Call → Type 0
+  WaitOn t = Always (λ past c. (x : Waiting) → WaitsStill x past
+      → WaitsStill x (c ∷ past) ⊎ AnswersIt limit szx past c x.asked) t

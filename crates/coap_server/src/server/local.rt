@@ -1,5 +1,6 @@
 //! Changes that a server is told of on its own side (RFC 7252, section 5.8; RFC 7641, section 4.2).
-ghost use Rattle.std.specs.Prelude.{◌≡◌, ◌≢◌, Err, length};
+ghost use Rattle.std.specs.Prelude.{◌≡◌, ◌≢◌, Err, Some, length, max};
+ghost use Rattle.coap_resource.specs.declared.refusal.StoreRefusal.{StoreRefusal as StoreRefusalSpec};
 ghost use Rattle.coap_resource.specs.declared.refusal.StoreRefusal.TheVariants.{Memory};
 ghost use Rattle.coap_resource.specs.Content.{put_refusal};
 ghost use Rattle.coap_resource.specs.Rate.{rate_refusal};
@@ -28,6 +29,8 @@ fn put<S: Store<A>, A: Allocator + Copy>(
         → SetsBy (put_refusal (S.content store.old) at.0 path.now (length body.now))
         (S.content store.old) at.0 path.now format body.now result (S.content store.new) }
     ensures memory { result ≡ Err Memory → store.new ≡ store.old }
+    ensures refused { (why : StoreRefusalSpec) → put_refusal (S.content store.old) at.0 path.now (length body.now)
+        ≡ Some why → result ≡ Err why }
 {
     store.put(at, path, format, body)
 }
@@ -59,6 +62,8 @@ pub(crate) fn set_parts<S: Store<A>, A: Allocator + Copy, H: BuildHasher>(
     ensures step { result ≢ Err Memory → Step (seen S.content parts.old)
         (Sets now.0 path.now format body.now result (S.content parts.new.store)) (seen S.content parts.new) }
     ensures memory { result ≡ Err Memory → kept_of parts.new ≡ kept_of parts.old }
+    ensures refused { (why : StoreRefusalSpec) → put_refusal (S.content parts.old.store) (max parts.old.clock.0 now.0)
+        path.now (length body.now) ≡ Some why → result ≡ Err why }
 {
     let at = later(parts.clock, now);
     let before = parts.store.version();

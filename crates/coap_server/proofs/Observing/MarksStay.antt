@@ -1,0 +1,243 @@
+-- What is due to an observer stays due until it is notified, registers anew, or its observation ends.
+use Rattle.std.proofs.Common.{◌≡◌, ◌⊎◌, inl, inr, ℕ, ◌==◌, ◌||◌, Bool, true, false, Option, Some, None, List, []}
+use Rattle.std.proofs.Common.{◌∷◌, refl, ap, ◌∙◌, cond, option_map}
+use Rattle.coap_types.specs.Path.{same_path}
+use Rattle.coap_types.specs.declared.endpoint.Endpoint.{Endpoint}
+use Rattle.coap_codec.specs.Message.{Message}
+use Rattle.coap_layer.specs.Trace as L
+use Rattle.coap_observe.specs.Observers.{Observer, registration, removed, registered, changed_at, marked_by, sent_to}
+use Rattle.coap_observe.proofs.Facts.Registrations.{registration-changed_at, others_stay}
+use Rattle.coap_resource.specs.Content.{Content, Held}
+use Rattle.coap_resource.specs.RequestOptions.{block_of, szx_by}
+use Rattle.coap_resource.specs.Serves.{Question, Reply}
+use Rattle.coap_exchange.specs.declared.answerer.Asked.{Asked}
+use Rattle.coap_exchange.specs.declared.answerer.Due.{Due}
+use Rattle.coap_exchange.specs.declared.answerer.Due.TheVariants as due
+use Rattle.coap_exchange.specs.declared.answerer.Ended.{Ended}
+use Rattle.coap_server.specs.Trace.{Own, Handling, Silent, Replies, Serves, Waits, Notifies, Call, Sets, Removes}
+use Rattle.coap_server.specs.Trace.{Delays, Feeds, Ticks, NextOut, Gets, TellsApplied}
+use Rattle.coap_server.specs.Observers.{observes, registers, observers_with, marked_if, unless_ended}
+use Rattle.coap_server.specs.Notifying.{notified}
+use Rattle.coap_server.specs.Handling.{incoming, ticking, heard}
+use Rattle.coap_server.specs.Law.{ServerRows, own_of}
+use Rattle.coap_server.specs.Follows.Marks.{IsDue, TakesMark, notifies, renews, ends, StayDue}
+use Rattle.coap_server.specs.Follows.Observes.{is_told, cancels, ends_in}
+use Rattle.coap_server.specs.Follows.Serves.{serving_of}
+use Rattle.coap_server.specs.Follows.Tells.{Pair}
+use Rattle.coap_server.proofs.Observing.ObservationStays.{is_pair}
+use Rattle.coap_server.proofs.Observing.Outcomes.{never_notifies}
+
+module _ (to : Endpoint) (token : List ℕ) where
+  -- a notification is due to it, in this list
+  record Due_in (os : List Observer) : Type 0 where
+    observer : Observer
+    there : registration to token os ≡ Some observer
+    marked : observer.marked ≡ true
+
+  abbrev Same : Endpoint → List ℕ → Type 0
+  Same by bytes = (by ≡ to) × (bytes ≡ token)
+
+  moved : (os left : List Observer) → registration to token left ≡ registration to token os → Due_in os → Due_in left
+  moved os left e d = record { observer = d.observer; there = e ∙ d.there; marked = d.marked }
+
+  removed_on : (by : Endpoint) (bytes : List ℕ) (os : List Observer) → Due_in os
+      → Due_in (removed by bytes os) ⊎ Same by bytes
+  removed_on by bytes os d = elim (is_pair to token by bytes) [
+    | inl p ↦ inr p
+    | inr other ↦ inl (moved os (removed by bytes os) (others_stay to token by bytes os other).removed_stay d)
+  ]
+
+  marked_on : (path : List (List ℕ)) (old left : Content) (os : List Observer) → Due_in os
+      → Due_in (marked_if path old left os)
+  marked_on path old left os d = by (left.tally.version == old.tally.version)
+    where
+      still : (b c : Bool) → b ≡ true → (b || c) ≡ true
+      still b c h = ap (λ z. z || c) h
+
+      by : (b : Bool) → Due_in (cond b os (changed_at path os))
+      by true = d
+      by false = record {
+        observer = marked_by path d.observer;
+        there = registration-changed_at path to token os ∙ ap (option_map (marked_by path)) d.there;
+        marked = still d.observer.marked (same_path d.observer.path path) d.marked;
+      }
+
+  notified_on : (held : Option Held) (o : Observer) (os : List Observer) → Due_in os
+      → Due_in (notified held o os) ⊎ Same o.to o.token
+  notified_on None o os d = removed_on o.to o.token os d
+  notified_on (Some held) o os d = elim (is_pair to token o.to o.token) [
+    | inl p ↦ inr p
+    | inr other ↦ inl (moved os (sent_to o.to o.token os) (others_stay to token o.to o.token os other).sent_stay d)
+  ]
+
+  -- by a request that is served: it registers this one anew, or cancels it
+  served_on : (a : Asked) (q : Question) (reply : Reply) (os : List Observer) → Due_in os
+      → Due_in (observers_with a q reply os)
+      ⊎ (((registers a q reply os ≡ true) ⊎ (observes 1 q ≡ true)) × Same a.from a.token)
+  served_on a q reply os d = by (registers a q reply os) refl (observes 1 q) refl
+    where
+      by : (r : Bool) → registers a q reply os ≡ r → (m : Bool) → observes 1 q ≡ m
+          → Due_in (cond r (registered a.from a.token q.path (szx_by (block_of q.options) q.szx) os)
+          (cond m (removed a.from a.token os) os))
+          ⊎ (((registers a q reply os ≡ true) ⊎ (observes 1 q ≡ true)) × Same a.from a.token)
+      by true is m e = elim (is_pair to token a.from a.token) [
+        | inl p ↦ inr (inl is, p)
+        | inr other ↦ inl (moved os (registered a.from a.token q.path (szx_by (block_of q.options) q.szx) os)
+            ((others_stay to token a.from a.token os other).registered_stay q.path
+            (szx_by (block_of q.options) q.szx)) d)
+      ]
+      by false is true e = elim (removed_on a.from a.token os d) [ inl k ↦ inl k | inr p ↦ inr (inr e, p) ]
+      by false is false e = inl d
+
+  ended_on : (e : Option Ended) (os : List Observer) → Due_in os
+      → Due_in (unless_ended e os) ⊎ ((x : Ended) × (e ≡ Some x) × (x.observe ≡ true) × Same x.to x.token)
+  ended_on None os d = inl d
+  ended_on (Some x) os d = by x.observe refl
+    where
+      by : (b : Bool) → x.observe ≡ b → Due_in (cond b (removed x.to x.token os) os)
+          ⊎ ((y : Ended) × (Some x ≡ Some y) × (y.observe ≡ true) × Same y.to y.token)
+      by true e = elim (removed_on x.to x.token os d) [ inl k ↦ inl k | inr p ↦ inr (x, refl, e, p) ]
+      by false e = inl d
+
+  module _ (limit szx : ℕ) where
+    abbrev own : List Call → Own
+    own t = own_of limit szx t
+
+    abbrev On : List Call → Call → List Observer → Type 0
+    On t c os = Due_in os ⊎ TakesMark limit szx to token t c
+
+    told_on : (t : List Call) (c : Call) (e : Option Ended) → ends_in (own t) c ≡ e → (os : List Observer) → Due_in os
+        → On t c (unless_ended e os)
+    told_on t c e is os d = elim (ended_on e os d)
+        [ inl k ↦ inl k | inr k ↦ inr (ends (is_told k.0 (is ∙ k.1) k.2 k.3.0 k.3.1)) ]
+
+    pair_is : (a : Asked) → Same a.from a.token
+        → ◌≡◌ {A = Pair} (record { to = a.from; token = a.token }) (record { to = to; token = token })
+    pair_is a p = ap (λ x. record { to = x; token = a.token }) p.0 ∙ ap (λ x. record { to = to; token = x }) p.1
+
+    came_on : (t : List Call) (now : ℕ) (from : Endpoint) (bytes : List ℕ) (w : ℕ) (up : L.Answer)
+        (p : Asked × Message) (q : Question) (reply : Reply) (left : Content) (below : L.Answer)
+        → Due_in (heard (own t) now (incoming (own t) now from bytes up (Some p))).observers
+        → On t (Feeds now from bytes w up (Some p) (Serves q reply left) below)
+        (own (Feeds now from bytes w up (Some p) (Serves q reply left) below ∷ t)).observers
+    came_on t now from bytes w up p q reply left below d =
+        let s : Own = heard (own t) now (incoming (own t) now from bytes up (Some p)) in
+        elim (served_on p.0 q reply s.observers d) [
+          | inl k ↦ inl (marked_on q.path s.store left (observers_with p.0 q reply s.observers) k)
+          | inr k ↦ elim k.0 [
+            | inl so ↦ inr (renews (ap (λ b. cond b (Some (record { to = p.0.from; token = p.0.token })) None) so
+                ∙ ap (λ x. Some x) (pair_is p.0 k.1)))
+            | inr m ↦ inr (ends (cancels (serving_of s p.0 q reply left) refl m k.1.0 k.1.1))
+          ]
+        ]
+
+    ready_on : (t : List Call) (now w : ℕ) (below : L.Answer) (room : Bool) (a : Asked) (passed : ℕ) (q : Question)
+        (reply : Reply) (left : Content) (id : ℕ) (answer : Bool)
+        → Due_in (heard (own t) now (ticking (own t) now below room (due.Ready a))).observers
+        → On t (Ticks now w below room (due.Ready a) passed (Serves q reply left) id answer)
+        (own (Ticks now w below room (due.Ready a) passed (Serves q reply left) id answer ∷ t)).observers
+    ready_on t now w below room a passed q reply left id answer d =
+        let s : Own = heard (own t) now (ticking (own t) now below room (due.Ready a)) in
+        elim (served_on a q reply s.observers d) [
+          | inl k ↦ inl (marked_on q.path s.store left (observers_with a q reply s.observers) k)
+          | inr k ↦ elim k.0 [
+            | inl so ↦ inr (renews (ap (λ b. cond b (Some (record { to = a.from; token = a.token })) None) so
+                ∙ ap (λ x. Some x) (pair_is a k.1)))
+            | inr m ↦ inr (ends (cancels (serving_of s a q reply left) refl m k.1.0 k.1.1))
+          ]
+        ]
+
+    notice_on : (t : List Call) (now w : ℕ) (below : L.Answer) (room : Bool) (d : Due) (passed : ℕ) (o : Observer)
+        (reply : Reply) (id : ℕ) (answer : Bool) (os : List Observer) → Due_in os
+        → On t (Ticks now w below room d passed (Notifies o reply) id answer)
+        (notified ((own t).store.holds o.path) o os)
+    notice_on t now w below room d passed o reply id answer os k =
+        elim (notified_on ((own t).store.holds o.path) o os k) [
+          | inl k ↦ inl k
+          | inr p ↦ inr (notifies (record { observer = o; reply = reply }) refl p.0 p.1)
+        ]
+
+    fed : (t : List Call) (now : ℕ) (from : Endpoint) (bytes : List ℕ) (w : ℕ) (up : L.Answer)
+        (came : Option (Asked × Message)) (h : Handling) (below : L.Answer)
+        → ServerRows limit szx (Feeds now from bytes w up came h below ∷ t)
+        → Due_in (heard (own t) now (incoming (own t) now from bytes up came)).observers
+        → On t (Feeds now from bytes w up came h below) (own (Feeds now from bytes w up came h below ∷ t)).observers
+    fed t now from bytes w up None Silent below rows d = inl d
+    fed t now from bytes w up None (Replies r) below rows d = inl d
+    fed t now from bytes w up None (Serves q reply left) below rows d = inl d
+    fed t now from bytes w up None (Waits q e) below rows d = inl d
+    fed t now from bytes w up None (Notifies o reply) below rows d = let k = rows.0 in absurd (cc k)
+    fed t now from bytes w up (Some p) Silent below rows d = inl d
+    fed t now from bytes w up (Some p) (Replies r) below rows d = inl d
+    fed t now from bytes w up (Some p) (Waits q e) below rows d = inl d
+    fed t now from bytes w up (Some p) (Serves q reply left) below rows d =
+        came_on t now from bytes w up p q reply left below d
+    fed t now from bytes w up (Some p) (Notifies o reply) below rows d = absurd
+        (never_notifies (heard (own t) now (incoming (own t) now from bytes up (Some p))) p o reply rows.0)
+
+    ticked : (t : List Call) (now w : ℕ) (below : L.Answer) (room : Bool) (d : Due) (passed : ℕ) (h : Handling)
+        (id : ℕ) (answer : Bool)
+        → Due_in (heard (own t) now (ticking (own t) now below room d)).observers
+        → On t (Ticks now w below room d passed h id answer)
+        (own (Ticks now w below room d passed h id answer ∷ t)).observers
+    ticked t now w below room due.Idle passed (Notifies o reply) id answer k =
+        notice_on t now w below room due.Idle passed o reply id answer
+        (heard (own t) now (ticking (own t) now below room due.Idle)).observers k
+    ticked t now w below room due.Copied passed (Notifies o reply) id answer k =
+        notice_on t now w below room due.Copied passed o reply id answer
+        (heard (own t) now (ticking (own t) now below room due.Copied)).observers k
+    ticked t now w below room due.Expired passed (Notifies o reply) id answer k =
+        notice_on t now w below room due.Expired passed o reply id answer
+        (heard (own t) now (ticking (own t) now below room due.Expired)).observers k
+    ticked t now w below room (due.Ready a) passed (Notifies o reply) id answer k =
+        notice_on t now w below room (due.Ready a) passed o reply id answer
+        (heard (own t) now (ticking (own t) now below room (due.Ready a))).observers k
+    ticked t now w below room (due.Ready a) passed (Serves q reply left) id answer k =
+        ready_on t now w below room a passed q reply left id answer k
+    ticked t now w below room (due.Ready a) passed Silent id answer k = inl k
+    ticked t now w below room (due.Ready a) passed (Replies r) id answer k = inl k
+    ticked t now w below room (due.Ready a) passed (Waits q e) id answer k = inl k
+    ticked t now w below room due.Idle passed Silent id answer k = inl k
+    ticked t now w below room due.Idle passed (Replies r) id answer k = inl k
+    ticked t now w below room due.Idle passed (Serves q reply left) id answer k = inl k
+    ticked t now w below room due.Idle passed (Waits q e) id answer k = inl k
+    ticked t now w below room due.Copied passed Silent id answer k = inl k
+    ticked t now w below room due.Copied passed (Replies r) id answer k = inl k
+    ticked t now w below room due.Copied passed (Serves q reply left) id answer k = inl k
+    ticked t now w below room due.Copied passed (Waits q e) id answer k = inl k
+    ticked t now w below room due.Expired passed Silent id answer k = inl k
+    ticked t now w below room due.Expired passed (Replies r) id answer k = inl k
+    ticked t now w below room due.Expired passed (Serves q reply left) id answer k = inl k
+    ticked t now w below room due.Expired passed (Waits q e) id answer k = inl k
+
+    on : (t : List Call) (c : Call) → ServerRows limit szx (c ∷ t) → Due_in (own t).observers
+        → On t c (own (c ∷ t)).observers
+    on t (Feeds now from bytes w up came h below) rows d =
+        elim (told_on t (Feeds now from bytes w up came h below) _ refl (own t).observers d) [
+          | inl k ↦ fed t now from bytes w up came h below rows k
+          | inr over ↦ inr over
+        ]
+    on t (Ticks now w below room d passed h id answer) rows k =
+        elim (told_on t (Ticks now w below room d passed h id answer) _ refl (own t).observers k) [
+          | inl k ↦ ticked t now w below room d passed h id answer k
+          | inr over ↦ inr over
+        ]
+    on t (Sets now path format body answer left) rows d = inl (marked_on path (own t).store left (own t).observers d)
+    on t (Removes now path answer left) rows d = inl (marked_on path (own t).store left (own t).observers d)
+    on t (Delays path ms answer) rows d = inl d
+    on t (Gets path answer) rows d = inl d
+    on t (TellsApplied answer) rows d = inl d
+    on t (NextOut answer) rows d = inl d
+
+module _ (limit szx : ℕ) where
+  here : (t : List Call) (c : Call) → ServerRows limit szx (c ∷ t) → (to : Endpoint) (token : List ℕ)
+      → IsDue limit szx to token t → IsDue limit szx to token (c ∷ t) ⊎ TakesMark limit szx to token t c
+  here t c rows to token d =
+      elim (on to token limit szx t c rows (record { observer = d.observer; there = d.there; marked = d.marked })) [
+        | inl k ↦ inl (record { observer = k.observer; there = k.there; marked = k.marked })
+        | inr k ↦ inr k
+      ]
+
+  pub stay_due : (t : List Call) → ServerRows limit szx t → StayDue limit szx t
+  stay_due [] rows = tt
+  stay_due (c ∷ t) rows = (λ to token d. here t c rows to token d, stay_due t rows.1)

@@ -1,0 +1,104 @@
+-- What a request that is served leaves of the observers.
+use Rattle.std.proofs.Common.{◌≡◌, ℕ, max, Bool, Option, Some, None, List, ◌∷◌, refl, ap, subst, ◌∙◌}
+use Rattle.std.proofs.Common.{cond}
+use Rattle.coap_resource.specs.Content.{Content}
+use Rattle.coap_resource.specs.Serves.{Question, Reply}
+use Rattle.coap_resource.specs.Serves as R
+use Rattle.coap_exchange.specs.declared.answerer.Asked.{Asked}
+use Rattle.coap_exchange.specs.declared.answerer.Due.TheVariants as due
+use Rattle.coap_exchange.specs.AnswererTrace as E
+use Rattle.coap_exchange.specs.AnswererSteps as P
+use Rattle.coap_exchange.specs.AnswererLaw as W
+use Rattle.coap_exchange.proofs.Facts.ServerSide.{none_ended}
+use Rattle.coap_server.specs.Trace.{Own, Silent, Replies, Serves, Waits, Notifies, Call, Sets, Removes}
+use Rattle.coap_server.specs.Trace.{Delays, Feeds, Ticks, NextOut, Gets, TellsApplied}
+use Rattle.coap_server.specs.Asks.{answering, responding}
+use Rattle.coap_server.specs.Handling.{incoming, ticking, heard}
+use Rattle.coap_server.specs.Observers.{registers, sequence_if, unless_ended}
+use Rattle.coap_server.specs.Serving.{observers_served}
+use Rattle.coap_server.specs.Law.{ServerLaw, own_of, lower_of}
+use Rattle.coap_server.specs.Follows.Serves.{Serving, serving, serving_of}
+use Rattle.coap_server.specs.Follows.Tells.{Pair, registering, registers_by}
+use Rattle.coap_server.proofs.Observing.EndsObservation.{first_row, serves_right}
+use Rattle.coap_server.proofs.Serving.FoundReady.{found_ready}
+
+abbrev pub pair_if : Bool → Asked → Option Pair
+pair_if b a = cond b (Some (record { to = a.from; token = a.token })) None
+
+module _ (limit szx word : ℕ) where
+  abbrev own : List Call → Own
+  own t = own_of limit szx t
+
+  -- by the observers that there were before the call
+  pub record ServesAt (t : List Call) (c : Call) (x : Serving) : Type 0 where
+    pub old : x.old ≡ (own t).store
+    pub observers : (own (c ∷ t)).observers
+        ≡ observers_served (own t).store x.asked x.question x.reply x.left (own t).observers
+    pub says :
+        x.sequence
+        ≡ sequence_if (registers x.asked x.question x.reply (own t).observers)
+        ((own t).store.holds x.question.path)
+    pub registers_so : registering (own t) c
+        ≡ pair_if (registers x.asked x.question x.reply (own t).observers) x.asked
+    pub serves : (at : ℕ) × R.Serves x.old at x.question x.reply x.left
+
+  staged : (t : List Call) (c : Call) (s : Own) (a : Asked) (q : Question) (reply : Reply) (left : Content)
+      → s.observers ≡ (own t).observers → s.store ≡ (own t).store
+      → (own (c ∷ t)).observers ≡ observers_served s.store a q reply left s.observers
+      → registering (own t) c ≡ registers_by s a q reply → (at : ℕ) × R.Serves s.store at q reply left
+      → ServesAt t c (serving_of s a q reply left)
+  staged t c s a q reply left os store observers registers_is serves =
+      record {
+        old = store;
+        observers = observers ∙ (ap (λ z. observers_served z a q reply left s.observers) store
+            ∙ ap (λ z. observers_served (own t).store a q reply left z) os);
+        says = ap (λ z. sequence_if (registers a q reply z) (s.store.holds q.path)) os
+            ∙ ap (λ (z : Content). sequence_if (registers a q reply (own t).observers) (z.holds q.path)) store;
+        registers_so = registers_is ∙ ap (λ z. pair_if (registers a q reply z) a) os;
+        serves = serves;
+      }
+
+  pub served_at : (t : List Call) (c : Call) → ServerLaw limit szx word (c ∷ t) → (x : Serving)
+      → serving (own t) c ≡ Some x → ServesAt t c x
+  served_at t (Feeds now from bytes w up (Some p) (Serves q reply left) below) law x h =
+      let first : E.Call = incoming (own t) now from bytes up (Some p) in
+      let s : Own = heard (own t) now first in
+      let row = first_row word (answering s (Some p) (Serves q reply left) below) first (lower_of limit szx t)
+      law.exchanges in
+      let none = none_ended from up p (own t).exchanges.separate row in
+      let same : ◌≡◌ {A = Serving} (serving_of s p.0 q reply left) x = cc h in
+      let c : Call = Feeds now from bytes w up (Some p) (Serves q reply left) below in
+      subst (ServesAt t c) same
+      (staged t c s p.0 q reply left (ap (λ e. unless_ended e (own t).observers) none) refl refl refl
+      (serves_right limit szx word t c law (serving_of s p.0 q reply left) refl))
+  served_at t (Ticks now w below room (due.Ready a) passed (Serves q reply left) id answer) law x h =
+      let first : E.Call = ticking (own t) now below room (due.Ready a) in
+      let s : Own = heard (own t) now first in
+      let row = first_row word (responding s (due.Ready a) passed (Serves q reply left) w id) first
+      (lower_of limit szx t) law.exchanges in
+      let idle = (found_ready below (P.ready_at (W.own_of (lower_of limit szx t)) (max (own t).clock now)) room a
+      row).idle in
+      let same : ◌≡◌ {A = Serving} (serving_of s a q reply left) x = cc h in
+      let c : Call = Ticks now w below room (due.Ready a) passed (Serves q reply left) id answer in
+      subst (ServesAt t c) same
+      (staged t c s a q reply left
+      (ap (λ u. unless_ended (P.failed_by u (own t).exchanges.separate) (own t).observers) idle) refl refl refl
+      (serves_right limit szx word t c law (serving_of s a q reply left) refl))
+  served_at t (Feeds now from bytes w up None h below) law x e = absurd (cc e)
+  served_at t (Feeds now from bytes w up (Some p) Silent below) law x e = absurd (cc e)
+  served_at t (Feeds now from bytes w up (Some p) (Replies r) below) law x e = absurd (cc e)
+  served_at t (Feeds now from bytes w up (Some p) (Waits q d) below) law x e = absurd (cc e)
+  served_at t (Feeds now from bytes w up (Some p) (Notifies o reply) below) law x e = absurd (cc e)
+  served_at t (Ticks now w below room due.Copied passed h id answer) law x e = absurd (cc e)
+  served_at t (Ticks now w below room due.Expired passed h id answer) law x e = absurd (cc e)
+  served_at t (Ticks now w below room due.Idle passed h id answer) law x e = absurd (cc e)
+  served_at t (Ticks now w below room (due.Ready a) passed Silent id answer) law x e = absurd (cc e)
+  served_at t (Ticks now w below room (due.Ready a) passed (Replies r) id answer) law x e = absurd (cc e)
+  served_at t (Ticks now w below room (due.Ready a) passed (Waits q d) id answer) law x e = absurd (cc e)
+  served_at t (Ticks now w below room (due.Ready a) passed (Notifies o reply) id answer) law x e = absurd (cc e)
+  served_at t (Sets now path format body answer left) law x e = absurd (cc e)
+  served_at t (Removes now path answer left) law x e = absurd (cc e)
+  served_at t (Delays path ms answer) law x e = absurd (cc e)
+  served_at t (Gets path answer) law x e = absurd (cc e)
+  served_at t (TellsApplied answer) law x e = absurd (cc e)
+  served_at t (NextOut answer) law x e = absurd (cc e)

@@ -1,0 +1,27 @@
+use Rattle.coap_server.proofs.Answering.NextBegun.{all_begin_next, first_is_notified, none_left}
+use Rattle.coap_server.proofs.Answering.WaitOn.{wait_on}
+use Rattle.coap_server.proofs.Observing.ChangesMark.{all_mark}
+use Rattle.coap_server.proofs.Observing.LastRegistered.{all_register}
+use Rattle.coap_server.proofs.Observing.MarksStay.{stay_due}
+use Rattle.coap_server.proofs.laws.server_must_law.Goals as goal
+
+pub returns-clause-registers : goal.returns-clause-registers
+returns-clause-registers c limit szx word t law = all_register limit szx word t law
+
+pub returns-clause-marks : goal.returns-clause-marks
+returns-clause-marks c limit szx word t law = all_mark limit szx word t law
+
+pub returns-clause-stays_due : goal.returns-clause-stays_due
+returns-clause-stays_due c limit szx word t law = stay_due limit szx t law.rows
+
+pub returns-clause-waits_on : goal.returns-clause-waits_on
+returns-clause-waits_on c limit szx word t law = wait_on limit szx word t law
+
+pub returns-clause-none_left : goal.returns-clause-none_left
+returns-clause-none_left c limit szx word t law = none_left limit szx word t law
+
+pub returns-clause-notified : goal.returns-clause-notified
+returns-clause-notified c limit szx word t law = first_is_notified limit szx word t law
+
+pub returns-clause-begins : goal.returns-clause-begins
+returns-clause-begins c limit szx word t law = all_begin_next limit szx word t law
