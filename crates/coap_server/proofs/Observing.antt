@@ -1,5 +1,6 @@
 pub mod ChangesMark
 pub mod ConsAreAcknowledged
+pub mod CurrentLists
 pub mod EndsObservation
 pub mod LastRegistered
 pub mod LatestRegistration
@@ -12,4 +13,5 @@ pub mod Outcomes
 pub mod ServedObservers
 pub mod StoreChanges
 pub mod ToldInOrder
+pub mod UnmarkedAreCurrent
 pub mod VersionsRise

@@ -3,6 +3,7 @@ pub mod Attended
 pub mod Begins
 pub mod Brings
 pub mod Counts
+pub mod Current
 pub mod EmptyPackets
 pub mod Exact
 pub mod Gives

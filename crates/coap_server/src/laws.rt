@@ -1,5 +1,6 @@
 ghost use Rattle.std.specs.Prelude.{◌≡◌, ℕ, List, [], ◌∷◌, ◌++◌};
 ghost use Rattle.coap_server.specs.Follows.Begins.{AllBeginNext, FirstIsNotified, NoneLeft};
+ghost use Rattle.coap_server.specs.Follows.Current.{AreCurrent};
 ghost use Rattle.coap_server.specs.Follows.Latest.{AreLatest};
 ghost use Rattle.coap_server.specs.Follows.Marks.{AllMark, StayDue};
 ghost use Rattle.coap_server.specs.Follows.Registered.{AllRegister};
@@ -163,6 +164,8 @@ pub fn server_must_law()
     // .. and a mark stays until the observer is notified or registers anew, or its observation ends (RFC 7641, section
     // 4.2).
     ensures stays_due { (limit szx word : ℕ) (t : List Call) → ServerLaw limit szx word t → StayDue limit szx t }
+    // An observer that is not marked was told last the version that its path holds (RFC 7641, section 4.2).
+    ensures current { (limit szx word : ℕ) (t : List Call) → ServerLaw limit szx word t → AreCurrent limit szx t }
     // What waits goes on waiting until a call sends its response (RFC 7252, section 5.2.2).
     ensures waits_on { (limit szx word : ℕ) (t : List Call) → ServerLaw limit szx word t → WaitOn limit szx t }
     // A tick that does nothing leaves nothing that can be answered and nobody who can be notified, unless no Message ID

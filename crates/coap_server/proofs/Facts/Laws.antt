@@ -10,6 +10,7 @@ use Rattle.coap_server.specs.Law.{ServerLaw, lower_of, layer_of}
 use Rattle.coap_server.specs.Follows.Attended.{AllAttended, FirstIsAnswered}
 use Rattle.coap_server.specs.Follows.Begins.{AllBeginNext, FirstIsNotified, NoneLeft}
 use Rattle.coap_server.specs.Follows.Brings.{AreHandedUp, BlocksCome}
+use Rattle.coap_server.specs.Follows.Current.{AreCurrent}
 use Rattle.coap_server.specs.Follows.HandedUpAsOften.{Counted}
 use Rattle.coap_server.specs.Follows.Gives.{NoneContinues, SentResponses}
 use Rattle.coap_server.specs.Follows.GoesOn.{GoesOn}
@@ -35,6 +36,7 @@ use Rattle.coap_server.proofs.Observing.EndsObservation.{none_continues}
 use Rattle.coap_server.proofs.Observing.LastRegistered.{all_register}
 use Rattle.coap_server.proofs.Observing.MarksStay.{stay_due}
 use Rattle.coap_server.proofs.Observing.ToldInOrder as O
+use Rattle.coap_server.proofs.Observing.UnmarkedAreCurrent.{are_current}
 use Rattle.coap_server.proofs.Progress.GoesOn.{goes_on}
 use Rattle.coap_server.proofs.Replying.RepliesAtOnce.{replies_at_once}
 use Rattle.coap_server.proofs.Replying.ResponsesHaveRequests.{sent_responses}
@@ -124,6 +126,9 @@ module _ (limit szx word : ℕ) where
 
     pub stays_due : StayDue limit szx t
     stays_due = stay_due limit szx t law.rows
+
+    pub current : AreCurrent limit szx t
+    current = are_current limit szx word t law
 
     pub waits_on : WaitOn limit szx t
     waits_on = wait_on limit szx word t law

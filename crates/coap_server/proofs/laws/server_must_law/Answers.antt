@@ -3,6 +3,7 @@ use Rattle.coap_server.proofs.Answering.WaitOn.{wait_on}
 use Rattle.coap_server.proofs.Observing.ChangesMark.{all_mark}
 use Rattle.coap_server.proofs.Observing.LastRegistered.{all_register}
 use Rattle.coap_server.proofs.Observing.MarksStay.{stay_due}
+use Rattle.coap_server.proofs.Observing.UnmarkedAreCurrent.{are_current}
 use Rattle.coap_server.proofs.laws.server_must_law.Goals as goal
 
 pub returns-clause-registers : goal.returns-clause-registers
@@ -13,6 +14,9 @@ returns-clause-marks c limit szx word t law = all_mark limit szx word t law
 
 pub returns-clause-stays_due : goal.returns-clause-stays_due
 returns-clause-stays_due c limit szx word t law = stay_due limit szx t law.rows
+
+pub returns-clause-current : goal.returns-clause-current
+returns-clause-current c limit szx word t law = are_current limit szx word t law
 
 pub returns-clause-waits_on : goal.returns-clause-waits_on
 returns-clause-waits_on c limit szx word t law = wait_on limit szx word t law

@@ -1,0 +1,213 @@
+-- An observer to whom nothing is due was told last what its path holds.
+use Rattle.std.proofs.Common.{◌≡◌, ℕ, ◌==◌, ◌&&◌, nat_lt, max, Bool, true, false}
+use Rattle.std.proofs.Common.{Option, Some, None, List, [], ◌∷◌, refl, ap, sym, subst, ◌∙◌, cond, length}
+use Rattle.std.proofs.lemmas.Bool.{and_parts}
+use Rattle.std.specs.Cmp.{unsigned_Decides}
+use Rattle.coap_types.specs.declared.endpoint.Endpoint.{Endpoint}
+use Rattle.coap_codec.specs.Message.{Message}
+use Rattle.coap_layer.specs.Trace as L
+use Rattle.coap_observe.specs.Observers.{Observer, removed, registered}
+use Rattle.coap_observe.specs.declared.observers.TheConstants.{MAX_OBSERVERS as max_observers}
+use Rattle.coap_resource.specs.Content.{Content, put_refusal}
+use Rattle.coap_resource.specs.Rate.{rate_refusal}
+use Rattle.coap_resource.specs.RequestOptions.{block_of, szx_by}
+use Rattle.coap_resource.proofs.Facts.Served.{content_law}
+use Rattle.coap_exchange.specs.declared.answerer.Asked.{Asked}
+use Rattle.coap_exchange.specs.declared.answerer.Due.{Due}
+use Rattle.coap_exchange.specs.declared.answerer.Due.TheVariants as due
+use Rattle.coap_exchange.specs.AnswererSteps as P
+use Rattle.coap_common.specs.SuccessCodes.{content}
+use Rattle.coap_server.specs.Trace.{Own, Handling, Silent, Replies, Serves, Waits, Notifies, Call, Sets, Removes}
+use Rattle.coap_server.specs.Trace.{Delays, Feeds, Ticks, NextOut, Gets, TellsApplied}
+use Rattle.coap_server.specs.Observers.{observes, registers, observers_with, marked_if}
+use Rattle.coap_server.specs.Deferring.{question_of}
+use Rattle.coap_server.specs.Notifying.{behind, marked}
+use Rattle.coap_server.specs.Handling.{incoming, ticking, heard}
+use Rattle.coap_server.specs.Law.{ServerLaw, own_of}
+use Rattle.coap_server.specs.Follows.Current.{told_then, told_last, AreCurrent}
+use Rattle.coap_server.specs.Follows.Serves.{Serving, serving, serving_of}
+use Rattle.coap_server.specs.Follows.Tells.{Telling, tells, tells_if}
+use Rattle.coap_server.proofs.Answering.TickTurns.{next_notifies, next_is}
+use Rattle.coap_server.proofs.Holding.Holds.{held_is}
+use Rattle.coap_server.proofs.Observing.LastRegistered.{unmarked}
+use Rattle.coap_server.proofs.Observing.ObserversWereMade.{good, good_ended}
+use Rattle.coap_server.proofs.Observing.Outcomes.{never_notifies, never_notifies_ready}
+use Rattle.coap_server.proofs.Observing.ServedObservers.{ServesAt, served_at}
+use Rattle.coap_server.proofs.Observing.StoreChanges.{Effect, served_effect, sets_effect, removes_effect}
+use Rattle.coap_server.proofs.Observing.VersionsRise.{behind_there, marked_there, there_is}
+use Rattle.coap_server.proofs.Serving.Brought.{server_back}
+use Rattle.coap_server.proofs.Observing.CurrentLists.{Good, ended_good, marked_good, none_or, notified_good}
+use Rattle.coap_server.proofs.Observing.CurrentLists.{registered_good, removed_good}
+
+module _ (to : Endpoint) (token : List ℕ) (limit szx word : ℕ) where
+  abbrev own : List Call → Own
+  own t = own_of limit szx t
+
+  abbrev last_of : List Call → Option Telling
+  last_of t = told_last limit szx to token t
+
+  abbrev Fine : List Call → Type 0
+  Fine t = Good to token (last_of t) (own t).store.holds (own t).observers
+
+  abbrev obs : List Call → List Observer
+  obs t = (own t).observers
+
+  abbrev size_of : Serving → ℕ
+  size_of x = szx_by (block_of x.question.options) x.question.szx
+
+  served_good : (t : List Call) (c : Call) → ServerLaw limit szx word (c ∷ t) → (x : Serving)
+      → serving (own t) c ≡ Some x → (own (c ∷ t)).store ≡ x.left → Fine t → Fine (c ∷ t)
+  served_good t c law x is left_is g =
+      subst (λ os. Good to token (last_of (c ∷ t)) (own (c ∷ t)).store.holds os) (sym s.observers)
+      (subst (λ (z : Content). Good to token (last_of (c ∷ t)) z.holds
+      (marked_if x.question.path (own t).store x.left (observers_with x.asked x.question x.reply (obs t))))
+      (sym left_is)
+      (subst (λ z. Good to token (told_then to token z (last_of t)) x.left.holds
+      (marked_if x.question.path (own t).store x.left (observers_with x.asked x.question x.reply (obs t))))
+      (sym s.tells_so.1) (by (registers x.asked x.question x.reply (obs t)) refl (observes 1 x.question))))
+    where
+      s : ServesAt limit szx word t c x
+      s = served_at limit szx word t c law x is
+
+      effect : Effect x.question.path (own t).store x.left
+      effect = subst (λ z. Effect x.question.path z x.left) s.old
+          (served_effect x.old s.serves.0 x.question x.reply x.left s.serves.1)
+
+      by : (r : Bool) → registers x.asked x.question x.reply (obs t) ≡ r → (m : Bool)
+          → Good to token (told_then to token (tells_if r (own t) x.asked x.question s.tells_so.0) (last_of t))
+          x.left.holds
+          (marked_if x.question.path (own t).store x.left
+          (cond r (registered x.asked.from x.asked.token x.question.path (size_of x) (obs t))
+          (cond m (removed x.asked.from x.asked.token (obs t)) (obs t))))
+      by true so m =
+          let parts = and_parts (observes 0 x.question) ((x.reply.code == content)
+          && ((x.reply.offset == 0) && nat_lt (length (removed x.asked.from x.asked.token (obs t))) max_observers))
+          so in
+          let code = (unsigned_Decides x.reply.code content).0 (and_parts (x.reply.code == content)
+          ((x.reply.offset == 0) && nat_lt (length (removed x.asked.from x.asked.token (obs t))) max_observers)
+          parts.1).0 in
+          let told = content_law x.old x.left s.serves.0 x.question x.reply s.serves.1 code in
+          let there : (own t).store.holds x.question.path ≡ Some told.held =
+          ap (λ (z : Content). z.holds x.question.path) (sym s.old) ∙ told.is_held in
+          marked_good to token _ x.question.path (own t).store x.left
+          (registered x.asked.from x.asked.token x.question.path (size_of x) (obs t)) effect
+          (subst (λ z. Good to token (told_then to token
+          (tells x.asked.from x.asked.token x.question.path s.tells_so.0 true z) (last_of t)) (own t).store.holds
+          (registered x.asked.from x.asked.token x.question.path (size_of x) (obs t))) (sym there)
+          (registered_good to token (last_of t) (own t).store x.asked x.question s.tells_so.0 (size_of x) told.held
+          (obs t) there g))
+      by false so true = marked_good to token (last_of t) x.question.path (own t).store x.left
+          (removed x.asked.from x.asked.token (obs t)) effect
+          (removed_good to token (last_of t) (own t).store.holds x.asked.from x.asked.token (obs t) g)
+      by false so false = marked_good to token (last_of t) x.question.path (own t).store x.left (obs t) effect g
+
+  fed : (t : List Call) (now : ℕ) (from : Endpoint) (bytes : List ℕ) (w : ℕ) (up : L.Answer)
+      (came : Option (Asked × Message)) (h : Handling) (below : L.Answer)
+      → ServerLaw limit szx word (Feeds now from bytes w up came h below ∷ t) → Fine t
+      → Fine (Feeds now from bytes w up came h below ∷ t)
+  fed t now from bytes w up None Silent below law g =
+      ended_good to token (last_of t) (own t).store.holds _ (own t).observers g
+  fed t now from bytes w up None (Replies r) below law g = let k = law.rows.0 in absurd (cc k)
+  fed t now from bytes w up None (Serves q reply left) below law g = let k = law.rows.0 in absurd (cc k)
+  fed t now from bytes w up None (Waits q d) below law g = let k = law.rows.0 in absurd (cc k)
+  fed t now from bytes w up None (Notifies o reply) below law g = let k = law.rows.0 in absurd (cc k)
+  fed t now from bytes w up (Some p) Silent below law g =
+      ended_good to token (last_of t) (own t).store.holds _ (own t).observers g
+  fed t now from bytes w up (Some p) (Replies r) below law g =
+      ended_good to token (last_of t) (own t).store.holds _ (own t).observers g
+  fed t now from bytes w up (Some p) (Waits q d) below law g =
+      ended_good to token (last_of t) (own t).store.holds _ (own t).observers g
+  fed t now from bytes w up (Some p) (Serves q reply left) below law g =
+      served_good t (Feeds now from bytes w up (Some p) (Serves q reply left) below) law
+      (serving_of (heard (own t) now (incoming (own t) now from bytes up (Some p))) p.0 q reply left) refl refl g
+  fed t now from bytes w up (Some p) (Notifies o reply) below law g =
+      absurd (never_notifies (heard (own t) now (incoming (own t) now from bytes up (Some p))) p o reply law.rows.0)
+
+  idled : (t : List Call) (now w : ℕ) (below : L.Answer) (room : Bool) (passed : ℕ) (h : Handling) (id : ℕ)
+      (answer : Bool) → ServerLaw limit szx word (Ticks now w below room due.Idle passed h id answer ∷ t) → Fine t
+      → Fine (Ticks now w below room due.Idle passed h id answer ∷ t)
+  idled t now w below room passed Silent id answer law g =
+      ended_good to token (last_of t) (own t).store.holds _ (own t).observers g
+  idled t now w below room passed (Replies r) id answer law g =
+      let k = next_is (behind passed (marked (heard (own t) now (ticking (own t) now below room due.Idle)).observers))
+      (own t).store (Replies r) law.rows.0.0 in absurd (cc k)
+  idled t now w below room passed (Serves q reply left) id answer law g =
+      let k = next_is (behind passed (marked (heard (own t) now (ticking (own t) now below room due.Idle)).observers))
+      (own t).store (Serves q reply left) law.rows.0.0 in absurd (cc k)
+  idled t now w below room passed (Waits q d) id answer law g =
+      let k = next_is (behind passed (marked (heard (own t) now (ticking (own t) now below room due.Idle)).observers))
+      (own t).store (Waits q d) law.rows.0.0 in absurd (cc k)
+  idled t now w below room passed (Notifies o reply) id answer law g =
+      let s : Own = heard (own t) now (ticking (own t) now below room due.Idle) in
+      let found = next_notifies (behind passed (marked s.observers)) s.store o reply law.rows.0.0 in
+      let there = (marked_there s.observers o (behind_there passed (marked s.observers) o found)).0 in
+      let distinct = (good_ended limit szx t
+      (P.after (own t).exchanges (ticking (own t) now below room due.Idle)).ended (own t).observers
+      (good limit szx t)).registrations.distinct in
+      notified_good to token (last_of t) (own t).store o id s.observers distinct (there_is s.observers o distinct there)
+      (ended_good to token (last_of t) (own t).store.holds _ (own t).observers g) ((own t).store.holds o.path) refl
+
+  ticked : (t : List Call) (now w : ℕ) (below : L.Answer) (room : Bool) (d : Due) (passed : ℕ) (h : Handling)
+      (id : ℕ) (answer : Bool) → ServerLaw limit szx word (Ticks now w below room d passed h id answer ∷ t)
+      → Fine t → Fine (Ticks now w below room d passed h id answer ∷ t)
+  ticked t now w below room due.Idle passed h id answer law g = idled t now w below room passed h id answer law g
+  ticked t now w below room due.Copied passed Silent id answer law g =
+      ended_good to token (last_of t) (own t).store.holds _ (own t).observers g
+  ticked t now w below room due.Copied passed (Replies r) id answer law g = let k = law.rows.0.0 in absurd (cc k)
+  ticked t now w below room due.Copied passed (Serves q reply left) id answer law g =
+      let k = law.rows.0.0 in absurd (cc k)
+  ticked t now w below room due.Copied passed (Waits q d) id answer law g = let k = law.rows.0.0 in absurd (cc k)
+  ticked t now w below room due.Copied passed (Notifies o reply) id answer law g =
+      let k = law.rows.0.0 in absurd (cc k)
+  ticked t now w below room due.Expired passed Silent id answer law g =
+      ended_good to token (last_of t) (own t).store.holds _ (own t).observers g
+  ticked t now w below room due.Expired passed (Replies r) id answer law g = let k = law.rows.0.0 in absurd (cc k)
+  ticked t now w below room due.Expired passed (Serves q reply left) id answer law g =
+      let k = law.rows.0.0 in absurd (cc k)
+  ticked t now w below room due.Expired passed (Waits q d) id answer law g = let k = law.rows.0.0 in absurd (cc k)
+  ticked t now w below room due.Expired passed (Notifies o reply) id answer law g =
+      let k = law.rows.0.0 in absurd (cc k)
+  ticked t now w below room (due.Ready a) passed Silent id answer law g =
+      ended_good to token (last_of t) (own t).store.holds _ (own t).observers g
+  ticked t now w below room (due.Ready a) passed (Replies r) id answer law g =
+      ended_good to token (last_of t) (own t).store.holds _ (own t).observers g
+  ticked t now w below room (due.Ready a) passed (Waits q d) id answer law g =
+      ended_good to token (last_of t) (own t).store.holds _ (own t).observers g
+  ticked t now w below room (due.Ready a) passed (Serves q reply left) id answer law g =
+      served_good t (Ticks now w below room (due.Ready a) passed (Serves q reply left) id answer) law
+      (serving_of (heard (own t) now (ticking (own t) now below room (due.Ready a))) a q reply left) refl refl g
+  ticked t now w below room (due.Ready a) passed (Notifies o reply) id answer law g =
+      let s : Own = heard (own t) now (ticking (own t) now below room (due.Ready a)) in
+      absurd (never_notifies_ready (question_of s.clock a s.waiting) s.store s.clock o reply law.rows.0.0)
+
+  fine : (t : List Call) → ServerLaw limit szx word t → Fine t
+  fine [] law = λ o h m. none_or h
+  fine (c ∷ t) law = on c law (fine t (server_back limit szx word c t law))
+    where
+      on : (c : Call) → ServerLaw limit szx word (c ∷ t) → Fine t → Fine (c ∷ t)
+      on (Feeds now from bytes w up came h below) law g = fed t now from bytes w up came h below law g
+      on (Ticks now w below room d passed h id answer) law g = ticked t now w below room d passed h id answer law g
+      on (Sets now path format body answer left) law g =
+          marked_good to token (last_of t) path (own t).store left (own t).observers
+          (sets_effect (put_refusal (own t).store (max (own t).clock now) path (length body)) (own t).store
+          (max (own t).clock now) path format body answer left law.rows.0) g
+      on (Removes now path answer left) law g =
+          marked_good to token (last_of t) path (own t).store left (own t).observers
+          (removes_effect ((own t).store.holds path) (rate_refusal (own t).store.tally (max (own t).clock now))
+          (own t).store (max (own t).clock now) path answer left law.rows.0) g
+      on (Delays path ms answer) law g = g
+      on (Gets path answer) law g = g
+      on (TellsApplied answer) law g = g
+      on (NextOut answer) law g = g
+
+pub are_current : (limit szx word : ℕ) (t : List Call) → ServerLaw limit szx word t → AreCurrent limit szx t
+are_current limit szx word t law to token o is unmarked =
+    let c = fine to token limit szx word t law o is unmarked in
+    record {
+      told = c.told;
+      last = c.last_is;
+      path_is = c.path_is;
+      held = c.held;
+      is_held = sym (held_is limit szx t law.rows o.path) ∙ c.is_held;
+      version = c.version;
+    }
