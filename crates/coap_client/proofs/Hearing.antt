@@ -1,5 +1,6 @@
 pub mod FromServer
 pub mod HandedUp
 pub mod HeardOnce
+pub mod HeardRuns
 pub mod Noted
 pub mod Types

@@ -1,3 +1,4 @@
+pub mod Ascending
 pub mod Ended
 pub mod FetchesSince
 pub mod Marks

@@ -1,3 +1,4 @@
+pub mod FetchesFirst
 pub mod InTurn
 pub mod OneByOne
 pub mod Queued

@@ -1,9 +1,14 @@
 pub mod AnswerCodes
 pub mod AnswerReports
 pub mod Bodies
+pub mod ByTable
 pub mod Codes
 pub mod Dropped
+pub mod EachValid
+pub mod EachWhole
 pub mod EffectReports
 pub mod Ends
 pub mod ExchangeEnds
+pub mod LastParts
+pub mod TableLines
 pub mod Valid

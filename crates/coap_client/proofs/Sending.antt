@@ -10,6 +10,7 @@ pub mod OneCon
 pub mod OpenRuns
 pub mod SendingsOfACon
 pub mod SendsBegin
+pub mod SentFor
 pub mod SentIn
 pub mod StaysOpen
 pub mod TokenOfBytes

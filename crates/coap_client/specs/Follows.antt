@@ -13,6 +13,7 @@ pub mod Continued
 pub mod Ended
 pub mod Ends
 pub mod Exact
+pub mod Fetches
 pub mod FromServer
 pub mod Gives
 pub mod GoesOn
@@ -30,9 +31,11 @@ pub mod Places
 pub mod Rests
 pub mod Rising
 pub mod Sendings
+pub mod Table
 pub mod Taken
 pub mod Tokens
 pub mod Types
 pub mod Valid
 pub mod Values
+pub mod Whole
 pub mod Words

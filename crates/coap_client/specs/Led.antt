@@ -1,11 +1,15 @@
 -- What a client keeps, with its exchanges; one call of it; and what leads to it (RFC 7252, section 5.2).
 use Rattle.std.specs.Prelude.{ℕ, List}
 use Rattle.coap_types.specs.declared.endpoint.Endpoint.{Endpoint}
+use Rattle.coap_layer.specs.Machine.State as L
+use Rattle.coap_layer.specs.Machine.Steps.{left_after}
 use Rattle.coap_exchange.specs.Above as above
+use Rattle.coap_exchange.specs.AskerTrace as E
 use Rattle.coap_exchange.specs.AskerLaw as X
 use Rattle.coap_client.specs.Trace.{Call}
 use Rattle.coap_client.specs.Own.{Own, start}
 use Rattle.coap_client.specs.Steps.{lower, IsRight, after}
+use Rattle.coap_client.specs.Law.{own_of, lower_of}
 
 -- what is kept: by the client itself, and by its exchanges
 abbrev pub State : Type 0
@@ -21,3 +25,17 @@ Step old c new = above.Step IsRight after lower X.Exchanged old c new
 -- these calls can leave it so
 abbrev pub Led : Endpoint → (szx word : ℕ) → List Call → State → Type 0
 Led server szx word trace s = above.Led IsRight after lower X.Exchanged (start szx) (X.fresh_state server word) trace s
+
+-- the state that these calls leave, of the client and of its exchanges with their message layer
+
+abbrev pub exchanges_left : Endpoint → ℕ → List E.Call → X.State
+exchanges_left server word calls = record {
+  own = X.own_of server word calls;
+  layer = left_after (L.start word) (X.lower_of server word calls);
+}
+
+abbrev pub state_left : Endpoint → (szx word : ℕ) → List Call → State
+state_left server szx word trace = record {
+  own = own_of szx trace;
+  layer = exchanges_left server word (lower_of szx trace);
+}

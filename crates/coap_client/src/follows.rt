@@ -9,14 +9,17 @@ ghost use Rattle.coap_client.specs.Follows.Bounds.{AreBounded, AskOnce};
 ghost use Rattle.coap_client.specs.Follows.Codes.{ReportsCodes};
 ghost use Rattle.coap_client.specs.Follows.Continued.{AreContinued};
 ghost use Rattle.coap_client.specs.Follows.Ends.{AllEnds};
+ghost use Rattle.coap_client.specs.Follows.Fetches.{AllFetchFirst};
 ghost use Rattle.coap_client.specs.Follows.Newer.{AreNewer};
 ghost use Rattle.coap_client.specs.Follows.OfCalls.{AreOfCalls, OthersAreGets};
 ghost use Rattle.coap_client.specs.Follows.Order.{AreInOrder, HeardOnce, OneLast};
+ghost use Rattle.coap_client.specs.Follows.Table.{ReportsByTable};
 ghost use Rattle.coap_client.specs.Follows.Taken.{AllTaken};
 ghost use Rattle.coap_client.specs.Follows.HandedUp.{AreHandedUp};
 ghost use Rattle.coap_client.specs.Follows.Tokens.{OneConOrCancel, OneOfToken, OwnTokens, ShortTokens};
 ghost use Rattle.coap_client.specs.Follows.Types.{AreOfTypes};
-ghost use Rattle.coap_client.specs.Follows.Valid.{ValidOfTags};
+ghost use Rattle.coap_client.specs.Follows.Valid.{EachIsValid, ValidOfTags};
+ghost use Rattle.coap_client.specs.Follows.Whole.{WholeAreReported};
 
 /// What follows further from the law of a client that transfers bodies block by block and observes.
 pub fn client_follows_law()
@@ -51,6 +54,11 @@ pub fn client_follows_law()
     // are several; without Block2 it answers that request (RFC 7959, section 2.4).
     ensures bodies { (server : Endpoint) (szx word : ℕ) (t : List Call) → ClientLaw server szx word t
         → BodiesAreWhole szx t }
+    // Where the last part of a body is heard, it is reported; and so is a value of an observation that is live, whose
+    // cancel was not sent and of which no newer notification came (RFC 7641, section 3.2; RFC 7959, sections 2.4 and
+    // 2.6).
+    ensures whole { (server : Endpoint) (szx word : ℕ) (t : List Call) → ClientLaw server szx word t
+        → WholeAreReported szx t }
     // What is heard its message layer handed up in that very call, as it came from the server (RFC 7252, section
     // 5.3.2).
     ensures heard { (server : Endpoint) (szx word : ℕ) (t : List Call) → ClientLaw server szx word t
@@ -60,6 +68,9 @@ pub fn client_follows_law()
     // Valid is reported of a call that carries ETags, where a 2.03 was heard (RFC 7252, section 5.10.6.2).
     ensures valid { (server : Endpoint) (szx word : ℕ) (t : List Call) → ClientLaw server szx word t
         → ValidOfTags szx t }
+    // .. and wherever such a call hears a 2.03, that is reported.
+    ensures each_valid { (server : Endpoint) (szx word : ℕ) (t : List Call) → ClientLaw server szx word t
+        → EachIsValid szx t }
     // Behind its first block a body goes on where that was answered with 2.31 (RFC 7959, section 2.5).
     ensures continued { (server : Endpoint) (szx word : ℕ) (t : List Call) → ClientLaw server szx word t
         → AreContinued szx t }
@@ -84,6 +95,10 @@ pub fn client_follows_law()
     // 5.9).
     ensures codes { (server : Endpoint) (szx word : ℕ) (t : List Call) → ClientLaw server szx word t
         → ReportsCodes szx t }
+    // What is reported of a response is the first line that holds in the table of reports (RFC 7252, section 5.8; RFC
+    // 7641, section 3.2; RFC 7959, section 2.4); of nothing else is anything reported, but of an end and of want.
+    ensures table { (server : Endpoint) (szx word : ℕ) (t : List Call) → ClientLaw server szx word t
+        → ReportsByTable szx t }
     // Each report is of a number that was given; Timeout, Reset and NoResponse are reported where the exchange of a
     // call, a registration or a cancel ends so, and NoIds where its request can't be sent (RFC 7252, sections 4.2, 4.4
     // and 5.2.2).
@@ -94,4 +109,8 @@ pub fn client_follows_law()
     // A call, an observation and a cancel are refused exactly where they have to be, and what waits starts in its order
     // (the bounds are a profile).
     ensures taken { (server : Endpoint) (szx word : ℕ) (t : List Call) → ClientLaw server szx word t → AllTaken szx t }
+    // A representation that is to be fetched is, before all that waits; of several that of the lowest number first (RFC
+    // 7252, section 4.7; RFC 7959, section 2.6).
+    ensures fetches_first { (server : Endpoint) (szx word : ℕ) (t : List Call) → ClientLaw server szx word t
+        → AllFetchFirst szx t }
 {}

@@ -1,6 +1,7 @@
-ghost use Rattle.std.specs.Prelude.{ℕ, List};
+ghost use Rattle.std.specs.Prelude.{◌≡◌, ◌↔◌, ℕ, List};
 ghost use Rattle.coap_types.specs.declared.endpoint.Endpoint.{Endpoint};
 ghost use Rattle.coap_client.specs.Law.{ClientLaw};
+ghost use Rattle.coap_client.specs.Led.{State, Led, state_left};
 ghost use Rattle.coap_client.specs.Trace.{Call};
 ghost use Rattle.coap_client.specs.Follows.GoesOn.{GoesOn};
 ghost use Rattle.coap_client.specs.Follows.Rests.{ComesToRest, TicksEnd};
@@ -10,7 +11,10 @@ pub fn client_rests_law()
     // It can go on: each further call has answers that stand in the law.
     ensures goes { (server : Endpoint) (szx word : ℕ) (t : List Call) → ClientLaw server szx word t
         → GoesOn server szx word t }
-    // At one moment its ticks end.
+    // Calls that stand in the law lead to this state, and to no other.
+    ensures left { (server : Endpoint) (szx word : ℕ) (t : List Call) → ClientLaw server szx word t → (s : State)
+        → Led server szx word t s ↔ (s ≡ state_left server szx word t) }
+    // At one moment its ticks end: so many do something at most as are due in that state.
     ensures ticks { (server : Endpoint) (szx word : ℕ) (t : List Call) → TicksEnd server szx word t }
     // .. and it comes to rest: so do what it has out and its reports.
     ensures rests { (server : Endpoint) (szx word : ℕ) (t : List Call) → ClientLaw server szx word t

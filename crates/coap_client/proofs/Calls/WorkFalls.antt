@@ -1,5 +1,5 @@
 -- A tick of a client that does something leaves less to be done at its moment.
-use Rattle.std.proofs.Common.{◌≡◌, ◌≤◌, ◌<◌, inl, inr, ◌⊎◌, ℕ, ◌+◌, ◌*◌, max, Bool, true, false, not, ◌&&◌, cond}
+use Rattle.std.proofs.Common.{◌≡◌, ◌≤◌, ◌<◌, inl, inr, ◌⊎◌, ℕ, ◌+◌, max, Bool, true, false, not, ◌&&◌, cond}
 use Rattle.std.proofs.Common.{Option, Some, None, is_some, List, [], ◌∷◌, ◌++◌, length, filter, Result, Ok, Err, IfOk}
 use Rattle.std.proofs.Common.{refl, ap, sym, subst, ◌∙◌, arith}
 use Rattle.std.specs.Prelude.{◌==◌}
@@ -9,11 +9,12 @@ use Rattle.coap_layer.specs.Machine.State as S
 use Rattle.coap_layer.specs.Trace as L
 use Rattle.coap_layer.proofs.Facts.CallsOfLayer.{step_clock}
 use Rattle.coap_exchange.specs.declared.asker.AskRefusal.{AskRefusal}
-use Rattle.coap_exchange.specs.declared.asker.Exchange.{Exchange}
 use Rattle.coap_exchange.specs.declared.asker.Turn.{Turn}
 use Rattle.coap_exchange.specs.declared.asker.Turn.TheVariants as turn
 use Rattle.coap_exchange.specs.AskerTrace as E
 use Rattle.coap_exchange.specs.AskerRequests as Q
+use Rattle.coap_exchange.specs.AskerArrivals as R
+use Rattle.coap_exchange.specs.AskerArrivals.{has_waited, acked_in}
 use Rattle.coap_exchange.specs.AskerLaw as X
 use Rattle.coap_exchange.proofs.Facts.ClientSide.{exchanged_split}
 use Rattle.coap_common.specs.StepsDue.{one_if, due_count}
@@ -30,7 +31,7 @@ use Rattle.coap_client.specs.Requests.{message_of}
 use Rattle.coap_client.specs.Deeds.{at, close, deeds}
 use Rattle.coap_client.specs.Steps.{asks}
 use Rattle.coap_client.specs.Led.{State, Step}
-use Rattle.coap_client.specs.Turns.Work.{awaits_fetch, is_fetched, to_begin, work}
+use Rattle.coap_client.specs.Turns.Work.{is_wait_due, awaits_fetch, is_fetched, to_begin, work}
 use Rattle.coap_client.proofs.Rest.ExchangeTurns.{IsTaken, opened_least, turn_taken}
 use Rattle.coap_common.proofs.Facts.StepsDue.{is_step, ticks_least, ticks_fewer}
 use Rattle.coap_client.proofs.Uploading.Holding.{passes_steady, steadied}
@@ -176,13 +177,6 @@ idle_fewer m s token None None is h = starts_fewer m m s token s.queue h
 
 -- where no request is asked for
 
-silent_deed : (m : ℕ) (e : Effect) (token : Result (List ℕ) AskRefusal) (d : Deed) → e.deed ≡ d → AsksNothing d
-    → (closed m e d token).deed ≡ Rests
-silent_deed m e token Rests is n = is
-silent_deed m e token (Keeps t) is n = refl
-silent_deed m e token (Releases t) is n = refl
-silent_deed m e token (Asks op) is n = absurd n
-
 silent_own : (m : ℕ) (e : Effect) (token : Result (List ℕ) AskRefusal) (d : Deed) → AsksNothing d
     → (closed m e d token).own ≡ e.own
 silent_own m e token Rests n = refl
@@ -206,6 +200,20 @@ then_least m s t u h k =
     let first = h.least in
     record { clock = k.clock ∙ h.clock; least = omega (arith, later, first) }
 
+-- the wait of the exchange that runs, where its end is due
+
+abbrev wait : ℕ → E.Own → ℕ
+wait m o = one_if (is_wait_due o m)
+
+wait_later : (m : ℕ) (o : E.Own) → wait m (record o { clock = max o.clock m }) ≡ wait m o
+wait_later m o = let twice : max (max o.clock m) m ≡ max o.clock m = omega arith in
+    ap (λ n. one_if (has_waited n (acked_in o.running))) twice
+
+opened_wait : (m : ℕ) (o : E.Own) (r : E.Request) (id : Option ℕ)
+    → wait m (record (Q.opened o r id) { clock = max o.clock m }) ≤ wait m o
+opened_wait m o r None = let k = wait_later m o in omega (arith, k)
+opened_wait m o r (Some id) = omega arith
+
 module _ (m w : ℕ) (sent : L.Answer) (token : Result (List ℕ) AskRefusal) (kept : Bool) where
   abbrev Done : Deed → Own → X.State → X.State → Type 0
   Done d o x y = X.Exchanged x (deeds d o m w sent token kept) y
@@ -225,19 +233,20 @@ module _ (m w : ℕ) (sent : L.Answer) (token : Result (List ℕ) AskRefusal) (k
       subst (λ s. Least m s y.layer) (under.1 ∙ ap (λ (z : X.State). z.layer) h.1)
       (record { clock = omega (arith, clock); least = omega (arith, same) })
 
-  silent_runs : (d : Deed) (o : Own) (x y : X.State) → AsksNothing d → Done d o x y → y.own.running ≡ x.own.running
-  silent_runs Rests o x y n h = ap (λ (z : X.State). z.own.running) h
-  silent_runs (Keeps t) o x y n h = ap (λ (e : E.Own). e.running) h.2.own_is ∙ ap (λ (z : X.State). z.own.running) h.1
-  silent_runs (Releases t) o x y n h = ap (λ (e : E.Own). e.running) h.2.own_is
-      ∙ ap (λ (z : X.State). z.own.running) h.1
-  silent_runs (Asks op) o x y n h = absurd n
-
-abbrev running : Option Exchange → ℕ
-running o = one_if (is_some o)
-
-one_at_most : (o : Option Exchange) → running o ≤ 1
-one_at_most None = omega arith
-one_at_most (Some x) = omega arith
+  -- .. nor a wait that is due
+  deed_wait : (d : Deed) (o : Own) (x y : X.State) → Done d o x y → wait m y.own ≤ wait m x.own
+  deed_wait Rests o x y h = let k = ap (λ (z : X.State). wait m z.own) h in omega (arith, k)
+  deed_wait (Keeps t) o x y h = let k = ap (wait m) h.2.own_is in let j = ap (λ (z : X.State). wait m z.own) h.1 in
+      omega (arith, k, j)
+  deed_wait (Releases t) o x y h = let k = ap (wait m) h.2.own_is in let j = ap (λ (z : X.State). wait m z.own) h.1 in
+      omega (arith, k, j)
+  deed_wait (Asks op) o x y h =
+      let e = h.0.own in
+      let r = message_of o.observations op in
+      let k = ap (wait m) h.2.own_is in
+      let j = ap (λ (z : X.State). wait m z.own) h.1 in
+      let l = opened_wait m e r (Q.sent_as (Q.opening_of e r) sent) in
+      omega (arith, k, j, l)
 
 -- a tick
 
@@ -284,13 +293,14 @@ module _ (old new : State) (now w : ℕ) (below : L.Answer) (sent : L.Answer) (t
   begin_is : (d : Turn) → Ticked d → to_begin new.own ≡ to_begin (closing d).own
   begin_is d step = ap to_begin step.own_is
 
-  -- CONs with a step due
-  record Takes (d : Turn) : Type 0 where
-    now_due : work new now ≡ due new.layer.layer + (running new.layer.own.running + 2 * to_begin new.own)
+  -- what a tick leaves due: steps of CONs and the end of a wait
+  record Takes (d : Turn) (p : Parts d) : Type 0 where
+    now_due : work new now ≡ due new.layer.layer + (wait m new.layer.own + to_begin new.own)
+    waits : wait m new.layer.own ≤ wait m p.ticked.own
     least : due new.layer.layer ≤ due old.layer.layer
     fewer : is_step below ≡ true → due new.layer.layer < due old.layer.layer
 
-  takes : (d : Turn) → Ticked d → Parts d → Takes d
+  takes : (d : Turn) → Ticked d → (p : Parts d) → Takes d p
   takes d step p =
       let under = p.tick.under in
       let tick : S.Step old.layer.layer m L.Ticks below p.ticked.layer =
@@ -304,51 +314,59 @@ module _ (old new : State) (now w : ℕ) (below : L.Answer) (sent : L.Answer) (t
       (passes_steady (at now old.own) m d)).clock in
       let later = rest.clock in
       let ticked_at : max p.ticked.layer.clock m ≡ max old.layer.layer.clock m = omega (arith, clock) in
-      let moment : max new.layer.layer.clock (max new.own.clock now) ≡ max old.layer.layer.clock m =
-      omega (arith, own, later, ticked_at) in
+      let handed : max new.own.clock now ≡ m = omega (arith, own) in
+      let moment : max new.layer.layer.clock m ≡ max old.layer.layer.clock m = omega (arith, later, ticked_at) in
       let behind : due new.layer.layer ≤ due p.ticked.layer =
       subst (λ n. due_count n new.layer.layer.open_cons ≤ due_count n p.ticked.layer.open_cons) ticked_at rest.least
       in
       let first = ticks_least old.layer.layer p.ticked.layer m below tick in
+      let soon = deed_wait m w sent token kept (effect d).deed (effect d).own p.ticked p.between p.first in
+      let late = deed_wait m w sent token kept (closing d).deed (closing d).own p.between new.layer p.last in
       record {
-        now_due = ap (λ n. due_count n new.layer.layer.open_cons
-            + (running new.layer.own.running + 2 * to_begin new.own)) moment;
+        now_due = ap (λ n. due_count (max new.layer.layer.clock n) new.layer.layer.open_cons
+            + (one_if (is_wait_due new.layer.own n) + to_begin new.own)) handed
+            ∙ ap (λ n. due_count n new.layer.layer.open_cons + (wait m new.layer.own + to_begin new.own)) moment;
+        waits = omega (arith, soon, late);
         least = omega (arith, behind, first);
         fewer = λ is. (let less = ticks_fewer old.layer.layer p.ticked.layer m below tick is in
             omega (arith, behind, less));
       }
 
-  -- .. where no request is asked for
-  runs_still : (d : Turn) → AsksNothing (effect d).deed → (p : Parts d) → new.layer.own.running ≡ p.ticked.own.running
-  runs_still d n p =
-      silent_runs m w sent token kept (closing d).deed (closing d).own p.between new.layer
-      (subst AsksNothing (sym (silent_deed m (effect d) token (effect d).deed refl n)) tt) p.last
-      ∙ silent_runs m w sent token kept (effect d).deed (effect d).own p.ticked p.between n p.first
+  -- what runs on waits as long
+  waits_on : (d : Turn) → (p : Parts d)
+      → R.running_unless d old.layer.own.running ≡ old.layer.own.running → wait m p.ticked.own ≡ wait m old.layer.own
+  waits_on d p same = ap (wait m) p.tick.own_is
+      ∙ (ap (λ x. one_if (has_waited (max (max old.layer.own.clock m) m) (acked_in x))) same
+      ∙ wait_later m old.layer.own)
 
-  by_turn : (d : Turn) → Ticked d → (p : Parts d) → Takes d → work new now < work old now
+  taken : (d : Turn) → Parts d → IsTaken d below (is_wait_due old.layer.own m)
+  taken d p = subst (λ t. IsTaken t below (is_wait_due old.layer.own m)) (sym p.tick.right)
+      (turn_taken old.layer.own (max old.layer.own.clock m) below)
+
+  by_turn : (d : Turn) → Ticked d → (p : Parts d) → Takes d p → work new now < work old now
   by_turn turn.Idle step p k =
       let less = idle_fewer m (at now old.own) token old.own.running (to_fetch old.own.observations) refl
       (sym step.right) in
       let begin = begin_is turn.Idle step in
       let is = k.now_due in
       let least = k.least in
-      let few = one_at_most new.layer.own.running in
-      omega (arith, less, begin, is, least, few)
+      let waits = k.waits in
+      let same = waits_on turn.Idle p refl in
+      omega (arith, less, begin, is, least, waits, same)
   by_turn turn.Copied step p k =
       let begin = begin_is turn.Copied step in
       let is = k.now_due in
-      let fewer = k.fewer (subst (λ t. IsTaken t below old.layer.own.running) (sym p.tick.right)
-      (turn_taken old.layer.own (max old.layer.own.clock m) below)) in
-      let same = ap running (runs_still turn.Copied tt p ∙ ap (λ (e : E.Own). e.running) p.tick.own_is) in
-      omega (arith, begin, is, fewer, same)
-  by_turn (turn.End e) step p k = by (subst (λ t. IsTaken t below old.layer.own.running) (sym p.tick.right)
-      (turn_taken old.layer.own (max old.layer.own.clock m) below))
+      let fewer = k.fewer (taken turn.Copied p) in
+      let waits = k.waits in
+      let same = waits_on turn.Copied p refl in
+      omega (arith, begin, is, fewer, waits, same)
+  by_turn (turn.End e) step p k = by (taken (turn.End e) p)
     where
       silent : AsksNothing (effect (turn.End e)).deed
       silent = fails_silently (λ t. true) (lapse e) (at now old.own) old.own.running
 
-      over : running new.layer.own.running ≡ 0
-      over = ap running (runs_still (turn.End e) silent p ∙ ap (λ (x : E.Own). x.running) p.tick.own_is)
+      over : wait m new.layer.own ≡ 0
+      over = let a = k.waits in let b = ap (wait m) p.tick.own_is in omega (arith, a, b)
 
       begin : to_begin new.own ≤ to_begin old.own
       begin =
@@ -357,10 +375,10 @@ module _ (old new : State) (now w : ℕ) (below : L.Answer) (sent : L.Answer) (t
           let c = failed_least (λ t. true) (lapse e) (at now old.own) old.own.running in
           omega (arith, a, b, c)
 
-      by : (is_step below ≡ true) ⊎ (is_some old.layer.own.running ≡ true) → work new now < work old now
+      by : (is_step below ≡ true) ⊎ (is_wait_due old.layer.own m ≡ true) → work new now < work old now
       by (inl is) = let fewer = k.fewer is in let a = over in let b = begin in let n = k.now_due in
           omega (arith, fewer, a, b, n)
-      by (inr some) = let least = k.least in let one = ap one_if some in let a = over in let b = begin in let n =
+      by (inr due_now) = let least = k.least in let one = ap one_if due_now in let a = over in let b = begin in let n =
           k.now_due in omega (arith, least, one, a, b, n)
 
   pub work_falls : (d : Turn) → Ticked d → work new now < work old now

@@ -441,7 +441,8 @@ given_before : (k : ℕ) (q : Request) (t : List Call) → WasTaken (taken k q) 
 given_before k q t h = Ever_map (λ b. takes b ≡ Some (taken k q)) (λ b. number_given b ≡ Some k)
     (λ b is. gives_number k q b is) t h
 
-one_request : (k : ℕ) (a b : Request) (t : List Call) → NumbersOnce t → WasTaken (taken k a) t → WasTaken (taken k b) t
+pub one_request : (k : ℕ) (a b : Request) (t : List Call) → NumbersOnce t → WasTaken (taken k a) t
+    → WasTaken (taken k b) t
     → a ≡ b
 one_request k a b [] once h i = absurd h
 one_request k a b (c ∷ t) once (inl h) (inl i) =

@@ -57,11 +57,11 @@ use Rattle.coap_client.proofs.Queueing.WaitingLists.{waits_some}
 
 -- what is asked for, by the deed
 
-abbrev asks_op : Deed → Option Operation
+abbrev pub asks_op : Deed → Option Operation
 asks_op (Asks op) = Some op
 asks_op _ = None
 
-asked_is : (e : Effect) (d : Deed) (token : Result (List ℕ) AskRefusal)
+pub asked_is : (e : Effect) (d : Deed) (token : Result (List ℕ) AskRefusal)
     → elim (sent_by e d token) [
       | Some x ↦ Some x.operation
       | None ↦ option_map (λ (u : Unsent). u.operation)
@@ -77,7 +77,7 @@ released_none : (o : Option Observation) → asks_op (releases o) ≡ None
 released_none None = refl
 released_none (Some o) = refl
 
-failed_none : (u : Transfer → Bool) (report : Report) (s : Own) (running : Option Operation)
+pub failed_none : (u : Transfer → Bool) (report : Report) (s : Own) (running : Option Operation)
     → asks_op (failed u report s running).deed ≡ None
 failed_none u report s None = refl
 failed_none u report s (Some (Calling k r t)) = refl

@@ -33,7 +33,7 @@ use Rattle.coap_client.proofs.Reporting.AnswerCodes.{done_of, failed_of, each_do
 module _ (szx : ℕ) where
   -- the answer to the call that runs is reported
 
-  reports_answer : (s : Own) (c : Call) (k : ℕ) (r : Request) (tr : Transfer) (m : Message) (final : Bool)
+  pub reports_answer : (s : Own) (c : Call) (k : ℕ) (r : Request) (tr : Transfer) (m : Message) (final : Bool)
       (report : Report) → s.running ≡ Some (Calling k r tr) → hears c ≡ Some m → answer r tr m ≡ calls.Ends final report
       → reports s c ≡ of k report
   reports_answer s (Feeds now from bytes w up settled (Some (event_of.Answer a)) sent token was) k r tr m final report

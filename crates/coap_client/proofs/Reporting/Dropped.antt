@@ -1,30 +1,45 @@
--- Where what runs counts no longer, the request that was sent last is reported of no number.
-use Rattle.std.proofs.Common.{◌≡◌, ◌⊎◌, inl, inr, ℕ, max, Bool, true, false, Option, Some, None, List, [], ◌∷◌, refl}
-use Rattle.std.proofs.Common.{ap, sym, ◌∙◌, Result, Ok, Err}
+-- Where what runs counts no longer, the request that was sent last is a fetch for an observation: that is over, or a
+-- newer notification of it came since.
+use Rattle.std.proofs.Common.{◌≡◌, ◌≤◌, ◌⊎◌, inl, inr, ℕ, max, Bool, true, false, cond, Option, Some, None, List, []}
+use Rattle.std.proofs.Common.{◌∷◌, refl, ap, sym, subst, ◌∙◌, Ok, Err, arith}
+use Rattle.std.specs.Prelude.{◌==◌}
 use Rattle.coap_types.specs.declared.endpoint.Endpoint.{Endpoint}
+use Rattle.coap_codec.specs.Message.{Message}
 use Rattle.coap_exchange.specs.AskerLaw as X
-use Rattle.coap_exchange.specs.declared.asker.AskRefusal.{AskRefusal}
+use Rattle.coap_exchange.specs.declared.asker.Event.{Event}
 use Rattle.coap_exchange.specs.declared.asker.Exchange.{Exchange}
-use Rattle.coap_client.specs.Trace.{NoIds, Report, Call, Calls, Observes, Cancels, Forgets, Feeds}
+use Rattle.coap_observe.specs.Newer.{is_newer}
+use Rattle.coap_client.specs.Trace.{NoIds, Report, Ended, Reported, Call, Calls, Observes, Cancels, Forgets, Feeds}
 use Rattle.coap_client.specs.Trace.{Ticks}
 use Rattle.coap_client.specs.Trace.{NextOut, NextReport, Asked}
 use Rattle.coap_client.specs.Own.{Transfer, Operation, Calling, Registering, Fetching, Cancelling}
-use Rattle.coap_client.specs.Own.{Dropped, Own}
-use Rattle.coap_client.specs.Observations.{dropped}
+use Rattle.coap_client.specs.Own.{Dropped, Observation, Own}
+use Rattle.coap_client.specs.Observations.{observation_with, dropped}
+use Rattle.coap_client.specs.Responses.{is_notification, sequence_in}
 use Rattle.coap_client.specs.Effects.{Asks, Effect, has_sent}
-use Rattle.coap_client.specs.Events.{failed, happened, passes, closed}
+use Rattle.coap_client.specs.Events.{failed}
+use Rattle.coap_client.specs.Reports.{lapse}
 use Rattle.coap_client.specs.Deeds.{at}
-use Rattle.coap_client.specs.Steps.{lower}
+use Rattle.coap_client.specs.Steps.{lower, reports}
 use Rattle.coap_client.specs.Law.{ClientRows, own_of, lower_of}
-use Rattle.coap_client.specs.Follows.Words.{Sending, sends, sent_by, last_sent}
-use Rattle.coap_client.specs.Turns.Closing.{Closing, quiet, goes_out, is_refused, sending_of}
-use Rattle.coap_client.proofs.Uploading.Holds.{goes_fed, goes_ticked}
+use Rattle.coap_client.specs.Follows.Newer.{Newly, newly, taken_by, notifies}
+use Rattle.coap_client.specs.Follows.Newer as newer_of
+use Rattle.coap_client.specs.Follows.Notified.{is_newly_of}
+use Rattle.coap_client.specs.Follows.Places.{final_of, gone}
+use Rattle.coap_client.specs.Follows.Values.{SentSince}
+use Rattle.coap_client.specs.Follows.Words.{Sending, sends, last_sent}
+use Rattle.coap_client.specs.Turns.Closing.{Closing, quiet, goes_out, is_refused}
+use Rattle.coap_client.specs.Turns.Moves as mv
+use Rattle.coap_client.specs.Turns.Moves.{Move, left_by}
+use Rattle.coap_client.proofs.Calls.Happening.{AsksNothing}
+use Rattle.coap_client.proofs.Calls.PassingLemmas.{fails_silently}
 use Rattle.coap_client.proofs.Places.Once.{beneath, law_back, known}
-use Rattle.coap_client.proofs.Queueing.OneByOne.{last_same}
+use Rattle.coap_client.proofs.Places.PlaceEffects.{Waits, AllWait}
+use Rattle.coap_client.proofs.Places.PlaceLemmas.{same_number, number_self, hit_self}
+use Rattle.coap_client.proofs.Queueing.OneByOne.{asks_runs, last_same}
+use Rattle.coap_client.proofs.Turning.Moves.{releases_none}
+use Rattle.coap_client.proofs.Turning.Turns.{Turned, fed_turned, ticked_turned}
 use Rattle.coap_client.proofs.Uploading.Pieces.{IfTracked, all_sends}
-use Rattle.coap_client.proofs.Turning.BlockByBlock.{Runs, happened_runs, passes_runs}
-use Rattle.coap_client.proofs.Turning.Turns.{closing}
-use Rattle.coap_client.specs.Follows.Ends.{reported_of}
 
 failed_none : (u : Transfer → Bool) (report : Report) (s : Own) (op : Operation)
     → (failed u report s (Some op)).own.running ≡ None
@@ -34,109 +49,239 @@ failed_none u report s (Fetching k) = refl
 failed_none u report s (Cancelling k) = refl
 failed_none u report s Dropped = refl
 
+-- no request is asked for that no longer counts
+
+counts : (s : Own) (now : ℕ) (told : Option Event) → AllWait s.observations s.queue → (mo : Move s now told)
+    → (left_by s now told mo).deed ≡ Asks Dropped → ⊥
+counts s now told w (mv.starts_next op queue none rest first q) h =
+    let op_is : op ≡ Dropped = cc h in
+    subst (Waits s.observations) op_is (subst (AllWait s.observations) first w).0
+counts s now told w (mv.rests un) h = cc h
+counts s now told w (mv.copies q) h = cc h
+counts s now told w (mv.fetches k none rest q) h = cc h
+counts s now told w (mv.goes_on k r t next m hears is asks) h = cc h
+counts s now told w (mv.is_done k r t final report m hears is ends_it) h = cc h
+counts s now told w (mv.registers k path m hears is note) h = cc h
+counts s now told w (mv.refuses k path m hears is note) h = cc h
+counts s now told w (mv.fetches_on k n m num size hears is rest code asks) h = cc h
+counts s now told w (mv.fetched k n m hears is rest code done) h = cc h
+counts s now told w (mv.gives_up k m hears is) h = cc h
+counts s now told w (mv.fetched_none k m hears is) h = cc h
+counts s now told w (mv.cancels k m hears is) h = releases_none _ Dropped h
+counts s now told w (mv.is_dropped m hears is) h = cc h
+counts s now told w (mv.fails e un) h = subst AsksNothing h (fails_silently (λ t. true) (lapse e) s s.running)
+counts s now told w (mv.is_ended o m notes found note) h = releases_none _ Dropped h
+counts s now told w (mv.renews o m notes found note newer) h = cc h
+counts s now told w (mv.passes_by o m notes found note newer) h = cc h
+
+-- What runs counts no longer: it did so before; or a fetch ran, and its observation is over, or a newer notification of
+-- it came.
+data Drop (s : Own) (now : ℕ) (told : Option Event) (report : Option Reported) : Type 0 where
+  before : s.running ≡ Some Dropped → Drop s now told report
+  over : (k : ℕ) → s.running ≡ Some (Fetching k) → final_of k report ≡ 1 → Drop s now told report
+  newer : (k : ℕ) (n : Newly) → s.running ≡ Some (Fetching k) → taken_by s now told ≡ Some n → n.number ≡ k
+      → Drop s now told report
+
+abbrev newly_as : ℕ → ℕ → Message → Newly
+newly_as k now m = record { number = k; mark = record { number = sequence_in m; at = now }; message = m }
+
+module _ (s : Own) (now : ℕ) (told : Option Event) where
+  drop_by : (report : Option Reported) (j : ℕ)
+      → ((k : ℕ) → j ≡ k → s.running ≡ Some (Fetching k) → Drop s now told report)
+      → (running : Option Operation) → s.running ≡ running → dropped j running ≡ Some Dropped → Drop s now told report
+  drop_by report j f None is h = absurd (cc h)
+  drop_by report j f (Some (Calling k r t)) is h = absurd (cc h)
+  drop_by report j f (Some (Registering k path)) is h = absurd (cc h)
+  drop_by report j f (Some (Cancelling k)) is h = absurd (cc h)
+  drop_by report j f (Some Dropped) is h = before is
+  drop_by report j f (Some (Fetching k)) is h = by (k == j) refl h
+    where
+      by : (b : Bool) → (k == j) ≡ b → cond b (Some Dropped) (Some (Fetching k)) ≡ Some Dropped
+          → Drop s now told report
+      by true e h = f k (sym (same_number k j e)) is
+      by false e h = absurd (cc h)
+
+  drop_failed : (u : Transfer → Bool) (report : Report) (running : Option Operation) → s.running ≡ running
+      → (failed u report s running).own.running ≡ Some Dropped → Drop s now told (failed u report s running).report
+  drop_failed u report None is h = before h
+  drop_failed u report (Some op) is h = let z : None ≡ Some Dropped = sym (failed_none u report s op) ∙ h in
+      absurd (cc z)
+
+  comes : (o : Observation) (m : Message) → mv.Notes told m → observation_with m.token s.observations ≡ Some o
+      → is_notification m ≡ true → is_newer o.watch.mark (sequence_in m) now ≡ true
+      → taken_by s now told ≡ newly o.number now m
+  comes o m notes found note newer_so =
+      ap (taken_by s now) notes ∙ (ap (λ z. newer_of.renews z now m) found
+      ∙ (ap (λ b. cond b (cond (is_newer o.watch.mark (sequence_in m) now) (newly o.number now m) None) None) note
+      ∙ ap (λ b. cond b (newly o.number now m) None) newer_so))
+
+  drops : AllWait s.observations s.queue → (mo : Move s now told)
+      → (left_by s now told mo).own.running ≡ Some Dropped → Drop s now told (left_by s now told mo).report
+  drops w (mv.rests un) h = before h
+  drops w (mv.copies q) h = before h
+  drops w (mv.starts_next op queue none rest first q) h =
+      let op_is : op ≡ Dropped = cc h in
+      absurd (subst (Waits s.observations) op_is (subst (AllWait s.observations) first w).0)
+  drops w (mv.fetches k none rest q) h = absurd (cc h)
+  drops w (mv.goes_on k r t next m hears is asks) h = absurd (cc h)
+  drops w (mv.is_done k r t final report m hears is ends_it) h = absurd (cc h)
+  drops w (mv.registers k path m hears is note) h = absurd (cc h)
+  drops w (mv.refuses k path m hears is note) h = absurd (cc h)
+  drops w (mv.fetches_on k n m num size hears is rest code asks) h = absurd (cc h)
+  drops w (mv.fetched k n m hears is rest code done) h = absurd (cc h)
+  drops w (mv.gives_up k m hears is) h = absurd (cc h)
+  drops w (mv.fetched_none k m hears is) h = absurd (cc h)
+  drops w (mv.cancels k m hears is) h = absurd (cc h)
+  drops w (mv.is_dropped m hears is) h = absurd (cc h)
+  drops w (mv.fails e un) h = drop_failed (λ t. true) (lapse e) s.running refl h
+  drops w (mv.is_ended o m notes found note) h =
+      drop_by (Some (record { number = o.number; report = Ended m.code })) o.number
+      (λ k same is. over k is (ap (λ i. final_of k (Some (record { number = i; report = Ended m.code }))) same
+      ∙ hit_self k)) s.running refl h
+  drops w (mv.renews o m notes found note newer_so) h =
+      drop_by (left_by s now told (mv.renews o m notes found note newer_so)).report o.number
+      (λ k same is. newer k (newly_as o.number now m) is (comes o m notes found note newer_so) same) s.running refl h
+  drops w (mv.passes_by o m notes found note newer_so) h = before h
+
 module _ (szx : ℕ) where
-  -- the request that was sent last is of no call, registration or cancel
-  abbrev pub LastUnreported : List Call → Type 0
-  LastUnreported t = (x : Sending) × (last_sent szx t ≡ Some x) × (reported_of x.operation ≡ None)
+  -- the request that was sent last; it is dropped
+  pub record LastFetches (t : List Call) : Type 0 where
+    pub sending : Sending
+    pub last : last_sent szx t ≡ Some sending
+    pub number : ℕ
+    pub fetches : sending.operation ≡ Fetching number
+    pub off : (1 ≤ gone szx number t) ⊎ (SentSince szx number sending t → ⊥)
 
   abbrev pub IfDropped : List Call → Type 0
-  IfDropped t = (own_of szx t).running ≡ Some Dropped → LastUnreported t
+  IfDropped t = (own_of szx t).running ≡ Some Dropped → LastFetches t
 
-  unreported_later : (t : List Call) (c : Call) → sends (own_of szx t) c ≡ None → LastUnreported t
-      → LastUnreported (c ∷ t)
-  unreported_later t c none h = (h.0, last_same szx t c none ∙ h.1, h.2)
+  fetches_later : (t : List Call) (c : Call) → sends (own_of szx t) c ≡ None → LastFetches t → LastFetches (c ∷ t)
+  fetches_later t c none h = record {
+    sending = h.sending;
+    last = last_same szx t c none ∙ h.last;
+    number = h.number;
+    fetches = h.fetches;
+    off = elim h.off [
+      | inl g ↦ inl (omega (arith, g))
+      | inr f ↦ inr (λ since. elim since.1 [
+        | inl now ↦ (let z : None ≡ Some h.sending = sym none ∙ now in cc z)
+        | inr earlier ↦ f earlier
+      ])
+    ];
+  }
 
   module _ (server : Endpoint) (word : ℕ) where
-    -- the fetch of an observation was sent last
-    of_fetch : (t : List Call) (k : ℕ) (x : Option Exchange) → IfTracked szx t (Some (Fetching k)) x → LastUnreported t
-    of_fetch t k x h = (h.sending, h.last, elim h.same [ inl d ↦ absurd (cc d) | inr e ↦ ap reported_of e ])
-
-    dropped_of : (t : List Call) → IfDropped t → (j : ℕ) (running : Option Operation) → (own_of szx t).running ≡ running
-        → IfTracked szx t running (beneath server szx word t).running → dropped j running ≡ Some Dropped
-        → LastUnreported t
-    dropped_of t ih j None is tr h = absurd (cc h)
-    dropped_of t ih j (Some (Calling k r u)) is tr h = absurd (cc h)
-    dropped_of t ih j (Some (Registering k path)) is tr h = absurd (cc h)
-    dropped_of t ih j (Some (Cancelling k)) is tr h = absurd (cc h)
-    dropped_of t ih j (Some Dropped) is tr h = ih is
-    dropped_of t ih j (Some (Fetching k)) is tr h = of_fetch t k (beneath server szx word t).running tr
+    -- the fetch of an observation was sent last, and is dropped now
+    of_fetch : (t : List Call) (c : Call) → sends (own_of szx t) c ≡ None → (k : ℕ) (x : Option Exchange)
+        → IfTracked szx t (Some (Fetching k)) x
+        → ((y : Sending) → (1 ≤ gone szx k (c ∷ t)) ⊎ (SentSince szx k y (c ∷ t) → ⊥)) → LastFetches (c ∷ t)
+    of_fetch t c none k x h off = record {
+      sending = h.sending;
+      last = last_same szx t c none ∙ h.last;
+      number = k;
+      fetches = elim h.same [ inl d ↦ absurd (cc d) | inr e ↦ e ];
+      off = off h.sending;
+    }
 
     module _ (t : List Call) (c : Call) (ih : IfDropped t)
-        (tr : IfTracked szx t (own_of szx t).running (beneath server szx word t).running) (now : ℕ) (e : Effect)
-        (token : Result (List ℕ) AskRefusal)
-        (runs : Runs (at now (own_of szx t)) e) (asks : (op : Operation) → e.deed ≡ Asks op
-        → e.own.running ≡ Some op) where
-      abbrev m : ℕ
-      m = max (own_of szx t).clock now
+        (tr : IfTracked szx t (own_of szx t).running (beneath server szx word t).running) where
+      fetched_so : sends (own_of szx t) c ≡ None → (k : ℕ) → (own_of szx t).running ≡ Some (Fetching k)
+          → ((y : Sending) → (1 ≤ gone szx k (c ∷ t)) ⊎ (SentSince szx k y (c ∷ t) → ⊥)) → LastFetches (c ∷ t)
+      fetched_so none k is off = of_fetch t c none k (beneath server szx word t).running
+          (subst (λ o. IfTracked szx t o (beneath server szx word t).running) is tr) off
 
-      turned : Closing m e token → (own_of szx (c ∷ t)).running ≡ (closed m e e.deed token).own.running
-          → sends (own_of szx t) c ≡ sent_by e e.deed token → IfDropped (c ∷ t)
-      turned (goes_out op key asked given sends_it own_same report_same) own sending is =
-          let running : Some op ≡ Some Dropped = sym (asks op asked)
-          ∙ (sym (ap (λ (o : Own). o.running) own_same) ∙ (sym own ∙ is)) in
-          let op_is : op ≡ Dropped = cc running in
-          let sent : sends (own_of szx t) c ≡ Some (sending_of e op key) = sending ∙ sends_it in (
-            sending_of e op key,
-            ap (λ z. elim z [ Some x ↦ Some x | None ↦ last_sent szx t ]) sent,
-            ap reported_of op_is,
-          )
-      turned (is_refused op why asked given none all) own sending is =
-          let running : None ≡ Some Dropped = sym (failed_none has_sent NoIds e.own op)
-          ∙ (sym (ap (λ (z : Effect). z.own.running) all) ∙ (sym own ∙ is)) in
-          absurd (cc running)
-      turned (quiet q none own_same report_same) own sending is =
-          let run : e.own.running ≡ Some Dropped = sym (ap (λ (o : Own). o.running) own_same) ∙ (sym own ∙ is) in
-          unreported_later t c (sending ∙ none) (by run runs.running)
+      -- it is forgotten
+      dropped_of : sends (own_of szx t) c ≡ None → (j : ℕ) → 1 ≤ gone szx j (c ∷ t) → (running : Option Operation)
+          → (own_of szx t).running ≡ running → dropped j running ≡ Some Dropped → LastFetches (c ∷ t)
+      dropped_of none j off None is h = absurd (cc h)
+      dropped_of none j off (Some (Calling k r u)) is h = absurd (cc h)
+      dropped_of none j off (Some (Registering k path)) is h = absurd (cc h)
+      dropped_of none j off (Some (Cancelling k)) is h = absurd (cc h)
+      dropped_of none j off (Some Dropped) is h = fetches_later t c none (ih is)
+      dropped_of none j off (Some (Fetching k)) is h = by (k == j) refl h
         where
-          by : e.own.running ≡ Some Dropped
-              → (e.own.running ≡ None) ⊎ (((k : ℕ) × (e.own.running ≡ dropped k (own_of szx t).running))
-              ⊎ ((e.own.running ≡ (own_of szx t).running) ⊎ ((op : Operation) × (e.deed ≡ Asks op))))
-              → LastUnreported t
-          by run (inl n) = let k : None ≡ Some Dropped = sym n ∙ run in absurd (cc k)
-          by run (inr (inl d)) = dropped_of t ih d.0 (own_of szx t).running refl tr (sym d.1 ∙ run)
-          by run (inr (inr (inl same))) = ih (sym same ∙ run)
-          by run (inr (inr (inr a))) = absurd (q a.0 a.1)
+          by : (b : Bool) → (k == j) ≡ b → cond b (Some Dropped) (Some (Fetching k)) ≡ Some Dropped
+              → LastFetches (c ∷ t)
+          by true e h = fetched_so none k is (λ y. inl (subst (λ i. 1 ≤ gone szx i (c ∷ t))
+              (sym (same_number k j e)) off))
+          by false e h = absurd (cc h)
+
+      module _ (w : AllWait (own_of szx t).observations (own_of szx t).queue) (k : Turned szx t c) where
+        abbrev m : ℕ
+        m = max (own_of szx t).clock k.now
+
+        abbrev s : Own
+        s = at k.now (own_of szx t)
+
+        abbrev left : Effect
+        left = left_by s m k.told k.move
+
+        drop_now : sends (own_of szx t) c ≡ None → reports (own_of szx t) c ≡ left.report
+            → Drop s m k.told left.report → LastFetches (c ∷ t)
+        drop_now none made (before is) = fetches_later t c none (ih is)
+        drop_now none made (over j is final) = fetched_so none j is (λ y. inl (
+            let z : final_of j (reports (own_of szx t) c) ≡ 1 = ap (final_of j) made ∙ final in
+            omega (arith, z)))
+        drop_now none made (newer j n is taken same) = fetched_so none j is (λ y. inr (λ since. (
+            let noted : notifies (own_of szx t) c ≡ Some n = k.notifies_is ∙ taken in
+            let here : is_newly_of j (notifies (own_of szx t) c) ≡ true =
+            ap (is_newly_of j) noted ∙ (ap (λ i. i == j) same ∙ number_self j) in
+            let z : true ≡ false = sym here ∙ since.0 in
+            cc z)))
+
+        by_closing : Closing m left k.token → (own_of szx (c ∷ t)).running ≡ Some Dropped → LastFetches (c ∷ t)
+        by_closing (quiet q none own_same report_same) is =
+            drop_now (k.sends_is ∙ none) (k.reports_is ∙ report_same)
+            (drops s m k.told w k.move (sym (ap (λ (o : Own). o.running) own_same)
+            ∙ (sym (ap (λ (o : Own). o.running) k.own_is) ∙ is)))
+        by_closing (goes_out op key asked given sends_it own_same report_same) is =
+            let running : Some op ≡ Some Dropped = sym (asks_runs s m k.told k.move op asked)
+            ∙ (sym (ap (λ (o : Own). o.running) own_same) ∙ (sym (ap (λ (o : Own). o.running) k.own_is) ∙ is)) in
+            let op_is : op ≡ Dropped = cc running in
+            absurd (counts s m k.told w k.move (asked ∙ ap (λ o. Asks o) op_is))
+        by_closing (is_refused op why asked given none all) is =
+            let running : None ≡ Some Dropped = sym (failed_none has_sent NoIds left.own op)
+            ∙ (sym (ap (λ (z : Effect). z.own.running) all) ∙ (sym (ap (λ (o : Own). o.running) k.own_is) ∙ is)) in
+            absurd (cc running)
+
+        turned : IfDropped (c ∷ t)
+        turned = by_closing k.closes
 
     pub if_dropped : (t : List Call) → ClientRows szx t → X.AskerLaw server word (lower_of szx t) → IfDropped t
     if_dropped [] rows law = λ is. absurd (cc is)
     if_dropped (Calls now r (Ok k) ∷ t) rows law =
-        λ is. unreported_later t (Calls now r (Ok k)) refl (if_dropped t rows.1 law is)
+        λ is. fetches_later t (Calls now r (Ok k)) refl (if_dropped t rows.1 law is)
     if_dropped (Calls now r (Err why) ∷ t) rows law =
-        λ is. unreported_later t (Calls now r (Err why)) refl (if_dropped t rows.1 law is)
+        λ is. fetches_later t (Calls now r (Err why)) refl (if_dropped t rows.1 law is)
     if_dropped (Observes now path (Ok k) ∷ t) rows law =
-        λ is. unreported_later t (Observes now path (Ok k)) refl (if_dropped t rows.1 law is)
+        λ is. fetches_later t (Observes now path (Ok k)) refl (if_dropped t rows.1 law is)
     if_dropped (Observes now path (Err why) ∷ t) rows law =
-        λ is. unreported_later t (Observes now path (Err why)) refl (if_dropped t rows.1 law is)
+        λ is. fetches_later t (Observes now path (Err why)) refl (if_dropped t rows.1 law is)
     if_dropped (Cancels now k None ∷ t) rows law =
-        λ is. unreported_later t (Cancels now k None) refl (if_dropped t rows.1 law is)
+        λ is. fetches_later t (Cancels now k None) refl (if_dropped t rows.1 law is)
     if_dropped (Cancels now k (Some why) ∷ t) rows law =
-        λ is. unreported_later t (Cancels now k (Some why)) refl (if_dropped t rows.1 law is)
-    if_dropped (NextOut answer ∷ t) rows law = λ is. unreported_later t (NextOut answer) refl
+        λ is. fetches_later t (Cancels now k (Some why)) refl (if_dropped t rows.1 law is)
+    if_dropped (NextOut answer ∷ t) rows law = λ is. fetches_later t (NextOut answer) refl
         (if_dropped t rows.1 law.1 is)
     if_dropped (NextReport answer ∷ t) rows law =
-        λ is. unreported_later t (NextReport answer) refl (if_dropped t rows.1 law is)
-    if_dropped (Asked answer ∷ t) rows law = λ is. unreported_later t (Asked answer) refl (if_dropped t rows.1 law is)
+        λ is. fetches_later t (NextReport answer) refl (if_dropped t rows.1 law is)
+    if_dropped (Asked answer ∷ t) rows law = λ is. fetches_later t (Asked answer) refl (if_dropped t rows.1 law is)
     if_dropped (Forgets k was false ∷ t) rows law =
-        λ is. unreported_later t (Forgets k was false) refl (if_dropped t rows.1 law is)
+        λ is. fetches_later t (Forgets k was false) refl (if_dropped t rows.1 law is)
     if_dropped (Forgets k was true ∷ t) rows law =
         let below = law_back server word (lower (own_of szx t) (Forgets k was true)) (lower_of szx t) law in
-        λ is. unreported_later t (Forgets k was true) refl
-        (dropped_of t (if_dropped t rows.1 below) k (own_of szx t).running refl
-        (all_sends szx server word t rows.1 below).tracked is)
+        let one = hit_self k in
+        λ is. dropped_of t (Forgets k was true) (if_dropped t rows.1 below)
+        (all_sends szx server word t rows.1 below).tracked refl k (omega (arith, one)) (own_of szx t).running refl is
     if_dropped (Feeds now from bytes w up settled event sent token was ∷ t) rows law =
         let c : Call = Feeds now from bytes w up settled event sent token was in
         let below = law_back server word (lower (own_of szx t) c) (lower_of szx t) law in
-        let m : ℕ = max (own_of szx t).clock now in
-        let e : Effect = happened (at now (own_of szx t)) m event in
-        let g = goes_fed server szx word t now from bytes w up settled event sent token was
-        (known server szx word t rows.1 below) law in
-        turned t c (if_dropped t rows.1 below) (all_sends szx server word t rows.1 below).tracked now e token
-        (happened_runs (at now (own_of szx t)) m event) (λ op h. (g.asks op h).1) (closing m e token) refl refl
+        turned t c (if_dropped t rows.1 below) (all_sends szx server word t rows.1 below).tracked
+        (known server szx word t rows.1 below).waits
+        (fed_turned szx t now from bytes w up settled event sent token was)
     if_dropped (Ticks now w below_it turn sent token was answer ∷ t) rows law =
         let c : Call = Ticks now w below_it turn sent token was answer in
         let below = law_back server word (lower (own_of szx t) c) (lower_of szx t) law in
-        let m : ℕ = max (own_of szx t).clock now in
-        let e : Effect = passes (at now (own_of szx t)) m turn in
-        let g = goes_ticked server szx word t now turn (known server szx word t rows.1 below) in
-        turned t c (if_dropped t rows.1 below) (all_sends szx server word t rows.1 below).tracked now e token
-        (passes_runs (at now (own_of szx t)) m turn) (λ op h. (g.asks op h).1) (closing m e token) refl refl
+        turned t c (if_dropped t rows.1 below) (all_sends szx server word t rows.1 below).tracked
+        (known server szx word t rows.1 below).waits
+        (ticked_turned szx t now w below_it turn sent token was answer)

@@ -163,7 +163,11 @@ module _ (server : Endpoint) (szx word : ℕ) where
         }
         | inl gone_op ↦ (
             let d = if_dropped szx server word t rows law (is ∙ ap (λ z. Some z) gone_op) in
-            record { sending = d.0; last = d.1; same = ap reported_in is ∙ (ap reported_of gone_op ∙ sym d.2) })
+            record {
+              sending = d.sending;
+              last = d.last;
+              same = ap reported_in is ∙ (ap reported_of gone_op ∙ sym (ap reported_of d.fetches));
+            })
       ]
 
   -- what is handed in to the exchanges, and asked of them then

@@ -32,7 +32,7 @@ use Rattle.coap_client.proofs.Reporting.EffectReports.{is_lapse, reported_in}
 
 -- what fails is reported, whatever is asked then
 
-released : (now : ℕ) (e : Effect) (o : Option Observation) (token : Result (List ℕ) AskRefusal)
+pub released : (now : ℕ) (e : Effect) (o : Option Observation) (token : Result (List ℕ) AskRefusal)
     → (closed now e (releases o) token).report ≡ e.report
 released now e None token = refl
 released now e (Some o) token = refl

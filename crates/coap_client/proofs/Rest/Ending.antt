@@ -1,7 +1,8 @@
 -- At one moment, the ticks of a client end, and so do what it has out and its reports (RFC 7252, sections 4.2 and 5.2).
-use Rattle.std.proofs.Common.{◌≡◌, ◌≤◌, ◌<◌, ℕ, ◌+◌, true, Some, List, [], ◌∷◌, ◌++◌, length, refl, ap, subst, arith}
-use Rattle.std.proofs.Common.{drop, slice_get}
+use Rattle.std.proofs.Common.{◌≡◌, ◌≤◌, ◌<◌, ◌↔◌, ℕ, ◌+◌, true, Some, List, [], ◌∷◌, ◌++◌, length, refl, ap, sym, subst}
+use Rattle.std.proofs.Common.{◌∙◌, arith, drop, slice_get}
 use Rattle.std.specs.Prelude.{Bool, Result}
+use Rattle.std.proofs.lemmas.List.{append-nil}
 use Rattle.coap_types.specs.declared.endpoint.Endpoint.{Endpoint}
 use Rattle.coap_layer.specs.Machine.State as S
 use Rattle.coap_layer.specs.Machine.Steps.{Steps, left_after}
@@ -15,10 +16,12 @@ use Rattle.coap_exchange.specs.AskerSteps as P
 use Rattle.coap_exchange.specs.AskerLaw as X
 use Rattle.coap_exchange.specs.AskerLaw.{ExchangeLaw}
 use Rattle.coap_client.specs.Trace.{Reported, Call, Ticks, NextOut, NextReport}
+use Rattle.coap_client.specs.Own.{Own}
 use Rattle.coap_client.specs.Steps.{lower}
 use Rattle.coap_client.specs.Law.{ClientLaw, own_of, lower_of}
-use Rattle.coap_client.specs.Led.{State, Step}
+use Rattle.coap_client.specs.Led.{State, Step, Led, exchanges_left, state_left}
 use Rattle.coap_common.proofs.Facts.LastStep.{take_less}
+use Rattle.coap_common.proofs.Facts.Adds.{left_append}
 use Rattle.coap_common.proofs.Facts.ComesUp.{left_is}
 use Rattle.coap_client.proofs.Turning.Leading.{client_back}
 use Rattle.coap_client.specs.Follows.Rests.{IsTick, TicksEnd}
@@ -33,10 +36,7 @@ first_less (x ∷ rs) r h = omega arith
 -- what the calls of the exchanges leave
 module _ (server : Endpoint) (word : ℕ) where
   abbrev beneath : List E.Call → X.State
-  beneath calls = record {
-    own = X.own_of server word calls;
-    layer = left_after (S.start word) (X.lower_of server word calls);
-  }
+  beneath calls = exchanges_left server word calls
 
   exchanged : (cs calls : List E.Call) → ExchangeLaw server word (cs ++ calls)
       → X.Exchanged (beneath calls) cs (beneath (cs ++ calls))
@@ -56,10 +56,30 @@ module _ (server : Endpoint) (word : ℕ) where
         },
       )
 
+abbrev exchanges_so : E.Own → S.State → X.State
+exchanges_so own layer = record { own = own; layer = layer }
+
+left_of : (server : Endpoint) (word : ℕ) (cs : List E.Call) (x : X.State)
+    → X.Exchanged (X.fresh_state server word) cs x → x ≡ exchanges_left server word cs
+left_of server word [] x h = h
+left_of server word (c ∷ cs) x h =
+    let before : h.0 ≡ exchanges_left server word cs = left_of server word cs h.0 h.1 in
+    let own : x.own ≡ X.own_of server word (c ∷ cs) = h.2.own_is ∙ ap (λ (y : X.State). P.after y.own c) before in
+    let layer : x.layer ≡ left_after (S.start word) (X.lower_of server word (c ∷ cs)) =
+    left_is h.0.layer x.layer (P.lower h.0.own c) h.2.under
+    ∙ (ap (λ (y : X.State). left_after y.layer (P.lower y.own c)) before
+    ∙ sym (left_append (S.start word) (P.lower (X.own_of server word cs) c) (X.lower_of server word cs))) in
+    ap (λ o. exchanges_so o x.layer) own ∙ ap (exchanges_so (X.own_of server word (c ∷ cs))) layer
+
+state_is : (s : State) (own : Own) (layer : X.State) → s.own ≡ own → s.layer ≡ layer
+    → s ≡ record { own = own; layer = layer }
+state_is s own layer p q = ap (λ (o : Own). record { own = o; layer = s.layer }) p
+    ∙ ap (λ (l : X.State). record { own = own; layer = l }) q
+
 module _ (server : Endpoint) (szx word : ℕ) where
   -- what the calls so far leave: each takes one step
   abbrev state : List Call → State
-  state t = record { own = own_of szx t; layer = beneath server word (lower_of szx t) }
+  state t = state_left server szx word t
 
   stepped : (t : List Call) (c : Call) → ClientLaw server szx word (c ∷ t) → Step (state t) c (state (c ∷ t))
   stepped t c law = record {
@@ -111,4 +131,24 @@ module _ (server : Endpoint) (szx word : ℕ) where
       omega (arith, k, one, same)
 
   pub ticks_end : (t : List Call) → TicksEnd server szx word t
-  ticks_end t now = (size now t, λ calls h law. (let k = so_many now t calls h law in omega (arith, k)))
+  unfolding size
+  ticks_end t now calls h law = let k = so_many now t calls h law in omega (arith, k)
+
+  -- the calls lead to this state, and to no other
+  leads_there : (t : List Call) → ClientLaw server szx word t → Led server szx word t (state_left server szx word t)
+  leads_there t law = record {
+    rows = law.rows;
+    own_is = refl;
+    layer = subst (λ cs. X.Exchanged (X.fresh_state server word) (lower_of szx t) (exchanges_left server word cs))
+        (append-nil (lower_of szx t))
+        (exchanged server word (lower_of szx t) [] (subst (ExchangeLaw server word) (sym (append-nil (lower_of szx t)))
+        law.exchanges));
+  }
+
+  pub one_state : (t : List Call) → ClientLaw server szx word t → (s : State)
+      → Led server szx word t s ↔ (s ≡ state_left server szx word t)
+  one_state t law s = (
+    λ led. state_is s (own_of szx t) (exchanges_left server word (lower_of szx t)) led.own_is
+        (left_of server word (lower_of szx t) s.layer led.layer),
+    λ same. subst (Led server szx word t) (sym same) (leads_there t law),
+  )

@@ -1,12 +1,11 @@
 -- What a tick of a client's exchanges takes, and that a request leaves as many steps due (RFC 7252, sections 4.2 and
 -- 5.2.2).
-use Rattle.std.proofs.Common.{◌≡◌, ◌⊎◌, inl, inr, ℕ, max, Bool, true, false, Option, Some, None, is_some, refl, ap}
+use Rattle.std.proofs.Common.{◌≡◌, ◌⊎◌, inl, inr, ℕ, max, Bool, true, false, refl, ap}
 use Rattle.std.proofs.Common.{cond}
 use Rattle.coap_types.specs.declared.endpoint.Endpoint.{Endpoint}
 use Rattle.coap_layer.specs.Machine.State as S
 use Rattle.coap_layer.specs.Trace as L
 use Rattle.coap_exchange.specs.declared.asker.Event.{Event}
-use Rattle.coap_exchange.specs.declared.asker.Exchange.{Exchange}
 use Rattle.coap_exchange.specs.declared.asker.Turn.{Turn}
 use Rattle.coap_exchange.specs.declared.asker.Turn.TheVariants as turn
 use Rattle.coap_exchange.specs.declared.matching.Opening.{Opening}
@@ -17,31 +16,28 @@ use Rattle.coap_exchange.specs.AskerArrivals as R
 use Rattle.coap_common.specs.StepsDue.{due_count}
 use Rattle.coap_common.proofs.Facts.StepsDue.{is_step, confirm_least, same_opens}
 
--- what is due
+-- what is due: a step of a CON, or the end of a wait
 
-abbrev pub IsTaken : Turn → L.Answer → Option Exchange → Type 0
-IsTaken turn.Copied below o = is_step below ≡ true
-IsTaken (turn.End e) below o = (is_step below ≡ true) ⊎ (is_some o ≡ true)
-IsTaken turn.Idle below o = Unit {0}
+abbrev pub IsTaken : Turn → L.Answer → Bool → Type 0
+IsTaken turn.Copied below waited = is_step below ≡ true
+IsTaken (turn.End e) below waited = (is_step below ≡ true) ⊎ (waited ≡ true)
+IsTaken turn.Idle below waited = Unit {0}
 
-expired_taken : (to : Endpoint) (id : ℕ) (o : Option Exchange) (b : Bool) (e : Event)
-    → IsTaken (cond b (turn.End e) turn.Idle) (L.Expired to id) o
-expired_taken to id o true e = inl refl
-expired_taken to id o false e = tt
+expired_taken : (to : Endpoint) (id : ℕ) (waited : Bool) (b : Bool) (e : Event)
+    → IsTaken (cond b (turn.End e) turn.Idle) (L.Expired to id) waited
+expired_taken to id waited true e = inl refl
+expired_taken to id waited false e = tt
 
-waited_taken : (at : ℕ) (o : Option Exchange) (e : Event)
-    → IsTaken (cond (R.has_waited at (R.acked_in o)) (turn.End e) turn.Idle) L.Idle o
-waited_taken at None e = tt
-waited_taken at (Some x) e = by (R.has_waited at (R.acked_in (Some x)))
-  where
-    by : (b : Bool) → IsTaken (cond b (turn.End e) turn.Idle) L.Idle (Some x)
-    by true = inr refl
-    by false = tt
+waited_taken : (b : Bool) (e : Event) → IsTaken (cond b (turn.End e) turn.Idle) L.Idle b
+waited_taken true e = inr refl
+waited_taken false e = tt
 
-pub turn_taken : (s : A.Own) (at : ℕ) (below : L.Answer) → IsTaken (R.turn_of s at below) below s.running
+pub turn_taken : (s : A.Own) (at : ℕ) (below : L.Answer)
+    → IsTaken (R.turn_of s at below) below (R.has_waited at (R.acked_in s.running))
 turn_taken s at (L.Copied to id) = refl
-turn_taken s at (L.Expired to id) = expired_taken to id s.running (R.is_of_request s to id) _
-turn_taken s at L.Idle = waited_taken at s.running _
+turn_taken s at (L.Expired to id) = expired_taken to id (R.has_waited at (R.acked_in s.running))
+    (R.is_of_request s to id) _
+turn_taken s at L.Idle = waited_taken (R.has_waited at (R.acked_in s.running)) _
 turn_taken s at up = tt
 
 -- the layer, where a request is asked for

@@ -32,6 +32,7 @@ use Rattle.coap_client.specs.Law.{ClientLaw, ClientRows, own_of, lower_of}
 use Rattle.coap_exchange.specs.AskerArrivals as R
 use Rattle.coap_client.specs.Steps.{reporting}
 use Rattle.coap_client.specs.Follows.Answered.{IsNotDue, WaitsFor, IsEmpty, IsIdleTick, AreResting}
+use Rattle.coap_client.proofs.Sending.SentFor.{SentFor, sent_for}
 use Rattle.coap_client.proofs.Places.PlaceEffects.{Linked}
 use Rattle.coap_client.proofs.Places.PlaceEvents.{ran, ran_append}
 use Rattle.coap_client.proofs.Places.Once.{law_back, own_ran, beneath, Known, known}
@@ -222,6 +223,10 @@ module _ (server : Endpoint) (szx word : ℕ) where
     moment_is : A.moment server word (lower_of szx t) at_m ≡ at_m
     moment_is = let a = clocks t in omega (arith, a)
 
+    -- what runs was sent last
+    runs_for : (x : Exchange) → (beneath server szx word t).running ≡ Some x → SentFor szx server word (c ∷ t) x
+    runs_for x runs = sent_for szx server word (c ∷ t) rows law x (exchange_is ∙ runs)
+
     not_due : (x : Exchange) → (beneath server szx word t).running ≡ Some x → (acked : Option Moment) → x.acked ≡ acked
         → IsNotDue server szx word (c ∷ t) (own_of szx (c ∷ t)).clock
     not_due x runs None none =
@@ -231,8 +236,15 @@ module _ (server : Endpoint) (szx word : ℕ) where
         (f.ends (subst (λ i. f.begun.timeout * failure_timeouts ≤ i - f.begun.at) (sym moment_is) h)) in
         let soon : at_m - f.begun.at < f.begun.timeout * failure_timeouts =
         lt_of (at_m - f.begun.at) (f.begun.timeout * failure_timeouts) late in
+        let z = runs_for x runs in
         record {
+          operation = z.operation;
+          runs = z.runs;
+          sending = z.sending;
+          last = z.last;
+          sent_for = z.is_for;
           exchange = x;
+          token = z.token;
           running = exchange_is ∙ runs;
           not_due = inl (
             none,
@@ -249,8 +261,15 @@ module _ (server : Endpoint) (szx word : ℕ) where
         (due_now.0.heard at_m below turn x acked refl runs heard
         (subst (λ i. exchange_lifetime ≤ i - acked.0) (sym moment_is) h)) in
         let soon : at_m - acked.0 < exchange_lifetime = lt_of (at_m - acked.0) exchange_lifetime late in
+        let z = runs_for x runs in
         record {
+          operation = z.operation;
+          runs = z.runs;
+          sending = z.sending;
+          last = z.last;
+          sent_for = z.is_for;
           exchange = x;
+          token = z.token;
           running = exchange_is ∙ runs;
           not_due = inr (acked, heard, subst (λ i. i - acked.0 < exchange_lifetime) (sym clock_is) soon);
         }

@@ -116,7 +116,7 @@ size_step szx t (Ticks now w below turn sent token was did) =
     turn_size szx t (Ticks now w below turn sent token was did)
     (ticked_turned szx t now w below turn sent token was did)
 
-size_is : (szx : ℕ) (t : List Call) → (own_of szx t).szx ≡ szx
+pub size_is : (szx : ℕ) (t : List Call) → (own_of szx t).szx ≡ szx
 size_is szx [] = refl
 size_is szx (c ∷ t) = size_step szx t c ∙ size_is szx t
 

@@ -14,7 +14,16 @@ use Rattle.coap_client.specs.Own.{Operation, Calling, Registering, Fetching, Can
 use Rattle.coap_client.specs.Events.{is_held, is_upload_op}
 use Rattle.coap_client.specs.Steps.{reports}
 use Rattle.coap_client.specs.Law.{own_of, lower_of}
-use Rattle.coap_client.specs.Follows.Words.{Taken, WasTaken, Sending, sends}
+use Rattle.coap_client.specs.Follows.Words.{Taken, WasTaken, Sending, sends, last_sent}
+
+-- The request was sent for the operation that runs; or it is a fetch for an observation, where what runs is a fetch
+-- that no longer counts: it was replaced or forgotten, or its observation is over, and its exchange goes on to its end.
+abbrev pub IsSentFor : Operation → Sending → Type 0
+IsSentFor (Calling number r t) x = x.operation ≡ Calling number r t
+IsSentFor (Registering number path) x = x.operation ≡ Registering number path
+IsSentFor (Fetching number) x = x.operation ≡ Fetching number
+IsSentFor (Cancelling number) x = x.operation ≡ Cancelling number
+IsSentFor Dropped x = (number : ℕ) × (x.operation ≡ Fetching number)
 
 module _ (server : Endpoint) (szx word : ℕ) where
   -- A call has at most one report that is final.
@@ -29,10 +38,17 @@ module _ (server : Endpoint) (szx word : ℕ) where
   ReportedOnce trace = Always (λ past c. (x : Reported) → reports (own_of szx past) c ≡ Some x → HasReport x.number past
       → ⊥) trace
 
-  -- The exchange that runs is not due: FAILURE_TIMEOUTS initial timeouts after its request without an acknowledgement,
-  -- or EXCHANGE_LIFETIME after that.
+  -- What runs is the first of the operations that are not over, or a fetch for an observation. The request that was
+  -- sent last was sent for it; the exchange that is open has the token of this request, and is not due: it is
+  -- FAILURE_TIMEOUTS initial timeouts after the request without an acknowledgement, or EXCHANGE_LIFETIME after that.
   pub record IsNotDue (t : List Call) (at : ℕ) : Type 0 where
+    pub operation : Operation
+    pub runs : (own_of szx t).running ≡ Some operation
+    pub sending : Sending
+    pub last : last_sent szx t ≡ Some sending
+    pub sent_for : IsSentFor operation sending
     pub exchange : Exchange
+    pub token : exchange.token ≡ sending.token
     pub running : (X.own_of server word (lower_of szx t)).running ≡ Some exchange
     pub not_due :
         ((exchange.acked ≡ None) × ((begun : Begun) × (A.last_begun server word (lower_of szx t) ≡ Some begun)

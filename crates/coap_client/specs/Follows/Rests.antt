@@ -9,20 +9,23 @@ use Rattle.coap_exchange.specs.declared.asker.Turn.{Turn}
 use Rattle.coap_common.specs.Endings.{UpToIdle, all_taken}
 use Rattle.coap_client.specs.Trace.{Reported, Call, Ticks, NextOut, NextReport}
 use Rattle.coap_client.specs.Law.{ClientLaw}
+use Rattle.coap_client.specs.Led.{state_left}
+use Rattle.coap_client.specs.Turns.Work.{work}
 
 abbrev pub IsTickWith : ℕ → ℕ → Bool → Call → Type 0
 IsTickWith now w answer c =
     (below : L.Answer) × (turn : Turn) × (sent : L.Answer) × (token : Result (List ℕ) AskRefusal) × (kept : Bool)
     × (c ≡ Ticks now w below turn sent token kept answer)
 
--- so many ticks at most do something, whatever their words
 abbrev pub IsTick : ℕ → Bool → Call → Type 0
 IsTick now answer c = (w : ℕ) × IsTickWith now w answer c
 
+-- Of the ticks of one moment, whatever their words, so many do something at most as were due before them: the CONs and
+-- the waits with a step due then, the operations that wait and the fetches that are to start.
 abbrev pub TicksEnd : Endpoint → (szx word : ℕ) → List Call → Type 0
 TicksEnd server szx word t =
-    (now : ℕ) → (most : ℕ) × ((calls : List Call) → Each (IsTick now true) calls
-    → ClientLaw server szx word (calls ++ t) → length calls ≤ most)
+    (now : ℕ) (calls : List Call) → Each (IsTick now true) calls → ClientLaw server szx word (calls ++ t)
+    → length calls ≤ work (state_left server szx word t) now
 
 -- .. and up to the first that does nothing there is a row of ticks with one word; what is taken ends too
 pub record ComesToRest (server : Endpoint) (szx word : ℕ) (t : List Call) : Type 0 where

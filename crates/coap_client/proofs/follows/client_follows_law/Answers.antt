@@ -1,6 +1,9 @@
 use Rattle.coap_client.proofs.Counting.AsksOnce.{ask_once}
 use Rattle.coap_client.proofs.Counting.Bounds.{are_bounded}
 use Rattle.coap_client.proofs.Uploading.Continued.{are_continued}
+use Rattle.coap_client.proofs.Reporting.ByTable.{reports_by_table}
+use Rattle.coap_client.proofs.Reporting.EachValid.{each_is_valid}
+use Rattle.coap_client.proofs.Reporting.EachWhole.{whole_are_reported}
 use Rattle.coap_client.proofs.Reporting.Valid.{valid_of_tags}
 use Rattle.coap_client.proofs.Observing.Marks.{are_newer}
 use Rattle.coap_client.proofs.Hearing.HandedUp.{are_handed_up}
@@ -15,6 +18,7 @@ use Rattle.coap_client.proofs.follows.client_follows_law.Goals as goal
 use Rattle.coap_client.proofs.Uploading.BlocksApart.{blocks_apart}
 use Rattle.coap_client.proofs.Reporting.Codes.{reports_codes}
 use Rattle.coap_client.proofs.Reporting.Ends.{all_ends}
+use Rattle.coap_client.proofs.Queueing.FetchesFirst.{fetches_first}
 use Rattle.coap_client.proofs.Queueing.Taken.{all_taken}
 use Rattle.coap_client.proofs.Hearing.Types.{are_of_types}
 
@@ -57,6 +61,15 @@ returns-clause-newer c = are_newer
 pub returns-clause-valid : goal.returns-clause-valid
 returns-clause-valid c = valid_of_tags
 
+pub returns-clause-each_valid : goal.returns-clause-each_valid
+returns-clause-each_valid c = each_is_valid
+
+pub returns-clause-whole : goal.returns-clause-whole
+returns-clause-whole c = whole_are_reported
+
+pub returns-clause-table : goal.returns-clause-table
+returns-clause-table c = reports_by_table
+
 pub returns-clause-continued : goal.returns-clause-continued
 returns-clause-continued c = are_continued
 
@@ -86,3 +99,6 @@ returns-clause-ends c = all_ends
 
 pub returns-clause-taken : goal.returns-clause-taken
 returns-clause-taken c = all_taken
+
+pub returns-clause-fetches_first : goal.returns-clause-fetches_first
+returns-clause-fetches_first c = fetches_first

@@ -1,10 +1,13 @@
 use Rattle.coap_client.proofs.Progress.GoesOn.{goes_on}
-use Rattle.coap_client.proofs.Rest.Ending.{ticks_end}
+use Rattle.coap_client.proofs.Rest.Ending.{one_state, ticks_end}
 use Rattle.coap_client.proofs.Rest.ComesToRest.{comes_to_rest}
 use Rattle.coap_client.proofs.rests.client_rests_law.Goals as goal
 
 pub returns-clause-goes : goal.returns-clause-goes
 returns-clause-goes c = goes_on
+
+pub returns-clause-left : goal.returns-clause-left
+returns-clause-left c = one_state
 
 pub returns-clause-ticks : goal.returns-clause-ticks
 returns-clause-ticks c = ticks_end

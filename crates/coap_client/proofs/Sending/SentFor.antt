@@ -1,0 +1,63 @@
+-- The exchange that runs is that of the request that was sent last, for the operation that runs.
+use Rattle.std.proofs.Common.{◌≡◌, inl, inr, ℕ, Option, Some, None, List, refl, ap, sym, ◌∙◌}
+use Rattle.coap_types.specs.declared.endpoint.Endpoint.{Endpoint}
+use Rattle.coap_exchange.specs.AskerLaw as X
+use Rattle.coap_exchange.specs.declared.asker.Exchange.{Exchange}
+use Rattle.coap_client.specs.Trace.{Request, Call}
+use Rattle.coap_client.specs.Own.{Transfer, Operation, Calling, Registering, Fetching, Cancelling, Dropped}
+use Rattle.coap_client.specs.Law.{ClientRows, own_of, lower_of}
+use Rattle.coap_client.specs.Follows.Answered.{IsSentFor}
+use Rattle.coap_client.specs.Follows.Words.{Sending, last_sent}
+use Rattle.coap_client.proofs.Places.Once.{beneath, known}
+use Rattle.coap_client.proofs.Places.PlaceEffects.{Linked}
+use Rattle.coap_client.proofs.Reporting.Dropped.{if_dropped}
+use Rattle.coap_client.proofs.Uploading.Pieces.{Tracked, IfTracked, all_sends}
+
+-- what was sent for a call is of the operation that runs
+pub sent_call : (op : Operation) (x : Sending) (k : ℕ) (r : Request) (tr : Transfer) → IsSentFor op x
+    → x.operation ≡ Calling k r tr → op ≡ Calling k r tr
+sent_call (Calling n q u) x k r tr h is = sym h ∙ is
+sent_call (Registering n path) x k r tr h is = let e : Registering n path ≡ Calling k r tr = sym h ∙ is in
+    absurd (cc e)
+sent_call (Fetching n) x k r tr h is = let e : Fetching n ≡ Calling k r tr = sym h ∙ is in absurd (cc e)
+sent_call (Cancelling n) x k r tr h is = let e : Cancelling n ≡ Calling k r tr = sym h ∙ is in absurd (cc e)
+sent_call Dropped x k r tr h is = let e : Fetching h.0 ≡ Calling k r tr = sym h.1 ∙ is in absurd (cc e)
+
+module _ (szx : ℕ) (server : Endpoint) (word : ℕ) where
+  pub record SentFor (t : List Call) (x : Exchange) : Type 0 where
+    pub operation : Operation
+    pub runs : (own_of szx t).running ≡ Some operation
+    pub sending : Sending
+    pub last : last_sent szx t ≡ Some sending
+    pub is_for : IsSentFor operation sending
+    pub token : x.token ≡ sending.token
+
+  module _ (t : List Call) (rows : ClientRows szx t) (law : X.AskerLaw server word (lower_of szx t)) where
+    is_for : (op : Operation) → (own_of szx t).running ≡ Some op
+        → (z : Tracked szx t op (beneath server szx word t).running) → IsSentFor op z.sending
+    is_for (Calling k q u) is z = elim z.same [ inl d ↦ absurd (cc d) | inr e ↦ e ]
+    is_for (Registering k path) is z = elim z.same [ inl d ↦ absurd (cc d) | inr e ↦ e ]
+    is_for (Fetching k) is z = elim z.same [ inl d ↦ absurd (cc d) | inr e ↦ e ]
+    is_for (Cancelling k) is z = elim z.same [ inl d ↦ absurd (cc d) | inr e ↦ e ]
+    is_for Dropped is z =
+        let d = if_dropped szx server word t rows law is in
+        let both : Some d.sending ≡ Some z.sending = sym d.last ∙ z.last in
+        let same : d.sending ≡ z.sending = cc both in
+        (d.number, ap (λ (y : Sending). y.operation) (sym same) ∙ d.fetches)
+
+    pub sent_for : (x : Exchange) → (beneath server szx word t).running ≡ Some x → SentFor t x
+    sent_for x runs = by (own_of szx t).running refl (known server szx word t rows law).linked
+        (all_sends szx server word t rows law).tracked
+      where
+        by : (o : Option Operation) → (own_of szx t).running ≡ o
+            → Linked o (own_of szx t).observations (beneath server szx word t).running
+            → IfTracked szx t o (beneath server szx word t).running → SentFor t x
+        by None is link z = let none : None ≡ Some x = sym link ∙ runs in absurd (cc none)
+        by (Some op) is link z = record {
+          operation = op;
+          runs = is;
+          sending = z.sending;
+          last = z.last;
+          is_for = is_for op is z;
+          token = z.token x runs;
+        }
