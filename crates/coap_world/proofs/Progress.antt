@@ -13,3 +13,4 @@ pub mod ServerSendsBytes
 pub mod ArgumentsInRange
 pub mod GivenOutIsBytes
 pub mod EachEventHasATurn
+pub mod EachPosition

@@ -18,6 +18,7 @@ pub mod Done
 pub mod Agrees
 pub mod Bounds
 pub mod GoesOn
+pub mod NoFault
 pub mod LegalRuns
 pub mod Rising
 pub mod ObservationRuns

@@ -21,6 +21,7 @@ ghost use Rattle.coap_world.specs.LegalEvents.{EndsMay, SetsMay, RemovesMay, Tic
 ghost use Rattle.coap_world.specs.LegalEvents.{NoneFalls, NoneOver, NoneLonger, NoneBeyond};
 ghost use Rattle.coap_world.specs.LegalRuns.{MayComeTill};
 ghost use Rattle.coap_world.specs.Local.{LocalRight};
+ghost use Rattle.coap_world.specs.NoFault.{NoFault};
 ghost use Rattle.coap_world.specs.Noticed.{AllNoticed};
 ghost use Rattle.coap_world.specs.Record.{Turn, RecordOf, entries_of, client_of, server_trace};
 ghost use Rattle.coap_world.specs.Rising.{HeldAreNamed, ValuesRise};
@@ -164,7 +165,72 @@ pub fn observations_law()
         → Legal config turns → HeldAreNamed config (entries_of turns) }
 {}
 
-/// What a client and a server come to together, however the datagrams between them are lost, repeated and delayed.
+/// The first claim of the promise: what is reported was held.
+pub fn held_law()
+    // Each body that is reported was held by the server at the call's path, under the version of its ETag, between the
+    // call and the report (RFC 7252, sections 5.8.1 and 5.10.6; RFC 7959, section 2.4).
+    ensures bodies { (config : Config) (events : List Event) (turns : List Turn) → RecordOf config events turns
+        → Legal config turns → EachHeld config (entries_of turns) }
+    // .. so was each representation that is reported as valid, by an ETag of the call (RFC 7252, sections 5.9.1.3 and
+    // 5.10.6.2) ..
+    ensures valid { (config : Config) (events : List Event) (turns : List Turn) → RecordOf config events turns
+        → Legal config turns → EachValid config (entries_of turns) }
+    // .. and each value of an observation, since that was taken (RFC 7641, sections 3.2 and 4.4; RFC 7959, section
+    // 2.6).
+    ensures values { (config : Config) (events : List Event) (turns : List Turn) → RecordOf config events turns
+        → Legal config turns → EachValue config (entries_of turns) }
+{}
+
+/// The second: what is asked is applied whole, at most once, exactly once where success is reported and never where
+/// a failure is.
+pub fn applied_law()
+    // What is applied for the client's address belongs to a call (RFC 7252, section 5.3.1), ..
+    ensures belongs { (config : Config) (events : List Event) (turns : List Turn) → RecordOf config events turns
+        → Legal config turns → EachBelongs config (entries_of turns) }
+    // .. and does to the call's path what that asks, with all of its body, where the call's preconditions hold (RFC
+    // 7252, sections 5.8 and 5.10.8; RFC 7959, section 2.5).
+    ensures whole { (config : Config) (events : List Event) (turns : List Turn) → RecordOf config events turns
+        → Legal config turns → AppliedWhole config (entries_of turns) }
+    // For each call at most one request is applied (RFC 7252, section 4.5), ..
+    ensures once { (config : Config) (events : List Event) (turns : List Turn) → RecordOf config events turns
+        → Legal config turns → AtMostOnce config (entries_of turns) }
+    // .. one, between call and report, where Done is reported (RFC 7252, section 5.8), ..
+    ensures done { (config : Config) (events : List Event) (turns : List Turn) → RecordOf config events turns
+        → Legal config turns → OnceDone config (entries_of turns) }
+    // .. and none, before or after, where Failed is (RFC 7252, section 5.9).
+    ensures failed { (config : Config) (events : List Event) (turns : List Turn) → RecordOf config events turns
+        → Legal config turns → NeverFailed config (entries_of turns) }
+    // What the server holds are its changes, by their versions (RFC 7252, section 5.10.6), each of which is a local
+    // one, or that of the one request to its path that is applied there (section 5.8).
+    ensures holds { (config : Config) (events : List Event) (turns : List Turn) → RecordOf config events turns
+        → Legal config turns → HoldsChanges config (entries_of turns) }
+    ensures owned { (config : Config) (events : List Event) (turns : List Turn) → RecordOf config events turns
+        → Legal config turns → ChangesOwned config (entries_of turns) }
+{}
+
+/// The third: the values of an observation rise.
+pub fn rising_law()
+    // Of two values of one observation the later one has the later version (RFC 7641, sections 1.3 and 3.4); ..
+    ensures rising { (config : Config) (events : List Event) (turns : List Turn) → RecordOf config events turns
+        → Legal config turns → ValuesRise config (entries_of turns) }
+    // .. a version is named by its ETag (RFC 7252, section 5.10.6), ..
+    ensures named { (config : Config) (events : List Event) (turns : List Turn) → RecordOf config events turns
+        → Legal config turns → HeldAreNamed config (entries_of turns) }
+    // .. and each value was held under its version (RFC 7641, section 4.4).
+    ensures values { (config : Config) (events : List Event) (turns : List Turn) → RecordOf config events turns
+        → Legal config turns → EachValue config (entries_of turns) }
+{}
+
+/// The fourth: no datagram makes either end fault.
+pub fn no_fault_law()
+    // At each position of a record, each event that may happen there has a turn in which nothing is refused, and with
+    // which the record goes on; and of an input that is refused memory no call is left, or of ticks those before it.
+    ensures no_fault { (config : Config) (events : List Event) (turns : List Turn) → RecordOf config events turns
+        → Legal config turns → NoFault config turns }
+{}
+
+/// What a client and a server come to together, however the datagrams between them are lost, repeated and delayed:
+/// the claims of `held_law`, `applied_law`, `rising_law` and `no_fault_law`, and what holds beside them.
 pub fn agreement()
     // Each body, value and valid representation that is reported was held at its path between call and report; each
     // request body is applied whole, at most once, exactly once where success is reported and never where a failure is
@@ -175,4 +241,7 @@ pub fn agreement()
     // 4,096, and each other call one (RFC 7959, sections 2.4 and 2.5; profile).
     ensures bounded { (config : Config) (events : List Event) (turns : List Turn) → RecordOf config events turns
         → Legal config turns → AreBounded config (entries_of turns) }
+    // Whatever may come has a turn, with which the record goes on; and an input that is refused memory is lost.
+    ensures no_fault { (config : Config) (events : List Event) (turns : List Turn) → RecordOf config events turns
+        → Legal config turns → NoFault config turns }
 {}

@@ -7,8 +7,8 @@ mod running;
 mod runs;
 
 pub use laws::{
-    agreement, answers_law, changes_law, delivery_law, hops_law, legal_law, observations_law,
-    reports_law, requests_law,
+    agreement, answers_law, applied_law, changes_law, delivery_law, held_law, hops_law, legal_law,
+    no_fault_law, observations_law, reports_law, requests_law, rising_law,
 };
 pub use running::{
     AppliedRequest, CLIENT_END, Change, Event, Given, Kind, Line, Record, RunRefusal, SERVER_END,

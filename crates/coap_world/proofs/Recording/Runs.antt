@@ -13,6 +13,7 @@ use Rattle.coap_world.specs.declared.running.RunRefusal.TheVariants.{NotLegal}
 use Rattle.coap_world.specs.Run.Log.{Log, log_of}
 use Rattle.coap_world.specs.LegalEvents.{MayHappen}
 use Rattle.coap_world.specs.Run.Runs.{IsRunOf, IsFirstWrong}
+use Rattle.coap_world.proofs.Progress.EachPosition.{no_fault}
 use Rattle.coap_world.proofs.Recording.Naming.{each_named}
 use Rattle.coap_world.proofs.Reports.Promised.{agrees}
 use Rattle.coap_world.proofs.Requests.Promised.{lawful}
@@ -52,6 +53,7 @@ is_run f xs config turns log made legal shows =
       shows = shows;
       named = each_named config (entries_of turns) (lawful config (reverse (map f xs)) turns made legal);
       keeps = agrees config (reverse (map f xs)) turns made legal;
+      no_fault = no_fault config (reverse (map f xs)) turns made legal;
     }
 
 -- the number that is answered

@@ -4,7 +4,7 @@ use Rattle.coap_client.proofs.Facts.Laws as client_facts
 use Rattle.coap_server.proofs.Facts.Laws as server_facts
 use Rattle.coap_world.specs.Events.{server_end, Config, Event}
 use Rattle.coap_world.specs.Legal.{Legal}
-use Rattle.coap_world.specs.Record.{Entry, Turn, RecordOf, entries_of, client_of, server_trace}
+use Rattle.coap_world.specs.Record.{Turn, RecordOf, entries_of, client_of, server_trace}
 use Rattle.coap_world.proofs.Delivery.ReportsAreTaken.{all_given}
 use Rattle.coap_world.proofs.Reports.Answered.{all_answered}
 use Rattle.coap_world.proofs.Requests.CallsInRange.{in_range}
@@ -12,11 +12,17 @@ use Rattle.coap_world.proofs.Requests.ChangesOwned as O
 use Rattle.coap_world.proofs.Requests.HoldsChanges.{changes_held}
 use Rattle.coap_world.proofs.Requests.LocalChanges.{local_right}
 use Rattle.coap_world.proofs.Requests.Promised.{lawful, belongs, once, served}
+use Rattle.coap_world.proofs.Requests.OfACall.{Lawful}
 use Rattle.coap_client.proofs.Facts.EachCall.{reports_codes}
 use Rattle.coap_client.proofs.Facts.EachCall.{all_ends}
 use Rattle.coap_client.proofs.Facts.EachCall.{all_taken}
 use Rattle.coap_world.specs.Agrees.{Agrees}
+use Rattle.coap_world.specs.Applied.{EachBelongs, AppliedWhole, AtMostOnce}
 use Rattle.coap_world.specs.Bounds.{AreBounded}
+use Rattle.coap_world.specs.Done.{OnceDone, NeverFailed}
+use Rattle.coap_world.specs.Held.{EachHeld, EachValid, EachValue}
+use Rattle.coap_world.specs.Holds.{HoldsChanges, ChangesOwned}
+use Rattle.coap_world.specs.Rising.{HeldAreNamed, ValuesRise}
 use Rattle.coap_world.proofs.Uploads.AppliedWhole.{applied_whole}
 use Rattle.coap_world.proofs.Observations.HeldAreNamed.{all_named}
 use Rattle.coap_world.proofs.Observations.Rising.{all_rise}
@@ -29,49 +35,91 @@ use Rattle.coap_world.proofs.Reports.ValuesHeld.{each_value}
 use Rattle.coap_world.proofs.Reports.NeverFailed.{never_failed}
 use Rattle.coap_world.proofs.Reports.OnceDone.{once_done}
 
-pub agrees : (config : Config) (events : List Event) (turns : List Turn) → RecordOf config events turns
-    → Legal config turns → Agrees config (entries_of turns)
-agrees config events turns run legal =
-    let all : List Entry = entries_of turns in
-    let c = client_of all in
-    let s = server_trace config all in
-    let law = lawful config events turns run legal in
-    let formats = formats_in turns run.made legal.events in
-    record {
-      each_held = each_held config legal.range.server_szx all law formats;
-      each_valid = each_valid config all law;
-      each_value = each_value config legal.range.server_szx all law formats;
-      values_rise = all_rise config all law;
-      held_are_named = all_named config all law;
-      each_belongs = belongs config events turns run legal;
-      applied_whole = applied_whole config all legal.range.client_szx law
-          (λ x h. in_range x turns run.made legal.events h);
-      at_most_once = once config events turns run legal;
-      once_done = once_done config all legal.range.client_szx law (λ x h. in_range x turns run.made legal.events h);
-      never_failed = never_failed config all legal.range.client_szx law
-          (λ x h. in_range x turns run.made legal.events h);
-      holds_changes = changes_held config all run.server;
-      changes_owned = O.owned config all run.server.rows;
-      local_right = local_right config all run.server.rows;
-      served_right = served config events turns run legal;
-      served_once = server_facts.served config.limit config.server_szx config.server_word s run.server;
-      attended = server_facts.attended config.limit config.server_szx config.server_word s run.server;
-      ready_served = server_facts.ready config.limit config.server_szx config.server_word s run.server;
-      first_answered = server_facts.answered config.limit config.server_szx config.server_word s run.server;
-      answered = all_answered config all law;
-      noticed = all_noticed config all law;
-      calls_taken = all_taken server_end config.client_szx config.client_word c run.client;
-      in_order = client_facts.order server_end config.client_szx config.client_word c run.client;
-      codes_reported = reports_codes server_end config.client_szx config.client_word c run.client;
-      ends_reported = all_ends server_end config.client_szx config.client_word c run.client;
-      one_number = client_facts.numbers server_end config.client_szx config.client_word c run.client;
-      one_report = client_facts.once server_end config.client_szx config.client_word c run.client;
-      none_after = client_facts.none_after server_end config.client_szx config.client_word c run.client;
-      all_given = all_given config turns run.made run.client.rows;
-    }
+module _ (config : Config) (events : List Event) (turns : List Turn) (run : RecordOf config events turns)
+    (legal : Legal config turns) where
+  law : Lawful config (entries_of turns)
+  law = lawful config events turns run legal
 
-pub exchanges_bounded : (config : Config) (events : List Event) (turns : List Turn) → RecordOf config events turns
-    → Legal config turns → AreBounded config (entries_of turns)
-exchanges_bounded config events turns run legal =
-    bounded config legal.range.server_szx (entries_of turns) (lawful config events turns run legal)
-    (formats_in turns run.made legal.events)
+  -- what is reported was held
+
+  pub bodies : EachHeld config (entries_of turns)
+  bodies = each_held config legal.range.server_szx (entries_of turns) law (formats_in turns run.made legal.events)
+
+  pub valid : EachValid config (entries_of turns)
+  valid = each_valid config (entries_of turns) law
+
+  pub values : EachValue config (entries_of turns)
+  values = each_value config legal.range.server_szx (entries_of turns) law (formats_in turns run.made legal.events)
+
+  -- the values of an observation rise
+
+  pub rising : ValuesRise config (entries_of turns)
+  rising = all_rise config (entries_of turns) law
+
+  pub named : HeldAreNamed config (entries_of turns)
+  named = all_named config (entries_of turns) law
+
+  -- what is asked is applied whole, at most once, once where success is reported, and never where a failure is
+
+  pub belonging : EachBelongs config (entries_of turns)
+  belonging = belongs config events turns run legal
+
+  pub whole : AppliedWhole config (entries_of turns)
+  whole = applied_whole config (entries_of turns) legal.range.client_szx law
+      (λ x h. in_range x turns run.made legal.events h)
+
+  pub at_most_once : AtMostOnce config (entries_of turns)
+  at_most_once = once config events turns run legal
+
+  pub done : OnceDone config (entries_of turns)
+  done = once_done config (entries_of turns) legal.range.client_szx law
+      (λ x h. in_range x turns run.made legal.events h)
+
+  pub failed : NeverFailed config (entries_of turns)
+  failed = never_failed config (entries_of turns) legal.range.client_szx law
+      (λ x h. in_range x turns run.made legal.events h)
+
+  pub holds : HoldsChanges config (entries_of turns)
+  holds = changes_held config (entries_of turns) run.server
+
+  pub owned : ChangesOwned config (entries_of turns)
+  owned = O.owned config (entries_of turns) run.server.rows
+
+  pub agrees : Agrees config (entries_of turns)
+  agrees =
+      let c = client_of (entries_of turns) in
+      let s = server_trace config (entries_of turns) in
+      record {
+        each_held = bodies;
+        each_valid = valid;
+        each_value = values;
+        values_rise = rising;
+        held_are_named = named;
+        each_belongs = belonging;
+        applied_whole = whole;
+        at_most_once = at_most_once;
+        once_done = done;
+        never_failed = failed;
+        holds_changes = holds;
+        changes_owned = owned;
+        local_right = local_right config (entries_of turns) run.server.rows;
+        served_right = served config events turns run legal;
+        served_once = server_facts.served config.limit config.server_szx config.server_word s run.server;
+        attended = server_facts.attended config.limit config.server_szx config.server_word s run.server;
+        ready_served = server_facts.ready config.limit config.server_szx config.server_word s run.server;
+        first_answered = server_facts.answered config.limit config.server_szx config.server_word s run.server;
+        answered = all_answered config (entries_of turns) law;
+        noticed = all_noticed config (entries_of turns) law;
+        calls_taken = all_taken server_end config.client_szx config.client_word c run.client;
+        in_order = client_facts.order server_end config.client_szx config.client_word c run.client;
+        codes_reported = reports_codes server_end config.client_szx config.client_word c run.client;
+        ends_reported = all_ends server_end config.client_szx config.client_word c run.client;
+        one_number = client_facts.numbers server_end config.client_szx config.client_word c run.client;
+        one_report = client_facts.once server_end config.client_szx config.client_word c run.client;
+        none_after = client_facts.none_after server_end config.client_szx config.client_word c run.client;
+        all_given = all_given config turns run.made run.client.rows;
+      }
+
+  pub exchanges_bounded : AreBounded config (entries_of turns)
+  exchanges_bounded = bounded config legal.range.server_szx (entries_of turns) law
+      (formats_in turns run.made legal.events)

@@ -4,6 +4,7 @@ use Rattle.coap_world.specs.Agrees.{Agrees}
 use Rattle.coap_world.specs.Events.{Config, Event}
 use Rattle.coap_world.specs.LegalEvents.{MayHappen}
 use Rattle.coap_world.specs.Legal.{Legal}
+use Rattle.coap_world.specs.NoFault.{NoFault}
 use Rattle.coap_world.specs.Record.{Turn, RecordOf, entries_of}
 use Rattle.coap_world.specs.Run.Log.{Log, log_of}
 use Rattle.coap_world.specs.Run.Named.{EachNamed}
@@ -17,6 +18,7 @@ pub record IsRunOf (config : Config) (events : List Event) (log : Log) : Type 0 
   pub shows : log ≡ log_of config turns
   pub named : EachNamed config (entries_of turns)
   pub keeps : Agrees config (entries_of turns)
+  pub no_fault : NoFault config turns
 
 -- the event of this number is the first that is not legal, in a record of the events before it
 pub record IsFirstWrong (config : Config) (events : List Event) (number : ℕ) : Type 0 where

@@ -1,0 +1,13 @@
+use Rattle.coap_world.proofs.Reports.Promised as promised
+use Rattle.coap_world.proofs.laws.applied_law.Goals as goal
+
+pub returns : goal.returns
+returns c = record {
+  belongs = promised.belonging;
+  whole = promised.whole;
+  once = promised.at_most_once;
+  done = promised.done;
+  failed = promised.failed;
+  holds = promised.holds;
+  owned = promised.owned;
+}

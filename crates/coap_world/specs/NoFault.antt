@@ -1,0 +1,38 @@
+-- No datagram makes either end fault: whatever comes has a turn, and an input that is refused memory is lost.
+use Rattle.std.specs.Prelude.{◌≡◌, ◌⊎◌, ℕ, true, List, [], ◌++◌, map}
+use Rattle.coap_types.specs.Past.{Always}
+use Rattle.coap_client.specs.Trace as C
+use Rattle.coap_server.specs.Trace as S
+use Rattle.coap_world.specs.Events.{Config, What, Calls, Observes, Cancels, Forgets, Sets, Removes, TickClient}
+use Rattle.coap_world.specs.Events.{TickServer, Deliver, StrangerToClient, StrangerToServer, Event}
+use Rattle.coap_world.specs.GoesOn.{Follows}
+use Rattle.coap_world.specs.LegalEvents.{MayHappen}
+use Rattle.coap_world.specs.Record.{Entry, Turn, OnClient, OnServer, ClientTick, ServerTick}
+
+abbrev pub events_of : List Turn → List Event
+events_of turns = map (λ (t : Turn). t.event) turns
+
+-- What is left of an input that is refused memory: of ticks, those before the refused one, each of which did something;
+-- else no call of it. What was out is taken, and so are the client's reports. A cancel and a forgetting take no memory.
+abbrev pub IsLost : ℕ → ℕ → What → List Entry → Type 0
+IsLost at word (Calls r) entries = OnClient [] entries
+IsLost at word (Observes path) entries = OnClient [] entries
+IsLost at word (Cancels number) entries = ⊥
+IsLost at word (Forgets number) entries = ⊥
+IsLost at word (Sets path format body) entries = OnServer [] entries
+IsLost at word (Removes path) entries = OnServer [] entries
+IsLost at word TickClient entries =
+    (ticks : List C.Call) × Always (λ past c. ClientTick at word true c) ticks × OnClient ticks entries
+IsLost at word TickServer entries =
+    (ticks : List S.Call) × Always (λ past c. ServerTick at word true c) ticks × OnServer ticks entries
+IsLost at word (Deliver number) entries = OnServer [] entries ⊎ OnClient [] entries
+IsLost at word (StrangerToClient from bytes) entries = OnClient [] entries
+IsLost at word (StrangerToServer from bytes) entries = OnServer [] entries
+
+pub record NoFault (config : Config) (turns : List Turn) : Type 0 where
+  -- at each position, each event that may happen there has a turn in which nothing is refused, and the record goes on
+  pub goes_on : (later past : List Turn) → turns ≡ later ++ past → (event : Event) → MayHappen past event
+      → Follows config (events_of past) past event
+  -- .. and in each turn an input that is refused memory is lost
+  pub refused_is_lost :
+      Always (λ past t. t.refused ≡ true → IsLost t.event.at t.event.word t.event.what t.entries) turns
