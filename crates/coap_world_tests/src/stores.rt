@@ -1,6 +1,6 @@
 //! The same runs over each store.
 use crate::script::{config_of, events_of, run_text, told, wanted};
-use crate::{calls, legality, uploads};
+use crate::{calls, legality, smooth, uploads};
 use coap_resource::{ListStore, MapStore};
 use coap_world::run;
 use std::alloc::Global;
@@ -43,7 +43,14 @@ with changes=2
 
 #[test]
 fn what_is_told(rt: HostRuntime) -> Result<(), Fail> {
-    for theme in [RUNS, calls::RUNS, uploads::RUNS, legality::RUNS] {
+    let themes = [
+        RUNS,
+        calls::RUNS,
+        uploads::RUNS,
+        legality::RUNS,
+        smooth::RUNS,
+    ];
+    for theme in themes {
         for text in theme.split("\n== ").skip(1) {
             check_run(&rt, rt.alloc(), text)?;
         }
