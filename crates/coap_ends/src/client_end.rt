@@ -14,6 +14,7 @@ impl<A: Allocator + Copy, H: BuildHasher> End<A> for Client<A, H> {
     ghost use Rattle.coap_exchange.specs.declared.asker.Turn.{Turn};
     ghost use Rattle.coap_client.specs.Led.{State as ClientState, Step};
     ghost use Rattle.coap_client.specs.Trace.{Feeds, NextOut, Ticks};
+    ghost use Rattle.coap_client.specs.Turns.Quiet.{IsIdle, TellsNothing};
     ghost use Rattle.coap_client.specs.Turns.Work.{work as work_left};
 
     ghost State = { ClientState };
@@ -23,6 +24,10 @@ impl<A: Allocator + Copy, H: BuildHasher> End<A> for Client<A, H> {
     ghost waiting = { λ s. s.layer.layer.queue };
 
     ghost work = { λ s now. work_left s now };
+
+    ghost quiet_feed = { λ s now from bytes. TellsNothing s now from bytes };
+
+    ghost quiet_tick = { λ s now. IsIdle s now };
 
     ghost feeds = { λ s now from bytes word n. (up : Answer) × (settled : Bool) × (event : Option Event)
         × (sent : Answer) × (token : Result (List ℕ) AskRefusal) × (kept : Bool)

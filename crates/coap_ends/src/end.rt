@@ -1,5 +1,5 @@
 //! An end: what a client and a server have in common.
-ghost use Rattle.std.specs.Prelude.{◌≡◌, ◌<◌, ◌^◌, ℕ, Bool, true, List, [], ◌∷◌, Ok, IfOk, OnOk, OnErr, IfSome};
+ghost use Rattle.std.specs.Prelude.{◌≡◌, ◌<◌, ◌^◌, ℕ, Bool, true, List, [], ◌∷◌, Ok, IfOk, IsOk, OnOk, OnErr, IfSome};
 ghost use Rattle.std.specs.Prelude.{IfNone, length};
 ghost use Rattle.coap_types.specs.declared.endpoint.Endpoint.{Endpoint as EndpointSpec};
 ghost use Rattle.coap_layer.specs.Trace.{Packet};
@@ -26,6 +26,13 @@ pub trait End<A: Allocator + Copy> {
     /// How much a tick at a moment still has to do.
     ghost work: { State → ℕ → ℕ };
 
+    /// That feeding a datagram takes no memory: the state before, the moment, where it came from, its
+    /// bytes.
+    ghost quiet_feed: { State → ℕ → EndpointSpec → List ℕ → Type 0 };
+
+    /// That a tick takes no memory: the state before, the moment.
+    ghost quiet_tick: { State → ℕ → Type 0 };
+
     /// The state before a datagram is fed, the moment, where it came from, its bytes, the word, and
     /// the state after.
     ghost feeds: { State → ℕ → EndpointSpec → List ℕ → ℕ → State → Type 0 };
@@ -45,14 +52,16 @@ pub trait End<A: Allocator + Copy> {
         word: u64,
     ) -> Result<(), AllocError>
         ensures ok { OnOk result (feeds (state self.old) now.0 from bytes.now word (state self.new)) }
-        ensures err { OnErr result (state self.new ≡ state self.old) };
+        ensures err { OnErr result (state self.new ≡ state self.old) }
+        ensures quiet { quiet_feed (state self.old) now.0 from bytes.now → IsOk result };
 
     /// Does one step that is due at the moment, and answers whether there was one.
     fn tick(&mut self, now: Moment, word: u64) -> Result<bool, AllocError>
         ensures ok { IfOk result (λ did. ticks (state self.old) now.0 word did (state self.new)) }
         // There is less to do after a step, so that the ticks of one moment come to an end.
         ensures less { result ≡ Ok true → work (state self.new) now.0 < work (state self.old) now.0 }
-        ensures err { OnErr result (state self.new ≡ state self.old) };
+        ensures err { OnErr result (state self.new ≡ state self.old) }
+        ensures quiet { quiet_tick (state self.old) now.0 → IsOk result };
 
     /// The datagram that is to be sent next. It takes no memory.
     fn next_out(&mut self) -> Option<Datagram<A>>

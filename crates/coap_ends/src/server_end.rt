@@ -8,14 +8,18 @@ use std::alloc::{AllocError, Allocator};
 use std::hash::BuildHasher;
 
 impl<S: Store<A>, A: Allocator + Copy, H: BuildHasher> End<A> for Server<S, A, H> {
-    ghost use Rattle.std.specs.Prelude.{ℕ, Bool, Option, Some};
+    ghost use Rattle.std.specs.Prelude.{◌≡◌, ◌≢◌, ◌⊎◌, ℕ, max, Bool, Option, Some, []};
     ghost use Rattle.coap_codec.specs.Message.{Message};
+    ghost use Rattle.coap_layer.specs.Machine.State.{answer_of, copies, made};
+    ghost use Rattle.coap_layer.specs.Machine.Ups.{IsQuiet};
+    ghost use Rattle.coap_layer.specs.Trace as below;
     ghost use Rattle.coap_layer.specs.Trace.{Answer};
     ghost use Rattle.coap_exchange.specs.declared.answerer.Asked.{Asked};
     ghost use Rattle.coap_exchange.specs.declared.answerer.Due.{Due};
     ghost use Rattle.coap_server.specs.Led.{State as ServerState, Step};
     ghost use Rattle.coap_server.specs.Trace.{Feeds, Handling, NextOut, Ticks};
     ghost use Rattle.coap_server.specs.Object.Shown.{state_of};
+    ghost use Rattle.coap_server.specs.Turns.Idle.{IsIdle, moment};
     ghost use Rattle.coap_server.specs.Turns.Work.{work as work_left};
 
     ghost State = { ServerState };
@@ -25,6 +29,12 @@ impl<S: Store<A>, A: Allocator + Copy, H: BuildHasher> End<A> for Server<S, A, H
     ghost waiting = { λ s. s.layer.queue };
 
     ghost work = { λ s now. work_left s now };
+
+    ghost quiet_feed = { λ s now from bytes. IsQuiet (made s.layer (max s.own.clock now) (below.Receive from bytes)) };
+
+    // Nothing is to be sent; or no copy is due, but a failure.
+    ghost quiet_tick = { λ s now. IsIdle s now ⊎ ((copies (moment s now) s.layer.open_cons ≡ [])
+        × (answer_of s.layer (moment s now) below.Ticks ≢ below.Idle)) };
 
     ghost feeds = { λ s now from bytes word n. (up : Answer) × (came : Option (Asked × Message)) × (h : Handling)
         × (sent : Answer)

@@ -1,5 +1,5 @@
 -- One turn of an end over a link: all that is out is sent, at most one datagram is received, and it is fed.
-use Rattle.std.specs.Prelude.{ℕ, List, [], ◌∷◌, ◌≡◌, Option, Some, None, IsSome, is_some, Result, Ok, Err}
+use Rattle.std.specs.Prelude.{ℕ, List, [], ◌∷◌, ◌≡◌, Option, Some, None, is_some, Result, Ok, Err}
 use Rattle.coap_types.specs.declared.endpoint.Endpoint.{Endpoint}
 use Rattle.coap_layer.specs.Trace as layer
 use Rattle.coap_links.specs.Carried.{Packet}
@@ -18,18 +18,24 @@ abbrev pub IsFed : {E : Type 0} → (E → ℕ → Endpoint → List ℕ → ℕ
 IsFed feeds e now None word f = f ≡ e
 IsFed feeds e now (Some p) word f = feeds e now p.0 p.1 word f
 
--- A feed is refused memory only where a datagram came, which is then lost.
-abbrev pub IsFedOrLost : {E X : Type 0} → (E → ℕ → Endpoint → List ℕ → ℕ → E → Type 0) → E → ℕ → Option Packet → ℕ → E
-    → Result Pumped X → Type 0
-IsFedOrLost feeds e now came word f (Ok p) = IsFed feeds e now came word f × (p.fed ≡ is_some came)
-IsFedOrLost feeds e now came word f (Err x) = IsSome came × (f ≡ e)
+-- What came is lost: its feed was refused memory, as it takes some.
+abbrev pub IsLost : {E : Type 0} → (E → ℕ → Endpoint → List ℕ → Type 0) → E → ℕ → Option Packet → E → Type 0
+IsLost quiet e now None f = ⊥
+IsLost quiet e now (Some p) f = (quiet e now p.0 p.1 → ⊥) × (f ≡ e)
 
--- The turn: all that is out is sent, so that nothing is out; then one receive; what it gave is fed.
+-- A feed is refused memory only where a datagram came that doesn't do without, and which is then lost.
+abbrev pub IsFedOrLost : {E X : Type 0} → (E → ℕ → Endpoint → List ℕ → Type 0)
+    → (E → ℕ → Endpoint → List ℕ → ℕ → E → Type 0) → E → ℕ → Option Packet → ℕ → E → Result Pumped X → Type 0
+IsFedOrLost quiet feeds e now came word f (Ok p) = IsFed feeds e now came word f × (p.fed ≡ is_some came)
+IsFedOrLost quiet feeds e now came word f (Err x) = IsLost quiet e now came f
+
+-- The turn: all that is out is sent, so that nothing is out; then one receive; what it gave is fed. (`quiet` is that a
+-- feed takes no memory.)
 abbrev pub Pumps : {E L X : Type 0} → (E → List layer.Packet) → (E → layer.Packet → E → Type 0)
-    → (L → Endpoint → List ℕ → L → Type 0)
-    → (L → Option Packet → L → Type 0) → (E → ℕ → Endpoint → List ℕ → ℕ → E → Type 0)
+    → (L → Endpoint → List ℕ → L → Type 0) → (L → Option Packet → L → Type 0)
+    → (E → ℕ → Endpoint → List ℕ → Type 0) → (E → ℕ → Endpoint → List ℕ → ℕ → E → Type 0)
     → E → L → ℕ → ℕ → Result Pumped X → E → L → Type 0
-Pumps waiting gives sends receives feeds e l now word result f m =
+Pumps waiting gives sends receives quiet feeds e l now word result f m =
     (e1 : _) × (l1 : _) × (came : Option Packet)
     × SendsAll gives sends e l (waiting e) e1 l1 × (waiting e1 ≡ []) × receives l1 came m
-    × IsFedOrLost feeds e1 now came word f result
+    × IsFedOrLost quiet feeds e1 now came word f result

@@ -1,6 +1,6 @@
 -- A turn of an end over a link: it is pumped once, and then ticked until nothing is due.
-use Rattle.std.specs.Prelude.{ℕ, Bool, true, false, List, ◌≡◌, ◌⊎◌, ◌+◌, ◌%◌, ◌^◌, if◌then◌else◌, Option, Result, Ok}
-use Rattle.std.specs.Prelude.{Err}
+use Rattle.std.specs.Prelude.{ℕ, Bool, true, false, List, ◌≡◌, ◌⊎◌, ◌+◌, ◌%◌, ◌^◌, if◌then◌else◌, Option, Result}
+use Rattle.std.specs.Prelude.{Ok, Err}
 use Rattle.std.specs.declared.alloc.AllocError.{AllocError}
 use Rattle.coap_types.specs.declared.endpoint.Endpoint.{Endpoint}
 use Rattle.coap_layer.specs.Trace as layer
@@ -38,20 +38,24 @@ pub data Steps {E : Type 0} (ticks : E → ℕ → ℕ → Bool → E → Type 0
   further : (g : E) (v : Tally) (f : E) → Steps ticks e now t g v → ticks g now (next_word v) true f
       → Steps ticks e now t f (worded v)
 
--- the last tick: nothing was due, or it was refused memory
-abbrev pub Rests : {E : Type 0} → (E → ℕ → ℕ → Bool → E → Type 0) → E → ℕ → Tally → E → Tally → Type 0
-Rests ticks e now t f u = (ticks e now (next_word t) false f × (u ≡ worded t)) ⊎ ((f ≡ e) × (u ≡ refused t))
+-- the last tick: nothing was due, or it was refused memory, as it takes some
+abbrev pub Rests : {E : Type 0} → (E → ℕ → Type 0) → (E → ℕ → ℕ → Bool → E → Type 0) → E → ℕ → Tally → E → Tally
+    → Type 0
+Rests quiet ticks e now t f u =
+    (ticks e now (next_word t) false f × (u ≡ worded t)) ⊎ ((quiet e now → ⊥) × (f ≡ e) × (u ≡ refused t))
 
 -- ticks, each of which did something but the last
-abbrev pub TicksOut : {E : Type 0} → (E → ℕ → ℕ → Bool → E → Type 0) → E → ℕ → Tally → E → Tally → Type 0
-TicksOut ticks e now t f u = (g : _) × (v : Tally) × Steps ticks e now t g v × Rests ticks g now v f u
+abbrev pub TicksOut : {E : Type 0} → (E → ℕ → Type 0) → (E → ℕ → ℕ → Bool → E → Type 0) → E → ℕ → Tally → E → Tally
+    → Type 0
+TicksOut quiet ticks e now t f u = (g : _) × (v : Tally) × Steps ticks e now t g v × Rests quiet ticks g now v f u
 
--- the turn
+-- the turn (`quiet_feed` and `quiet_tick` are that a feed and a tick take no memory)
 unfoldable pub Turns : {E L : Type 0} → (E → List layer.Packet) → (E → layer.Packet → E → Type 0)
-    → (L → Endpoint → List ℕ → L → Type 0)
-    → (L → Option Packet → L → Type 0) → (E → ℕ → Endpoint → List ℕ → ℕ → E → Type 0) → (E → ℕ → ℕ → Bool → E → Type 0)
+    → (L → Endpoint → List ℕ → L → Type 0) → (L → Option Packet → L → Type 0)
+    → (E → ℕ → Endpoint → List ℕ → Type 0) → (E → ℕ → Endpoint → List ℕ → ℕ → E → Type 0)
+    → (E → ℕ → Type 0) → (E → ℕ → ℕ → Bool → E → Type 0)
     → E → L → ℕ → Tally → E → L → Tally → Type 0
-Turns waiting gives sends receives feeds ticks e l now t f m u =
+Turns waiting gives sends receives quiet_feed feeds quiet_tick ticks e l now t f m u =
     (g : _) × (result : Result Pumped AllocError)
-    × Pumps waiting gives sends receives feeds e l now (next_word t) result g m
-    × TicksOut ticks g now (pumped result t) f u
+    × Pumps waiting gives sends receives quiet_feed feeds e l now (next_word t) result g m
+    × TicksOut quiet_tick ticks g now (pumped result t) f u

@@ -42,7 +42,7 @@ pub fn pump<A: Allocator + Copy, E: End<A>, L: Link>(
     now: Moment,
     word: u64,
 ) -> Result<Pumped, AllocError>
-    ensures chain { Pumps E.waiting E.gives L.sends L.receives E.feeds
+    ensures chain { Pumps E.waiting E.gives L.sends L.receives E.quiet_feed E.feeds
         (E.state end.old) link.old now.0 word result (E.state end.new) link.new }
     ensures sent { IfOk result (λ pumped. pumped.sent ≡ length (E.waiting (E.state end.old))) }
     ensures lost { IfOk result (λ pumped. pumped.lost ≡ L.fault_count link.new - L.fault_count link.old) }

@@ -1,13 +1,15 @@
 //! A link in memory.
 ghost use Rattle.std.specs.Prelude.{ℕ, List, [], ◌∷◌, ◌++◌, Option, ◌≡◌, ◌≤◌, map, OnOk, OnErr, IfSome, IfNone};
-ghost use Rattle.std.specs.Prelude.{length, ◌-◌, ◌==◌};
+ghost use Rattle.std.specs.Prelude.{length, ◌+◌, ◌-◌, ◌==◌, ◌⊎◌, true};
+ghost use Rattle.std.specs.Vec.{vec_len};
+ghost use Rattle.std.specs.VecDeque.{deque_capacity, deque_len};
 ghost use Rattle.coap_types.specs.declared.endpoint.Endpoint.{Endpoint as EndpointSpec};
 ghost use Rattle.coap_links.specs.Carried.{Packet, received};
 ghost use Rattle.coap_links.specs.Faults.{raised};
 ghost use Rattle.coap_links.specs.MemoryCarries.{Memory, ReceivesFromMemory, SendsToMemory, behind, failed};
-ghost use Rattle.coap_links.specs.MemoryCarries.{falls_due, found_in};
+ghost use Rattle.coap_links.specs.MemoryCarries.{falls_due, found_in, is_long, left};
 
-use crate::carried::{Carried, keep};
+use crate::carried::{Buffer, Carried, keep, keep_in};
 use crate::link::{Link, MAX_DATAGRAM_LEN, raise};
 use coap_types::Endpoint;
 use std::alloc::{AllocError, Allocator, Global};
@@ -15,12 +17,14 @@ use std::collections::VecDeque;
 use std::marker::Model;
 
 /// A link that keeps what it was handed, and gives what it was told to give. One send and one
-/// receive can be told to fail.
+/// receive can be told to fail; another send fails only for want of memory.
 #[derive(Drop)]
 pub struct MemoryLink<A: Allocator + Copy = Global> {
     address: Endpoint,
     handed: VecDeque<Carried<A>, A>,
     coming: VecDeque<Carried<A>, A>,
+    // For what it will be handed; there is a place for each.
+    spare: Vec<Buffer<A>, A>,
     // Which call from now is to fail, from 1; 0 for none.
     failing_send: u64,
     failing_receive: u64,
@@ -28,6 +32,9 @@ pub struct MemoryLink<A: Allocator + Copy = Global> {
 }
 
 impl<A: Allocator + Copy> Model for MemoryLink<A> {
+    ghost use Rattle.std.specs.Prelude.{◌+◌, ◌≤◌};
+    ghost use Rattle.std.specs.Vec.{vec_len};
+    ghost use Rattle.std.specs.VecDeque.{deque_capacity, deque_len};
     ghost use Rattle.coap_links.specs.MemoryCarries.{Memory};
 
     ghost Value = { Memory };
@@ -38,7 +45,10 @@ impl<A: Allocator + Copy> Model for MemoryLink<A> {
       failing_send = m.failing_send;
       failing_receive = m.failing_receive;
       faults = m.faults;
+      reserved = vec_len m.spare;
     } };
+
+    ghost invariant = { λ m. deque_len m.handed + vec_len m.spare ≤ deque_capacity m.handed };
 }
 
 // Whether this call is the one that is to fail, and which one it is after this one.
@@ -47,6 +57,33 @@ fn count_down(failing: u64) -> (bool, u64)
     ensures left { result.1 ≡ failing - 1 }
 {
     (failing == 1, failing.saturating_sub(1))
+}
+
+// Keeps a copy of a datagram behind the others, in a buffer where one is left that holds it.
+fn hold<A: Allocator + Copy>(
+    handed: &mut VecDeque<Carried<A>, A>,
+    spare: &mut Vec<Buffer<A>, A>,
+    to: Endpoint,
+    bytes: &[u8],
+) -> Result<(), AllocError>
+    requires { deque_len handed.old + vec_len spare.old ≤ deque_capacity handed.old }
+    ensures ok { OnOk result (handed.new.items ≡ handed.old.items ++ (to, bytes.now) ∷ []) }
+    ensures left { OnOk result (vec_len spare.new ≡ left bytes.now (vec_len spare.old)) }
+    ensures places { deque_len handed.new + vec_len spare.new ≤ deque_capacity handed.new }
+    ensures err { OnErr result (handed.new.items ≡ handed.old.items) }
+    ensures stays { OnErr result (vec_len spare.new ≡ vec_len spare.old) }
+    ensures when { OnErr result ((vec_len spare.old ≡ 0) ⊎ (is_long bytes.now ≡ true)) }
+{
+    if bytes.len() > MAX_DATAGRAM_LEN {
+        return keep(handed, to, bytes, spare.len());
+    }
+    match spare.pop() {
+        Some(buffer) => {
+            keep_in(handed, buffer, to, bytes);
+            Ok(())
+        }
+        None => keep(handed, to, bytes, 0),
+    }
 }
 
 // Takes the first datagram out, and copies it to the front of a buffer.
@@ -72,16 +109,52 @@ fn take_first<A: Allocator + Copy>(
 impl<A: Allocator + Copy> MemoryLink<A> {
     /// A link that receives at this address. It takes no memory.
     pub fn new(alloc: A, address: Endpoint) -> MemoryLink<A>
-        ensures { result ≡ record { handed = []; coming = []; failing_send = 0; failing_receive = 0; faults = 0 } }
+        ensures { result ≡ record {
+          handed = [];
+          coming = [];
+          failing_send = 0;
+          failing_receive = 0;
+          faults = 0;
+          reserved = 0;
+        } }
     {
         MemoryLink {
             address,
             handed: VecDeque::new(alloc),
             coming: VecDeque::new(alloc),
+            spare: Vec::new(alloc),
             failing_send: 0,
             failing_receive: 0,
             faults: 0,
         }
+    }
+
+    // Makes one more buffer, and a place for what it will hold.
+    fn add_buffer(&mut self) -> Result<(), AllocError>
+        ensures ok { OnOk result (self.new ≡ record self.old { reserved = self.old.reserved + 1 }) }
+        ensures err { OnErr result (self.new ≡ self.old) }
+    {
+        let alloc = *self.handed.allocator();
+        let places = self.spare.len().checked_add(1).ok_or(AllocError)?;
+        self.handed.reserve(places)?;
+        self.spare.push(Buffer::new(alloc)?)?;
+        Ok(())
+    }
+
+    /// Makes so many more buffers of `MAX_DATAGRAM_LEN` bytes, of which each send takes one. While one is
+    /// left, a send of at most so many bytes takes no memory. After an `Err` the link is as before.
+    pub fn reserve(&mut self, n: usize) -> Result<(), AllocError>
+        ensures ok { OnOk result (self.new ≡ record self.old { reserved = self.old.reserved + n }) }
+        ensures err { OnErr result (self.new ≡ self.old) }
+    {
+        let before = self.spare.len();
+        for _ in 0..n {
+            if self.add_buffer().is_err() {
+                self.spare.truncate(before);
+                return Err(AllocError);
+            }
+        }
+        Ok(())
     }
 
     /// Makes the n-th send from now fail, from 1, once; 0 makes none fail.
@@ -103,7 +176,7 @@ impl<A: Allocator + Copy> MemoryLink<A> {
         ensures ok { OnOk result (self.new ≡ record self.old { coming = self.old.coming ++ (from, bytes.now) ∷ [] }) }
         ensures err { OnErr result (self.new ≡ self.old) }
     {
-        keep(&mut self.coming, from, bytes)
+        keep(&mut self.coming, from, bytes, 0)
     }
 
     /// Takes out the first datagram that it was handed.
@@ -125,7 +198,7 @@ impl<A: Allocator + Copy> Link for MemoryLink<A> {
     fn send(&mut self, to: Endpoint, bytes: &[u8]) {
         let (fails, left) = count_down(self.failing_send);
         self.failing_send = left;
-        if fails || keep(&mut self.handed, to, bytes).is_err() {
+        if fails || hold(&mut self.handed, &mut self.spare, to, bytes).is_err() {
             self.faults = raise(self.faults);
         }
     }

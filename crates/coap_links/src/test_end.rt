@@ -85,6 +85,10 @@ impl End<Global> for TestEnd {
 
     ghost work = { λ s _. s.1 };
 
+    ghost quiet_feed = { λ _ _ _ _. ⊥ };
+
+    ghost quiet_tick = { λ _ _. ⊤ };
+
     ghost feeds = { λ _ _ _ _ _ _. ⊤ };
 
     ghost ticks = { λ _ _ _ _ _. ⊤ };

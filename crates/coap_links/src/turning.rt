@@ -14,7 +14,8 @@ fn step<A: Allocator + Copy, E: End<A>>(end: &mut E, now: Moment, tally: &mut Ta
     ensures further { result ≡ true → E.ticks (E.state end.old) now.0 (next_word tally.old) true (E.state end.new)
         × (tally.new ≡ worded tally.old) }
     ensures less { result ≡ true → E.work (E.state end.new) now.0 < E.work (E.state end.old) now.0 }
-    ensures last { result ≡ false → Rests E.ticks (E.state end.old) now.0 tally.old (E.state end.new) tally.new }
+    ensures last { result ≡ false → Rests E.quiet_tick E.ticks
+        (E.state end.old) now.0 tally.old (E.state end.new) tally.new }
 {
     match end.tick(now, next_word(tally)) {
         Ok(did) => {
@@ -30,7 +31,7 @@ fn step<A: Allocator + Copy, E: End<A>>(end: &mut E, now: Moment, tally: &mut Ta
 
 // Ticks the end until nothing is due at the moment, or a tick is refused memory.
 fn tick_out<A: Allocator + Copy, E: End<A>>(end: &mut E, now: Moment, tally: &mut Tally)
-    ensures { TicksOut E.ticks (E.state end.old) now.0 tally.old (E.state end.new) tally.new }
+    ensures { TicksOut E.quiet_tick E.ticks (E.state end.old) now.0 tally.old (E.state end.new) tally.new }
 {
     while step(end, now, tally) {}
 }
@@ -43,7 +44,7 @@ pub fn turn<A: Allocator + Copy, E: End<A>, L: Link>(
     now: Moment,
     tally: &mut Tally,
 )
-    ensures { Turns E.waiting E.gives L.sends L.receives E.feeds E.ticks
+    ensures { Turns E.waiting E.gives L.sends L.receives E.quiet_feed E.feeds E.quiet_tick E.ticks
         (E.state end.old) link.old now.0 tally.old (E.state end.new) link.new tally.new }
 {
     match pump(end, link, now, next_word(tally)) {
@@ -64,7 +65,7 @@ pub fn get_turn<A: Allocator + Copy, E: End<A>, L: Link>(
     now: Moment,
     tally: &mut Tally,
 )
-    ensures { Turns E.waiting E.gives L.sends L.receives E.feeds E.ticks
+    ensures { Turns E.waiting E.gives L.sends L.receives E.quiet_feed E.feeds E.quiet_tick E.ticks
         (E.state client.old) link.old now.0 tally.old (E.state client.new) link.new tally.new }
 {
     turn(client, link, now, tally);
@@ -77,7 +78,7 @@ pub fn serve_turn<A: Allocator + Copy, E: End<A>, L: Link>(
     now: Moment,
     tally: &mut Tally,
 )
-    ensures { Turns E.waiting E.gives L.sends L.receives E.feeds E.ticks
+    ensures { Turns E.waiting E.gives L.sends L.receives E.quiet_feed E.feeds E.quiet_tick E.ticks
         (E.state server.old) link.old now.0 tally.old (E.state server.new) link.new tally.new }
 {
     turn(server, link, now, tally);

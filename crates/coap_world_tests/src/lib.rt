@@ -16,6 +16,8 @@ mod refused_growths;
 #[cfg(test)]
 mod script;
 #[cfg(test)]
+mod smooth;
+#[cfg(test)]
 mod stores;
 #[cfg(test)]
 mod uploads;

@@ -1,6 +1,6 @@
 //! The same runs over each store.
 use crate::script::{config_of, events_of, run_text, told, wanted};
-use crate::{blocks, calls, legality, observations, uploads};
+use crate::{blocks, calls, legality, observations, smooth, uploads};
 use coap_resource::{ListStore, MapStore};
 use coap_world::run;
 use std::alloc::Global;
@@ -63,14 +63,16 @@ with changes=4
 
 #[test]
 fn what_is_told(rt: HostRuntime) -> Result<(), Fail> {
-    for theme in [
+    let themes = [
         RUNS,
         calls::RUNS,
         observations::RUNS,
         blocks::RUNS,
         uploads::RUNS,
         legality::RUNS,
-    ] {
+        smooth::RUNS,
+    ];
+    for theme in themes {
         for text in theme.split("\n== ").skip(1) {
             check_run(&rt, rt.alloc(), text)?;
         }

@@ -228,6 +228,27 @@ arrives 0
 told 0 changed
 client idle 0
 
+== a_body_in_three_exchanges
+server new szx=0
+set 0 /t 0 = a*16+b*16+c*8
+call 0 get /t
+client tick 0
+out S 48010000 0000000000000000 b174
+arrives 0
+out C 68450000 0000000000000000 480000000000000001 80 b108 ff 61*16
+arrives 0
+out S 48010001 0000000000000001 b174 c110
+arrives 0
+out C 68450001 0000000000000001 480000000000000001 80 b118 ff 62*16
+arrives 0
+out S 48010002 0000000000000002 b174 c120
+arrives 0
+out C 68450002 0000000000000002 480000000000000001 80 b120 ff 63*8
+arrives 0
+told 0 body 0000000000000001 0 = a*16+b*16+c*8
+client idle 0
+server idle 0
+
 == a_client_asks_for_smaller_blocks
 client new szx=2
 server new szx=3

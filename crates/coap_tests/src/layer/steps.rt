@@ -33,6 +33,8 @@ pub(super) enum Step<'a> {
     Ticks(u64, Tick),
     /// A tick at which nothing is due.
     Idles(u64),
+    /// The same at each second, from the first moment to the last.
+    IdlesFrom(u64, u64),
     /// A tick that sends the first message again.
     Copies(u64),
     /// The same, and neither sooner nor twice.
@@ -165,6 +167,18 @@ fn ticks_and_sends<R: Abort + AllocGlobal, S: BuildHasher>(
 ) -> Result<(), AllocError> {
     ticks(rt, layer, now, tick)?;
     sends(rt, layer, hex);
+    Ok(())
+}
+
+fn idles_from<R: Abort + AllocGlobal, S: BuildHasher>(
+    rt: &R,
+    layer: &mut Layer<Global, S>,
+    first: u64,
+    last: u64,
+) -> Result<(), AllocError> {
+    for second in first / 1_000..last / 1_000 + 1 {
+        ticks_and_sends(rt, layer, second.saturating_mul(1_000), Tick::Idle, "")?;
+    }
     Ok(())
 }
 
@@ -302,6 +316,7 @@ fn take_step<R: Abort + AllocGlobal, S: BuildHasher>(
         Step::Sends(hex) => sends(rt, layer, hex),
         Step::Ticks(now, tick) => ticks(rt, layer, now, tick)?,
         Step::Idles(now) => ticks_and_sends(rt, layer, now, Tick::Idle, "")?,
+        Step::IdlesFrom(first, last) => idles_from(rt, layer, first, last)?,
         Step::Copies(now) => ticks_and_sends(rt, layer, now, Tick::Copied(Id(0)), GET_0000)?,
         Step::CopiesAt(now) => copies_at(rt, layer, now)?,
         Step::Fails(now) => fails(rt, layer, now)?,
