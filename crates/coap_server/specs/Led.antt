@@ -1,6 +1,7 @@
 -- The state of a server as an object, one call of it, and which calls can leave it so (RFC 7252, section 5).
 use Rattle.std.specs.Prelude.{◌≡◌, ℕ, List}
 use Rattle.coap_layer.specs.Machine.State as L
+use Rattle.coap_layer.specs.Machine.Steps.{left_after}
 use Rattle.coap_exchange.specs.AnswererLaw as X
 use Rattle.coap_server.specs.Trace.{Own, start, Call}
 use Rattle.coap_server.specs.Asks.{lower}
@@ -29,3 +30,10 @@ pub record Led (limit szx word : ℕ) (trace : List Call) (s : State) : Type 0 w
   pub rows : ServerRows limit szx trace
   pub own_is : s.own ≡ own_of limit szx trace
   pub exchanges : X.Led word (lower_of limit szx trace) (exchanges_of s)
+
+-- the state that these calls leave, of the server and of its message layer
+abbrev pub state_left : (limit szx word : ℕ) → List Call → State
+state_left limit szx word trace = record {
+  own = own_of limit szx trace;
+  layer = left_after (L.start word) (X.lower_of (lower_of limit szx trace));
+}

@@ -1,4 +1,4 @@
-ghost use Rattle.std.specs.Prelude.{◌≡◌, ℕ, List, [], ◌∷◌, ◌++◌};
+ghost use Rattle.std.specs.Prelude.{◌≡◌, ◌↔◌, ℕ, List, [], ◌∷◌, ◌++◌};
 ghost use Rattle.coap_server.specs.Follows.Begins.{AllBeginNext, FirstIsNotified, NoneLeft};
 ghost use Rattle.coap_server.specs.Follows.Current.{AreCurrent};
 ghost use Rattle.coap_server.specs.Follows.Latest.{AreLatest};
@@ -16,7 +16,7 @@ ghost use Rattle.coap_server.specs.Follows.HandedUpAsOften.{Counted};
 ghost use Rattle.coap_server.specs.Follows.Tags.{AreStamped, OneTag};
 ghost use Rattle.coap_server.specs.Follows.Holds.{AllServed, HoldsChanges};
 ghost use Rattle.coap_server.specs.Law.{ServerLaw, layer_of, lower_of, own_of};
-ghost use Rattle.coap_server.specs.Led.{Led, State, Step, fresh_state};
+ghost use Rattle.coap_server.specs.Led.{Led, State, Step, fresh_state, state_left};
 ghost use Rattle.coap_server.specs.Follows.Brings.{AreHandedUp, BlocksCome};
 ghost use Rattle.coap_server.specs.Follows.Serves.{ServedOnce};
 ghost use Rattle.coap_server.specs.Follows.Reads.{VerdictsRead};
@@ -137,7 +137,10 @@ pub fn server_law()
         → FirstIsAnswered limit szx word t }
     // It can go on: each further call has answers that stand in the law.
     ensures goes { (limit szx word : ℕ) (t : List Call) → ServerLaw limit szx word t → GoesOn limit szx word t }
-    // At one moment its ticks end.
+    // Calls that stand in the law lead to this state, and to no other.
+    ensures left { (limit szx word : ℕ) (t : List Call) → ServerLaw limit szx word t → (s : State)
+        → Led limit szx word t s ↔ (s ≡ state_left limit szx word t) }
+    // At one moment its ticks end: so many do something at most as that state has left to be done.
     ensures ticks { (limit szx word : ℕ) (t : List Call) → TicksEnd limit szx word t }
     // .. and it comes to rest: so does what it has out.
     ensures rests { (limit szx word : ℕ) (t : List Call) → ServerLaw limit szx word t → ComesToRest limit szx word t }

@@ -1,21 +1,14 @@
 -- A tick that does something leaves less to be done at its moment.
-use Rattle.std.proofs.Common.{◌≡◌, ◌<◌, ℕ, ◌+◌, ◌*◌, ◌≢◌, Bool, true, false, List, ◌∷◌, refl, ap, sym, subst, ◌∙◌, max}
-use Rattle.std.proofs.Common.{length, Result, Ok, Err, IfOk, OnOk, OnErr}
+use Rattle.std.proofs.Common.{◌≡◌, ◌<◌, ℕ, ◌≢◌, Bool, true, false, List, ◌∷◌, refl, ap, sym, subst, ◌∙◌}
+use Rattle.std.proofs.Common.{Result, Ok, Err, IfOk, OnOk, OnErr}
 use Rattle.coap_layer.specs.Trace as L
-use Rattle.coap_layer.specs.Machine.State as S
-use Rattle.coap_layer.proofs.Facts.Calls.{steps_left}
-use Rattle.coap_observe.specs.declared.observers.TheConstants.{MAX_OBSERVERS as max_observers}
 use Rattle.coap_resource.specs.Content.{Content}
 use Rattle.coap_resource.specs.declared.refusal.StoreRefusal.{StoreRefusal}
 use Rattle.coap_resource.specs.declared.refusal.StoreRefusal.TheVariants as store_refusals
 use Rattle.coap_exchange.specs.declared.answerer.Due.{Due}
-use Rattle.coap_exchange.specs.AnswererLaw as X
-use Rattle.coap_server.specs.Trace.{Own, Handling, Call, Ticks}
-use Rattle.coap_server.specs.Notifying.{marked}
-use Rattle.coap_server.specs.Law.{own_of, lower_of}
+use Rattle.coap_server.specs.Trace.{Handling, Call, Ticks}
 use Rattle.coap_server.specs.Led.{State, Led, Step}
-use Rattle.coap_common.specs.StepsDue.{due_count}
-use Rattle.coap_server.proofs.Exact.Leads.{led_further, led_lawful}
+use Rattle.coap_server.proofs.Exact.Leads.{led_further, led_lawful, led_state}
 use Rattle.coap_server.proofs.Rest.Ending.{size, less, size_is}
 use Rattle.coap_server.specs.declared.server.delaying.DelayRefusal.{DelayRefusal}
 use Rattle.coap_server.specs.declared.server.delaying.DelayRefusal.TheVariants as delay_refusals
@@ -24,13 +17,7 @@ use Rattle.coap_server.specs.Turns.Work.{work, WasLed}
 
 module _ (limit szx word : ℕ) where
   work_is : (now : ℕ) (t : List Call) (s : State) → Led limit szx word t s → work s now ≡ size limit szx word now t
-  work_is now t s led =
-      ap (λ (o : Own). due_count (max s.layer.clock (max o.clock now)) s.layer.open_cons +
-      (length (marked o.observers) + (1 + max_observers) * length o.waiting)) led.own_is
-      ∙ (ap (λ (l : S.State). due_count (max l.clock (max (own_of limit szx t).clock now)) l.open_cons +
-      (length (marked (own_of limit szx t).observers) + (1 + max_observers) * length (own_of limit szx t).waiting))
-      (steps_left (S.start word) (X.lower_of (lower_of limit szx t)) s.layer led.exchanges.layer)
-      ∙ sym (size_is limit szx word now t))
+  work_is now t s led = ap (λ z. work z now) (led_state limit szx word t s led) ∙ sym (size_is limit szx word now t)
 
 module _ (old new : State) (now w : ℕ) (below : L.Answer) (room : Bool) (d : Due) (passed : ℕ) (h : Handling)
     (id : ℕ) where

@@ -1,5 +1,9 @@
 -- One call more, for all calls of a server.
-use Rattle.std.proofs.Common.{◌≡◌, ℕ, List, [], ◌∷◌, ◌++◌, refl, ap, ◌∙◌, subst, sym}
+use Rattle.std.proofs.Common.{◌≡◌, ◌↔◌, ℕ, List, [], ◌∷◌, ◌++◌, refl, ap, ◌∙◌, subst, sym}
+use Rattle.coap_layer.specs.Machine.State as S
+use Rattle.coap_layer.specs.Machine.Steps as G
+use Rattle.coap_layer.specs.Machine.Steps.{Steps}
+use Rattle.coap_layer.proofs.Facts.Calls.{steps_left}
 use Rattle.coap_exchange.specs.AnswererTrace as E
 use Rattle.coap_exchange.specs.AnswererLaw as X
 use Rattle.coap_exchange.specs.AnswererSteps as P
@@ -11,7 +15,7 @@ use Rattle.coap_server.specs.Asks.{answering, responding, lower}
 use Rattle.coap_server.specs.Steps.{IsRight, after, exchanges_after}
 use Rattle.coap_server.specs.Law.{own_of, lower_of, ServerLaw}
 use Rattle.coap_server.proofs.Exact.Asked.{joined}
-use Rattle.coap_server.specs.Led.{State, exchanges_of, fresh_state, Step, Led}
+use Rattle.coap_server.specs.Led.{State, exchanges_of, fresh_state, Step, Led, state_left}
 
 -- what they keep is what their calls add up to
 calls_kept : (cs past : List E.Call) → exchanges_after (X.own_of past) cs ≡ X.own_of (cs ++ past)
@@ -62,3 +66,32 @@ module _ (limit szx word : ℕ) where
     rows = led.rows;
     exchanges = led_law word (lower_of limit szx t) (exchanges_of s) led.exchanges;
   }
+
+  -- the calls lead to this state, and to no other
+
+  abbrev asks : List Call → List G.Asked
+  asks t = X.lower_of (lower_of limit szx t)
+
+  pub led_state : (t : List Call) (s : State) → Led limit szx word t s → s ≡ state_left limit szx word t
+  led_state t s led = ap (λ (o : Own). record { own = o; layer = s.layer }) led.own_is
+      ∙ ap (λ (l : S.State). record { own = own_of limit szx t; layer = l })
+      (steps_left (S.start word) (asks t) s.layer led.exchanges.layer)
+
+  leads_there : (t : List Call) → ServerLaw limit szx word t → Led limit szx word t (state_left limit szx word t)
+  leads_there t law = record {
+    rows = law.rows;
+    own_is = refl;
+    exchanges = record {
+      rows = law.exchanges.rows;
+      own_is = exchanges_kept limit szx t;
+      layer = subst (Steps (S.start word) (asks t))
+          (steps_left (S.start word) (asks t) law.exchanges.left law.exchanges.layer) law.exchanges.layer;
+    };
+  }
+
+  pub one_state : (t : List Call) → ServerLaw limit szx word t → (s : State)
+      → Led limit szx word t s ↔ (s ≡ state_left limit szx word t)
+  one_state t law s = (
+    led_state t s,
+    λ same. subst (Led limit szx word t) (sym same) (leads_there t law),
+  )

@@ -1,5 +1,5 @@
 -- At one moment, the ticks of a server end (RFC 7252, sections 4.2 and 5.2.2; RFC 7641, section 4.5).
-use Rattle.std.proofs.Common.{◌≡◌, ◌≤◌, ◌<◌, inl, inr, ℕ, zero, suc, ◌+◌, ◌*◌, ◌&&◌, max, not, Bool, true, false}
+use Rattle.std.proofs.Common.{◌≡◌, ◌≤◌, ◌<◌, inl, inr, ℕ, zero, suc, ◌+◌, ◌&&◌, max, not, Bool, true, false}
 use Rattle.std.proofs.Common.{Option, Some, None, List, [], ◌∷◌, ◌++◌, length, filter, refl, ap, sym, subst, ◌∙◌, cond}
 use Rattle.std.proofs.Common.{arith}
 use Rattle.std.proofs.lemmas.List.Filters.{length-filter_both}
@@ -8,7 +8,6 @@ use Rattle.coap_layer.specs.Machine.State as S
 use Rattle.coap_layer.specs.Machine.Steps.{Asked, Steps, left_after}
 use Rattle.coap_layer.specs.Trace as L
 use Rattle.coap_block.specs.Whole.{Each}
-use Rattle.coap_observe.specs.declared.observers.TheConstants.{MAX_OBSERVERS as max_observers}
 use Rattle.coap_observe.specs.Observers.{Observer, is_of, removed, sent_to, unmarked_by}
 use Rattle.coap_observe.proofs.Facts.Registrations.{is_of-decides}
 use Rattle.coap_resource.specs.Content.{Held}
@@ -32,7 +31,9 @@ use Rattle.coap_server.specs.Notifying as N
 use Rattle.coap_server.specs.Serving as R
 use Rattle.coap_server.specs.Handling.{ticking, heard}
 use Rattle.coap_server.specs.Law.{ServerLaw, own_of, lower_of}
+use Rattle.coap_server.specs.Led.{state_left}
 use Rattle.coap_server.specs.Follows.Rests.{IsTick, TicksEnd}
+use Rattle.coap_server.specs.Turns.Work.{work}
 use Rattle.coap_common.proofs.Facts.LastStep.{last_step}
 use Rattle.coap_server.proofs.Exact.Asked.{joined, back}
 use Rattle.coap_server.proofs.Serving.Brought.{server_back}
@@ -254,15 +255,11 @@ module _ (limit szx word : ℕ) where
   abbrev layer : List Call → S.State
   layer t = behind_calls word (lower_of limit szx t)
 
-  -- CONs with a step due at this moment; observers that are marked; and requests that wait, each for a change that can
-  -- mark every observer
+  -- what is left to be done at this moment
   pub size : ℕ → List Call → ℕ
-  size now t = due_count (max (layer t).clock (max (own t).clock now)) (layer t).open_cons +
-      (marks (own t).observers + (1 + max_observers) * length (own t).waiting)
+  size now t = work (state_left limit szx word t) now
 
-  pub size_is : (now : ℕ) (t : List Call) → size now t
-      ≡ due_count (max (layer t).clock (max (own t).clock now)) (layer t).open_cons +
-      (marks (own t).observers + (1 + max_observers) * length (own t).waiting)
+  pub size_is : (now : ℕ) (t : List Call) → size now t ≡ work (state_left limit szx word t) now
   unfolding size
   size_is now t = refl
 
@@ -434,4 +431,5 @@ module _ (limit szx word : ℕ) where
       omega (arith, k, one, same)
 
   pub ticks_end : (t : List Call) → TicksEnd limit szx word t
-  ticks_end t now = (size now t, λ calls h law. (let k = so_many now t calls h law in omega (arith, k)))
+  unfolding size
+  ticks_end t now calls h law = let k = so_many now t calls h law in omega (arith, k)

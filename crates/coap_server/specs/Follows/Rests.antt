@@ -6,19 +6,23 @@ use Rattle.coap_exchange.specs.declared.answerer.Due.{Due}
 use Rattle.coap_common.specs.Endings.{UpToIdle, all_taken}
 use Rattle.coap_server.specs.Trace.{Handling, Call, Ticks, NextOut}
 use Rattle.coap_server.specs.Law.{ServerLaw}
+use Rattle.coap_server.specs.Led.{state_left}
+use Rattle.coap_server.specs.Turns.Work.{work}
 
 abbrev pub IsTick : ℕ → Bool → Call → Type 0
 IsTick now answer c =
     (w : ℕ) × (below : L.Answer) × (room : Bool) × (due : Due) × (passed : ℕ) × (handling : Handling) × (id : ℕ)
     × (c ≡ Ticks now w below room due passed handling id answer)
 
--- so many ticks at most do something
-abbrev pub TicksEnd : ℕ → ℕ → ℕ → List Call → Type 0
+-- Of the ticks of one moment, whatever their words, so many do something at most as is left to be done before them: the
+-- CONs with a step due then, the observers that are marked and the requests that wait, each of these counted for every
+-- observer that its change can mark too.
+abbrev pub TicksEnd : (limit szx word : ℕ) → List Call → Type 0
 TicksEnd limit szx word t =
-    (now : ℕ) → (most : ℕ) × ((calls : List Call) → Each (IsTick now true) calls → ServerLaw limit szx word (calls ++ t)
-    → length calls ≤ most)
+    (now : ℕ) (calls : List Call) → Each (IsTick now true) calls → ServerLaw limit szx word (calls ++ t)
+    → length calls ≤ work (state_left limit szx word t) now
 
--- .. and each with the same word; up to the first that does nothing there is such a row, and what is taken ends too
+-- .. and up to the first that does nothing there is a row of ticks with one word; what is taken ends too
 abbrev pub IsTickWith : ℕ → ℕ → Bool → Call → Type 0
 IsTickWith now w answer c =
     (below : L.Answer) × (room : Bool) × (due : Due) × (passed : ℕ) × (handling : Handling) × (id : ℕ)

@@ -1,6 +1,6 @@
 use Rattle.coap_server.proofs.Observing.LatestRegistration.{are_latest}
 use Rattle.coap_server.proofs.Exact.Exactly.{is_exact}
-use Rattle.coap_server.proofs.Exact.Leads.{exchanges_kept, led_empty, led_further, led_lawful}
+use Rattle.coap_server.proofs.Exact.Leads.{exchanges_kept, led_empty, led_further, led_lawful, one_state}
 use Rattle.coap_server.proofs.Rest.Ending.{ticks_end}
 use Rattle.coap_server.proofs.Serving.Reads.{verdicts_read}
 use Rattle.coap_server.proofs.Serving.Waiting.{ready_are_served, waits_as_deferred}
@@ -93,6 +93,9 @@ returns-clause-waits c limit szx word t law = waits_as_deferred limit szx word t
 
 pub returns-clause-ready : goal.returns-clause-ready
 returns-clause-ready c limit szx word t law = ready_are_served limit szx word t law
+
+pub returns-clause-left : goal.returns-clause-left
+returns-clause-left c limit szx word t law = one_state limit szx word t law
 
 pub returns-clause-ticks : goal.returns-clause-ticks
 returns-clause-ticks c limit szx word t = ticks_end limit szx word t
