@@ -54,9 +54,8 @@ pub fn client_follows_law()
     // are several; without Block2 it answers that request (RFC 7959, section 2.4).
     ensures bodies { (server : Endpoint) (szx word : ℕ) (t : List Call) → ClientLaw server szx word t
         → BodiesAreWhole szx t }
-    // Where the last part of a body is heard, it is reported; and so is a value of an observation that is live, whose
-    // cancel was not sent and of which no newer notification came (RFC 7641, section 3.2; RFC 7959, sections 2.4 and
-    // 2.6).
+    // Where a 2.05 makes a body whole, that is reported; and so is a value of an observation that is live, whose cancel
+    // was not sent and of which no newer notification came (RFC 7641, section 3.2; RFC 7959, sections 2.4 and 2.6).
     ensures whole { (server : Endpoint) (szx word : ℕ) (t : List Call) → ClientLaw server szx word t
         → WholeAreReported szx t }
     // What is heard its message layer handed up in that very call, as it came from the server (RFC 7252, section
