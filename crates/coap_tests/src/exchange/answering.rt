@@ -104,7 +104,10 @@ impl<S: BuildHasher> Server<'_, S> {
 
     // Whether a request is handed up.
     fn take_in(&mut self, now: Moment, from: Endpoint, bytes: &[u8]) -> Result<bool, AllocError> {
-        self.forget();
+        self.undoable = false;
+        self.asked = None;
+        self.due = None;
+        self.there = None;
         let request = self.answerer.incoming(now, from, bytes)?;
         self.undoable = true;
         match request {
@@ -114,14 +117,6 @@ impl<S: BuildHasher> Server<'_, S> {
             }
             None => Ok(false),
         }
-    }
-
-    // What could be called can't be any more.
-    fn forget(&mut self) {
-        self.undoable = false;
-        self.asked = None;
-        self.due = None;
-        self.there = None;
     }
 
     fn answer(&mut self, response: &str) -> Result<String, Fail> {
@@ -162,7 +157,10 @@ impl<S: BuildHasher> Server<'_, S> {
     }
 
     fn pass(&mut self, now: Moment) -> Result<&'static str, AllocError> {
-        self.forget();
+        self.undoable = false;
+        self.asked = None;
+        self.due = None;
+        self.there = None;
         let due = self.answerer.tick(now)?;
         self.undoable = true;
         self.at = now;

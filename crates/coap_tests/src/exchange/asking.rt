@@ -1,5 +1,7 @@
 //! The client's side of a script.
-ghost use Rattle.std.specs.Prelude.{◌≡◌, true, IsSome};
+ghost use Rattle.std.specs.Prelude.{◌≡◌, ℕ, List, Option, [], true, IsSome};
+ghost use Rattle.coap_types.specs.CoapOption.{options_of};
+ghost use Rattle.coap_exchange.specs.ShortRequests.{IsShort};
 
 use super::words::{
     SERVER, at_port, datagram_text, endpoint_of, first, response_text, said, token_of, truth,
@@ -87,7 +89,7 @@ impl<S: BuildHasher> Client<'_, S> {
         let get = Ask {
             method: Method::Get,
             token,
-            options: options_of(path),
+            options: path_options(path),
             payload: b"",
         };
         self.asker.ask(now, &get, 0)
@@ -176,7 +178,10 @@ impl<S: BuildHasher> Client<'_, S> {
 }
 
 // The options of a path: `/`, or else `/t`.
-fn options_of(path: &str) -> &'static [Opt<'static>] {
+fn path_options(path: &str) -> &'static [Opt<'static>]
+    ensures { (token : Option (List ℕ))
+        → IsShort (record { code = 1; token = token; options = options_of result.now; payload = [] }) }
+{
     match path {
         "/" => &[],
         _ => T,
