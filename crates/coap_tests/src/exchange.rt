@@ -8,8 +8,8 @@
 //!
 //! | Call of `Asker` | What it answers |
 //! |---|---|
-//! | `ask 0 /t` · `ask 0 /` · `cancel 0 /t 00` | the token of a GET of this path, or why it is refused; a cancel has the
-//! token of its observation |
+//! | `ask 0 /t` · `ask 0 /` · `cancel 0 /t 00` | the token of a GET of this path, or why it is refused; a cancel has
+//! the token of its observation |
 //! | `receive 0 S 60000000` | `answer 2.05 6869` or `notice 2.05 6869` with the payload or `-`, `reset`, `nothing` |
 //! | `tick 0` | `idle`, `copied`, or that the exchange is over: `timeout`, `no-response` |
 //! | `keep 00` · `release 00` | `true` or `false` |
