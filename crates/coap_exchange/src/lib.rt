@@ -21,6 +21,3 @@ pub use held::Held;
 pub use kept_tokens::KeptTokens;
 pub use laws::{answerable_law, answerer_law, askable_law, asker_law, notifiable_law, witness_law};
 pub use separate::{Deferred, Separate};
-
-#[cfg(test)]
-mod tests;

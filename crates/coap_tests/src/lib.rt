@@ -2,6 +2,8 @@
 #![tactic(auto)]
 
 #[cfg(test)]
+mod exchange;
+#[cfg(test)]
 mod layer;
 #[cfg(test)]
 mod observe;

@@ -1,3 +1,0 @@
-mod client;
-mod hashers;
-mod server;

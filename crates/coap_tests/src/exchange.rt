@@ -1,0 +1,119 @@
+//! Scripts for the two sides of the request/response layer, as text: what is called, and what that
+//! answers.
+//!
+//! A script begins with `== ` and its name; each further line is a call, but for those that begin
+//! with `#`. ` -> ` and what it answers end a call, and nothing where it answers nothing. A moment
+//! comes first, in milliseconds; each word is 0. A port is `S` for the server, `X` for a third party,
+//! `C` and `D` for clients. Bytes are in hex, and `_` parts those that belong together.
+//!
+//! | Call of `Asker` | What it answers |
+//! |---|---|
+//! | `ask 0 /t` · `ask 0 /` · `cancel 0 /t 00` | the token of a GET of this path, or why it is refused; a cancel has
+//! the token of its observation |
+//! | `receive 0 S 60000000` | `answer 2.05 6869` or `notice 2.05 6869` with the payload or `-`, `reset`, `nothing` |
+//! | `tick 0` | `idle`, `copied`, or that the exchange is over: `timeout`, `no-response` |
+//! | `keep 00` · `release 00` | `true` or `false` |
+//!
+//! | Call of `Answerer` | What it answers |
+//! |---|---|
+//! | `incoming 0 C 40010001` | `request` where one is handed up, `nothing` |
+//! | `answer 2.05 hi` · `defer 0 1000` | to the request that was handed up last: a response; `true` or `false` |
+//! | `tick 0` | `idle`, `copied`, `expired`, `ready` |
+//! | `respond 2.05 hi` | to the deferred request that the last tick said to be ready: a Message ID |
+//! | `ready 0 C` | `true` or `false` |
+//! | `notify 00 4.04` | a notification with this token where the last `ready` was true: a Message ID |
+//! | `ended` | where it went, its token and whether it carried Observe, or `nothing` |
+//!
+//! A response is `2.05 hi`, `2.05 observe hi` (with Observe 0) or `4.04`. These are of both:
+//!
+//! | Call | What it answers |
+//! |---|---|
+//! | `out` | where the next datagram goes, and its bytes, or `nothing` |
+//! | `undo` | nothing |
+//! | `clock` | the last moment that counted |
+//! | `hashed` | whether a hash was begun since this was asked last |
+//!
+//! `times 0..16: keep {2} -> true; out -> nothing` makes its calls for each of the counts, which stands
+//! for `{2}` in two digits of hex.
+mod answering;
+mod asking;
+mod client;
+mod hashers;
+mod server;
+mod words;
+
+use std::alloc::Global;
+use std::test::Fail;
+use words::cut;
+
+/// A side of the layer, by its calls.
+pub(crate) trait Side {
+    /// Makes this call with these words, and says what it answers.
+    fn call(&mut self, verb: &str, words: &str) -> Result<String, Fail>;
+}
+
+/// The script of this name.
+pub(crate) fn find<'a>(scripts: &'a str, name: &str) -> Result<&'a str, Fail> {
+    for script in scripts.split("\n== ").skip(1) {
+        if cut(script, "\n").0 == name {
+            return Ok(script);
+        }
+    }
+    Err(Fail::new("there is no such script"))
+}
+
+/// Makes the calls of a script, one after the other.
+pub(crate) fn run_script<T: Side>(alloc: Global, side: &mut T, script: &str) -> Result<(), Fail> {
+    let (name, lines) = cut(script, "\n");
+    for line in lines.lines() {
+        if !line.is_empty() && !line.starts_with('#') {
+            run_line(alloc, side, name, line)?;
+        }
+    }
+    Ok(())
+}
+
+// Makes a call, or calls for each count.
+fn run_line<T: Side>(alloc: Global, side: &mut T, name: &str, line: &str) -> Result<(), Fail> {
+    let Some(times) = line.strip_prefix("times ") else {
+        return run_call(alloc, side, name, line);
+    };
+    let (counts, calls) = cut(times, ": ");
+    let (from, to) = cut(counts, "..");
+    let from: u8 = from.parse()?;
+    let to: u8 = to.parse()?;
+    for count in from..to {
+        run_counted(alloc, side, name, calls, count)?;
+    }
+    Ok(())
+}
+
+fn run_counted<T: Side>(
+    alloc: Global,
+    side: &mut T,
+    name: &str,
+    calls: &str,
+    count: u8,
+) -> Result<(), Fail> {
+    let digits = format!(in alloc; "{count:02x}")?;
+    let calls = calls.replace(alloc, "{2}", digits.as_str())?;
+    for call in calls.as_str().split("; ") {
+        run_call(alloc, side, name, call)?;
+    }
+    Ok(())
+}
+
+fn run_call<T: Side>(alloc: Global, side: &mut T, name: &str, line: &str) -> Result<(), Fail> {
+    let whole = line.replace(alloc, "_", "")?;
+    let (call, wanted) = cut(whole.as_str(), " -> ");
+    let (verb, words) = cut(call, " ");
+    let told = side.call(verb, words)?;
+    is_same(name, line, told.as_str(), wanted)
+}
+
+fn is_same(name: &str, line: &str, told: &str, wanted: &str) -> Result<(), Fail> {
+    if told == wanted {
+        return Ok(());
+    }
+    Err(Fail::new(format_args!("in {name}, at `{line}`: {told}")))
+}
