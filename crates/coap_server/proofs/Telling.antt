@@ -1,6 +1,7 @@
 pub mod LayerCalls
 pub mod NotedOptions
 pub mod OneConACall
+pub mod ResponsesGoOut
 pub mod SentNow
 pub mod Told
 pub mod UnderRegistrations

@@ -8,6 +8,7 @@ pub mod EmptyPackets
 pub mod Exact
 pub mod Gives
 pub mod GoesOn
+pub mod GoesOut
 pub mod HandedUpAsOften
 pub mod Holds
 pub mod Latest

@@ -1,6 +1,7 @@
 ghost use Rattle.std.specs.Prelude.{◌≡◌, ◌↔◌, ℕ, List, [], ◌∷◌, ◌++◌};
 ghost use Rattle.coap_server.specs.Follows.Begins.{AllBeginNext, FirstIsNotified, NoneLeft};
 ghost use Rattle.coap_server.specs.Follows.Current.{AreCurrent};
+ghost use Rattle.coap_server.specs.Follows.GoesOut.{AllGoOut};
 ghost use Rattle.coap_server.specs.Follows.Latest.{AreLatest};
 ghost use Rattle.coap_server.specs.Follows.Marks.{AllMark, StayDue};
 ghost use Rattle.coap_server.specs.Follows.Registered.{AllRegister};
@@ -171,6 +172,9 @@ pub fn server_must_law()
     ensures current { (limit szx word : ℕ) (t : List Call) → ServerLaw limit szx word t → AreCurrent limit szx t }
     // What waits goes on waiting until a call sends its response (RFC 7252, section 5.2.2).
     ensures waits_on { (limit szx word : ℕ) (t : List Call) → ServerLaw limit szx word t → WaitOn limit szx t }
+    // A response that a call sends, and a notification, its message layer is given in that very call (RFC 7252,
+    // sections 5.2.1 to 5.2.3; RFC 7641, section 4.5).
+    ensures goes_out { (limit szx word : ℕ) (t : List Call) → ServerLaw limit szx word t → AllGoOut limit szx word t }
     // A tick that does nothing leaves nothing that can be answered and nobody who can be notified, unless no Message ID
     // is free (RFC 7252, sections 4.4 and 4.7) ..
     ensures none_left { (limit szx word : ℕ) (t : List Call) → ServerLaw limit szx word t

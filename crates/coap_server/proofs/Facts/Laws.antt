@@ -14,6 +14,7 @@ use Rattle.coap_server.specs.Follows.Current.{AreCurrent}
 use Rattle.coap_server.specs.Follows.HandedUpAsOften.{Counted}
 use Rattle.coap_server.specs.Follows.Gives.{NoneContinues, SentResponses}
 use Rattle.coap_server.specs.Follows.GoesOn.{GoesOn}
+use Rattle.coap_server.specs.Follows.GoesOut.{AllGoOut}
 use Rattle.coap_server.specs.Follows.Holds.{AllServed}
 use Rattle.coap_server.specs.Follows.Marks.{AllMark, StayDue}
 use Rattle.coap_server.specs.Follows.Reads.{VerdictsRead}
@@ -48,6 +49,7 @@ use Rattle.coap_server.proofs.Serving.ServedWasHandedUp.{handed_up, blocks_come}
 use Rattle.coap_server.proofs.Serving.Brought.{servers_back}
 use Rattle.coap_server.proofs.Serving.Reads.{verdicts_read}
 use Rattle.coap_server.proofs.Serving.Waiting.{ready_are_served}
+use Rattle.coap_server.proofs.Telling.ResponsesGoOut.{all_go_out}
 pub use Rattle.coap_server.proofs.Holding.Holds.{version_is, held_is, all_served, holds_changes}
 
 pub reads : VerdictsRead
@@ -132,6 +134,9 @@ module _ (limit szx word : ℕ) where
 
     pub waits_on : WaitOn limit szx t
     waits_on = wait_on limit szx word t law
+
+    pub goes_out : AllGoOut limit szx word t
+    goes_out = all_go_out limit szx word t law
 
     pub none_left : NoneLeft limit szx word t
     none_left = N.none_left limit szx word t law

@@ -4,6 +4,7 @@ use Rattle.coap_server.proofs.Observing.ChangesMark.{all_mark}
 use Rattle.coap_server.proofs.Observing.LastRegistered.{all_register}
 use Rattle.coap_server.proofs.Observing.MarksStay.{stay_due}
 use Rattle.coap_server.proofs.Observing.UnmarkedAreCurrent.{are_current}
+use Rattle.coap_server.proofs.Telling.ResponsesGoOut.{all_go_out}
 use Rattle.coap_server.proofs.laws.server_must_law.Goals as goal
 
 pub returns-clause-registers : goal.returns-clause-registers
@@ -20,6 +21,9 @@ returns-clause-current c limit szx word t law = are_current limit szx word t law
 
 pub returns-clause-waits_on : goal.returns-clause-waits_on
 returns-clause-waits_on c limit szx word t law = wait_on limit szx word t law
+
+pub returns-clause-goes_out : goal.returns-clause-goes_out
+returns-clause-goes_out c limit szx word t law = all_go_out limit szx word t law
 
 pub returns-clause-none_left : goal.returns-clause-none_left
 returns-clause-none_left c limit szx word t law = none_left limit szx word t law

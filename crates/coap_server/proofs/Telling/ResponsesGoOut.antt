@@ -1,0 +1,149 @@
+-- What a server answers and notifies its message layer is given in that very call.
+use Rattle.std.proofs.Common.{◌≡◌, ◌≢◌, inl, inr, ℕ, Some, List, [], ◌∷◌, ◌++◌, refl, ap, sym}
+use Rattle.std.proofs.Common.{subst, ◌∙◌}
+use Rattle.coap_types.specs.Past.{Ever}
+use Rattle.coap_types.proofs.Facts.Traces.{Ever_front, Ever_back}
+use Rattle.coap_types.specs.declared.message.Kind.{Kind}
+use Rattle.coap_types.specs.declared.message.Kind.TheVariants.{Con, Non, Ack, Rst}
+use Rattle.coap_layer.specs.Machine.State as S
+use Rattle.coap_layer.specs.Machine.Steps as G
+use Rattle.coap_layer.specs.Machine.Steps.{Steps, entries, left_after}
+use Rattle.coap_layer.specs.Trace as L
+use Rattle.coap_layer.proofs.Facts.Calls.{steps_left}
+use Rattle.coap_observe.specs.Observers.{Observer}
+use Rattle.coap_exchange.specs.declared.answerer.Asked.{Asked}
+use Rattle.coap_exchange.specs.declared.answerer.Due.TheVariants as due
+use Rattle.coap_exchange.specs.AnswererFollows.{responds}
+use Rattle.coap_exchange.specs.AnswererSteps as P
+use Rattle.coap_exchange.specs.AnswererTrace as E
+use Rattle.coap_exchange.specs.AnswererLaw as W
+use Rattle.coap_common.specs.Adds.{asked_by_server}
+use Rattle.coap_server.specs.Trace.{Own, Silent, Replies, Serves, Waits, Notifies, Call, Sets, Removes}
+use Rattle.coap_server.specs.Trace.{Delays, Feeds, Ticks, NextOut, Gets, TellsApplied}
+use Rattle.coap_server.specs.Asks.{lower}
+use Rattle.coap_server.specs.Deferring.{question_of}
+use Rattle.coap_server.specs.Handling.{heard, ticking}
+use Rattle.coap_server.specs.Notifying.{notification}
+use Rattle.coap_server.specs.Law.{ServerLaw, own_of, lower_of}
+use Rattle.coap_server.specs.Follows.Adds.{call_asks, call_adds}
+use Rattle.coap_server.specs.Follows.GoesOut.{GoesOut, in_ack, in_non, in_con, InCon, GoesOutHere, AllGoOut}
+use Rattle.coap_server.specs.Follows.Observes.{Notice, notice}
+use Rattle.coap_server.proofs.Observing.Outcomes.{never_notifies_ready}
+use Rattle.coap_server.proofs.Serving.Brought.{server_back}
+use Rattle.coap_server.proofs.Telling.LayerCalls.{steps_here}
+
+-- from what is asked of the layer, with the answer, to its entries
+added_for : (K : L.Call → L.Answer → Type 0) (old new : S.State) (calls : List G.Asked) → Steps old calls new
+    → Ever (λ (b : G.Asked). K b.call b.answer) calls → Ever (λ (e : L.Entry). K e.call e.answer) (entries old calls)
+added_for K old new [] h e = e
+added_for K old new (a ∷ earlier) h (inr e) = inr (added_for K old h.0 earlier h.1 e)
+added_for K old new (a ∷ earlier) h (inl e) =
+    let s : S.State = left_after old earlier in
+    let right : a.answer ≡ S.answer_of s (S.moment s a.now a.call) a.call =
+    subst (λ w. a.answer ≡ S.answer_of w (S.moment w a.now a.call) a.call)
+    (steps_left old earlier h.0 h.1) h.2.right in
+    inl (subst (K a.call) right e)
+
+-- from a call of the exchanges to what it asks of the layer
+module _ (K : L.Call → L.Answer → Type 0) (Q : E.Call → Type 0)
+    (gives : (s : E.Own) (d : E.Call) → P.IsRight s d → Q d → Ever (λ (b : G.Asked). K b.call b.answer) (P.lower s d))
+  where
+    asked_of : (later past : List E.Call) → W.AnswererLaw (later ++ past) → Ever Q later
+        → Ever (λ (b : G.Asked). K b.call b.answer) (asked_by_server past later)
+    asked_of [] past law h = absurd h
+    asked_of (d ∷ later) past law (inl q) = Ever_front (λ (b : G.Asked). K b.call b.answer)
+        (P.lower (W.own_of (later ++ past)) d) (asked_by_server past later) (gives (W.own_of (later ++ past)) d law.0 q)
+    asked_of (d ∷ later) past law (inr h) = Ever_back (λ (b : G.Asked). K b.call b.answer)
+        (P.lower (W.own_of (later ++ past)) d) (asked_by_server past later) (asked_of later past law.1 h)
+
+    module _ (limit szx word : ℕ) where
+      given_in : (past : List Call) (c : Call) → ServerLaw limit szx word (c ∷ past)
+          → Ever Q (lower (own_of limit szx past) c)
+          → Ever (λ (e : L.Entry). K e.call e.answer) (call_adds limit szx word past c)
+      given_in past c law h =
+          let k = steps_here limit szx word past c law in
+          subst (Ever (λ (e : L.Entry). K e.call e.answer)) (sym k.3)
+          (added_for K k.0 k.1 (call_asks limit szx past c) k.2
+          (asked_of (lower (own_of limit szx past) c) (lower_of limit szx past) law.exchanges.rows h))
+
+-- a response
+
+not_con : (k n : Kind) → k ≡ n → (n ≡ Con → ⊥) → k ≢ Con
+not_con k n e never h = never (sym e ∙ h)
+
+module _ (a : Asked) where
+  answers_out : (s : E.Own) (r : E.Response) (below : L.Answer) (k : Kind) → a.kind ≡ k → P.IsSentAs k below
+      → GoesOut a (P.answering s k a r) below
+  answers_out s r below Con e sent = in_ack r e refl
+  answers_out s r below Non e sent = in_non r sent.0 (not_con a.kind Non e (λ h. cc h)) refl sent.1
+  answers_out s r below Ack e sent = in_non r sent.0 (not_con a.kind Ack e (λ h. cc h)) refl sent.1
+  answers_out s r below Rst e sent = in_non r sent.0 (not_con a.kind Rst e (λ h. cc h)) refl sent.1
+
+  response_out : (s : E.Own) (d : E.Call) → P.IsRight s d → responds d ≡ Some a
+      → Ever (λ (b : G.Asked). GoesOut a b.call b.answer) (P.lower s d)
+  response_out s (E.Answers x r below) right h =
+      let same : a ≡ x = cc h in
+      inl (subst (λ y. GoesOut a (P.answering s y.kind y r) below) same
+      (answers_out s r below a.kind refl (subst (λ (y : Asked). P.IsSentAs y.kind below) (sym same) right.2)))
+  response_out s (E.Responds now x r w id) right h =
+      let same : x ≡ a = cc h in
+      inl (in_con r w id (ap (λ (y : Asked). L.Confirm y.from (P.content_of y r) w) same) refl)
+  response_out s (E.Incoming now from bytes up came) right h = absurd (cc h)
+  response_out s (E.Defers now x delay answer) right h = absurd (cc h)
+  response_out s (E.Ticks now below room d) right h = absurd (cc h)
+  response_out s (E.Ready now to answer) right h = absurd (cc h)
+  response_out s (E.Notifies now to token r w id) right h = absurd (cc h)
+  response_out s (E.Take answer) right h = absurd (cc h)
+
+-- a notification
+abbrev IsNotifying : Observer → E.Response → E.Call → Type 0
+IsNotifying o r d = (at w id : ℕ) × (d ≡ E.Notifies at o.to o.token r w id)
+
+notice_out : (o : Observer) (r : E.Response) (s : E.Own) (d : E.Call) → P.IsRight s d → IsNotifying o r d
+    → Ever (λ (b : G.Asked). InCon o.to (P.content_with o.token r) b.call b.answer) (P.lower s d)
+notice_out o r s d right k =
+    subst (λ x. Ever (λ (b : G.Asked). InCon o.to (P.content_with o.token r) b.call b.answer) (P.lower s x)) (sym k.3)
+    (inl (record { word = k.1; id = k.2; call_is = refl; answer_is = refl }))
+
+module _ (limit szx word : ℕ) where
+  notifying : (t : List Call) (c : Call) → ServerLaw limit szx word (c ∷ t) → (x : Notice) → notice c ≡ Some x
+      → Ever (IsNotifying x.observer (notification (own_of limit szx t).store x.observer x.reply))
+      (lower (own_of limit szx t) c)
+  notifying t (Ticks now w below room due.Idle passed (Notifies o reply) id answer) law x e =
+      let same : ◌≡◌ {A = Notice} (record { observer = o; reply = reply }) x = cc e in
+      subst (λ (y : Notice). Ever (IsNotifying y.observer
+      (notification (own_of limit szx t).store y.observer y.reply))
+      (lower (own_of limit szx t) (Ticks now w below room due.Idle passed (Notifies o reply) id answer))) same
+      (inl ((heard (own_of limit szx t) now (ticking (own_of limit szx t) now below room due.Idle)).clock, w, id, refl))
+  notifying t (Ticks now w below room due.Copied passed (Notifies o reply) id answer) law x e =
+      let k = law.rows.0.0 in absurd (cc k)
+  notifying t (Ticks now w below room due.Expired passed (Notifies o reply) id answer) law x e =
+      let k = law.rows.0.0 in absurd (cc k)
+  notifying t (Ticks now w below room (due.Ready a) passed (Notifies o reply) id answer) law x e =
+      let s : Own = heard (own_of limit szx t) now (ticking (own_of limit szx t) now below room (due.Ready a)) in
+      absurd (never_notifies_ready (question_of s.clock a s.waiting) s.store s.clock o reply law.rows.0.0)
+  notifying t (Ticks now w below room d passed Silent id answer) law x e = absurd (cc e)
+  notifying t (Ticks now w below room d passed (Replies r) id answer) law x e = absurd (cc e)
+  notifying t (Ticks now w below room d passed (Serves q reply left) id answer) law x e = absurd (cc e)
+  notifying t (Ticks now w below room d passed (Waits q ms) id answer) law x e = absurd (cc e)
+  notifying t (Feeds now from bytes w up came h below) law x e = absurd (cc e)
+  notifying t (Sets now path format body answer left) law x e = absurd (cc e)
+  notifying t (Removes now path answer left) law x e = absurd (cc e)
+  notifying t (Delays path ms answer) law x e = absurd (cc e)
+  notifying t (Gets path answer) law x e = absurd (cc e)
+  notifying t (TellsApplied answer) law x e = absurd (cc e)
+  notifying t (NextOut answer) law x e = absurd (cc e)
+
+  here : (t : List Call) (c : Call) → ServerLaw limit szx word (c ∷ t) → GoesOutHere limit szx word t c
+  here t c law =
+      record {
+        responses = λ a h. given_in (GoesOut a) (λ d. responds d ≡ Some a) (response_out a) limit szx word t c law h;
+        notices = λ x e.
+            let r : E.Response = notification (own_of limit szx t).store x.observer x.reply in
+            given_in (InCon x.observer.to (P.content_with x.observer.token r)) (IsNotifying x.observer r)
+            (notice_out x.observer r) limit szx word t c law (notifying t c law x e);
+      }
+
+  pub all_go_out : (t : List Call) → ServerLaw limit szx word t → AllGoOut limit szx word t
+  all_go_out [] law = tt
+  all_go_out (c ∷ t) law = (here t c law, all_go_out t (server_back limit szx word c t law))
