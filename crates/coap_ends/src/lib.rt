@@ -11,6 +11,7 @@ pub use coap_client::{
     client_witness,
 };
 pub use coap_server::{
-    Applied, Delay, DelayRefusal, MAX_DELAYS, Server, give_delay, server_law, server_runs,
+    Applied, Delay, DelayRefusal, MAX_DELAYS, Server, give_delay, server_law, server_must_law,
+    server_runs,
 };
 pub use end::End;
