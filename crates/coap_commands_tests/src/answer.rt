@@ -34,7 +34,7 @@ const PRECONDITION_FAILED: &str = "608c0001\n";
 
 #[test]
 fn paths(rt: HostRuntime) -> Result<(), Fail> {
-    let rows: [Row<'_>; 14] = [
+    let rows: [Row<'_>; 15] = [
         (&["answer", "t", "hi", "4g"], 2, "bad hex\n"),
         (
             &[
@@ -104,6 +104,7 @@ fn paths(rt: HostRuntime) -> Result<(), Fail> {
             0,
             "6182000171\n",
         ),
+        (&["answer", "/", "hi", "5101000171e006f4"], 0, "silence\n"),
     ];
     for (words, status, printed) in rows {
         check_row(&rt, words, status, printed)?;

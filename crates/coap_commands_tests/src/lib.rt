@@ -6,11 +6,15 @@ mod answer;
 #[cfg(test)]
 mod bodies;
 #[cfg(test)]
+mod buffers;
+#[cfg(test)]
 mod joined_link;
 #[cfg(test)]
 mod pair;
 #[cfg(test)]
 mod programs;
+#[cfg(test)]
+mod refusing_end;
 #[cfg(test)]
 mod rows;
 #[cfg(test)]

@@ -1,4 +1,5 @@
 use crate::pair::Clock;
+use crate::refusing_end::RefusingEnd;
 use crate::rows::{check_row, repeated, words_of};
 use coap_commands::{Stop, close, command, fresh_server, get_over, hold_resource, serve_over};
 use coap_links::{ANY_PORT, Link, MemoryLink, UdpLink};
@@ -177,5 +178,29 @@ fn what_a_server_prints_and_sends(rt: HostRuntime) -> Result<(), Fail> {
         }
         assert_eq!(rt; told.as_slice(), wanted.as_slice(), "at {count}");
     }
+    Ok(())
+}
+
+// Serves over an end that is refused memory at each of 200 feeds, a turn each 10 ms: the exit status, and when it
+// ends.
+fn serve_without_memory(alloc: Global, told: &mut Vec<u8>) -> Result<(u8, u64), AllocError> {
+    let mut link = MemoryLink::new(alloc, FAR);
+    for _ in 0..200 {
+        link.give(NEAR, &[0x40, 0, 0, 1])?;
+    }
+    let mut server = RefusingEnd;
+    let mut time = Clock { now: 0 };
+    let ended = serve_over(&mut server, &mut link, &mut time, 1, 0, told);
+    drop(link);
+    Ok((close(ended, told).number(), time.now))
+}
+
+#[test]
+fn the_hundredth_refused_feed_ends_a_program(rt: HostRuntime) -> Result<(), Fail> {
+    let mut told = Vec::new(rt.alloc());
+    let ended = serve_without_memory(rt.alloc(), &mut told);
+    assert_eq!(rt; told.as_slice(), b"no memory\n".as_slice());
+    drop(told);
+    assert_eq!(rt; ended?, (4, 1_000));
     Ok(())
 }

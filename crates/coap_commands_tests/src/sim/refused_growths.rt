@@ -1,6 +1,6 @@
 //! Each growth of a script refused in turn: an input that meets that inside an end counts as lost, and
 //! elsewhere the script ends for want of memory.
-use super::{calls, name_of, observations, parts_of};
+use super::{calls, name_of, observations, parts_of, strangers};
 use coap_commands::{close, sim_to};
 use failing::Failing;
 use std::alloc::{Allocator, Global};
@@ -22,14 +22,16 @@ struct Ended {
 #[test]
 fn each_growth_is_refused(rt: HostRuntime) -> Result<(), Fail> {
     let alloc = rt.alloc();
-    for name in ["a_get", "a_post_that_comes_twice"] {
-        refuse_each(alloc, script_of(alloc, calls::SCRIPTS, name)?.as_str())?;
-    }
-    for name in ["an_observation", "an_observed_path_that_is_removed"] {
-        refuse_each(
-            alloc,
-            script_of(alloc, observations::SCRIPTS, name)?.as_str(),
-        )?;
+    let cases = [
+        (calls::SCRIPTS, "a_get"),
+        (calls::SCRIPTS, "a_post_that_comes_twice"),
+        (observations::SCRIPTS, "an_observation"),
+        (observations::SCRIPTS, "an_observed_path_that_is_removed"),
+        (strangers::SCRIPTS, "a_ping"),
+        (strangers::SCRIPTS, "the_token_of_a_call_from_elsewhere"),
+    ];
+    for (scripts, name) in cases {
+        refuse_each(alloc, script_of(alloc, scripts, name)?.as_str())?;
     }
     Ok(())
 }
