@@ -6,11 +6,11 @@ pub(crate) const RUNS: &str = "
 # In each second comes, in order, what was given out in the second before, and then both ends tick: nothing is on its
 # way for more than 1,000 ms, and no tick is more than 1,000 ms old.
 delay /t 10000
-0 call put /t a
+0 call put /t = a
 > takes 0
 0 call get /t
 > takes 1
-0 call post /t b
+0 call post /t = b
 > takes 2
 0 call delete /t
 > takes 3
