@@ -172,8 +172,10 @@ pub fn server_must_law()
     ensures current { (limit szx word : ℕ) (t : List Call) → ServerLaw limit szx word t → AreCurrent limit szx t }
     // What waits goes on waiting until a call sends its response (RFC 7252, section 5.2.2).
     ensures waits_on { (limit szx word : ℕ) (t : List Call) → ServerLaw limit szx word t → WaitOn limit szx t }
-    // A response that a call sends, and a notification, its message layer is given in that very call (RFC 7252,
-    // sections 5.2.1 to 5.2.3; RFC 7641, section 4.5).
+    // Each request that a call answers or serves is sent a response: what the store replied in that call, and where it
+    // serves none, the code that refuses the request or 2.31 to its block. The message layer is given each response,
+    // and each notification, in that very call (RFC 7252, sections 5.2.1 to 5.2.3; RFC 7641, section 4.5; RFC 7959,
+    // section 2.9).
     ensures goes_out { (limit szx word : ℕ) (t : List Call) → ServerLaw limit szx word t → AllGoOut limit szx word t }
     // A tick that does nothing leaves nothing that can be answered and nobody who can be notified, unless no Message ID
     // is free (RFC 7252, sections 4.4 and 4.7) ..
