@@ -181,7 +181,8 @@ pub fn server_must_law()
     // is free (RFC 7252, sections 4.4 and 4.7) ..
     ensures none_left { (limit szx word : ℕ) (t : List Call) → ServerLaw limit szx word t
         → NoneLeft limit szx word t }
-    // .. a tick notifies the first that can be, where nothing else is to be done (RFC 7641, section 4.5) ..
+    // .. where the message layer has nothing due and nothing that waits can be answered, a tick notifies the first
+    // observer that can be, if a Message ID is free (RFC 7641, section 4.5) ..
     ensures notified { (limit szx word : ℕ) (t : List Call) → ServerLaw limit szx word t
         → FirstIsNotified limit szx word t }
     // .. and what it begins is the next: the first of what waits that can be answered, and where none can, the first
