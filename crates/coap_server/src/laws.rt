@@ -141,7 +141,8 @@ pub fn server_law()
     // Calls that stand in the law lead to this state, and to no other.
     ensures left { (limit szx word : ℕ) (t : List Call) → ServerLaw limit szx word t → (s : State)
         → Led limit szx word t s ↔ (s ≡ state_left limit szx word t) }
-    // At one moment its ticks end: so many do something at most as that state has left to be done.
+    // At one moment its ticks end: at most as many do something as that state has due then, where a request that waits
+    // counts for its response, and for the 64 observers that its change can mark ..
     ensures ticks { (limit szx word : ℕ) (t : List Call) → TicksEnd limit szx word t }
     // .. and it comes to rest: so does what it has out.
     ensures rests { (limit szx word : ℕ) (t : List Call) → ServerLaw limit szx word t → ComesToRest limit szx word t }
