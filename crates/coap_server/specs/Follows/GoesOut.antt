@@ -55,7 +55,7 @@ module _ (limit szx : ℕ) where
   Sends past c a r = Ever (λ b. responds_with b ≡ Some (a, r)) (lower (own_of limit szx past) c)
 
   -- the store served the request in this call, and the response says what it replied
-  pub record IsServed (past : List Call) (c : Call) (a : Asked) (r : E.Response) : Type 0 where
+  pub record IsReplied (past : List Call) (c : Call) (a : Asked) (r : E.Response) : Type 0 where
     pub request : Serving
     pub here : serving (own_of limit szx past) c ≡ Some request
     pub asked : request.asked ≡ a
@@ -82,7 +82,7 @@ module _ (limit szx : ℕ) where
 
   -- a response is made in the call that sends it
   abbrev pub IsMade : List Call → Call → Asked → E.Response → Type 0
-  IsMade past c a r = IsServed past c a r ⊎ (IsContinued past c a r ⊎ IsRefused past c a r)
+  IsMade past c a r = IsReplied past c a r ⊎ (IsContinued past c a r ⊎ IsRefused past c a r)
 
 -- What is answered is sent a response, and to what is served it is what the store replied; each that is sent was made
 -- in that call, and goes out in it; and so does each notification.
