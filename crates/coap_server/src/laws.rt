@@ -141,7 +141,8 @@ pub fn server_law()
     // Calls that stand in the law lead to this state, and to no other.
     ensures left { (limit szx word : ℕ) (t : List Call) → ServerLaw limit szx word t → (s : State)
         → Led limit szx word t s ↔ (s ≡ state_left limit szx word t) }
-    // At one moment its ticks end: so many do something at most as that state has left to be done.
+    // At one moment its ticks end: at most as many do something as that state has due then, where a request that waits
+    // counts for its response, and for the 64 observers that its change can mark ..
     ensures ticks { (limit szx word : ℕ) (t : List Call) → TicksEnd limit szx word t }
     // .. and it comes to rest: so does what it has out.
     ensures rests { (limit szx word : ℕ) (t : List Call) → ServerLaw limit szx word t → ComesToRest limit szx word t }
@@ -172,14 +173,17 @@ pub fn server_must_law()
     ensures current { (limit szx word : ℕ) (t : List Call) → ServerLaw limit szx word t → AreCurrent limit szx t }
     // What waits goes on waiting until a call sends its response (RFC 7252, section 5.2.2).
     ensures waits_on { (limit szx word : ℕ) (t : List Call) → ServerLaw limit szx word t → WaitOn limit szx t }
-    // A response that a call sends, and a notification, its message layer is given in that very call (RFC 7252,
-    // sections 5.2.1 to 5.2.3; RFC 7641, section 4.5).
+    // Each request that a call answers or serves is sent a response: what the store replied in that call, and where it
+    // serves none, the code that refuses the request or 2.31 to its block. The message layer is given each response,
+    // and each notification, in that very call (RFC 7252, sections 5.2.1 to 5.2.3; RFC 7641, section 4.5; RFC 7959,
+    // section 2.9).
     ensures goes_out { (limit szx word : ℕ) (t : List Call) → ServerLaw limit szx word t → AllGoOut limit szx word t }
     // A tick that does nothing leaves nothing that can be answered and nobody who can be notified, unless no Message ID
     // is free (RFC 7252, sections 4.4 and 4.7) ..
     ensures none_left { (limit szx word : ℕ) (t : List Call) → ServerLaw limit szx word t
         → NoneLeft limit szx word t }
-    // .. a tick notifies the first that can be, where nothing else is to be done (RFC 7641, section 4.5) ..
+    // .. where the message layer has nothing due and nothing that waits can be answered, a tick notifies the first
+    // observer that can be, if a Message ID is free (RFC 7641, section 4.5) ..
     ensures notified { (limit szx word : ℕ) (t : List Call) → ServerLaw limit szx word t
         → FirstIsNotified limit szx word t }
     // .. and what it begins is the next: the first of what waits that can be answered, and where none can, the first

@@ -57,18 +57,18 @@ not_continue : (code : ℕ) → bad_request ≤ code → code ≢ continue
 not_continue code h is = omega (arith, h, is)
 
 -- a response that refuses without the store, or asks for the next block
-record IsRefusal (s : Own) (a : Asked) (v : Verdict) (r : E.Response) : Type 0 where
-  code : ℕ
-  refuses : refusal_of s.uploads s.clock a v ≡ Some code
-  is : r ≡ bare code
+pub record IsRefusal (s : Own) (a : Asked) (v : Verdict) (r : E.Response) : Type 0 where
+  pub code : ℕ
+  pub refuses : refusal_of s.uploads s.clock a v ≡ Some code
+  pub is : r ≡ bare code
 
-record IsContinue (s : Own) (a : Asked) (v : Verdict) (r : E.Response) : Type 0 where
-  question : Question
-  block : Block
-  size : ℕ
-  verdict : v ≡ Uploads question block
-  joins : ruling_of s.uploads s.clock a question block ≡ Join size
-  is : r ≡ continuing size block
+pub record IsContinue (s : Own) (a : Asked) (v : Verdict) (r : E.Response) : Type 0 where
+  pub question : Question
+  pub block : Block
+  pub size : ℕ
+  pub verdict : v ≡ Uploads question block
+  pub joins : ruling_of s.uploads s.clock a question block ≡ Join size
+  pub is : r ≡ continuing size block
 
 one_response : (r k : E.Response) → Replies r ≡ Replies k → r ≡ k
 one_response r k e = cc e
@@ -94,7 +94,7 @@ block_replies Done s a q b r e h =
     let it : Question = whole s.uploads s.clock a q b in
     absurd (never_replies (delay_for a.kind q.path s.delays) (may_defer s.exchanges.deferred) s.store s.clock it r h)
 
-replies : (v : Verdict) (s : Own) (a : Asked) (r : E.Response) → Handles s a v (Replies r)
+pub replies : (v : Verdict) (s : Own) (a : Asked) (r : E.Response) → Handles s a v (Replies r)
     → IsRefusal s a v r ⊎ IsContinue s a v r
 replies Ignored s a r h = absurd (cc h)
 replies (Refused code) s a r h = inl (record { code = code; refuses = refl; is = one_response r _ h })

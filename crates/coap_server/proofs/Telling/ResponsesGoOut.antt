@@ -13,7 +13,6 @@ use Rattle.coap_layer.proofs.Facts.Calls.{steps_left}
 use Rattle.coap_observe.specs.Observers.{Observer}
 use Rattle.coap_exchange.specs.declared.answerer.Asked.{Asked}
 use Rattle.coap_exchange.specs.declared.answerer.Due.TheVariants as due
-use Rattle.coap_exchange.specs.AnswererFollows.{responds}
 use Rattle.coap_exchange.specs.AnswererSteps as P
 use Rattle.coap_exchange.specs.AnswererTrace as E
 use Rattle.coap_exchange.specs.AnswererLaw as W
@@ -26,11 +25,13 @@ use Rattle.coap_server.specs.Handling.{heard, ticking}
 use Rattle.coap_server.specs.Notifying.{notification}
 use Rattle.coap_server.specs.Law.{ServerLaw, own_of, lower_of}
 use Rattle.coap_server.specs.Follows.Adds.{call_asks, call_adds}
-use Rattle.coap_server.specs.Follows.GoesOut.{GoesOut, in_ack, in_non, in_con, InCon, GoesOutHere, AllGoOut}
+use Rattle.coap_server.specs.Follows.GoesOut.{responds_with, GoesOut, in_ack, in_non, in_con, InCon}
+use Rattle.coap_server.specs.Follows.GoesOut.{GoesOutHere, AllGoOut}
 use Rattle.coap_server.specs.Follows.Observes.{Notice, notice}
 use Rattle.coap_server.proofs.Observing.Outcomes.{never_notifies_ready}
 use Rattle.coap_server.proofs.Serving.Brought.{server_back}
 use Rattle.coap_server.proofs.Telling.LayerCalls.{steps_here}
+use Rattle.coap_server.proofs.Telling.ResponsesMade.{pair_of, answer_sent, served_sent, made_here}
 
 -- from what is asked of the layer, with the answer, to its entries
 added_for : (K : L.Call → L.Answer → Type 0) (old new : S.State) (calls : List G.Asked) → Steps old calls new
@@ -71,23 +72,27 @@ module _ (K : L.Call → L.Answer → Type 0) (Q : E.Call → Type 0)
 not_con : (k n : Kind) → k ≡ n → (n ≡ Con → ⊥) → k ≢ Con
 not_con k n e never h = never (sym e ∙ h)
 
-module _ (a : Asked) where
-  answers_out : (s : E.Own) (r : E.Response) (below : L.Answer) (k : Kind) → a.kind ≡ k → P.IsSentAs k below
-      → GoesOut a (P.answering s k a r) below
-  answers_out s r below Con e sent = in_ack r e refl
-  answers_out s r below Non e sent = in_non r sent.0 (not_con a.kind Non e (λ h. cc h)) refl sent.1
-  answers_out s r below Ack e sent = in_non r sent.0 (not_con a.kind Ack e (λ h. cc h)) refl sent.1
-  answers_out s r below Rst e sent = in_non r sent.0 (not_con a.kind Rst e (λ h. cc h)) refl sent.1
+module _ (a : Asked) (r : E.Response) where
+  answers_out : (s : E.Own) (below : L.Answer) (k : Kind) → a.kind ≡ k → P.IsSentAs k below
+      → GoesOut a r (P.answering s k a r) below
+  answers_out s below Con e sent = in_ack e refl
+  answers_out s below Non e sent = in_non sent.0 (not_con a.kind Non e (λ h. cc h)) refl sent.1
+  answers_out s below Ack e sent = in_non sent.0 (not_con a.kind Ack e (λ h. cc h)) refl sent.1
+  answers_out s below Rst e sent = in_non sent.0 (not_con a.kind Rst e (λ h. cc h)) refl sent.1
 
-  response_out : (s : E.Own) (d : E.Call) → P.IsRight s d → responds d ≡ Some a
-      → Ever (λ (b : G.Asked). GoesOut a b.call b.answer) (P.lower s d)
-  response_out s (E.Answers x r below) right h =
-      let same : a ≡ x = cc h in
-      inl (subst (λ y. GoesOut a (P.answering s y.kind y r) below) same
-      (answers_out s r below a.kind refl (subst (λ (y : Asked). P.IsSentAs y.kind below) (sym same) right.2)))
-  response_out s (E.Responds now x r w id) right h =
-      let same : x ≡ a = cc h in
-      inl (in_con r w id (ap (λ (y : Asked). L.Confirm y.from (P.content_of y r) w) same) refl)
+  response_out : (s : E.Own) (d : E.Call) → P.IsRight s d → responds_with d ≡ Some (a, r)
+      → Ever (λ (b : G.Asked). GoesOut a r b.call b.answer) (P.lower s d)
+  response_out s (E.Answers x y below) right h =
+      let k = pair_of x a y r h in
+      let same : a ≡ x = sym k.0 in
+      let content : r ≡ y = sym k.1 in
+      inl (subst (λ z. GoesOut a r (P.answering s z.kind z y) below) same
+      (subst (λ z. GoesOut a r (P.answering s a.kind a z) below) content
+      (answers_out s below a.kind refl (subst (λ (z : Asked). P.IsSentAs z.kind below) (sym same) right.2))))
+  response_out s (E.Responds now x y w id) right h =
+      let k = pair_of x a y r h in
+      inl (in_con w id (ap (λ (z : Asked). L.Confirm z.from (P.content_of z y) w) k.0
+      ∙ ap (λ z. L.Confirm a.from (P.content_of a z) w) k.1) refl)
   response_out s (E.Incoming now from bytes up came) right h = absurd (cc h)
   response_out s (E.Defers now x delay answer) right h = absurd (cc h)
   response_out s (E.Ticks now below room d) right h = absurd (cc h)
@@ -137,7 +142,11 @@ module _ (limit szx word : ℕ) where
   here : (t : List Call) (c : Call) → ServerLaw limit szx word (c ∷ t) → GoesOutHere limit szx word t c
   here t c law =
       record {
-        responses = λ a h. given_in (GoesOut a) (λ d. responds d ≡ Some a) (response_out a) limit szx word t c law h;
+        answers = λ a h. answer_sent a (lower (own_of limit szx t) c) h;
+        serves = λ x e. served_sent (own_of limit szx t) c x e;
+        made = λ a r h. made_here limit szx word t c law a r h;
+        responses = λ a r h. given_in (GoesOut a r) (λ d. responds_with d ≡ Some (a, r)) (response_out a r) limit szx
+            word t c law h;
         notices = λ x e.
             let r : E.Response = notification (own_of limit szx t).store x.observer x.reply in
             given_in (InCon x.observer.to (P.content_with x.observer.token r)) (IsNotifying x.observer r)

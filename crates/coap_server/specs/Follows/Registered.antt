@@ -21,8 +21,8 @@ module _ (limit szx : ℕ) where
     pub place : length (removed x.asked.from x.asked.token (own_of limit szx past).observers) < max_observers
 
   -- The registration of its endpoint and token is made, the last in the list, in place of an earlier one; nothing is
-  -- due to it, the others stay as they were, in order, and the response says Observe, with the version of what its path
-  -- holds.
+  -- due to it, the others stay as they were, in order, and the response says Observe, with the number of the version
+  -- that its path holds: the version modulo 2^24 (RFC 7641, section 4.4).
   pub record IsRegistered (past : List Call) (c : Call) (x : Serving) : Type 0 where
     pub registers : registering (own_of limit szx past) c
         ≡ Some (record { to = x.asked.from; token = x.asked.token })

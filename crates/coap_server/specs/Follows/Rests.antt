@@ -14,9 +14,9 @@ IsTick now answer c =
     (w : ℕ) × (below : L.Answer) × (room : Bool) × (due : Due) × (passed : ℕ) × (handling : Handling) × (id : ℕ)
     × (c ≡ Ticks now w below room due passed handling id answer)
 
--- Of the ticks of one moment, whatever their words, at most so many do something as was left to do before them: the CONs
--- with a step due then, the observers that are marked, and the requests that wait, each of them counted once, and once
--- for each observer that its change can mark.
+-- Of the ticks of one moment, whatever their words, at most as many do something as that state has due. That is the sum
+-- of three numbers: of the CONs with a step due then; of the observers that are marked; and, for each request that
+-- waits, 1 for its response and 64 for the observers that its change can mark.
 abbrev pub TicksEnd : (limit szx word : ℕ) → List Call → Type 0
 TicksEnd limit szx word t =
     (now : ℕ) (calls : List Call) → Each (IsTick now true) calls → ServerLaw limit szx word (calls ++ t)
