@@ -13,14 +13,15 @@ abbrev pub events_of : List Turn → List Event
 events_of turns = map (λ (t : Turn). t.event) turns
 
 -- What is left of an input that is refused memory: of ticks, those before the refused one, each of which did something;
--- else no call of it. What was out is taken, and so are the client's reports. A cancel and a forgetting take no memory.
+-- else no call of it. What was out is taken, and so are the client's reports. A cancel, a forgetting and a removal take
+-- no memory.
 abbrev pub IsLost : ℕ → ℕ → What → List Entry → Type 0
 IsLost at word (Calls r) entries = OnClient [] entries
 IsLost at word (Observes path) entries = OnClient [] entries
 IsLost at word (Cancels number) entries = ⊥
 IsLost at word (Forgets number) entries = ⊥
 IsLost at word (Sets path format body) entries = OnServer [] entries
-IsLost at word (Removes path) entries = OnServer [] entries
+IsLost at word (Removes path) entries = ⊥
 IsLost at word TickClient entries =
     (ticks : List C.Call) × Always (λ past c. ClientTick at word true c) ticks × OnClient ticks entries
 IsLost at word TickServer entries =

@@ -66,7 +66,7 @@ lost past at word (Observes path) entries m = subst (λ cs. OnClient cs entries)
 lost past at word (Cancels number) entries m = let e = m.1.1 in cc e
 lost past at word (Forgets number) entries m = let e = m.1.1 in cc e
 lost past at word (Sets path format body) entries m = subst (λ cs. OnServer cs entries) m.1 m.2
-lost past at word (Removes path) entries m = subst (λ cs. OnServer cs entries) m.1 m.2
+lost past at word (Removes path) entries m = let e = m.1.1 in cc e
 lost past at word TickClient entries m = m
 lost past at word TickServer entries m = m
 lost past at word (StrangerToClient from bytes) entries m = subst (λ cs. OnClient cs entries) m.1 m.2
