@@ -33,7 +33,7 @@ module _ (config : Config) where
     -- .. and a version has one entity-tag
     pub held_are_named : HeldAreNamed config all
     -- each applied request belongs to a call, and is applied whole, as that asks; at most one, one where success is
-    -- reported, and none where a failure is
+    -- reported, and none where Failed is reported
     pub each_belongs : EachBelongs config all
     pub applied_whole : AppliedWhole config all
     pub at_most_once : AtMostOnce config all

@@ -1,5 +1,5 @@
--- What is applied of a call that is reported as success, and of one that is reported as a failure (RFC 7252, sections
--- 5.8 and 5.9).
+-- What is applied of a call that is reported as success, and of one that is reported as Failed (RFC 7252, sections 5.8
+-- and 5.9).
 use Rattle.std.specs.Prelude.{ℕ, List}
 use Rattle.coap_types.specs.Past.{Sometime, Always}
 use Rattle.coap_client.specs.Trace.{Request, Done, Failed}
@@ -19,7 +19,7 @@ module _ (config : Config) where
   OnceDone all = (number code : ℕ) → Always (λ past e. ReportsAt config
       (record { number = number; report = Done code }) past e → Sometime (AppliesSince number all) past) all
 
-  -- Where a failure is reported, none is applied, before or after.
+  -- Where Failed is reported, none is applied, before or after.
   abbrev pub NeverFailed : List Entry → Type 0
   NeverFailed all = (number code : ℕ) → Sometime
       (ReportsAt config (record { number = number; report = Failed code })) all

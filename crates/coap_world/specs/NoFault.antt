@@ -3,31 +3,33 @@ use Rattle.std.specs.Prelude.{◌≡◌, ◌⊎◌, ℕ, true, List, [], ◌++�
 use Rattle.coap_types.specs.Past.{Always}
 use Rattle.coap_client.specs.Trace as C
 use Rattle.coap_server.specs.Trace as S
-use Rattle.coap_world.specs.Events.{Config, What, Calls, Observes, Cancels, Forgets, Sets, Removes, TickClient}
-use Rattle.coap_world.specs.Events.{TickServer, Deliver, StrangerToClient, StrangerToServer, Event}
+use Rattle.coap_world.specs.Events.{client_end, server_end, Config, What, Calls, Observes, Cancels, Forgets, Sets}
+use Rattle.coap_world.specs.Events.{Removes, TickClient, TickServer, Deliver, StrangerToClient, StrangerToServer, Event}
 use Rattle.coap_world.specs.GoesOn.{Follows}
 use Rattle.coap_world.specs.LegalEvents.{MayHappen}
-use Rattle.coap_world.specs.Record.{Entry, Turn, OnClient, OnServer, ClientTick, ServerTick}
+use Rattle.coap_world.specs.Record.{Given, Entry, Turn, IsNumber, OnClient, OnServer, ClientTick, ServerTick}
 
 abbrev pub events_of : List Turn → List Event
 events_of turns = map (λ (t : Turn). t.event) turns
 
 -- What is left of an input that is refused memory: of ticks, those before the refused one, each of which did something;
--- else no call of it. What was out is taken, and so are the client's reports. A cancel and a forgetting take no memory.
-abbrev pub IsLost : ℕ → ℕ → What → List Entry → Type 0
-IsLost at word (Calls r) entries = OnClient [] entries
-IsLost at word (Observes path) entries = OnClient [] entries
-IsLost at word (Cancels number) entries = ⊥
-IsLost at word (Forgets number) entries = ⊥
-IsLost at word (Sets path format body) entries = OnServer [] entries
-IsLost at word (Removes path) entries = OnServer [] entries
-IsLost at word TickClient entries =
+-- else no call of it. What its end had out is taken, and so are the client's reports; the end of a datagram is the one
+-- that it is addressed to. A cancel, a forgetting and a removal take no memory.
+abbrev pub IsLost : List Turn → ℕ → ℕ → What → List Entry → Type 0
+IsLost past at word (Calls r) entries = OnClient [] entries
+IsLost past at word (Observes path) entries = OnClient [] entries
+IsLost past at word (Cancels number) entries = ⊥
+IsLost past at word (Forgets number) entries = ⊥
+IsLost past at word (Sets path format body) entries = OnServer [] entries
+IsLost past at word (Removes path) entries = ⊥
+IsLost past at word TickClient entries =
     (ticks : List C.Call) × Always (λ past c. ClientTick at word true c) ticks × OnClient ticks entries
-IsLost at word TickServer entries =
+IsLost past at word TickServer entries =
     (ticks : List S.Call) × Always (λ past c. ServerTick at word true c) ticks × OnServer ticks entries
-IsLost at word (Deliver number) entries = OnServer [] entries ⊎ OnClient [] entries
-IsLost at word (StrangerToClient from bytes) entries = OnClient [] entries
-IsLost at word (StrangerToServer from bytes) entries = OnServer [] entries
+IsLost past at word (Deliver number) entries = (g : Given) × IsNumber number g past
+    × (((g.packet.to ≡ server_end) × OnServer [] entries) ⊎ ((g.packet.to ≡ client_end) × OnClient [] entries))
+IsLost past at word (StrangerToClient from bytes) entries = OnClient [] entries
+IsLost past at word (StrangerToServer from bytes) entries = OnServer [] entries
 
 pub record NoFault (config : Config) (turns : List Turn) : Type 0 where
   -- at each position, each event that may happen there has a turn in which nothing is refused, and the record goes on
@@ -35,4 +37,4 @@ pub record NoFault (config : Config) (turns : List Turn) : Type 0 where
       → Follows config (events_of past) past event
   -- .. and in each turn an input that is refused memory is lost
   pub refused_is_lost :
-      Always (λ past t. t.refused ≡ true → IsLost t.event.at t.event.word t.event.what t.entries) turns
+      Always (λ past t. t.refused ≡ true → IsLost past t.event.at t.event.word t.event.what t.entries) turns

@@ -113,7 +113,7 @@ Delivers g at word refused entries =
     ⊎ ((g.packet.to ≡ client_end) × (calls : List C.Call)
     × IsOne (FeedsClient at word g.from g.packet.bytes) refused calls × OnClient calls entries)
 
--- What an event makes of the ends. A cancel and a forgetting take no memory: they are one call, always.
+-- What an event makes of the ends. A cancel, a forgetting and a removal take no memory: they are one call, always.
 abbrev pub Makes : List Turn → ℕ → ℕ → What → Bool → List Entry → Type 0
 Makes past at word (Calls r) refused entries = (calls : List C.Call)
     × IsOne (λ c. (answer : _) × (c ≡ C.Calls at r answer)) refused calls × OnClient calls entries
@@ -128,9 +128,9 @@ Makes past at word (Forgets number) refused entries =
 Makes past at word (Sets path format body) refused entries =
     (calls : List S.Call) × IsOne (λ c. (answer : _) × (left : _)
     × (c ≡ S.Sets at path format body answer left)) refused calls × OnServer calls entries
-Makes past at word (Removes path) refused entries = (calls : List S.Call)
-    × IsOne (λ c. (answer : _) × (left : _) × (c ≡ S.Removes at path answer left)) refused calls
-    × OnServer calls entries
+Makes past at word (Removes path) refused entries =
+    (calls : List S.Call) × (IsOne (λ c. (answer : _) × (left : _) × (c ≡ S.Removes at path answer left)) false calls
+    × (refused ≡ false)) × OnServer calls entries
 Makes past at word TickClient refused entries = (calls : List C.Call) × AreTicks (ClientTick at word) refused calls
     × OnClient calls entries
 Makes past at word TickServer refused entries = (calls : List S.Call) × AreTicks (ServerTick at word) refused calls

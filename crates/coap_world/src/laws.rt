@@ -182,7 +182,7 @@ pub fn held_law()
 {}
 
 /// The second: what is asked is applied whole, at most once, exactly once where success is reported and never where
-/// a failure is.
+/// Failed is reported.
 pub fn applied_law()
     // What is applied for the client's address belongs to a call (RFC 7252, section 5.3.1), ..
     ensures belongs { (config : Config) (events : List Event) (turns : List Turn) → RecordOf config events turns
@@ -233,8 +233,8 @@ pub fn no_fault_law()
 /// the claims of `held_law`, `applied_law`, `rising_law` and `no_fault_law`, and what holds beside them.
 pub fn agreement()
     // Each body, value and valid representation that is reported was held at its path between call and report; each
-    // request body is applied whole, at most once, exactly once where success is reported and never where a failure is
-    // (RFC 7252, sections 4.2, 4.5, 5.3.2, 5.8 and 5.9; RFC 7641; RFC 7959).
+    // request body is applied whole, at most once, exactly once where success is reported and never where Failed is
+    // reported (RFC 7252, sections 4.2, 4.5, 5.3.2, 5.8 and 5.9; RFC 7641; RFC 7959).
     ensures agrees { (config : Config) (events : List Event) (turns : List Turn) → RecordOf config events turns
         → Legal config turns → Agrees config (entries_of turns) }
     // A GET makes at most 16,384 exchanges, in 4 passes over the 4,096 blocks of the longest body, an upload at most

@@ -219,8 +219,8 @@ module _ (past : List Turn) (at word : ℕ) (refused : Bool) (entries : List Ent
   to_server (StrangerToClient from b) m may h = absurd (never_there client_end bytes m.0 entries m.2 h)
   to_server (Sets path format body) m may h = let k =
       one_call _ _ refused m.0 m.1 (server_call client_end bytes m.0 entries m.2 h) in absurd (cc (k.1.2, k.2.6))
-  to_server (Removes path) m may h = let k = one_call _ _ refused m.0 m.1
-      (server_call client_end bytes m.0 entries m.2 h) in absurd (cc (k.1.2, k.2.6))
+  to_server (Removes path) m may h = let k =
+      one_call _ _ false m.0 m.1.0 (server_call client_end bytes m.0 entries m.2 h) in absurd (cc (k.1.2, k.2.6))
   to_server TickServer m may h = let k = tick_of (ServerTick at word) _ refused m.0 m.1
       (server_call client_end bytes m.0 entries m.2 h) in absurd (cc (k.2.6, k.3.6))
   to_server (StrangerToServer from b) m may h =

@@ -106,7 +106,7 @@ module _ (past : List Turn) (t word : ℕ) (refused : Bool) (entries : List Entr
   side (Removes path) m = inr (record {
     calls = m.0;
     on = m.2;
-    at = each_one _ (server.IsAt t) (λ c h. subst (server.IsAt t) (sym h.2) refl) refused m.0 m.1;
+    at = each_one _ (server.IsAt t) (λ c h. subst (server.IsAt t) (sym h.2) refl) false m.0 m.1.0;
   })
   side TickServer m = inr (record {
     calls = m.0;

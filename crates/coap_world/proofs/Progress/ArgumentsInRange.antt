@@ -95,7 +95,7 @@ module _ (past : List Turn) (at word : ℕ) (refused : Bool) (entries : List Ent
   in_turn (Sets path format body) m range = on_server m.0 entries m.2
       (one_in ChangeInRange _ refused m.0 (λ c h. subst ChangeInRange (sym h.2) (range.1, range.2)) m.1)
   in_turn (Removes path) m range = on_server m.0 entries m.2
-      (one_in ChangeInRange _ refused m.0 (λ c h. subst ChangeInRange (sym h.2) tt) m.1)
+      (one_in ChangeInRange _ false m.0 (λ c h. subst ChangeInRange (sym h.2) tt) m.1.0)
   in_turn TickServer m range = on_server m.0 entries m.2
       (ticks_in ChangeInRange (ServerTick at word) refused m.0 (λ b c h. subst ChangeInRange (sym h.6) tt) m.1)
   in_turn (StrangerToServer from bytes) m range =

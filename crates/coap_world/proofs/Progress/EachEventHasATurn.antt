@@ -167,7 +167,8 @@ module _ (config : Config) (events : List Event) (turns : List Turn) (run : Reco
   by_what (Removes path) may =
       let k = server_goes_on.removes at path in
       let call : S.Call = S.Removes at path k.0 k.1 in
-      of_server (Removes path) may (call ∷ []) k.2 (λ entries on. (call ∷ [], (call, (k.0, k.1, refl), refl), on))
+      of_server (Removes path) may (call ∷ []) k.2
+      (λ entries on. (call ∷ [], ((call, (k.0, k.1, refl), refl), refl), on))
   by_what TickClient may =
       let k = (client_calls.comes_to_rest server_end config.client_szx config.client_word clients run.client).ticks at
       word in

@@ -60,25 +60,29 @@ module _ (config : Config) where
 
 -- an input that is refused memory has no call
 lost : (past : List Turn) (at word : ℕ) (what : What) (entries : List Entry) → Makes past at word what true entries
-    → IsLost at word what entries
+    → IsLost past at word what entries
 lost past at word (Calls r) entries m = subst (λ cs. OnClient cs entries) m.1 m.2
 lost past at word (Observes path) entries m = subst (λ cs. OnClient cs entries) m.1 m.2
 lost past at word (Cancels number) entries m = let e = m.1.1 in cc e
 lost past at word (Forgets number) entries m = let e = m.1.1 in cc e
 lost past at word (Sets path format body) entries m = subst (λ cs. OnServer cs entries) m.1 m.2
-lost past at word (Removes path) entries m = subst (λ cs. OnServer cs entries) m.1 m.2
+lost past at word (Removes path) entries m = let e = m.1.1 in cc e
 lost past at word TickClient entries m = m
 lost past at word TickServer entries m = m
 lost past at word (StrangerToClient from bytes) entries m = subst (λ cs. OnClient cs entries) m.1 m.2
 lost past at word (StrangerToServer from bytes) entries m = subst (λ cs. OnServer cs entries) m.1 m.2
-lost past at word (Deliver number) entries m = elim m.2 [
-  | inl d ↦ inl (subst (λ cs. OnServer cs entries) d.2 d.3)
-  | inr d ↦ inr (subst (λ cs. OnClient cs entries) d.2 d.3)
-]
+lost past at word (Deliver number) entries m = (
+  m.0,
+  m.1,
+  elim m.2 [
+    | inl d ↦ inl (d.0, subst (λ cs. OnServer cs entries) d.2 d.3)
+    | inr d ↦ inr (d.0, subst (λ cs. OnClient cs entries) d.2 d.3)
+  ],
+)
 
 each_lost : (turns : List Turn)
     → Always (λ past t. Makes past t.event.at t.event.word t.event.what t.refused t.entries) turns
-    → Always (λ past t. t.refused ≡ true → IsLost t.event.at t.event.word t.event.what t.entries) turns
+    → Always (λ past t. t.refused ≡ true → IsLost past t.event.at t.event.word t.event.what t.entries) turns
 each_lost [] made = tt
 each_lost (t ∷ past) made = (
   λ is. lost past t.event.at t.event.word t.event.what t.entries

@@ -104,7 +104,7 @@ module _ {K A : Type 0} (content : K → Content) (sender : List ℕ → Option 
       → ServerTurned content sender past (event_at at word (Removes path)) a log c left
   was_removed path taken ends past =
       server_turned content sender past (event_at at word (Removes path)) false taken.calls a b c log begun told left tt
-      (λ entries on. (taken.calls, taken.are, on)) begins taken.acts ends
+      (λ entries on. (taken.calls, (taken.are, refl), on)) begins taken.acts ends
 
   pub server_met :
       (refused : Bool) (from : Endpoint) (bytes : List ℕ)

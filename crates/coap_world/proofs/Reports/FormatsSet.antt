@@ -79,7 +79,7 @@ module _ (past : List Turn) (at word : ℕ) (refused : Bool) (entries : List Ent
   in_turn (Sets path format body) m range = on_server m.0 entries m.2
       (one_in _ refused m.0 (λ c h. subst FormatIn (sym h.2) range.1) m.1)
   in_turn (Removes path) m range = on_server m.0 entries m.2
-      (one_in _ refused m.0 (λ c h. subst FormatIn (sym h.2) tt) m.1)
+      (one_in _ false m.0 (λ c h. subst FormatIn (sym h.2) tt) m.1.0)
   in_turn (StrangerToServer from bytes) m range =
       on_server m.0 entries m.2 (one_in _ refused m.0 (λ c h. subst FormatIn (sym h.4) tt) m.1)
   in_turn TickServer m range = on_server m.0 entries m.2 (ticks_in at word refused m.0 m.1)

@@ -59,7 +59,7 @@ module _ (config : Config) (events : List Event) (turns : List Turn) (run : Reco
   pub named : HeldAreNamed config (entries_of turns)
   named = all_named config (entries_of turns) law
 
-  -- what is asked is applied whole, at most once, once where success is reported, and never where a failure is
+  -- what is asked is applied whole, at most once, once where success is reported, and never where Failed is
 
   pub belonging : EachBelongs config (entries_of turns)
   belonging = belongs config events turns run legal
