@@ -9,7 +9,7 @@ ghost use Rattle.coap_client.specs.Follows.Bounds.{AreBounded, AskOnce};
 ghost use Rattle.coap_client.specs.Follows.Codes.{ReportsCodes};
 ghost use Rattle.coap_client.specs.Follows.Continued.{AreContinued};
 ghost use Rattle.coap_client.specs.Follows.Ends.{AllEnds};
-ghost use Rattle.coap_client.specs.Follows.Fetches.{AllFetchFirst};
+ghost use Rattle.coap_client.specs.Follows.Fetches.{AllFetchFirst, AllWant};
 ghost use Rattle.coap_client.specs.Follows.Newer.{AreNewer};
 ghost use Rattle.coap_client.specs.Follows.OfCalls.{AreOfCalls, OthersAreGets};
 ghost use Rattle.coap_client.specs.Follows.Order.{AreInOrder, HeardOnce, OneLast};
@@ -113,4 +113,7 @@ pub fn client_follows_law()
     // 7252, section 4.7; RFC 7959, section 2.6).
     ensures fetches_first { (server : Endpoint) (szx word : ℕ) (t : List Call) → ClientLaw server szx word t
         → AllFetchFirst szx t }
+    // It is to be where a notification is taken that has the first of several blocks (RFC 7959, section 2.6).
+    ensures wants { (server : Endpoint) (szx word : ℕ) (t : List Call) → ClientLaw server szx word t
+        → AllWant szx t }
 {}
