@@ -4,3 +4,4 @@ pub mod OneByOne
 pub mod Queued
 pub mod Taken
 pub mod WaitingLists
+pub mod Wanted

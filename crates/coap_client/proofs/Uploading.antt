@@ -1,4 +1,5 @@
 pub mod BlocksApart
+pub mod Causes
 pub mod Continued
 pub mod Holding
 pub mod Holds

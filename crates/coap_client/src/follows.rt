@@ -9,7 +9,7 @@ ghost use Rattle.coap_client.specs.Follows.Bounds.{AreBounded, AskOnce};
 ghost use Rattle.coap_client.specs.Follows.Codes.{ReportsCodes};
 ghost use Rattle.coap_client.specs.Follows.Continued.{AreContinued};
 ghost use Rattle.coap_client.specs.Follows.Ends.{AllEnds};
-ghost use Rattle.coap_client.specs.Follows.Fetches.{AllFetchFirst};
+ghost use Rattle.coap_client.specs.Follows.Fetches.{AllFetchFirst, AllWant};
 ghost use Rattle.coap_client.specs.Follows.Newer.{AreNewer};
 ghost use Rattle.coap_client.specs.Follows.OfCalls.{AreOfCalls, OthersAreGets};
 ghost use Rattle.coap_client.specs.Follows.Order.{AreInOrder, HeardOnce, OneLast};
@@ -64,10 +64,10 @@ pub fn client_follows_law()
         → AreHandedUp server szx word t }
     // Each later notification that is taken of an observation is newer than the one before (RFC 7641, section 3.4).
     ensures newer { (server : Endpoint) (szx word : ℕ) (t : List Call) → ClientLaw server szx word t → AreNewer szx t }
-    // Valid is reported of a call that carries ETags, where a 2.03 was heard (RFC 7252, section 5.10.6.2).
+    // Valid is reported of a GET that carries ETags, where a 2.03 was heard (RFC 7252, section 5.10.6.2).
     ensures valid { (server : Endpoint) (szx word : ℕ) (t : List Call) → ClientLaw server szx word t
         → ValidOfTags szx t }
-    // .. and wherever such a call hears a 2.03, that is reported.
+    // .. and wherever such a GET hears a 2.03, that is reported.
     ensures each_valid { (server : Endpoint) (szx word : ℕ) (t : List Call) → ClientLaw server szx word t
         → EachIsValid szx t }
     // Behind its first block a body goes on where that was answered with 2.31 (RFC 7959, section 2.5).
@@ -95,7 +95,8 @@ pub fn client_follows_law()
     ensures codes { (server : Endpoint) (szx word : ℕ) (t : List Call) → ClientLaw server szx word t
         → ReportsCodes szx t }
     // What is reported of a response is the first line that holds in the table of reports (RFC 7252, section 5.8; RFC
-    // 7641, section 3.2; RFC 7959, section 2.4); of nothing else is anything reported, but of an end and of want.
+    // 7641, section 3.2; RFC 7959, section 2.4). Where none comes, only the end of an exchange, or a request that can't
+    // be sent, is reported.
     ensures table { (server : Endpoint) (szx word : ℕ) (t : List Call) → ClientLaw server szx word t
         → ReportsByTable szx t }
     // Each report is of a number that was given; Timeout, Reset and NoResponse are reported where the exchange of a
@@ -112,4 +113,7 @@ pub fn client_follows_law()
     // 7252, section 4.7; RFC 7959, section 2.6).
     ensures fetches_first { (server : Endpoint) (szx word : ℕ) (t : List Call) → ClientLaw server szx word t
         → AllFetchFirst szx t }
+    // It is to be where a notification is taken that has the first of several blocks (RFC 7959, section 2.6).
+    ensures wants { (server : Endpoint) (szx word : ℕ) (t : List Call) → ClientLaw server szx word t
+        → AllWant szx t }
 {}

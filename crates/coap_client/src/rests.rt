@@ -14,7 +14,7 @@ pub fn client_rests_law()
     // Calls that stand in the law lead to this state, and to no other.
     ensures left { (server : Endpoint) (szx word : ℕ) (t : List Call) → ClientLaw server szx word t → (s : State)
         → Led server szx word t s ↔ (s ≡ state_left server szx word t) }
-    // At one moment its ticks end: so many do something at most as are due in that state.
+    // At one moment its ticks end: at most as many do something as that state has due.
     ensures ticks { (server : Endpoint) (szx word : ℕ) (t : List Call) → TicksEnd server szx word t }
     // .. and it comes to rest: so do what it has out and its reports.
     ensures rests { (server : Endpoint) (szx word : ℕ) (t : List Call) → ClientLaw server szx word t

@@ -54,7 +54,7 @@ use Rattle.coap_client.proofs.Observing.Values.{found_rest, Fetched, fetched}
 -- lists
 
 -- an observation is found by its number, where no other has that
-of_number : (os : List Observation) (p : Observation) → In p os → in_observations p.number os ≤ 1
+pub of_number : (os : List Observation) (p : Observation) → In p os → in_observations p.number os ≤ 1
     → observation_of p.number os ≡ Some p
 of_number [] p there once = absurd there
 of_number (o ∷ os) p (inl e) once = ap (λ b. cond b (Some o) (observation_of p.number os))

@@ -1,4 +1,4 @@
--- A representation is reported as valid where the call carries ETags, and a 2.03 was heard.
+-- A representation is reported as valid where the call is a GET and carries ETags, and a 2.03 was heard.
 use Rattle.std.proofs.Common.{◌≡◌, inl, inr, ℕ, Bool, true, false, cond, ◌&&◌, Option, Some, None, List}
 use Rattle.std.proofs.Common.{◌∷◌, [], refl, ap, sym, subst, ◌∙◌}
 use Rattle.std.specs.Prelude.{◌==◌}
@@ -6,6 +6,7 @@ use Rattle.coap_types.specs.declared.block.Block.{Block}
 use Rattle.coap_types.specs.declared.endpoint.Endpoint.{Endpoint}
 use Rattle.coap_types.specs.declared.option_number.TheConstants.{BLOCK1 as block1}
 use Rattle.coap_types.specs.declared.request.Method.{Method}
+use Rattle.coap_types.specs.declared.request.Method.TheVariants.{Get, Post, Put, Delete}
 use Rattle.coap_codec.specs.Message.{Message}
 use Rattle.coap_block.specs.declared.fetch_step.FetchRefusal.{FetchRefusal}
 use Rattle.coap_block.specs.declared.fetch_step.FetchRefusal.TheVariants as refusal
@@ -25,11 +26,14 @@ use Rattle.coap_client.specs.Calls as calls
 use Rattle.coap_client.specs.Effects.{of}
 use Rattle.coap_client.specs.Steps.{reports}
 use Rattle.coap_client.specs.Law.{ClientLaw, own_of}
-use Rattle.coap_client.specs.Follows.AnswersLastRequest.{AnswersLast}
-use Rattle.coap_client.specs.Follows.Words.{WasTaken}
+use Rattle.coap_client.specs.Follows.OfCalls.{CarriesBody}
+use Rattle.coap_client.specs.Follows.Words.{Taken, WasTaken}
+use Rattle.coap_client.proofs.Hearing.HeardRuns.{runs_call}
+use Rattle.coap_client.proofs.Turning.Leading.{client_back}
 use Rattle.coap_client.proofs.Places.PlaceLemmas.{same_number}
 use Rattle.coap_client.proofs.Turning.BlockByBlock.{AllOf}
 use Rattle.coap_client.proofs.Uploading.Pieces.{answers_last}
+use Rattle.coap_client.specs.Follows.Bodies.{HeardFor}
 use Rattle.coap_client.specs.Follows.Valid.{IsValidated, ValidOfTags}
 use Rattle.coap_client.proofs.Reporting.AnswerReports.{gives_of}
 use Rattle.coap_client.proofs.Turning.Origins.{Origin, kept, begins, follows, origin}
@@ -92,13 +96,15 @@ and_split : (a b : Bool) → (a && b) ≡ true → (a ≡ true) × (b ≡ true)
 and_split true b h = (refl, h)
 and_split false b h = absurd (cc h)
 
-record ValidAs (r : Request) (m : Message) (report : Report) : Type 0 where
+record ValidAs (r : Request) (tr : Transfer) (m : Message) (report : Report) : Type 0 where
+  fetch : FetchState
+  fetches : tr ≡ Fetches fetch
   code : m.code ≡ valid
   tags : has_tags r.etags ≡ true
   is : report ≡ Valid (tag_in m)
 
 valid_as : (r : Request) (tr : Transfer) (m : Message) (final : Bool) (report : Report)
-    → answer r tr m ≡ calls.Ends final report → is_valid report ≡ true → ValidAs r m report
+    → answer r tr m ≡ calls.Ends final report → is_valid report ≡ true → ValidAs r tr m report
 valid_as r Single m final report h is = let a : is_valid (done r.method m.code) ≡ true = ap next_valid h
     ∙ is in let b = done_none r.method m.code in absurd (cc (a, b))
 valid_as r (Uploads u) m final report h is = let a : next_valid (calls.sent r.method u m) ≡ true = ap next_valid h
@@ -107,12 +113,12 @@ valid_as r (Fetches f) m final report h is = by (m.code == content) ((m.code == 
   where
     by : (c d : Bool) → ((m.code == valid) && has_tags r.etags) ≡ d
         → cond c (calls.fetched f m (part f m)) (cond d (calls.Ends true (Valid (tag_in m)))
-        (calls.Ends true (Failed m.code))) ≡ calls.Ends final report → ValidAs r m report
+        (calls.Ends true (Failed m.code))) ≡ calls.Ends final report → ValidAs r (Fetches f) m report
     by true d e h = let a : next_valid (calls.fetched f m (part f m)) ≡ true = ap next_valid h
         ∙ is in let b = fetched_none f m (part f m) in absurd (cc (a, b))
     by false false e h = let a : false ≡ true = ap next_valid h ∙ is in absurd (cc a)
     by false true e h = let k = and_split (m.code == valid) (has_tags r.etags) e in record
-        { code = same_number m.code valid k.0; tags = k.1; is = sym (ap next_report h) }
+        { fetch = f; fetches = refl; code = same_number m.code valid k.0; tags = k.1; is = sym (ap next_report h) }
 
 -- what waits and what runs is of a call that was taken
 abbrev IsTaken : List Call → Operation → Type 0
@@ -125,6 +131,14 @@ taken_later t c (Registering k path) h = tt
 taken_later t c (Fetching k) h = tt
 taken_later t c (Cancelling k) h = tt
 taken_later t c Dropped h = tt
+
+-- a call that fetches is a GET
+get_of : (szx : ℕ) (method : Method) (body : List ℕ) (tr : Transfer) (f : FetchState) → CarriesBody szx method body tr
+    → tr ≡ Fetches f → method ≡ Get
+get_of szx Get body tr f carries is = refl
+get_of szx Post body tr f carries is = absurd (subst (CarriesBody szx Post body) is carries)
+get_of szx Put body tr f carries is = absurd (subst (CarriesBody szx Put body) is carries)
+get_of szx Delete body tr f carries is = absurd (subst (CarriesBody szx Delete body) is carries)
 
 some_tags : (tags : List (List ℕ)) → has_tags tags ≡ true → tags ≡ [] → ⊥
 some_tags [] h none = cc h
@@ -148,25 +162,37 @@ module _ (szx : ℕ) where
   running_taken (c ∷ t) k r tr is = taken_here t c k r tr (origin szx t c k r tr is)
       (λ old runs. running_taken t k r old runs)
 
-  validated : (t : List Call) (c : Call) → AnswersLast szx (c ∷ t) → (k : ℕ) (tag : Option (List ℕ))
-      → reports (own_of szx t) c ≡ of k (Valid tag) → IsValidated szx k tag t c
-  validated t c answers k tag made =
+  validated : (server : Endpoint) (word : ℕ) (t : List Call) (c : Call) → ClientLaw server szx word (c ∷ t) → (k : ℕ)
+      (tag : Option (List ℕ)) → reports (own_of szx t) c ≡ of k (Valid tag) → IsValidated szx k tag t c
+  validated server word t c law k tag made =
+      let answers = answers_last szx server word (c ∷ t) law in
       let g = gives_of szx t c k (Valid tag) refl made in
       let shown = valid_as g.request g.transfer g.message g.final (Valid tag) g.ends_so refl in
       let q = running_taken t k g.request g.transfer g.runs in
+      let heard : HeardFor szx k g.message t c =
+      heard_for szx t c g.message k g.request g.transfer (answers.0 g.message g.heard_it) g.runs g.heard_it in
+      let x : Taken = record { number = k; request = q.0 } in
+      let run = runs_call szx server word t c law x q.1 g.message heard in
+      let same : Some (Calling k (record q.0 { body = [] }) run.transfer) ≡ Some (Calling k g.request g.transfer) =
+      sym run.runs ∙ g.runs in
+      let transfer_is : run.transfer ≡ g.transfer = cc same in
       record {
         request = q.0;
         taken = q.1;
+        method = get_of szx (q.0).method (q.0).body run.transfer shown.fetch run.carries (transfer_is ∙ shown.fetches);
         etags = λ none. some_tags g.request.etags shown.tags (q.2 ∙ none);
         message = g.message;
-        heard = heard_for szx t c g.message k g.request g.transfer (answers.0 g.message g.heard_it) g.runs g.heard_it;
+        heard = heard;
         code = shown.code;
         tag_is = cc (shown.is);
       }
 
-  all_validated : (t : List Call) → AnswersLast szx t → ValidOfTags szx t
-  all_validated [] answers = tt
-  all_validated (c ∷ t) answers = (validated t c answers, all_validated t answers.1)
+  all_validated : (server : Endpoint) (word : ℕ) (t : List Call) → ClientLaw server szx word t → ValidOfTags szx t
+  all_validated server word [] law = tt
+  all_validated server word (c ∷ t) law = (
+    validated server word t c law,
+    all_validated server word t (client_back server szx word (c ∷ []) t law),
+  )
 
 pub valid_of_tags : (server : Endpoint) (szx word : ℕ) (t : List Call) → ClientLaw server szx word t → ValidOfTags szx t
-valid_of_tags server szx word t law = all_validated szx t (answers_last szx server word t law)
+valid_of_tags server szx word t law = all_validated szx server word t law

@@ -37,6 +37,7 @@ use Rattle.coap_client.proofs.Places.PlaceEffects.{Linked}
 use Rattle.coap_client.proofs.Places.PlaceEvents.{ran, ran_append}
 use Rattle.coap_client.proofs.Places.Once.{law_back, own_ran, beneath, Known, known}
 use Rattle.coap_client.proofs.Uploading.Holding.{steadied, happened_steady, passes_steady}
+use Rattle.coap_client.proofs.Uploading.Causes.{held_for}
 
 deeds_clock : (m w : ℕ) (sent : L.Answer) (token : Result (List ℕ) AskRefusal) (kept : Bool) (d : Deed) (o : Own)
     (y : E.Own) → y.clock ≤ m → (ran y (deeds d o m w sent token kept)).clock ≤ m
@@ -284,14 +285,19 @@ module _ (server : Endpoint) (szx word : ℕ) where
           (inl (not_due l.0 l.1 l.0.acked refl)))
       | inr idle_now ↦ elim idle_now.1 [
         | inl empty ↦ inr (record { queue = queue_is ∙ empty; none = running_is ∙ idle_now.0 })
-        | inr q ↦ inl (inr (record {
-          operation = q.0;
-          queue = q.1;
-          first = queue_is ∙ q.2;
-          none = running_is ∙ idle_now.0;
-          upload = q.3;
-          held = held_same ∙ q.4;
-        }))
+        | inr q ↦ (let held = held_same ∙ q.4 in
+            let f = held_for server szx word (c ∷ t) rows law (own_of szx (c ∷ t)).clock held in
+            inl (inr (record {
+              operation = q.0;
+              queue = q.1;
+              first = queue_is ∙ q.2;
+              none = running_is ∙ idle_now.0;
+              upload = q.3;
+              held = held;
+              other = f.other;
+              ended = f.ended;
+              sent = f.sent;
+            })))
       ]
     ]
 

@@ -1,10 +1,11 @@
 -- Why a call has no report yet after a tick that did nothing (RFC 7252, sections 4.2, 4.7 and 5.2.2).
-use Rattle.std.specs.Prelude.{◌≡◌, ◌<◌, ◌⊎◌, ℕ, ◌-◌, ◌*◌, true, false, Option, Some, None, List, [], ◌∷◌}
+use Rattle.std.specs.Prelude.{◌≡◌, ◌≤◌, ◌<◌, ◌⊎◌, ℕ, ◌+◌, ◌-◌, ◌*◌, true, false, Option, Some, None, List, [], ◌∷◌}
 use Rattle.coap_types.specs.Past.{Sometime, Always}
 use Rattle.coap_types.specs.declared.endpoint.Endpoint.{Endpoint}
 use Rattle.coap_types.specs.declared.endpoint.Moment.{Moment}
 use Rattle.coap_types.specs.declared.transmission.TheConstants.{EXCHANGE_LIFETIME_MS as exchange_lifetime}
 use Rattle.coap_types.specs.declared.transmission.TheConstants.{FAILURE_TIMEOUTS as failure_timeouts}
+use Rattle.coap_types.specs.declared.transmission.TheConstants.{MAX_LATENCY_MS as max_latency}
 use Rattle.coap_exchange.specs.declared.asker.Exchange.{Exchange}
 use Rattle.coap_exchange.specs.AskerFollows.{Begun}
 use Rattle.coap_exchange.specs.AskerFollows as A
@@ -14,6 +15,7 @@ use Rattle.coap_client.specs.Own.{Operation, Calling, Registering, Fetching, Can
 use Rattle.coap_client.specs.Events.{is_held, is_upload_op}
 use Rattle.coap_client.specs.Steps.{reports}
 use Rattle.coap_client.specs.Law.{own_of, lower_of}
+use Rattle.coap_client.specs.Follows.Holds.{moment, SendsOf, EndsUnanswered}
 use Rattle.coap_client.specs.Follows.Words.{Taken, WasTaken, Sending, sends, last_sent}
 
 -- The request was sent for the operation that runs; or it is a fetch for an observation, where what runs is a fetch
@@ -55,17 +57,22 @@ module _ (server : Endpoint) (szx word : ℕ) where
         × (at - begun.at < begun.timeout * failure_timeouts)))
         ⊎ ((acked : Moment) × (exchange.acked ≡ Some acked) × (at - acked.0 < exchange_lifetime))
 
-  -- the first of what waits is an upload that is held back
-  pub record IsHeld (s : Own) : Type 0 where
+  -- The first of what waits is an upload that is held back: the client holds it, and another upload ended without a
+  -- final response, of which a datagram was sent at most MAX_LATENCY before.
+  pub record IsHeld (t : List Call) : Type 0 where
     pub operation : Operation
     pub queue : List Operation
-    pub first : s.queue ≡ operation ∷ queue
-    pub none : s.running ≡ None
+    pub first : (own_of szx t).queue ≡ operation ∷ queue
+    pub none : (own_of szx t).running ≡ None
     pub upload : is_upload_op operation ≡ true
-    pub held : is_held s s.clock ≡ true
+    pub held : is_held (own_of szx t) (own_of szx t).clock ≡ true
+    pub other : ℕ
+    pub ended : Sometime (EndsUnanswered szx other) t
+    pub sent : Sometime (λ earlier b. SendsOf szx other earlier b
+        × ((own_of szx t).clock ≤ moment (own_of szx earlier) b + max_latency)) t
 
   abbrev pub WaitsFor : List Call → Call → Type 0
-  WaitsFor past c = IsNotDue (c ∷ past) (own_of szx (c ∷ past)).clock ⊎ IsHeld (own_of szx (c ∷ past))
+  WaitsFor past c = IsNotDue (c ∷ past) (own_of szx (c ∷ past)).clock ⊎ IsHeld (c ∷ past)
 
   abbrev pub IsIdleTick : Call → Type 0
   IsIdleTick c = (now w : ℕ) × (below : _) × (turn : _) × (sent : _) × (token : _) × (kept : _)

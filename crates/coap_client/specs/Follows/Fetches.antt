@@ -1,13 +1,17 @@
--- What starts at a tick where a representation is to be fetched: that fetch, before all that waits, and of several the
--- one of the lowest number (RFC 7252, section 4.7; RFC 7959, section 2.6).
-use Rattle.std.specs.Prelude.{◌≡◌, ◌≤◌, ℕ, true, Option, Some, None, List}
+-- When the rest of a representation is wanted, and what starts at a tick then: that fetch, before all that waits, and of
+-- several the one of the lowest number (RFC 7252, section 4.7; RFC 7959, section 2.6).
+use Rattle.std.specs.Prelude.{◌≡◌, ◌≤◌, ℕ, true, Option, Some, None, List, ◌∷◌}
 use Rattle.coap_types.specs.Past.{Always}
+use Rattle.coap_block.specs.declared.fetch_verdict.Verdict.TheVariants as verdict
+use Rattle.coap_block.specs.FetchStep as F
 use Rattle.coap_exchange.specs.declared.asker.Turn.{Turn}
 use Rattle.coap_exchange.specs.declared.asker.Turn.TheVariants as turn
 use Rattle.coap_client.specs.Trace.{Call, Ticks}
 use Rattle.coap_client.specs.Own.{Fetching, Notified, Own}
-use Rattle.coap_client.specs.Observations.{rest_of}
+use Rattle.coap_client.specs.Observations.{rest_of, fetch_of}
+use Rattle.coap_client.specs.Responses.{part}
 use Rattle.coap_client.specs.Law.{own_of}
+use Rattle.coap_client.specs.Follows.Newer.{Newly, notifies}
 use Rattle.coap_client.specs.Follows.Taken.{asked_for, starts}
 
 -- the rest of the observation's representation is wanted: a notification brought the first block
@@ -38,3 +42,13 @@ module _ (szx : ℕ) where
 
   abbrev pub AllFetchFirst : List Call → Type 0
   AllFetchFirst t = Always FetchesFirst t
+
+  -- Where a notification is taken whose part is the first of several, the fetch for its observation is wanted from then
+  -- on, and asks for the next block.
+  pub record Wants (n : Newly) (num size : ℕ) (past : List Call) (c : Call) : Type 0 where
+    pub wanted : IsWanted n.number (own_of szx (c ∷ past))
+    pub asks : fetch_of n.number (own_of szx (c ∷ past)).observations ≡ Some (record { num = num; szx = size })
+
+  abbrev pub AllWant : List Call → Type 0
+  AllWant t = Always (λ past c. (n : Newly) (num size : ℕ) → notifies (own_of szx past) c ≡ Some n
+      → part (F.start szx 0) n.message ≡ verdict.Ask num size → Wants n num size past c) t

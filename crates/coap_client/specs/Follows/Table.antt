@@ -141,7 +141,7 @@ reported_as number report = option_map (λ (r : Report). record { number = numbe
 
 module _ (szx : ℕ) where
   pub record ReportsLines (past : List Call) (c : Call) : Type 0 where
-    -- the answer to the request of what runs, where no further request of it can't be sent
+    -- the answer to the request of what runs, unless its next request can't be sent
     pub answer : (m : Message) (op : Operation) → hears c ≡ Some m → (own_of szx past).running ≡ Some op
         → unsent (own_of szx past) c ≡ None
         → reports (own_of szx past) c

@@ -12,10 +12,11 @@ use Rattle.coap_client.specs.Follows.Words.{Taken, WasTaken}
 use Rattle.coap_client.specs.Follows.Bodies.{HeardFor}
 
 module _ (szx : ℕ) where
-  -- The call carries ETags; what is reported is the ETag of the 2.03 that it heard, or none.
+  -- The call is a GET and carries ETags; what is reported is the ETag of the 2.03 that it heard, or none.
   pub record IsValidated (number : ℕ) (tag : Option (List ℕ)) (past : List Call) (c : Call) : Type 0 where
     pub request : Request
     pub taken : WasTaken (record { number = number; request = request }) past
+    pub method : request.method ≡ Get
     pub etags : request.etags ≢ []
     pub message : Message
     pub heard : HeardFor szx number message past c

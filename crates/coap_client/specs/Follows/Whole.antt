@@ -27,8 +27,7 @@ IsAsked asked None = Unit {0}
 IsAsked None (Some b) = b.num ≡ 0
 IsAsked (Some asked) (Some b) = (b.num ≡ asked.num) × (b.szx ≡ asked.szx)
 
--- The body is whole by the parts that a transfer gathered since its start and this 2.05, the last of them; it is not
--- too long.
+-- The body is whole by what the transfer has gathered, as parts, and this 2.05, the last of them; it is not too long.
 pub record MakesWhole (f : FetchState) (m : Message) (body : List ℕ) : Type 0 where
   pub code : m.code ≡ content
   pub parts : List Part

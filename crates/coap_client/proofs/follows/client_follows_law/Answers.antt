@@ -19,6 +19,7 @@ use Rattle.coap_client.proofs.Uploading.BlocksApart.{blocks_apart}
 use Rattle.coap_client.proofs.Reporting.Codes.{reports_codes}
 use Rattle.coap_client.proofs.Reporting.Ends.{all_ends}
 use Rattle.coap_client.proofs.Queueing.FetchesFirst.{fetches_first}
+use Rattle.coap_client.proofs.Queueing.Wanted.{all_want}
 use Rattle.coap_client.proofs.Queueing.Taken.{all_taken}
 use Rattle.coap_client.proofs.Hearing.Types.{are_of_types}
 
@@ -102,3 +103,6 @@ returns-clause-taken c = all_taken
 
 pub returns-clause-fetches_first : goal.returns-clause-fetches_first
 returns-clause-fetches_first c = fetches_first
+
+pub returns-clause-wants : goal.returns-clause-wants
+returns-clause-wants c = all_want

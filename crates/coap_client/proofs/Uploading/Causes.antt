@@ -1,0 +1,619 @@
+-- What an upload hold comes from: another upload that ended without a final response, and its last datagram.
+use Rattle.std.proofs.Common.{◌≡◌, ◌≤◌, ◌⊎◌, inl, inr, ℕ, ◌+◌, max, Bool, true, false, cond, not, ◌&&◌, Option, Some}
+use Rattle.std.proofs.Common.{None, List, [], ◌∷◌, refl, ap, sym, subst, ◌∙◌, arith, Result, Ok, Err}
+use Rattle.std.specs.Prelude.{◌==◌, nat_le, nat_lt}
+use Rattle.std.proofs.lemmas.Bool.{leb-true}
+use Rattle.coap_types.specs.Past.{Sometime}
+use Rattle.coap_types.specs.declared.block.Block.{Block}
+use Rattle.coap_types.specs.declared.endpoint.Endpoint.{Endpoint}
+use Rattle.coap_types.specs.declared.option_number.TheConstants.{BLOCK1 as block1}
+use Rattle.coap_types.specs.declared.request.Method.{Method}
+use Rattle.coap_types.specs.declared.request.Method.TheVariants.{Get, Post, Put, Delete}
+use Rattle.coap_types.specs.declared.transmission.TheConstants.{MAX_LATENCY_MS as max_latency}
+use Rattle.coap_codec.specs.Message.{Message}
+use Rattle.coap_block.specs.declared.fetch_verdict.Verdict.{Verdict}
+use Rattle.coap_block.specs.declared.fetch_verdict.Verdict.TheVariants as verdict
+use Rattle.coap_block.specs.UploadStep.{UploadState, upload_start, moved, more_follows, continues}
+use Rattle.coap_layer.specs.Trace as L
+use Rattle.coap_exchange.specs.declared.asker.AskRefusal.{AskRefusal}
+use Rattle.coap_exchange.specs.declared.asker.Event.{Event}
+use Rattle.coap_exchange.specs.declared.asker.Event.TheVariants as event_of
+use Rattle.coap_exchange.specs.declared.asker.Exchange.{Exchange}
+use Rattle.coap_exchange.specs.declared.asker.Turn.{Turn}
+use Rattle.coap_exchange.specs.declared.asker.Turn.TheVariants as turn_of
+use Rattle.coap_exchange.specs.AskerLaw as X
+use Rattle.coap_observe.specs.Newer.{is_newer}
+use Rattle.coap_client.specs.Trace.{is_value, Request, Report, Reported, Call, Calls, Observes, Cancels}
+use Rattle.coap_client.specs.Trace.{Forgets, Feeds, Ticks, NextOut, NextReport, Asked}
+use Rattle.coap_client.specs.Trace as R
+use Rattle.coap_client.specs.Own.{Transfer, Fetches, Uploads, Single, Operation, Calling, Registering}
+use Rattle.coap_client.specs.Own.{Fetching, Cancelling, Dropped, Notified, Observation, Own}
+use Rattle.coap_client.specs.Observations.{observation_of, observation_with, rest_of, to_fetch, dropped}
+use Rattle.coap_client.specs.Requests.{is_longer}
+use Rattle.coap_client.specs.Responses.{continue, block_at, is_notification, sequence_in}
+use Rattle.coap_client.specs.Reports.{lapse}
+use Rattle.coap_client.specs.Reports as reports_of
+use Rattle.coap_client.specs.Calls.{Next, answer}
+use Rattle.coap_client.specs.Calls as calls
+use Rattle.coap_client.specs.Effects.{Deed, Rests, Asks, Keeps, Releases, Effect, stays, runs, ends, of, held_by}
+use Rattle.coap_client.specs.Effects.{has_sent}
+use Rattle.coap_client.specs.Fetching.{fetch_by, fetch_answered}
+use Rattle.coap_client.specs.Observing.{is_over, renewed, passed, noticed_by}
+use Rattle.coap_client.specs.Events.{called, answered, failed, happened, is_held, is_upload_op, starts}
+use Rattle.coap_client.specs.Events.{idle, passes, closed}
+use Rattle.coap_client.specs.Deeds.{at, close}
+use Rattle.coap_client.specs.Steps.{lower, reports}
+use Rattle.coap_client.specs.Law.{ClientRows, own_of, lower_of}
+use Rattle.coap_client.specs.Queue.{transfer_of}
+use Rattle.coap_client.specs.Follows.Words.{sends, sent_by}
+use Rattle.coap_client.specs.Follows.Blocks.{Carried, carried}
+use Rattle.coap_client.specs.Follows.Holds.{moment, is_copy, is_final, is_upload_of, sends_of, SendsOf}
+use Rattle.coap_client.specs.Follows.Holds.{EndsUnanswered}
+use Rattle.coap_client.proofs.Places.Once.{law_back, known}
+use Rattle.coap_client.proofs.Places.PlaceLemmas.{number_self, same_number}
+use Rattle.coap_client.proofs.Turning.AllWaiting.{all_wait}
+use Rattle.coap_client.proofs.Turning.BlockByBlock.{AllOf, From, Starts, Follows, Runs, heard_in, happened_from}
+use Rattle.coap_client.proofs.Turning.BlockByBlock.{passes_from, happened_runs, passes_runs, releases_quiet}
+use Rattle.coap_client.proofs.Uploading.Holds.{goes_fed, goes_ticked}
+
+-- It is as it was, or it is set where what runs, an upload, is over without a final response.
+
+pub record Sets (final : Bool) (s : Own) (e : Effect) : Type 0 where
+  pub number : ℕ
+  pub up : is_upload_of number s.running ≡ true
+  pub report : Report
+  pub made : e.report ≡ of number report
+  pub last : is_value report ≡ false
+  pub unanswered : final ≡ false
+  pub hold : e.own.hold ≡ Some s.sent
+
+abbrev Quiet : Effect → Type 0
+Quiet e = (op : Operation) → e.deed ≡ Asks op → ⊥
+
+record Step (final : Bool) (s : Own) (e : Effect) : Type 0 where
+  sent : e.own.sent ≡ s.sent
+  cause : (e.own.hold ≡ s.hold) ⊎ (Sets final s e × Quiet e)
+
+plain : (final : Bool) (s : Own) (e : Effect) → e.own.sent ≡ s.sent → e.own.hold ≡ s.hold → Step final s e
+plain final s e sent hold = record { sent = sent; cause = inl hold }
+
+held_step : (final : Bool) (s : Own) (k : ℕ) (r : Request) (t : Transfer) → s.running ≡ Some (Calling k r t)
+    → (c : Bool) (report : Report) → is_value report ≡ false → (c ≡ true → final ≡ false)
+    → Step final s (ends (of k report) (held_by c t s))
+held_step final s k r (Fetches f) is true report last so = plain final s _ refl refl
+held_step final s k r (Fetches f) is false report last so = plain final s _ refl refl
+held_step final s k r Single is true report last so = plain final s _ refl refl
+held_step final s k r Single is false report last so = plain final s _ refl refl
+held_step final s k r (Uploads u) is false report last so = plain final s _ refl refl
+held_step final s k r (Uploads u) is true report last so = by (is_longer u) refl
+  where
+    by : (b : Bool) → is_longer u ≡ b
+        → Step final s (ends (of k report) (cond b (record s { hold = Some s.sent }) s))
+    by true longer = record {
+      sent = refl;
+      cause = inr (
+        record {
+          number = k;
+          up = ap (is_upload_of k) is ∙ (ap (λ x. x && is_longer u) (number_self k) ∙ longer);
+          report = report;
+          made = refl;
+          last = last;
+          unanswered = so refl;
+          hold = refl;
+        },
+        λ op h. cc h,
+      );
+    }
+    by false longer = plain final s _ refl refl
+
+-- a call ends with a last report, and not finally only by a 2.31
+abbrev Fair : Bool → Next → Type 0
+Fair continued (calls.Asks t) = Unit {0}
+Fair continued (calls.Ends final report) = (is_value report ≡ false) × (final ≡ false → continued ≡ true)
+
+done_last : (method : Method) (code : ℕ) → is_value (reports_of.done method code) ≡ false
+done_last method code = by (reports_of.is_success method code)
+  where
+    by : (b : Bool) → is_value (cond b (R.Done code) (R.Failed code)) ≡ false
+    by true = refl
+    by false = refl
+
+continued_fair : (u : UploadState) (o : Option Block) → Fair true (calls.continued u o)
+continued_fair u None = (refl, λ h. refl)
+continued_fair u (Some b) = by (continues u b)
+  where
+    by : (c : Bool) → Fair true (cond c (calls.Asks (Uploads (moved u b))) (calls.Ends false R.BadBlock))
+    by true = tt
+    by false = (refl, λ h. refl)
+
+sent_fair : (method : Method) (u : UploadState) (m : Message) → Fair (m.code == continue) (calls.sent method u m)
+sent_fair method u m = by (m.code == continue) (is_longer u) (more_follows u && calls.is_below_errors m.code)
+  where
+    by : (b l p : Bool) → Fair b (cond (b && l) (calls.continued u (block_at block1 m))
+        (cond p (calls.Ends true R.BadBlock) (calls.Ends true (reports_of.done method m.code))))
+    by true true p = continued_fair u (block_at block1 m)
+    by true false true = (refl, λ h. refl)
+    by true false false = (done_last method m.code, λ h. refl)
+    by false l true = (refl, λ h. absurd (cc h))
+    by false l false = (done_last method m.code, λ h. absurd (cc h))
+
+called_step : (s : Own) (k : ℕ) (r : Request) (t : Transfer) (continued : Bool) (next : Next)
+    → s.running ≡ Some (Calling k r t) → ((u : UploadState) → t ≡ Uploads u → Fair continued next)
+    → Step (not continued) s (called k r t s next)
+called_step s k r t continued (calls.Asks next) is fair = plain (not continued) s _ refl refl
+called_step s k r (Fetches f) continued (calls.Ends true report) is fair = plain (not continued) s _ refl refl
+called_step s k r (Fetches f) continued (calls.Ends false report) is fair = plain (not continued) s _ refl refl
+called_step s k r Single continued (calls.Ends true report) is fair = plain (not continued) s _ refl refl
+called_step s k r Single continued (calls.Ends false report) is fair = plain (not continued) s _ refl refl
+called_step s k r (Uploads u) continued (calls.Ends true report) is fair = plain (not continued) s _ refl refl
+called_step s k r (Uploads u) continued (calls.Ends false report) is fair =
+    let f = fair u refl in
+    held_step (not continued) s k r (Uploads u) is true report f.0 (λ h. ap not (f.1 refl))
+
+by_step : (final : Bool) (s : Own) (k : ℕ) (n : Notified) (m : Message) (v : Verdict)
+    → Step final s (fetch_by k n s m v)
+by_step final s k n m (verdict.Ask num szx) = plain final s _ refl refl
+by_step final s k n m verdict.Done = plain final s _ refl refl
+by_step final s k n m verdict.Again = plain final s _ refl refl
+by_step final s k n m (verdict.Refuse why) = plain final s _ refl refl
+
+fetch_step : (final : Bool) (s : Own) (k : ℕ) (o : Option Notified) (m : Message)
+    → Step final s (fetch_answered k o s m)
+fetch_step final s k None m = plain final s _ refl refl
+fetch_step final s k (Some n) m = by_step final s k n m _
+
+if_step : (final : Bool) (s : Own) (b : Bool) (e f : Effect) → Step final s e → Step final s f
+    → Step final s (cond b e f)
+if_step final s true e f h k = h
+if_step final s false e f h k = k
+
+call_fair : (r : Request) (t : Transfer) (m : Message) (u : UploadState) → t ≡ Uploads u
+    → Fair (m.code == continue) (answer r t m)
+call_fair r (Uploads v) m u is = sent_fair r.method v m
+call_fair r (Fetches f) m u is = absurd (cc is)
+call_fair r Single m u is = absurd (cc is)
+
+answered_step : (s : Own) (at : ℕ) (m : Message) (running : Option Operation) → s.running ≡ running
+    → Step (not (m.code == continue)) s (answered s at m running)
+answered_step s at m None is = plain (not (m.code == continue)) s _ refl refl
+answered_step s at m (Some (Calling k r t)) is =
+    called_step s k r t (m.code == continue) (answer r t m) is (call_fair r t m)
+answered_step s at m (Some (Registering k path)) is =
+    if_step (not (m.code == continue)) s (is_notification m) _ _ (plain (not (m.code == continue)) s _ refl refl)
+    (plain (not (m.code == continue)) s _ refl refl)
+answered_step s at m (Some (Fetching k)) is = fetch_step (not (m.code == continue)) s k (rest_of k s.observations) m
+answered_step s at m (Some (Cancelling k)) is = plain (not (m.code == continue)) s _ refl refl
+answered_step s at m (Some Dropped) is = plain (not (m.code == continue)) s _ refl refl
+
+failed_step : (s : Own) (report : Report) → is_value report ≡ false → (running : Option Operation)
+    → s.running ≡ running → Step false s (failed (λ t. true) report s running)
+failed_step s report last None is = plain false s _ refl refl
+failed_step s report last (Some (Calling k r t)) is = held_step false s k r t is true report last (λ h. refl)
+failed_step s report last (Some (Registering k path)) is = plain false s _ refl refl
+failed_step s report last (Some (Fetching k)) is = plain false s _ refl refl
+failed_step s report last (Some (Cancelling k)) is = plain false s _ refl refl
+failed_step s report last (Some Dropped) is = plain false s _ refl refl
+
+noticed_step : (s : Own) (at : ℕ) (m : Message) (o : Option Observation) → Step false s (noticed_by o s at m)
+noticed_step s at m None = plain false s _ refl refl
+noticed_step s at m (Some o) = by (not (is_notification m)) (is_newer o.watch.mark (sequence_in m) at)
+  where
+    by : (b c : Bool) → Step false s (cond b (is_over o.number (R.Ended m.code) s)
+        (cond c (renewed o s at m) (stays (passed o s at m))))
+    by true c = plain false s _ refl refl
+    by false true = plain false s _ refl refl
+    by false false = plain false s _ refl refl
+
+abbrev final_in : Option Event → Bool
+final_in (Some (event_of.Answer m)) = not (m.code == continue)
+final_in e = false
+
+happened_step : (s : Own) (at : ℕ) (e : Option Event) → Step (final_in e) s (happened s at e)
+happened_step s at None = plain false s _ refl refl
+happened_step s at (Some (event_of.Answer m)) = answered_step s at m s.running refl
+happened_step s at (Some (event_of.Notice m)) = noticed_step s at m (observation_with m.token s.observations)
+happened_step s at (Some event_of.Reset) = failed_step s R.Reset refl s.running refl
+happened_step s at (Some event_of.Timeout) = failed_step s R.Timeout refl s.running refl
+happened_step s at (Some event_of.NoResponse) = failed_step s R.NoResponse refl s.running refl
+
+starts_step : (s : Own) (at : ℕ) (queue : List Operation) → Step false s (starts s at queue)
+starts_step s at [] = plain false s _ refl refl
+starts_step s at (op ∷ queue) =
+    if_step false s (is_upload_op op && is_held s at) (stays s) (runs op (record s { queue = queue }))
+    (plain false s _ refl refl) (plain false s _ refl refl)
+
+idle_step : (s : Own) (at : ℕ) (running : Option Operation) (number : Option ℕ)
+    → Step false s (idle s at running number)
+idle_step s at (Some op) number = plain false s _ refl refl
+idle_step s at None (Some k) = plain false s _ refl refl
+idle_step s at None None = starts_step s at s.queue
+
+lapse_last : (e : Event) → is_value (lapse e) ≡ false
+lapse_last (event_of.Answer m) = refl
+lapse_last (event_of.Notice m) = refl
+lapse_last event_of.Timeout = refl
+lapse_last event_of.Reset = refl
+lapse_last event_of.NoResponse = refl
+
+-- A block behind the first is asked for where an upload runs, and hears a 2.31.
+
+abbrev AsksLater : Bool → Own → Effect → Type 0
+AsksLater final s e = (k : ℕ) (r : Request) (u : UploadState) → e.deed ≡ Asks (Calling k r (Uploads u))
+    → nat_lt 0 u.num ≡ true → (is_upload_of k s.running ≡ true) × (final ≡ false)
+
+-- what waits begins with its first block
+abbrev AtFirst : List Call → Operation → Type 0
+AtFirst t op = (y : Carried) → carried op ≡ Some y → nat_lt 0 y.upload.num ≡ false
+
+starts_first : (n : ℕ) (u : UploadState) (y : Carried) → Some (record { number = n; upload = u }) ≡ Some y
+    → nat_lt 0 u.num ≡ nat_lt 0 y.upload.num
+starts_first n u y is = let same : ◌≡◌ {A = Carried} (record { number = n; upload = u }) y = cc is in
+    ap (λ (z : Carried). nat_lt 0 z.upload.num) same
+
+first_of : (szx n : ℕ) (r q : Request) (method : Method) (t : List Call)
+    → AtFirst t (Calling n q (transfer_of szx r method))
+first_of szx n r q Get t y is = absurd (cc is)
+first_of szx n r q Post t y is = sym (starts_first n (upload_start r.body szx) y is)
+first_of szx n r q Put t y is = sym (starts_first n (upload_start r.body szx) y is)
+first_of szx n r q Delete t y is = absurd (cc is)
+
+all_first : (szx : ℕ) (t : List Call) → AllOf (AtFirst t) (own_of szx t).queue
+all_first szx = all_wait szx AtFirst (λ t c op h. h)
+    (λ t now r n. first_of (own_of szx t).szx n r (record r { body = [] }) r.method (Calls now r (Ok n) ∷ t))
+    (λ t now path n y is. absurd (cc is)) (λ t now n y is. absurd (cc is))
+
+not_first : (t : List Call) (s : Own) (e : Effect) (k : ℕ) (r : Request) (u : UploadState)
+    → AllOf (AtFirst t) s.queue → Starts s e (Calling k r (Uploads u)) → nat_lt 0 u.num ≡ true → ⊥
+not_first t s e k r u all st later =
+    let h : AllOf (AtFirst t) (Calling k r (Uploads u) ∷ st.rest) = subst (AllOf (AtFirst t)) st.first all in
+    let first = h.0 (record { number = k; upload = u }) refl in
+    cc (first, later)
+
+-- an upload in one block asks for no other
+one_block : (s : Own) (at k : ℕ) (r : Request) (u : UploadState) (m : Message) (op : Operation) → is_longer u ≡ false
+    → (called k r (Uploads u) s (answer r (Uploads u) m)).deed ≡ Asks op → ⊥
+one_block s at k r u m op short = by (m.code == continue) (is_longer u) short
+    (more_follows u && calls.is_below_errors m.code)
+  where
+    by : (b l : Bool) → l ≡ false → (p : Bool) → (called k r (Uploads u) s
+        (cond (b && l) (calls.continued u (block_at block1 m))
+        (cond p (calls.Ends true R.BadBlock) (calls.Ends true (reports_of.done r.method m.code))))).deed ≡ Asks op → ⊥
+    by b true e p h = cc e
+    by true false e true h = cc h
+    by true false e false h = cc h
+    by false false e true h = cc h
+    by false false e false h = cc h
+
+module _ (t : List Call) (s : Own) (all : AllOf (AtFirst t) s.queue) where
+  happened_asks : (at : ℕ) (told : Option Event) → AsksLater (final_in told) s (happened s at told)
+  happened_asks at told k r u asks later =
+      elim (happened_from s at told (Calling k r (Uploads u)) (record { number = k; upload = u }) asks refl) [
+        | inl st ↦ absurd (not_first t s (happened s at told) k r u all st later)
+        | inr f ↦ by told f asks
+      ]
+    where
+      by : (told : Option Event) → Follows s (heard_in told) (Calling k r (Uploads u))
+          → (happened s at told).deed ≡ Asks (Calling k r (Uploads u))
+          → (is_upload_of k s.running ≡ true) × (final_in told ≡ false)
+      by None f asks = absurd (cc asks)
+      by (Some (event_of.Notice m)) f asks = absurd (cc f.hears_it)
+      by (Some event_of.Reset) f asks = absurd (cc f.hears_it)
+      by (Some event_of.Timeout) f asks = absurd (cc f.hears_it)
+      by (Some event_of.NoResponse) f asks = absurd (cc f.hears_it)
+      by (Some (event_of.Answer m)) f asks = (up (is_longer f.upload) refl, ap (λ b. not b) heard)
+        where
+          message_is : m ≡ f.message
+          message_is = cc f.hears_it
+
+          heard : (m.code == continue) ≡ true
+          heard = ap (λ (z : Message). z.code == continue) message_is
+              ∙ (ap (λ n. n == continue) f.code ∙ number_self continue)
+
+          number_is : k ≡ f.number
+          number_is = cc f.is
+
+          up : (b : Bool) → is_longer f.upload ≡ b → is_upload_of k s.running ≡ true
+          up true e = ap (is_upload_of k) f.runs_it ∙ (ap (λ i. (f.number == i) && is_longer f.upload) number_is
+              ∙ (ap (λ x. x && is_longer f.upload) (number_self f.number) ∙ e))
+          up false e = absurd (one_block s at f.number f.request f.upload m (Calling k r (Uploads u)) e
+              (ap (λ o. (answered s at m o).deed) (sym f.runs_it) ∙ asks))
+
+  passes_asks : (at : ℕ) (turn : Turn) → AsksLater false s (passes s at turn)
+  passes_asks at turn k r u asks later =
+      elim (passes_from s at turn (Calling k r (Uploads u)) (record { number = k; upload = u }) asks refl) [
+        | inl st ↦ absurd (not_first t s (passes s at turn) k r u all st later)
+        | inr f ↦ absurd (cc f.hears_it)
+      ]
+
+-- .. once the request is sent or refused
+
+abbrev Caused : Bool → Own → Effect → Type 0
+Caused final s e = (e.own.hold ≡ s.hold) ⊎ Sets final s e
+
+module _ (final : Bool) (s : Own) (e : Effect) (hold : e.own.hold ≡ s.hold) (sent : e.own.sent ≡ s.sent) where
+  refused_caused : (op : Operation) → e.deed ≡ Asks op → AsksLater final s e
+      → Caused final s (failed has_sent R.NoIds e.own (Some op))
+  refused_caused (Calling k r (Fetches f)) is asks = inl hold
+  refused_caused (Calling k r Single) is asks = inl hold
+  refused_caused (Registering k path) is asks = inl hold
+  refused_caused (Fetching k) is asks = inl hold
+  refused_caused (Cancelling k) is asks = inl hold
+  refused_caused Dropped is asks = inl hold
+  refused_caused (Calling k r (Uploads u)) is asks = by (nat_lt 0 u.num) refl (is_longer u) refl
+    where
+      by : (a : Bool) → nat_lt 0 u.num ≡ a → (b : Bool) → is_longer u ≡ b → Caused final s
+          (ends (of k R.NoIds) (cond (a && b) (record e.own { hold = Some e.own.sent }) e.own))
+      by true f true g = inr (record {
+        number = k;
+        up = (asks k r u is f).0;
+        report = R.NoIds;
+        made = refl;
+        last = refl;
+        unanswered = (asks k r u is f).1;
+        hold = ap (λ z. Some z) sent;
+      })
+      by true f false g = inl hold
+      by false f b g = inl hold
+
+closed_caused : (final : Bool) (s : Own) (now : ℕ) (e : Effect) (token : Result (List ℕ) AskRefusal) → Step final s e
+    → AsksLater final s e → (d : Deed) → e.deed ≡ d → Caused final s (closed now e d token)
+closed_caused final s now e token st asks Rests is = elim st.cause [ inl x ↦ inl x | inr x ↦ inr x.0 ]
+closed_caused final s now e token st asks (Keeps t) is = elim st.cause [
+  | inl x ↦ inl x
+  | inr x ↦ (let z = x.0 in inr (record {
+    number = z.number;
+    up = z.up;
+    report = z.report;
+    made = z.made;
+    last = z.last;
+    unanswered = z.unanswered;
+    hold = z.hold;
+  }))
+]
+closed_caused final s now e token st asks (Releases t) is = elim st.cause [
+  | inl x ↦ inl x
+  | inr x ↦ (let z = x.0 in inr (record {
+    number = z.number;
+    up = z.up;
+    report = z.report;
+    made = z.made;
+    last = z.last;
+    unanswered = z.unanswered;
+    hold = z.hold;
+  }))
+]
+closed_caused final s now e (Ok key) st asks (Asks op) is = elim st.cause
+    [ inl x ↦ inl x | inr x ↦ absurd (x.1 op is) ]
+closed_caused final s now e (Err why) st asks (Asks op) is = elim st.cause
+    [ inl x ↦ refused_caused final s e x st.sent op is asks | inr x ↦ absurd (x.1 op is) ]
+
+-- an upload that runs behind an effect that asks for nothing ran before
+
+dropped_back : (k j : ℕ) (running : Option Operation) → is_upload_of k (dropped j running) ≡ true
+    → is_upload_of k running ≡ true
+dropped_back k j None h = h
+dropped_back k j (Some (Calling n r t)) h = h
+dropped_back k j (Some (Registering n path)) h = h
+dropped_back k j (Some (Cancelling n)) h = h
+dropped_back k j (Some Dropped) h = h
+dropped_back k j (Some (Fetching n)) h = by (n == j) h
+  where
+    by : (b : Bool) → is_upload_of k (cond b (Some Dropped) (Some (Fetching n))) ≡ true
+        → is_upload_of k (Some (Fetching n)) ≡ true
+    by true h = absurd (cc h)
+    by false h = h
+
+ran_back : (k : ℕ) (s : Own) (e : Effect) → Runs s e → Quiet e → is_upload_of k e.own.running ≡ true
+    → is_upload_of k s.running ≡ true
+ran_back k s e r quiet up = elim r.running [
+  | inl none ↦ (let z : false ≡ true = sym (ap (is_upload_of k) none) ∙ up in absurd (cc z))
+  | inr x ↦ elim x [
+    | inl d ↦ dropped_back k d.0 s.running (sym (ap (is_upload_of k) d.1) ∙ up)
+    | inr y ↦ elim y [
+      | inl same ↦ sym (ap (is_upload_of k) same) ∙ up
+      | inr asks ↦ absurd (quiet asks.0 asks.1)
+    ]
+  ]
+]
+
+refused_over : (k : ℕ) (o : Own) (op : Operation)
+    → is_upload_of k (failed has_sent R.NoIds o (Some op)).own.running ≡ true → ⊥
+refused_over k o (Calling n r t) h = cc h
+refused_over k o (Registering n path) h = cc h
+refused_over k o (Fetching n) h = cc h
+refused_over k o (Cancelling n) h = cc h
+refused_over k o Dropped h = cc h
+
+module _ (server : Endpoint) (szx word : ℕ) where
+  abbrev own : List Call → Own
+  own t = own_of szx t
+
+  -- a datagram of it was sent, then or later
+  abbrev LastOf : ℕ → ℕ → List Call → Type 0
+  LastOf k z t = Sometime (λ earlier b. SendsOf szx k earlier b × (z ≤ moment (own_of szx earlier) b)) t
+
+  record CauseOf (z : ℕ) (t : List Call) : Type 0 where
+    other : ℕ
+    ended : Sometime (EndsUnanswered szx other) t
+    sent : LastOf other z t
+
+  record Causes (t : List Call) : Type 0 where
+    running : (k : ℕ) → is_upload_of k (own t).running ≡ true → LastOf k (own t).sent t
+    hold : (z : ℕ) → (own t).hold ≡ Some z → CauseOf z t
+
+  -- a call that sends and reports nothing
+  still : (t : List Call) (c : Call) → (own (c ∷ t)).sent ≡ (own t).sent → (own (c ∷ t)).hold ≡ (own t).hold
+      → ((k : ℕ) → is_upload_of k (own (c ∷ t)).running ≡ true → is_upload_of k (own t).running ≡ true)
+      → Causes t → Causes (c ∷ t)
+  still t c sent hold back h = record {
+    running = λ k up. subst (λ z. LastOf k z (c ∷ t)) (sym sent) (inr (h.running k (back k up)));
+    hold = λ z is. (
+        let q = h.hold z (sym hold ∙ is) in
+        record { other = q.other; ended = inr q.ended; sent = inr q.sent });
+  }
+
+  -- an event, or a turn
+  module _ (t : List Call) (c : Call) (now : ℕ) (h : Causes t) where
+    abbrev m : ℕ
+    m = max (own t).clock now
+
+    abbrev s : Own
+    s = at now (own t)
+
+    -- what runs behind it
+    abbrev RunsFrom : Own → Type 0
+    RunsFrom o = (k : ℕ) → is_upload_of k o.running ≡ true → LastOf k o.sent (c ∷ t)
+
+    runs_from : (e : Effect) → moment (own t) c ≡ m → e.own.sent ≡ s.sent → Runs s e
+        → ((op : Operation) → e.deed ≡ Asks op → e.own.running ≡ Some op) → (token : Result (List ℕ) AskRefusal)
+        → sends (own t) c ≡ sent_by e e.deed token → (d : Deed) → e.deed ≡ d → RunsFrom (closed m e d token).own
+    runs_from e at_is same r asks token sending Rests is k up =
+        subst (λ z. LastOf k z (c ∷ t)) (sym same)
+        (inr (h.running k (ran_back k s e r (λ op i. absurd (cc (is, i))) up)))
+    runs_from e at_is same r asks token sending (Keeps key) is k up =
+        subst (λ z. LastOf k z (c ∷ t)) (sym same)
+        (inr (h.running k (ran_back k s e r (λ op i. absurd (cc (is, i))) up)))
+    runs_from e at_is same r asks token sending (Releases key) is k up =
+        subst (λ z. LastOf k z (c ∷ t)) (sym same)
+        (inr (h.running k (ran_back k s e r (λ op i. absurd (cc (is, i))) up)))
+    runs_from e at_is same r asks (Ok key) sending (Asks op) is k up =
+        inl (
+          inl (ap (sends_of k) (sending ∙ ap (λ d. sent_by e d (Ok key)) is)
+              ∙ (sym (ap (is_upload_of k) (asks op is)) ∙ up)),
+          omega (arith, at_is),
+        )
+    runs_from e at_is same r asks (Err why) sending (Asks op) is k up = absurd (refused_over k e.own op up)
+
+    moved_on : (done : Effect) (final : Bool) → (own (c ∷ t)).sent ≡ done.own.sent
+        → (own (c ∷ t)).hold ≡ done.own.hold → (own (c ∷ t)).running ≡ done.own.running
+        → reports (own t) c ≡ done.report → is_final c ≡ final → Caused final s done → RunsFrom done.own
+        → Causes (c ∷ t)
+    moved_on done final sent hold running report final_is caused from = record {
+      running = λ k up. subst (λ z. LastOf k z (c ∷ t)) (sym sent)
+          (from k (sym (ap (is_upload_of k) running) ∙ up));
+      hold = λ z is. elim caused [
+        | inl same ↦ (let q = h.hold z (sym same ∙ (sym hold ∙ is)) in record
+            { other = q.other; ended = inr q.ended; sent = inr q.sent })
+        | inr x ↦ (let set : Some (own t).sent ≡ Some z = sym x.hold ∙ (sym hold ∙ is) in
+            let z_is : (own t).sent ≡ z = cc set in
+            record {
+              other = x.number;
+              ended = inl (record {
+                report = record { number = x.number; report = x.report };
+                made = report ∙ x.made;
+                is = refl;
+                last = x.last;
+                not_final = final_is ∙ x.unanswered;
+              });
+              sent = subst (λ y. LastOf x.number y (c ∷ t)) z_is (inr (h.running x.number x.up));
+            })
+      ];
+    }
+
+  final_of_event : (now : ℕ) (from : Endpoint) (bytes : List ℕ) (w : ℕ) (up : L.Answer) (settled : Bool)
+      (event : Option Event) (sent : L.Answer) (token : Result (List ℕ) AskRefusal) (kept : Bool)
+      → is_final (Feeds now from bytes w up settled event sent token kept) ≡ final_in event
+  final_of_event now from bytes w up settled None sent token kept = refl
+  final_of_event now from bytes w up settled (Some (event_of.Answer a)) sent token kept = refl
+  final_of_event now from bytes w up settled (Some (event_of.Notice a)) sent token kept = refl
+  final_of_event now from bytes w up settled (Some event_of.Reset) sent token kept = refl
+  final_of_event now from bytes w up settled (Some event_of.Timeout) sent token kept = refl
+  final_of_event now from bytes w up settled (Some event_of.NoResponse) sent token kept = refl
+
+  ticked : (t : List Call) (now w : ℕ) (below : L.Answer) (turn : Turn) (sent : L.Answer)
+      (token : Result (List ℕ) AskRefusal) (kept answer : Bool) → Causes t
+      → ((op : Operation) → (passes (at now (own t)) (max (own t).clock now) turn).deed ≡ Asks op
+      → (passes (at now (own t)) (max (own t).clock now) turn).own.running ≡ Some op)
+      → Causes (Ticks now w below turn sent token kept answer ∷ t)
+  ticked t now w below turn_of.Copied sent token kept answer h asks =
+      let c : Call = Ticks now w below turn_of.Copied sent token kept answer in
+      let s : Own = at now (own t) in
+      let m : ℕ = max (own t).clock now in
+      let e : Effect = passes s m turn_of.Copied in
+      moved_on t c now h (close m e token) false refl refl refl refl refl (inl refl)
+      (λ k up. inl (inr (refl, up), omega arith))
+  ticked t now w below turn_of.Idle sent token kept answer h asks =
+      let c : Call = Ticks now w below turn_of.Idle sent token kept answer in
+      let s : Own = at now (own t) in
+      let m : ℕ = max (own t).clock now in
+      let e : Effect = passes s m turn_of.Idle in
+      let st : Step false s e = idle_step s m s.running (to_fetch s.observations) in
+      moved_on t c now h (close m e token) false refl refl refl refl refl
+      (closed_caused false s m e token st (passes_asks t s (all_first szx t) m turn_of.Idle) e.deed refl)
+      (runs_from t c now h e refl st.sent (passes_runs s m turn_of.Idle) asks token refl e.deed refl)
+  ticked t now w below (turn_of.End ev) sent token kept answer h asks =
+      let c : Call = Ticks now w below (turn_of.End ev) sent token kept answer in
+      let s : Own = at now (own t) in
+      let m : ℕ = max (own t).clock now in
+      let e : Effect = passes s m (turn_of.End ev) in
+      let st : Step false s e = failed_step s (lapse ev) (lapse_last ev) s.running refl in
+      moved_on t c now h (close m e token) false refl refl refl refl refl
+      (closed_caused false s m e token st (passes_asks t s (all_first szx t) m (turn_of.End ev)) e.deed refl)
+      (runs_from t c now h e refl st.sent (passes_runs s m (turn_of.End ev)) asks token refl e.deed refl)
+
+  causes : (t : List Call) → ClientRows szx t → X.AskerLaw server word (lower_of szx t) → Causes t
+  causes [] rows law = record { running = λ k up. absurd (cc up); hold = λ z is. absurd (cc is) }
+  causes (Calls now r (Ok n) ∷ t) rows law = still t (Calls now r (Ok n)) refl refl (λ k up. up) (causes t rows.1 law)
+  causes (Calls now r (Err why) ∷ t) rows law = still t (Calls now r (Err why)) refl refl (λ k up. up)
+      (causes t rows.1 law)
+  causes (Observes now path (Ok n) ∷ t) rows law = still t (Observes now path (Ok n)) refl refl (λ k up. up)
+      (causes t rows.1 law)
+  causes (Observes now path (Err why) ∷ t) rows law = still t (Observes now path (Err why)) refl refl (λ k up. up)
+      (causes t rows.1 law)
+  causes (Cancels now n None ∷ t) rows law = still t (Cancels now n None) refl refl (λ k up. up) (causes t rows.1 law)
+  causes (Cancels now n (Some why) ∷ t) rows law = still t (Cancels now n (Some why)) refl refl (λ k up. up)
+      (causes t rows.1 law)
+  causes (Forgets n kept true ∷ t) rows law =
+      still t (Forgets n kept true) refl refl (λ k up. dropped_back k n (own t).running up)
+      (causes t rows.1 (law_back server word (lower (own t) (Forgets n kept true)) (lower_of szx t) law))
+  causes (Forgets n kept false ∷ t) rows law = still t (Forgets n kept false) refl refl (λ k up. up)
+      (causes t rows.1 law)
+  causes (NextOut answer ∷ t) rows law = still t (NextOut answer) refl refl (λ k up. up) (causes t rows.1 law.1)
+  causes (NextReport answer ∷ t) rows law = still t (NextReport answer) refl refl (λ k up. up) (causes t rows.1 law)
+  causes (Asked answer ∷ t) rows law = still t (Asked answer) refl refl (λ k up. up) (causes t rows.1 law)
+  causes (Feeds now from bytes w up settled event sent token kept ∷ t) rows law =
+      let c : Call = Feeds now from bytes w up settled event sent token kept in
+      let below = law_back server word (lower (own t) c) (lower_of szx t) law in
+      let k = known server szx word t rows.1 below in
+      let m : ℕ = max (own t).clock now in
+      let s : Own = at now (own t) in
+      let e : Effect = happened s m event in
+      let g = goes_fed server szx word t now from bytes w up settled event sent token kept k law in
+      let h = causes t rows.1 below in
+      let st : Step (final_in event) s e = happened_step s m event in
+      moved_on t c now h (close m e token) (final_in event) refl refl refl refl
+      (final_of_event now from bytes w up settled event sent token kept)
+      (closed_caused (final_in event) s m e token st (happened_asks t s (all_first szx t) m event) e.deed refl)
+      (runs_from t c now h e refl st.sent (happened_runs s m event) (λ op i. (g.asks op i).1) token refl e.deed refl)
+  causes (Ticks now w below turn sent token kept answer ∷ t) rows law =
+      let c : Call = Ticks now w below turn sent token kept answer in
+      let under = law_back server word (lower (own t) c) (lower_of szx t) law in
+      let k = known server szx word t rows.1 under in
+      let g = goes_ticked server szx word t now turn k in
+      ticked t now w below turn sent token kept answer (causes t rows.1 under) (λ op i. (g.asks op i).1)
+
+  -- a hold that stands at this moment has its cause
+  pub record HeldFor (t : List Call) (moment_of : ℕ) : Type 0 where
+    pub other : ℕ
+    pub ended : Sometime (EndsUnanswered szx other) t
+    pub sent : Sometime (λ earlier b. SendsOf szx other earlier b
+        × (moment_of ≤ moment (own_of szx earlier) b + max_latency)) t
+
+  within : (k z now : ℕ) → now ≤ z + max_latency → (t : List Call) → LastOf k z t
+      → Sometime (λ earlier b. SendsOf szx k earlier b × (now ≤ moment (own_of szx earlier) b + max_latency)) t
+  within k z now le [] h = absurd h
+  within k z now le (c ∷ t) (inl h) = let b = h.1 in inl (h.0, omega (arith, b, le))
+  within k z now le (c ∷ t) (inr h) = inr (within k z now le t h)
+
+  pub held_for : (t : List Call) → ClientRows szx t → X.AskerLaw server word (lower_of szx t) → (now : ℕ)
+      → is_held (own_of szx t) now ≡ true → HeldFor t now
+  held_for t rows law now held = by (own_of szx t).hold refl held
+    where
+      by : (o : Option ℕ) → (own_of szx t).hold ≡ o
+          → elim o [ None ↦ false | Some last ↦ nat_le now (last + max_latency) ] ≡ true → HeldFor t now
+      by None is h = absurd (cc h)
+      by (Some z) is h = let q = (causes t rows law).hold z is in record {
+        other = q.other;
+        ended = q.ended;
+        sent = within q.other z now (leb-true now (z + max_latency) h) t q.sent;
+      }
