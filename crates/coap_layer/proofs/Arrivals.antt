@@ -4,3 +4,5 @@ pub mod FewAreRemembered
 pub mod HandedAsSpelled
 pub mod EndsOfOutstanding
 pub mod ResponsesAreSpelled
+pub mod RoomWhenFewCome
+pub mod AcksAreTaken

@@ -4,3 +4,10 @@ pub mod WhatArrivesWasSent
 pub mod TakenOnce
 pub mod GoneIsNotBehind
 pub mod AcksAreReplies
+pub mod TakenWhereRoom
+pub mod TakenInTime
+pub mod RepliedOnce
+pub mod IdsAreFree
+pub mod OverWithin
+pub mod NonsAreTaken
+pub mod ResetsAreReplies

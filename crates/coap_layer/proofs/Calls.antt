@@ -2,6 +2,7 @@
 pub mod JudgedByTable
 pub mod CallsAreSteps
 pub mod Entries
+pub mod Passed
 pub mod Remembered
 pub mod Outstanding
 pub mod Places
@@ -10,3 +11,4 @@ pub mod Sent
 pub mod Sendings
 pub mod Stored
 pub mod TakenIn
+pub mod Turned

@@ -4,3 +4,5 @@ pub mod WhatIsOpen
 pub mod DueMoments
 pub mod BackOffIsShort
 pub mod FiveAtMost
+pub mod OverStays
+pub mod FirstMoments

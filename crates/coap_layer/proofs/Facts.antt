@@ -5,6 +5,7 @@ pub mod CallsOfLayer
 pub mod HandedUp
 pub mod Hops
 pub mod Laws
+pub mod FirstMoments
 pub mod Sendable
 pub mod Sendings
 pub mod Spelling

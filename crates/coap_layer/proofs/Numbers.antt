@@ -3,3 +3,4 @@ pub mod EqualIdsAreApart
 pub mod StepsOfASource
 pub mod IdsAreSmall
 pub mod OneEntryForAnId
+pub mod HeldIsMany

@@ -1,5 +1,6 @@
 -- Two layers, and the datagrams between them (RFC 7252, sections 4.2 to 4.5). None arrives later than MAX_LATENCY after
 -- it was sent (section 4.8.2).
+use Rattle.coap_layer.specs.Trace.{Setup}
 use Rattle.std.specs.Prelude.{◌≡◌, ◌⊎◌, ◌≤◌, ℕ, ◌+◌, true, Some, None, List, [], ◌∷◌}
 use Rattle.coap_types.specs.Past.{Ever, Sometime, Always, Since}
 use Rattle.coap_types.specs.declared.endpoint.Endpoint.{Endpoint}
@@ -68,7 +69,7 @@ RepliesSo past e =
     (to : Endpoint) (id : ℕ) (bytes : List ℕ) → e.call ≡ Reply to id bytes → RepliesAtOnce past e.at id bytes
 
 -- the layers that began with these words, what went between them, and how each replies
-pub record ChannelLaw (one other : ℕ) (near far : Endpoint) (all : List Hop) : Type 0 where
+pub record ChannelLaw (one other : Setup) (near far : Endpoint) (all : List Hop) : Type 0 where
   pub near_law : LayerLaw one (near_of all)
   pub far_law : LayerLaw other (far_of all)
   pub near_replies : Always RepliesSo (near_of all)

@@ -4,17 +4,21 @@ use Rattle.coap_types.specs.Past.{Ever, Sometime}
 use Rattle.coap_types.specs.declared.transmission.TheConstants.{MAX_TRANSMIT_WAIT_MS as max_transmit_wait}
 use Rattle.coap_types.specs.declared.transmission.TheConstants.{MAX_RETRANSMIT as max_retransmit}
 use Rattle.coap_types.specs.declared.endpoint.Endpoint.{Endpoint}
-use Rattle.coap_layer.specs.Trace.{Expired, Entry}
+use Rattle.coap_layer.specs.Trace.{Expired, Entry, Setup}
 use Rattle.coap_layer.specs.Words.{Open}
 use Rattle.coap_layer.specs.Rows.{LayerLaw}
 use Rattle.coap_layer.specs.Sends.{AtLeast, SendsIt}
 use Rattle.coap_layer.specs.Channel.{Hop, Near, OnFar, near_of, ChannelLaw, HearsAck, Takes}
 
+-- how the layers of the examples began
+abbrev pub began : Setup
+began = record { word = 0; remembered = 4096 }
+
 -- In a lawful history a CON goes out five times, and fails MAX_TRANSMIT_WAIT after the first.
 pub record FiveTimes : Type 0 where
   pub past : List Entry
   pub last : Entry
-  pub law : LayerLaw 0 (last ∷ past)
+  pub law : LayerLaw began (last ∷ past)
   pub con : Open
   pub five : AtLeast (1 + max_retransmit) (SendsIt con) past
   pub fails : last.answer ≡ Expired con.to con.id
@@ -26,7 +30,7 @@ pub record IsAcknowledged : Type 0 where
   pub far : Endpoint
   pub hops : List Hop
   pub apart : near ≢ far
-  pub law : ChannelLaw 0 0 near far hops
+  pub law : ChannelLaw began began near far hops
   pub con : Open
   pub heard : Sometime (λ past h. (e : Entry) × (h ≡ Near e) × HearsAck con (near_of past) e
       × Ever (OnFar (Takes near con)) past) hops

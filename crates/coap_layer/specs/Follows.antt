@@ -1,4 +1,5 @@
 -- What follows from the layer's law (RFC 7252, sections 4.2, 4.4, 4.5 and 4.7).
+use Rattle.coap_layer.specs.Trace.{Setup}
 use Rattle.std.specs.Prelude.{◌≡◌, ◌⊎◌, ◌≤◌, ◌<◌, ℕ, ◌+◌, true, Some, List, [], ◌∷◌}
 use Rattle.coap_types.specs.Past.{Ever, Always}
 use Rattle.coap_types.specs.declared.endpoint.Endpoint.{Endpoint}
@@ -10,7 +11,6 @@ use Rattle.coap_layer.specs.Trace.{Receive, Response, Acked, Reset, Becomes, Sen
 use Rattle.coap_layer.specs.Rows.{Stands, LayerLaw, Outstanding}
 use Rattle.coap_layer.specs.Words.{clock, Incoming, handed, Remembered, remembered, Open, begun, numbers, outstanding}
 use Rattle.coap_types.specs.declared.transmission.TheConstants.{LAST_RETRANSMISSION_MS as last_retransmission}
-use Rattle.coap_layer.specs.declared.dedup.TheConstants.{MAX_REMEMBERED as max_remembered}
 use Rattle.coap_types.specs.declared.message.TheConstants.{MESSAGE_IDS as message_ids}
 
 -- No message is handed up that was handed up, and remembered, at most EXCHANGE_LIFETIME before.
@@ -44,7 +44,7 @@ OneOutstanding t =
 -- One call has one answer, and sends one thing.
 abbrev pub IsExact : Type 0
 IsExact =
-    (word : ℕ) (past : List Entry) (e f : Entry) → LayerLaw word past → Stands word past e → Stands word past f
+    (setup : Setup) (past : List Entry) (e f : Entry) → LayerLaw setup past → Stands setup past e → Stands setup past f
     → e.call ≡ f.call → e.at ≡ f.at → (e.answer ≡ f.answer) × (e.out ≡ f.out)
 
 -- An acknowledgement and a Reset are taken only for a CON that is outstanding.
@@ -54,8 +54,8 @@ EndsOutstanding t =
     → (e.answer ≡ Becomes (Acked id)) ⊎ (e.answer ≡ Becomes (Reset id)) → Outstanding past from id) t
 
 -- No more are remembered than there is a place for (profile).
-abbrev pub RemembersFew : List Entry → Type 0
-RemembersFew t = (now : ℕ) → clock t ≤ now → remembered now t ≤ max_remembered
+abbrev pub RemembersFew : ℕ → List Entry → Type 0
+RemembersFew most t = (now : ℕ) → clock t ≤ now → remembered now t ≤ most
 
 -- Each Message ID that is given has 16 bits (section 3).
 abbrev pub IdsSmall : List Entry → Type 0

@@ -10,5 +10,6 @@ pub mod Sendable
 pub mod Sends
 pub mod Channel
 pub mod Apart
+pub mod Taking
 pub mod Examples
 pub mod Machine

@@ -15,3 +15,4 @@ pub mod IdState
 pub mod IdStep
 pub mod Moves
 pub mod Calls
+pub mod Waits

@@ -1,4 +1,5 @@
 -- What a layer sends, and how often (RFC 7252, sections 4.2, 4.3 and 4.5).
+use Rattle.coap_layer.specs.Trace.{Setup}
 use Rattle.std.specs.Prelude.{◌≡◌, ◌⊎◌, ◌≤◌, ℕ, zero, suc, ◌+◌, true, false, Some, List, [], ◌∷◌, ◌++◌}
 use Rattle.coap_types.specs.Past.{Ever, Sometime, Always, Since}
 use Rattle.coap_types.specs.declared.message.Kind.TheVariants.{Con, Non}
@@ -169,6 +170,6 @@ TakenSent t =
 -- What is taken was sent since nothing waited.
 abbrev pub TakenSince : Type 0
 TakenSince =
-    (word : ℕ) (past later : List Entry) (e : Entry) (p : Packet) → LayerLaw word (e ∷ later ++ past)
+    (setup : Setup) (past later : List Entry) (e : Entry) (p : Packet) → LayerLaw setup (e ∷ later ++ past)
     → waiting past ≡ []
     → e.call ≡ Take → e.answer ≡ Gives (Some p) → Ever (λ b. IsIn p b.out) later

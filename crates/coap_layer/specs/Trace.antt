@@ -1,4 +1,5 @@
 -- The calls of a message layer: each with its moment, arguments, answer and what it sends (RFC 7252, section 4).
+pub use Rattle.coap_layer.specs.declared.setup.Setup.{Setup}
 use Rattle.std.specs.Prelude.{ℕ, Bool, Option, List}
 use Rattle.coap_types.specs.CoapOption.{CoapOption}
 use Rattle.coap_types.specs.declared.endpoint.Endpoint.{Endpoint}
@@ -34,7 +35,8 @@ pub data Call : Type 0 where
   AsksFree : Call
   Pass : Call
 
--- what becomes of a datagram that arrived; of a request that is handed up, also whether it is remembered
+-- what becomes of a datagram that arrived; of a request that is handed up, also whether it is remembered; of a Reset,
+-- whether it ends a CON or is of nothing that is outstanding
 pub data Disposition : Type 0 where
   Dropped : Disposition
   Replayed : Disposition
@@ -43,6 +45,7 @@ pub data Disposition : Type 0 where
   Response : (message : Message) → Disposition
   Acked : (id : ℕ) → Disposition
   Reset : (id : ℕ) → Disposition
+  Unmatched : (id : ℕ) → Disposition
 
 pub data Answer : Type 0 where
   Becomes : (what : Disposition) → Answer

@@ -16,6 +16,8 @@ pub(crate) enum Verdict {
     TakeAck,
     /// It ends a retransmission as a Reset.
     TakeReset,
+    /// It is a Reset of what is not outstanding.
+    PassReset,
     /// It is a duplicate: the stored reply is sent again, if there is one.
     Replay,
     /// It is handed up as a request, and remembered or not.
@@ -49,8 +51,9 @@ pub(crate) fn classify(kind: Kind, role: Role, known: Known) -> Verdict
         (Kind::Ack, Role::Request | Role::Reserved) => Verdict::Drop,
         (Kind::Ack, Role::Empty) if known.outstanding => Verdict::TakeAck,
         (Kind::Rst, Role::Empty) if known.outstanding => Verdict::TakeReset,
+        (Kind::Rst, Role::Empty) => Verdict::PassReset,
         (Kind::Ack, Role::Response) if known.outstanding => Verdict::HandUpResponse,
-        (Kind::Ack | Kind::Rst, _) => Verdict::Drop,
+        (Kind::Ack, _) => Verdict::Drop,
         (Kind::Con | Kind::Non, _) if known.remembered => Verdict::Replay,
         (Kind::Con | Kind::Non, _) if known.full => Verdict::Drop,
         (Kind::Con, Role::Request) => Verdict::HandUpRequest(true),

@@ -21,7 +21,7 @@ use crate::lists::Lists;
 use crate::mark::Awaiting;
 use crate::retransmission::{Sending, end_all, is_outstanding};
 use coap_codec::{Fault, View, decode};
-use coap_types::{Endpoint, Id, Kind, Moment, Role};
+use coap_types::{Endpoint, Id, Kind, Moment, Remembered, Role};
 use std::alloc::{AllocError, Allocator};
 use std::hash::BuildHasher;
 
@@ -70,9 +70,10 @@ fn of_message<A: Allocator + Copy, S: BuildHasher>(
     at: Moment,
     from: Endpoint,
     lists: &Lists<A, S>,
+    most: Remembered,
     free: bool,
 ) -> Arriving
-    ensures { (s : State) → s.arrived ≡ arrivals_in lists.now.entries → s.open_cons ≡ open_now lists.now.sendings.items
+    ensures { (s : State) → s.most ≡ most → s.arrived ≡ arrivals_in lists.now.entries → s.open_cons ≡ open_now lists.now.sendings.items
         → is_free at.0 s.upcoming s.last_used ≡ free
         → IsArriving s at.0 from (shown_by (Ok message.now)) result
         × (told_by result.verdict (Ok message.now) ≡ answer_to s at.0 from (shown_by (Ok message.now))) }
@@ -82,7 +83,7 @@ fn of_message<A: Allocator + Copy, S: BuildHasher>(
     let known = Known {
         outstanding: is_outstanding(&lists.sendings, from, id),
         remembered: lists.entries.is_remembered(at, from, id),
-        full: lists.entries.is_full(at),
+        full: lists.entries.is_full(at, most),
         free,
     };
     Arriving {
@@ -98,15 +99,16 @@ pub(crate) fn judge<A: Allocator + Copy, S: BuildHasher>(
     at: Moment,
     from: Endpoint,
     lists: &Lists<A, S>,
+    most: Remembered,
     free: bool,
 ) -> Arriving
-    ensures { (s : State) → s.arrived ≡ arrivals_in lists.now.entries → s.open_cons ≡ open_now lists.now.sendings.items
+    ensures { (s : State) → s.most ≡ most → s.arrived ≡ arrivals_in lists.now.entries → s.open_cons ≡ open_now lists.now.sendings.items
         → is_free at.0 s.upcoming s.last_used ≡ free
         → IsArriving s at.0 from (shown_by read.now) result
         × (told_by result.verdict read.now ≡ answer_to s at.0 from (shown_by read.now)) }
 {
     match read {
-        Ok(message) => of_message(message, at, from, lists, free),
+        Ok(message) => of_message(message, at, from, lists, most, free),
         Err(fault) => of_fault(fault),
     }
 }
@@ -119,6 +121,7 @@ pub(crate) fn told<'d>(read: Result<View<'d>, Fault>, verdict: Verdict) -> Up<'d
         (_, Verdict::Reject) => Up::Rejected,
         (Ok(message), Verdict::TakeAck) => Up::Acked(message.id()),
         (Ok(message), Verdict::TakeReset) => Up::Reset(message.id()),
+        (Ok(message), Verdict::PassReset) => Up::Unmatched(message.id()),
         (Ok(_), Verdict::Replay) => Up::Replayed,
         (Ok(message), Verdict::HandUpRequest(remembered)) => Up::Request {
             message,

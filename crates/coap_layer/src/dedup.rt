@@ -1,29 +1,43 @@
-ghost use Rattle.std.specs.Prelude.{◌≡◌, ◌<◌, ◌≤◌, ◌+◌, ◌++◌, [], ◌∷◌, false, nat_le, filter, drop, length, Some, None};
+ghost use Rattle.std.specs.Prelude.{◌≡◌, ◌<◌, ◌≤◌, ◌+◌, ◌++◌, [], ◌∷◌, true, false, nat_le, filter, drop, length, Some, None};
 ghost use Rattle.std.specs.Prelude.{is_some, option_to_list, if◌then◌else◌, OnOk};
+ghost use Rattle.std.specs.List.Sorted.{IsNonDecreasingBy};
+ghost use Rattle.std.specs.List.{IsDistinct};
+ghost use Rattle.std.specs.Map.{keys_of, lookup};
 ghost use Rattle.std.specs.Option.{option_map, option_and_then, option_copied};
 ghost use Rattle.indexmap.specs.IndexMap.{get, spare, IsUnique};
 ghost use Rattle.coap_layer.specs.Machine.State.{is_live, is_full, is_remembered, reply_of};
-ghost use Rattle.coap_layer.specs.Machine.Entries.{AreLive, IsUpTo, arrivals_in, live_of, same_key, storing};
+ghost use Rattle.coap_layer.specs.Machine.Entries.{AreFew, AreLive, IsUpTo, arrivals_as, arrivals_in, is_passed_at, live_of, same_key, same_place};
+ghost use Rattle.coap_layer.specs.Machine.Entries.{storing};
 ghost use Rattle.coap_types.specs.declared.transmission.TheConstants.{EXCHANGE_LIFETIME_MS as exchange_lifetime};
 
 use coap_types::transmission::EXCHANGE_LIFETIME_MS;
-use coap_types::{Endpoint, Id, Moment};
+use coap_types::{Endpoint, Id, Moment, Remembered};
 use indexmap::IndexMap;
 use std::alloc::{AllocError, Allocator};
 use std::hash::BuildHasher;
 use std::marker::Model;
 
-/// So many messages are remembered at most (profile). A full table takes no new message, and never
-/// forgets a live one.
-pub(crate) const MAX_REMEMBERED: usize = 4_096;
-
-const _: () = prove!(MAX_REMEMBERED == 4_096);
+// What is forgotten is let go of once it is at least one in so many of what is held.
+const SHARE: usize = 8;
 
 /// What tells messages apart: where one came from, and its Message ID (RFC 7252, section 4.4).
+///
+/// What is forgotten and waits to be let go of can have the same: by the turn it is told from what is
+/// remembered.
 #[derive(Clone, Copy, PartialEq, Eq, Hash)]
 pub(crate) struct Key {
     pub(crate) from: Endpoint,
     pub(crate) id: Id,
+    pub(crate) turn: bool,
+}
+
+impl Key {
+    // Whether they are the same, whatever the turn.
+    fn is_of(&self, other: Key) -> bool
+        ensures { result ≡ same_key self.now other }
+    {
+        self.from == other.from && self.id == other.id
+    }
 }
 
 /// What is kept of a message that was handed up, and the reply to it (RFC 7252, section 4.5).
@@ -41,26 +55,40 @@ pub(crate) struct Kept<A: Allocator + Copy> {
 #[derive(Drop)]
 pub(crate) struct Memory<A: Allocator + Copy, S: BuildHasher> {
     settled: IndexMap<Key, Kept<A>, S, A>,
+    // So many of these, the first ones, are forgotten, and wait to be let go of together.
+    passed: usize,
+    // So many, the first ones, are of the other turn, and the rest of this one. None of this one is
+    // forgotten.
+    earlier: usize,
+    turn: bool,
     newest: Option<(Key, Kept<A>)>,
 }
 
 impl<A: Allocator + Copy, S: BuildHasher> Model for Memory<A, S> {
+    ghost use Rattle.std.specs.Prelude.{◌≤◌, drop, length};
+    ghost use Rattle.std.specs.List.{IsDistinct};
+    ghost use Rattle.std.specs.Map.{keys_of};
     ghost use Rattle.std.specs.Option.{option_map};
     ghost use Rattle.std.specs.List.Sorted.{IsNonDecreasingBy};
     ghost use Rattle.indexmap.specs.IndexMap.{spare, IsUnique};
-    ghost use Rattle.coap_layer.specs.Machine.Entries.{Memory, arrived_as, arrivals_as, same_key, IsApart};
+    ghost use Rattle.coap_layer.specs.Machine.Entries.{Memory, arrived_as, arrivals_as, same_key, same_place};
+    ghost use Rattle.coap_layer.specs.Machine.Entries.{AreFew, IsApart, IsTurned};
 
     ghost Value = { Memory };
 
     ghost view = { λ m. record {
-      settled = arrivals_as m.settled.entries;
+      settled = arrivals_as (drop m.passed m.settled.entries);
       newest = option_map arrived_as m.newest;
       spare = spare m.settled;
     } };
 
-    ghost invariant = { λ m. IsUnique same_key m.settled
+    ghost invariant = { λ m. IsUnique same_place m.settled
         × IsNonDecreasingBy (λ e. e.1.at.0) m.settled.entries
-        × IsApart (option_map arrived_as m.newest) (arrivals_as m.settled.entries) (spare m.settled) };
+        × AreFew m.passed (length m.settled.entries)
+        × (m.passed ≤ m.earlier) × (m.earlier ≤ length m.settled.entries)
+        × IsTurned m.turn m.earlier m.settled.entries
+        × IsDistinct same_key (keys_of (drop m.passed m.settled.entries))
+        × IsApart (option_map arrived_as m.newest) (arrivals_as (drop m.passed m.settled.entries)) (spare m.settled) };
 }
 
 // Whether it is still remembered.
@@ -85,6 +113,107 @@ fn stored<A: Allocator + Copy>(con: bool, reply: Vec<u8, A>) -> Option<Vec<u8, A
     if con { Some(reply) } else { None }
 }
 
+// Whether there is one at this place that is no longer remembered.
+fn is_passed_at<A: Allocator + Copy, S: BuildHasher>(
+    entries: &IndexMap<Key, Kept<A>, S, A>,
+    place: usize,
+    now: Moment,
+) -> bool
+    ensures { result ≡ is_passed_at now.0 entries.now.entries place }
+{
+    match entries.get_index(place) {
+        Some((_, kept)) => !is_live(kept, now),
+        None => false,
+    }
+}
+
+// How many of them, the first ones, are no longer remembered; of so many it is known.
+fn passed_by<A: Allocator + Copy, S: BuildHasher>(
+    entries: &IndexMap<Key, Kept<A>, S, A>,
+    known: usize,
+    now: Moment,
+) -> usize
+    requires known { known ≤ length entries.now.entries }
+    requires order { IsNonDecreasingBy (λ e. e.1.at.0) entries.now.entries }
+    ensures further { known ≤ result }
+    ensures within { result ≤ length entries.now.entries }
+    ensures live { arrivals_as (drop result entries.now.entries)
+        ≡ filter (is_live now.0) (arrivals_as (drop known entries.now.entries)) }
+{
+    let mut passed = known;
+    let held = entries.len();
+    while passed < held && is_passed_at(entries, passed, now) {
+        passed += 1;
+    }
+    passed
+}
+
+// What is kept in this turn under this key, if it doesn't stand before that place.
+fn in_turn<'m, A: Allocator + Copy, S: BuildHasher>(
+    entries: &'m IndexMap<Key, Kept<A>, S, A>,
+    place: usize,
+    key: Key,
+) -> Option<&'m Kept<A>>
+    requires { IsUnique same_place entries.now }
+    ensures { option_copied result ≡ lookup (same_place key) (drop place entries.now.entries) }
+{
+    match entries.get_full(&key) {
+        Some((there, _, kept)) => { if there < place { None } else { Some(kept) } }
+        None => None,
+    }
+}
+
+// What is kept under this key, whatever the turn, if it doesn't stand before that place.
+fn from_place<'m, A: Allocator + Copy, S: BuildHasher>(
+    entries: &'m IndexMap<Key, Kept<A>, S, A>,
+    place: usize,
+    key: Key,
+) -> Option<&'m Kept<A>>
+    requires unique { IsUnique same_place entries.now }
+    requires distinct { IsDistinct same_key (keys_of (drop place entries.now.entries)) }
+    ensures { option_copied result ≡ lookup (same_key key) (drop place entries.now.entries) }
+{
+    let Key { from, id, turn: _ } = key;
+    let first = Key {
+        from,
+        id,
+        turn: false,
+    };
+    match in_turn(entries, place, first) {
+        Some(kept) => Some(kept),
+        None => {
+            let second = Key {
+                from,
+                id,
+                turn: true,
+            };
+            in_turn(entries, place, second)
+        }
+    }
+}
+
+// Whether so many are to be let go of: an eighth of what is held, or what is of this turn too.
+fn are_many(passed: usize, held: usize, earlier: usize) -> bool
+    ensures few { passed ≤ held → result ≡ false → AreFew passed held }
+    ensures earlier { result ≡ false → passed ≤ earlier }
+{
+    let many = passed > 0 && passed >= held / SHARE;
+    many || passed > earlier
+}
+
+// Lets go of the first ones.
+fn let_go<A: Allocator + Copy, S: BuildHasher>(
+    entries: &mut IndexMap<Key, Kept<A>, S, A>,
+    passed: usize,
+)
+    requires { passed ≤ length entries.old.entries }
+    ensures entries { entries.new.entries ≡ drop passed entries.old.entries }
+    ensures spare { spare entries.old ≤ spare entries.new }
+    ensures unique { IsUnique same_place entries.new }
+{
+    entries.drain(..passed);
+}
+
 // Puts one more message to those that are there, for which there is room.
 fn put_last<A: Allocator + Copy, S: BuildHasher>(
     entries: &mut IndexMap<Key, Kept<A>, S, A>,
@@ -92,10 +221,10 @@ fn put_last<A: Allocator + Copy, S: BuildHasher>(
     kept: Kept<A>,
 )
     requires spare { 0 < spare entries.old }
-    requires unknown { get same_key entries.old key ≡ None }
+    requires unknown { get same_place entries.old key ≡ None }
     ensures entries { entries.new.entries ≡ entries.old.entries ++ (key, kept) ∷ [] }
     ensures spare { spare entries.old ≤ spare entries.new + 1 }
-    ensures unique { IsUnique same_key entries.new }
+    ensures unique { IsUnique same_place entries.new }
 {
     let _ = entries.insert(key, kept);
 }
@@ -108,6 +237,9 @@ impl<A: Allocator + Copy, S: BuildHasher> Memory<A, S> {
     {
         Memory {
             settled: IndexMap::with_hasher(alloc, hasher),
+            passed: 0,
+            earlier: 0,
+            turn: false,
             newest: None,
         }
     }
@@ -119,7 +251,7 @@ impl<A: Allocator + Copy, S: BuildHasher> Memory<A, S> {
             option_map (λ v. v.items) k.reply) (option_copied result)
             ≡ reply_of now.0 key.from key.id.0 self.now.settled }
     {
-        while_live(self.settled.get(&key), now)
+        while_live(from_place(&self.settled, self.passed, key), now)
     }
 
     // The newest message, if it is of this key and still remembered.
@@ -130,7 +262,7 @@ impl<A: Allocator + Copy, S: BuildHasher> Memory<A, S> {
             ≡ reply_of now.0 key.from key.id.0 (option_to_list self.now.newest) }
     {
         if let Some((newest, kept)) = &self.newest {
-            if *newest == key {
+            if newest.is_of(key) {
                 return while_live(Some(kept), now);
             }
         }
@@ -141,7 +273,11 @@ impl<A: Allocator + Copy, S: BuildHasher> Memory<A, S> {
     pub(crate) fn is_remembered(&self, now: Moment, from: Endpoint, id: Id) -> bool
         ensures { result ≡ is_remembered now.0 from id.0 (arrivals_in self.now) }
     {
-        let key = Key { from, id };
+        let key = Key {
+            from,
+            id,
+            turn: false,
+        };
         self.find(now, key).is_some() || self.find_newest(now, key).is_some()
     }
 
@@ -149,7 +285,11 @@ impl<A: Allocator + Copy, S: BuildHasher> Memory<A, S> {
     pub(crate) fn stored_reply(&self, now: Moment, from: Endpoint, id: Id) -> Option<&Vec<u8, A>>
         ensures { option_map (λ v. v.now.items) result ≡ reply_of now.0 from id.0 (arrivals_in self.now) }
     {
-        let key = Key { from, id };
+        let key = Key {
+            from,
+            id,
+            turn: false,
+        };
         match self.find(now, key) {
             Some(kept) => kept.reply.as_ref(),
             None => match self.find_newest(now, key) {
@@ -157,14 +297,6 @@ impl<A: Allocator + Copy, S: BuildHasher> Memory<A, S> {
                 None => None,
             },
         }
-    }
-
-    // How many of those that are settled, the first ones, are no longer remembered.
-    fn forgotten(&self, now: Moment) -> usize
-        ensures within { result ≤ length self.now.settled }
-        ensures live { filter (is_live now.0) self.now.settled ≡ drop result self.now.settled }
-    {
-        self.settled.partition_point(|_, kept| !is_live(kept, now))
     }
 
     // How many of the newest, 0 or 1, are still remembered.
@@ -180,11 +312,14 @@ impl<A: Allocator + Copy, S: BuildHasher> Memory<A, S> {
     }
 
     /// Whether no further message can be remembered.
-    pub(crate) fn is_full(&self, now: Moment) -> bool
-        ensures { result ≡ is_full now.0 (arrivals_in self.now) }
+    pub(crate) fn is_full(&self, now: Moment, most: Remembered) -> bool
+        ensures { result ≡ is_full most now.0 (arrivals_in self.now) }
     {
-        let settled = self.settled.len() - self.forgotten(now);
-        settled + self.live_newest(now) >= MAX_REMEMBERED
+        let newest = self.live_newest(now);
+        let settled = self.settled.len() - self.passed;
+        // Of those that are settled, so many have to be remembered still: the last ones.
+        let others = most.get() - newest;
+        others <= settled && !is_passed_at(&self.settled, self.settled.len() - others, now)
     }
 
     /// Makes room for the newest message, and for one after it.
@@ -203,9 +338,19 @@ impl<A: Allocator + Copy, S: BuildHasher> Memory<A, S> {
         ensures newest { self.new.newest ≡ self.old.newest }
         ensures spare { self.old.spare ≤ self.new.spare }
     {
-        let forgotten = self.forgotten(now);
-        if forgotten > 0 {
-            self.settled.drain(..forgotten);
+        let passed = passed_by(&self.settled, self.passed, now);
+        if are_many(passed, self.settled.len(), self.earlier) {
+            let_go(&mut self.settled, passed);
+            self.passed = 0;
+            if passed < self.earlier {
+                self.earlier -= passed;
+            } else {
+                // All that are left are of one turn.
+                self.earlier = self.settled.len();
+                self.turn = !self.turn;
+            }
+        } else {
+            self.passed = passed;
         }
     }
 
@@ -220,7 +365,12 @@ impl<A: Allocator + Copy, S: BuildHasher> Memory<A, S> {
     {
         if let Some((key, kept)) = self.newest.take() {
             if is_live(&kept, now) {
-                put_last(&mut self.settled, key, kept);
+                let placed = Key {
+                    from: key.from,
+                    id: key.id,
+                    turn: self.turn,
+                };
+                put_last(&mut self.settled, placed, kept);
             }
         }
     }
@@ -251,7 +401,12 @@ impl<A: Allocator + Copy, S: BuildHasher> Memory<A, S> {
             con,
             reply: None,
         };
-        self.newest = Some((Key { from, id }, kept));
+        let key = Key {
+            from,
+            id,
+            turn: false,
+        };
+        self.newest = Some((key, kept));
     }
 
     /// Stores the reply to the newest message, if it is that from there with this Message ID.

@@ -1,5 +1,5 @@
 ghost use Rattle.std.specs.Prelude.{ℕ, List, [], ◌∷◌, ◌++◌};
-ghost use Rattle.coap_layer.specs.Trace.{Call, Answer, Entry};
+ghost use Rattle.coap_layer.specs.Trace.{Setup, Call, Answer, Entry};
 ghost use Rattle.coap_layer.specs.Rows.{LayerLaw};
 ghost use Rattle.coap_layer.specs.Sendable.{IsSendableWhenShort};
 ghost use Rattle.coap_layer.specs.Machine.State.{State, Step, made, start};
@@ -9,6 +9,9 @@ ghost use Rattle.coap_layer.specs.Follows.{IsExact, RemembersFew, IdsSmall, Resp
 ghost use Rattle.coap_types.specs.declared.endpoint.Endpoint.{Endpoint};
 ghost use Rattle.coap_layer.specs.Channel.{Hop, ChannelLaw, HandedAsSpelled, AcksHeard, ArrivesAsSent, ConsBegun};
 ghost use Rattle.coap_layer.specs.Channel.{NonsSent, OnlyThatCon, HandedOnce, AcksReplied, AcksTaken, TakenOnce};
+ghost use Rattle.coap_layer.specs.Words.{numbers};
+ghost use Rattle.coap_layer.specs.Taking.{AllTakeAcks, AreOver, ConsTaken, ConsTakenWithin, HeldIsMany, IdsAreFree};
+ghost use Rattle.coap_layer.specs.Taking.{NonsTaken, NonsTakenWithin, OverWithin, RepliedOnce, ResetsMeant};
 ghost use Rattle.coap_layer.specs.Apart.{ConsApart};
 ghost use Rattle.coap_layer.specs.Sends.{FiveAtMost, AllAlike, ConsSpelled, OneOpen, LastBegun, EachGoesOut, InOrder};
 ghost use Rattle.coap_layer.specs.Sends.{TakenSent, TakenSince};
@@ -17,48 +20,54 @@ ghost use Rattle.coap_layer.specs.Examples.{FiveTimes, IsAcknowledged};
 
 /// What leads to a layer's state stands in the law, and what follows from that.
 pub fn layer_law()
-    ensures start { (word : ℕ) → LayerLed word [] (start word) }
+    ensures start { (setup : Setup) → LayerLed setup [] (start setup) }
     // A step lengthens the calls that led to the state before it.
-    ensures step { (word : ℕ) (t : List Entry) (old new : State) (now : ℕ) (call : Call) (answer : Answer)
-        → LayerLed word t old → Step old now call answer new → LayerLed word (made old now call ∷ t) new }
-    ensures steps { (word : ℕ) (t : List Entry) (old new : State) (calls : List Asked) → LayerLed word t old
-        → Steps old calls new → LayerLed word (entries old calls ++ t) new }
-    ensures law { (word : ℕ) (t : List Entry) (s : State) → LayerLed word t s → LayerLaw word t }
+    ensures step { (setup : Setup) (t : List Entry) (old new : State) (now : ℕ) (call : Call) (answer : Answer)
+        → LayerLed setup t old → Step old now call answer new → LayerLed setup (made old now call ∷ t) new }
+    ensures steps { (setup : Setup) (t : List Entry) (old new : State) (calls : List Asked) → LayerLed setup t old
+        → Steps old calls new → LayerLed setup (entries old calls ++ t) new }
+    ensures law { (setup : Setup) (t : List Entry) (s : State) → LayerLed setup t s → LayerLaw setup t }
     // The law leaves each call one answer.
     ensures exact { IsExact }
     // A message is handed up once in EXCHANGE_LIFETIME (RFC 7252, section 4.5).
-    ensures once { (word : ℕ) (t : List Entry) → LayerLaw word t → HandedUpOnce t }
+    ensures once { (setup : Setup) (t : List Entry) → LayerLaw setup t → HandedUpOnce t }
     // A retransmission is in time, and equal to the first sending (section 4.2).
-    ensures copies { (word : ℕ) (t : List Entry) → LayerLaw word t → CopiesInTime t }
+    ensures copies { (setup : Setup) (t : List Entry) → LayerLaw setup t → CopiesInTime t }
     // No Message ID is used again too early (section 4.4).
-    ensures ids { (word : ℕ) (t : List Entry) → LayerLaw word t → IdsApart t }
+    ensures ids { (setup : Setup) (t : List Entry) → LayerLaw setup t → IdsApart t }
     // At most one Confirmable message to an endpoint is outstanding (section 4.7).
-    ensures one { (word : ℕ) (t : List Entry) → LayerLaw word t → OneOutstanding t }
+    ensures one { (setup : Setup) (t : List Entry) → LayerLaw setup t → OneOutstanding t }
     // An acknowledgement or a Reset is taken only for what is outstanding (sections 4.2 and 5.3.2).
-    ensures ends { (word : ℕ) (t : List Entry) → LayerLaw word t → EndsOutstanding t }
+    ensures ends { (setup : Setup) (t : List Entry) → LayerLaw setup t → EndsOutstanding t }
     // No more messages are remembered than there is a place for (profile).
-    ensures few { (word : ℕ) (t : List Entry) → LayerLaw word t → RemembersFew t }
+    ensures few { (setup : Setup) (t : List Entry) → LayerLaw setup t → RemembersFew setup.remembered t }
     // Each Message ID that is given has 16 bits (section 3).
-    ensures small { (word : ℕ) (t : List Entry) → LayerLaw word t → IdsSmall t }
+    ensures small { (setup : Setup) (t : List Entry) → LayerLaw setup t → IdsSmall t }
     // A response is what its datagram spells, in an acknowledgement too (section 5.2.1).
-    ensures responses { (word : ℕ) (t : List Entry) → LayerLaw word t → ResponsesSpelled t }
+    ensures responses { (setup : Setup) (t : List Entry) → LayerLaw setup t → ResponsesSpelled t }
+    // Where no Message ID may be given, all but those of one group were given in the last ID_REUSE_AFTER_MS (profile).
+    ensures held { (setup : Setup) (t : List Entry) → LayerLaw setup t → HeldIsMany setup.word (numbers t) }
+    // A Confirmable message whose copying was ended is not outstanding again (section 4.2).
+    ensures over { (setup : Setup) (t : List Entry) → LayerLaw setup t → AreOver t }
+    // An acknowledgement that arrives while its Confirmable message is outstanding is taken (sections 4.2 and 5.2.1).
+    ensures acks { (setup : Setup) (t : List Entry) → LayerLaw setup t → AllTakeAcks t }
 {}
 
 /// What a layer sends: how often, what, and in which order.
 pub fn sending_law()
     // A Confirmable message goes out at most five times (RFC 7252, section 4.2).
-    ensures five { (word : ℕ) (t : List Entry) → LayerLaw word t → FiveAtMost t }
+    ensures five { (setup : Setup) (t : List Entry) → LayerLaw setup t → FiveAtMost t }
     // Each time it goes out within LAST_RETRANSMISSION_MS of the first, with equal bytes, under one Message ID.
-    ensures alike { (word : ℕ) (t : List Entry) → LayerLaw word t → AllAlike t }
-    ensures spelled { (word : ℕ) (t : List Entry) → LayerLaw word t → ConsSpelled t }
+    ensures alike { (setup : Setup) (t : List Entry) → LayerLaw setup t → AllAlike t }
+    ensures spelled { (setup : Setup) (t : List Entry) → LayerLaw setup t → ConsSpelled t }
     // What is outstanding to an endpoint is one Confirmable message (section 4.7).
-    ensures alone { (word : ℕ) (t : List Entry) → LayerLaw word t → OneOpen t }
-    ensures last { (word : ℕ) (t : List Entry) → LayerLaw word t → LastBegun t }
+    ensures alone { (setup : Setup) (t : List Entry) → LayerLaw setup t → OneOpen t }
+    ensures last { (setup : Setup) (t : List Entry) → LayerLaw setup t → LastBegun t }
     // Each datagram that goes out is one of six kinds.
-    ensures kinds { (word : ℕ) (t : List Entry) → LayerLaw word t → EachGoesOut t }
+    ensures kinds { (setup : Setup) (t : List Entry) → LayerLaw setup t → EachGoesOut t }
     // What is taken was sent, in the order of sending, each datagram once.
-    ensures order { (word : ℕ) (t : List Entry) → LayerLaw word t → InOrder t }
-    ensures before { (word : ℕ) (t : List Entry) → LayerLaw word t → TakenSent t }
+    ensures order { (setup : Setup) (t : List Entry) → LayerLaw setup t → InOrder t }
+    ensures before { (setup : Setup) (t : List Entry) → LayerLaw setup t → TakenSent t }
     // .. and since nothing waited.
     ensures since { TakenSince }
 {}
@@ -68,34 +77,58 @@ pub fn sending_law()
 /// near layer sends and the far one takes.
 pub fn channel_law()
     // What one layer hands up arrived as a datagram that spells it.
-    ensures spelled { (word : ℕ) (t : List Entry) → LayerLaw word t → HandedAsSpelled t }
+    ensures spelled { (setup : Setup) (t : List Entry) → LayerLaw setup t → HandedAsSpelled t }
     // An acknowledgement is taken of a message that is outstanding to its source.
-    ensures heard { (word : ℕ) (t : List Entry) → LayerLaw word t → AcksHeard t }
+    ensures heard { (setup : Setup) (t : List Entry) → LayerLaw setup t → AcksHeard t }
     // What arrives was sent by one of the rows.
-    ensures sent { (one other : ℕ) (near far : Endpoint) (all : List Hop) → ChannelLaw one other near far all
+    ensures sent { (one other : Setup) (near far : Endpoint) (all : List Hop) → ChannelLaw one other near far all
         → ArrivesAsSent near far all }
     // A Confirmable message that arrives was begun at most LAST_ARRIVAL_MS before (RFC 7252, section 4.8.2).
-    ensures begun { (one other : ℕ) (near far : Endpoint) (all : List Hop) → ChannelLaw one other near far all
+    ensures begun { (one other : Setup) (near far : Endpoint) (all : List Hop) → ChannelLaw one other near far all
         → ConsBegun near far all }
     // A Non-confirmable message that arrives was sent at most MAX_LATENCY before (section 4.3).
-    ensures plain { (one other : ℕ) (near far : Endpoint) (all : List Hop) → ChannelLaw one other near far all
+    ensures plain { (one other : Setup) (near far : Endpoint) (all : List Hop) → ChannelLaw one other near far all
         → NonsSent near far all }
     // What arrives under a Confirmable message's Message ID meanwhile is that very message (section 4.4).
-    ensures only { (one other : ℕ) (near far : Endpoint) (all : List Hop) → ChannelLaw one other near far all
+    ensures only { (one other : Setup) (near far : Endpoint) (all : List Hop) → ChannelLaw one other near far all
         → OnlyThatCon near far all }
+    // A Confirmable message that arrives where another can be remembered is taken, or was before (sections 4.2 and 4.5).
+    ensures taking { (one other : Setup) (near far : Endpoint) (all : List Hop) → ChannelLaw one other near far all
+        → ConsTaken other.remembered near all }
+    // .. in time where no datagram is late, and fewer come in EXCHANGE_LIFETIME than can be remembered.
+    ensures within { (one other : Setup) (near far : Endpoint) (all : List Hop) → ChannelLaw one other near far all
+        → ConsTakenWithin other.remembered near far all }
+    // The same of a Non-confirmable message, which is handed up then, or was before (sections 4.3 and 4.5).
+    ensures taking_nons { (one other : Setup) (near far : Endpoint) (all : List Hop)
+        → ChannelLaw one other near far all → NonsTaken other.remembered near all }
+    ensures within_nons { (one other : Setup) (near far : Endpoint) (all : List Hop)
+        → ChannelLaw one other near far all → NonsTakenWithin other.remembered near far all }
+    // Where it is replied to at once, and the reply comes, it is not outstanding after both (section 4.2).
+    ensures ended { (one other : Setup) (near far : Endpoint) (all : List Hop) → ChannelLaw one other near far all
+        → OverWithin near far all }
+    // Where each Confirmable message that is over was taken, and fewer come in EXCHANGE_LIFETIME than a group has Message
+    // IDs, one is free, whatever the number that can be remembered.
+    ensures free { (one other : Setup) (near far : Endpoint) (all : List Hop) → ChannelLaw one other near far all
+        → IdsAreFree one.word near far all }
+    // A Confirmable message is replied to once at most (section 4.2).
+    ensures replied_once { (one other : Setup) (near far : Endpoint) (all : List Hop) → ChannelLaw one other near far all
+        → RepliedOnce near all }
     // It is handed up at most once.
-    ensures handed { (one other : ℕ) (near far : Endpoint) (all : List Hop) → ChannelLaw one other near far all
+    ensures handed { (one other : Setup) (near far : Endpoint) (all : List Hop) → ChannelLaw one other near far all
         → HandedOnce near all }
-    ensures once { (one other : ℕ) (near far : Endpoint) (all : List Hop) → ChannelLaw one other near far all
+    ensures once { (one other : Setup) (near far : Endpoint) (all : List Hop) → ChannelLaw one other near far all
         → TakenOnce near all }
     // One that is taken, or too old to arrive, where a newer one begins isn't handed up behind that one (section 4.7).
-    ensures apart { (one other : ℕ) (near far : Endpoint) (all : List Hop) → ChannelLaw one other near far all
+    ensures apart { (one other : Setup) (near far : Endpoint) (all : List Hop) → ChannelLaw one other near far all
         → ConsApart near all }
     // An acknowledgement that is taken is the reply that was given to that very message, which was taken (section 4.2).
-    ensures replied { (one other : ℕ) (near far : Endpoint) (all : List Hop) → ChannelLaw one other near far all
+    ensures replied { (one other : Setup) (near far : Endpoint) (all : List Hop) → ChannelLaw one other near far all
         → AcksReplied near far all }
-    ensures taken { (one other : ℕ) (near far : Endpoint) (all : List Hop) → ChannelLaw one other near far all
+    ensures taken { (one other : Setup) (near far : Endpoint) (all : List Hop) → ChannelLaw one other near far all
         → AcksTaken near far all }
+    // A Reset that is taken for a request or a response is the reply that was given to that very message (section 4.2).
+    ensures resets { (one other : Setup) (near far : Endpoint) (all : List Hop) → ChannelLaw one other near far all
+        → ResetsMeant near far all }
 {}
 
 /// What isn't Empty, and has options that ascend and are short, may be sent where its header, its

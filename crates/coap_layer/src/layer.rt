@@ -1,12 +1,14 @@
 ghost use Rattle.std.specs.Prelude.{◌≡◌, ◌≢◌, ◌≤◌, ◌<◌, ◌^◌, [], Err, None, Some, IsSome, IsOk, IfOk, OnOk, OnErr};
-ghost use Rattle.std.specs.Prelude.{length, true, false, max};
+ghost use Rattle.std.specs.Prelude.{length, true, false, max, ℕ, IfSome, IfNone};
+ghost use Rattle.coap_types.specs.FirstMoment.{IsFirstMoment};
+ghost use Rattle.coap_layer.specs.Machine.Waits.{any_has_step};
 ghost use Rattle.coap_codec.specs.Message.{Message};
 ghost use Rattle.coap_layer.specs.declared.up.SendRefusal.TheVariants as refused;
 ghost use Rattle.coap_layer.specs.Machine.LayerLed.{LayerLed};
 ghost use Rattle.coap_layer.specs.Machine.Moves.{Leads, Moves, would_answer};
 ghost use Rattle.coap_layer.specs.Sendable.{IsSendable};
 ghost use Rattle.coap_layer.specs.Machine.Shown.{MayReply};
-ghost use Rattle.coap_layer.specs.Machine.State.{copies, made, start};
+ghost use Rattle.coap_layer.specs.Machine.State.{copies, is_free, made, start, usual};
 ghost use Rattle.coap_layer.specs.Trace.{Answer, Receive, Reply, Confirm, Plain, Settle, Ticks, Take, Room as AsksRoom};
 ghost use Rattle.coap_layer.specs.Trace.{AsksFree, Pass, Nothing, Is, Idle, Gives};
 ghost use Rattle.coap_layer.specs.Machine.Ups.{IsQuiet, IsTick, answer_as, sent_as};
@@ -16,6 +18,7 @@ ghost use Rattle.coap_types.specs.declared.limits.TheConstants.{MAX_MESSAGE_LEN 
 use crate::arriving::{awaiting, hands, judge, keeps, read, sent, told};
 use crate::datagram::push_within;
 use crate::dedup::Memory;
+use crate::due::next_step;
 use crate::lists::Lists;
 use crate::mark::{Awaiting, Mark};
 use crate::outstanding::{due_copy, put_back};
@@ -23,8 +26,8 @@ use crate::retransmission::{end_all, find_step, is_busy, is_outstanding, is_step
 use crate::room::{Brings, Room, filled, fitted, grow, make_room, take_room};
 use crate::sending::{FirstSending, refusal, send_con, send_non};
 use crate::taking::{Arrived, Moments, take_in, take_tick};
-use crate::{Content, Datagram, IdSource, SendRefusal, Tick, Up};
-use coap_types::{Endpoint, Id, Moment};
+use crate::{Content, Datagram, IdSource, SendRefusal, Setup, Tick, Up};
+use coap_types::{Endpoint, Id, Moment, Remembered};
 use std::alloc::{AllocError, Allocator};
 use std::collections::VecDeque;
 use std::hash::{BuildHasher, BuildHasherDefault, FoldHasher};
@@ -37,6 +40,8 @@ use std::marker::Model;
 #[derive(Drop)]
 pub struct Layer<A: Allocator + Copy, S: BuildHasher = BuildHasherDefault<FoldHasher>> {
     alloc: A,
+    // How many messages are remembered at most.
+    most: Remembered,
     clock: Moment,
     awaits: Option<Awaiting>,
     ids: IdSource,
@@ -58,8 +63,8 @@ impl<A: Allocator + Copy, S: BuildHasher> Model for Layer<A, S> {
     ghost use Rattle.coap_layer.specs.Machine.State.{forgotten};
 
     ghost view = { λ l. record {
-      state = forgotten (held l.clock.0 l.awaits l.ids l.lists);
-      before = before_of l.mark l.lists.entries.settled l.lists.sendings.items l.lists.waiting.items;
+      state = forgotten (held l.most l.clock.0 l.awaits l.ids l.lists);
+      before = before_of l.most l.mark l.lists.entries.settled l.lists.sendings.items l.lists.waiting.items;
       has_room = is_some l.room;
       replies = l.replies;
     } };
@@ -73,8 +78,8 @@ impl<A: Allocator + Copy> Layer<A, BuildHasherDefault<FoldHasher>> {
     /// A layer to which nothing has happened. The word picks its first Message ID: the first of
     /// group `word` mod 16.
     pub fn new(alloc: A, word: u64) -> Self
-        ensures start { result.state ≡ start word }
-        ensures led { LayerLed word [] result.state }
+        ensures start { result.state ≡ start (usual word) }
+        ensures led { LayerLed (usual word) [] result.state }
         ensures before { result.before ≡ None }
     {
         Layer::with_hasher(alloc, word, BuildHasherDefault::new())
@@ -85,15 +90,29 @@ impl<A: Allocator + Copy, S: BuildHasher> Layer<A, S> {
     /// The same, with a hasher for the messages that are remembered. With one that has random keys,
     /// no stranger can pick Message IDs that make a look-up slow.
     pub fn with_hasher(alloc: A, word: u64, hasher: S) -> Self
-        ensures start { result.state ≡ start word }
-        ensures led { LayerLed word [] result.state }
+        ensures start { result.state ≡ start (usual word) }
+        ensures led { LayerLed (usual word) [] result.state }
+        ensures before { result.before ≡ None }
+    {
+        let setup = Setup {
+            word,
+            remembered: Remembered::default(),
+        };
+        Layer::with_setup(alloc, setup, hasher)
+    }
+
+    /// The same, with so many messages that are remembered at most.
+    pub fn with_setup(alloc: A, setup: Setup, hasher: S) -> Self
+        ensures start { result.state ≡ start setup }
+        ensures led { LayerLed setup [] result.state }
         ensures before { result.before ≡ None }
     {
         Layer {
             alloc,
+            most: setup.remembered,
             clock: Moment(0),
             awaits: None,
-            ids: IdSource::new(word),
+            ids: IdSource::new(setup.word),
             lists: Lists {
                 entries: Memory::with_hasher(alloc, hasher),
                 sendings: Vec::new(alloc),
@@ -149,7 +168,7 @@ impl<A: Allocator + Copy, S: BuildHasher> Layer<A, S> {
         };
         let datagram = read(bytes);
         let free = self.ids.would_give(moments.at);
-        let arriving = judge(&datagram, moments.at, from, &self.lists, free);
+        let arriving = judge(&datagram, moments.at, from, &self.lists, self.most, free);
         let sent = sent(self.alloc, moments.at, from, arriving, &self.lists.entries)?;
         let brings = Brings {
             keeps: keeps(arriving),
@@ -294,6 +313,32 @@ impl<A: Allocator + Copy, S: BuildHasher> Layer<A, S> {
     {
         let at = self.clock.later(now);
         is_step(find_step(&self.lists.sendings, at))
+    }
+
+    /// The first moment, from this one on, at which `tick` would do a step, unless something is handed in before; None
+    /// where it never would. A moment before the last one counts as the last. Nothing changes: the moment doesn't
+    /// count. It takes no memory.
+    pub fn due(&self, now: Moment) -> Option<Moment>
+        ensures none { IfNone result ((later : ℕ) → now.0 ≤ later → later < 2 ^ 64
+            → would_answer self.now later Ticks ≡ Idle) }
+        ensures some { IfSome result (λ at. (later : ℕ) → now.0 ≤ later → max self.now.state.clock later < at.0
+            → would_answer self.now later Ticks ≡ Idle) }
+        ensures does { IfSome result (λ at. would_answer self.now at.0 Ticks ≢ Idle) }
+        ensures from { IfSome result (λ at. max self.now.state.clock now.0 ≤ at.0) }
+        // The same, of the messages that are outstanding.
+        ensures first { IsFirstMoment (λ later. any_has_step later self.now.state.open_cons)
+            (max self.now.state.clock now.0) result }
+    {
+        next_step(&self.lists.sendings, self.clock.later(now))
+    }
+
+    /// The first moment, from this one on, at which a Message ID is free, unless something is handed in before. A
+    /// moment before the last one counts as the last. Nothing changes: the moment doesn't count. It takes no memory.
+    pub fn free_from(&self, now: Moment) -> Option<Moment>
+        ensures { IsFirstMoment (λ later. is_free later self.now.state.upcoming self.now.state.last_used)
+            (max self.now.state.clock now.0) result }
+    {
+        self.ids.gives_from(self.clock.later(now))
     }
 
     /// Whether `confirm` would refuse a message to this endpoint with neither `Outstanding` nor

@@ -2,6 +2,7 @@ ghost use Rattle.std.specs.Prelude.{not, Some, ◌≡◌, ◌+◌, ◌*◌, ◌/
 ghost use Rattle.std.specs.Prelude.{replicate, slice_set};
 ghost use Rattle.coap_layer.specs.Ids.{Issued, IdEntry, Ids, IdsAreExact, NumbersLaw, AreApart, IsHeld, IsRested};
 ghost use Rattle.coap_layer.specs.Ids.{MayGive, Withholds, numbers, upcoming as upcoming_number};
+ghost use Rattle.coap_types.specs.FirstMoment.{IsFirstMoment};
 ghost use Rattle.coap_layer.specs.declared.message_id.TheConstants.{GROUP_SIZE as group_size, GROUPS as groups};
 ghost use Rattle.coap_layer.specs.Machine.State.{is_free, is_rested};
 ghost use Rattle.coap_types.specs.declared.message.TheConstants.{MESSAGE_IDS as message_ids};
@@ -9,7 +10,7 @@ ghost use Rattle.coap_layer.specs.Machine.IdStep.{Asks, Draws};
 ghost use Rattle.coap_layer.specs.Machine.IdState.{AreUses, Led, next_entry, free_entry, use_of, uses_of};
 
 use coap_types::transmission::ID_REUSE_AFTER_MS;
-use coap_types::{Id, Moment};
+use coap_types::{Id, Moment, after};
 use std::marker::Model;
 
 // How many groups the Message IDs are in (profile).
@@ -63,7 +64,34 @@ fn may_give(upcoming: u16, last_used: &[Option<Moment>; GROUPS], now: Moment) ->
     upcoming % GROUP_SIZE != 0 || !is_held(last_used[(upcoming / GROUP_SIZE) as usize], now)
 }
 
+// The first moment, from this one on, at which a group last used then is held no more.
+fn rested_from(last_use: Option<Moment>, from: Moment) -> Option<Moment>
+    ensures { IsFirstMoment (λ now. is_rested now (Some (use_of last_use))) from.0 result }
+{
+    match last_use {
+        Some(last) => after(last, ID_REUSE_AFTER_MS + 1, from),
+        None => Some(from),
+    }
+}
+
+// The first moment, from this one on, at which the number that comes next may be given.
+fn free_from(upcoming: u16, last_used: &[Option<Moment>; GROUPS], from: Moment) -> Option<Moment>
+    ensures { IsFirstMoment (λ now. is_free now upcoming (uses_of last_used.now)) from.0 result }
+{
+    if upcoming % GROUP_SIZE != 0 {
+        return Some(from);
+    }
+    rested_from(last_used[(upcoming / GROUP_SIZE) as usize], from)
+}
+
 impl IdSource {
+    /// The first moment, from this one on, at which a number may be given.
+    pub(crate) fn gives_from(&self, from: Moment) -> Option<Moment>
+        ensures { IsFirstMoment (λ now. is_free now self.now.upcoming self.now.last_used) from.0 result }
+    {
+        free_from(self.upcoming, &self.last_used, from)
+    }
+
     /// The same source again.
     pub(crate) fn copied(&self) -> IdSource
         ensures { result ≡ self.now }

@@ -126,8 +126,8 @@ fn falls_due(timeouts: u64, timeout: u16, sent: u64, elapsed: u64) -> bool
     sent < due && due <= elapsed
 }
 
-// After so many initial timeouts the retransmission of this number is due: 1, 3, 7, 15.
-fn factor(retransmission: u32) -> u64
+/// After so many initial timeouts the retransmission of this number is due: 1, 3, 7, 15.
+pub(crate) fn factor(retransmission: u32) -> u64
     requires { retransmission ≤ max_retransmit }
     ensures is { result ≡ 2 ^ retransmission - 1 }
     ensures short { result ≤ failure_timeouts }

@@ -1,5 +1,5 @@
-ghost use Rattle.std.specs.Prelude.{◌≡◌, ◌≤◌, ◌<◌, ◌+◌, ◌++◌, true, false, None, Some, List, length, filter, is_some};
-ghost use Rattle.std.specs.Prelude.{option_to_list};
+ghost use Rattle.std.specs.Prelude.{ℕ, ◌≡◌, ◌≤◌, ◌<◌, ◌+◌, ◌++◌, true, false, None, Some, List, length, filter, is_some};
+ghost use Rattle.std.specs.Prelude.{ℕ, option_to_list};
 ghost use Rattle.std.specs.List.{filter_map};
 ghost use Rattle.std.specs.Vec.{vec_len, vec_capacity};
 ghost use Rattle.std.specs.VecDeque.{deque_len, deque_capacity};
@@ -57,8 +57,8 @@ pub(crate) fn take_in<A: Allocator + Copy, S: BuildHasher>(
     ensures open { open_now lists.new.sendings.items
         ≡ open_by arrived.from arrived.arriving (open_now lists.old.sendings.items) }
     ensures waiting { lists.new.waiting.items ≡ lists.old.waiting.items ++ option_to_list sent }
-    ensures before { before_of (Some result) lists.new.entries.settled lists.new.sendings.items lists.new.waiting.items
-        ≡ Some (forgotten (state_of_parts moments.last.0 (awaited awaits) ids.now (arrivals_in lists.old.entries)
+    ensures before { (most : ℕ) → before_of most (Some result) lists.new.entries.settled lists.new.sendings.items lists.new.waiting.items
+        ≡ Some (forgotten (state_of_parts most moments.last.0 (awaited awaits) ids.now (arrivals_in lists.old.entries)
         (open_now lists.old.sendings.items) lists.old.waiting.items)) }
     ensures within { IsWithin (Some result) lists.new.entries.settled (length lists.new.waiting.items) }
     ensures kept { IsKept moments.at.0 (awaits_by arrived.from arrived.arriving) true lists.new.entries }
@@ -97,9 +97,9 @@ pub(crate) fn take_tick<A: Allocator + Copy, S: BuildHasher>(
         (left_by (record { at = moments.at.0; call = Ticks; answer = answer_for result.1; out = out }))
         (open_now lists.old.sendings.items) }
     ensures waiting { lists.new.waiting.items ≡ lists.old.waiting.items ++ option_to_list sent }
-    ensures before { before_of (Some result.0) lists.new.entries.settled lists.new.sendings.items
+    ensures before { (most : ℕ) → before_of most (Some result.0) lists.new.entries.settled lists.new.sendings.items
         lists.new.waiting.items
-        ≡ Some (forgotten (state_of_parts moments.last.0 (awaited awaits) ids.now (arrivals_in lists.old.entries)
+        ≡ Some (forgotten (state_of_parts most moments.last.0 (awaited awaits) ids.now (arrivals_in lists.old.entries)
         (open_now lists.old.sendings.items) lists.old.waiting.items)) }
     ensures within { IsWithin (Some result.0) lists.new.entries.settled (length lists.new.waiting.items) }
     ensures kept { IsKept moments.at.0 None true lists.new.entries }

@@ -27,6 +27,9 @@ pub enum Up<'a> {
     Acked(Id),
     /// It rejects the outstanding message of this Message ID.
     Reset(Id),
+    /// It is a Reset with this Message ID, of which nothing is outstanding: of a Non-confirmable
+    /// message, or of nothing that was sent.
+    Unmatched(Id),
 }
 
 /// What time brings about (RFC 7252, section 4.2).

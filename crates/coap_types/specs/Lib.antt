@@ -17,3 +17,4 @@ pub mod BlockValue
 pub mod Piece
 pub mod Past
 pub mod SameEndpoint
+pub mod FirstMoment

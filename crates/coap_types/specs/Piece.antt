@@ -1,6 +1,5 @@
 -- Which bytes of a body a block carries (RFC 7959, section 2.2).
 use Rattle.std.specs.Prelude.{◌≡◌, ℕ, Bool, false, ◌+◌, ◌*◌, ◌^◌, ◌<◌, ◌≤◌, ◌↔◌, ◌⊎◌, List, [], length, take, drop}
-use Rattle.coap_types.specs.declared.limits.TheConstants.{MAX_BODY_LEN}
 
 abbrev pub size_of : ℕ → ℕ
 size_of szx = 2 ^ (szx + 4)
@@ -21,7 +20,3 @@ pub record Piece (body : List ℕ) (num : ℕ) (more : Bool) (szx : ℕ) (part :
   pub bytes : part ≡ part_of body num szx
   pub begins : Begins body num szx
   pub reaches_end : (more ≡ false) ↔ (length body ≤ offset_of num szx + size_of szx)
-
--- the longest body that is joined (profile)
-abbrev pub max_body_len : ℕ
-max_body_len = MAX_BODY_LEN

@@ -7,8 +7,10 @@
 
 mod block;
 mod bodies;
+mod body_limit;
 mod direction;
 mod endpoint;
+mod first_moment;
 pub mod limits;
 mod message;
 pub mod option_number;
@@ -17,6 +19,7 @@ mod options;
 mod path;
 mod recognised_options;
 mod recognition;
+mod remembered;
 mod request;
 mod role;
 mod szx;
@@ -27,14 +30,17 @@ mod uint;
 
 pub use block::{Block, MAX_BLOCK_LEN, MAX_NUM, block_law};
 pub use bodies::appended;
+pub use body_limit::{BodyLimit, DEFAULT_BODY_LIMIT, MAX_BODY_LIMIT};
 pub use direction::Direction;
 pub use endpoint::{Endpoint, Moment};
+pub use first_moment::{after, earlier, latest};
 pub use message::{Code, Id, Kind, MESSAGE_IDS};
 pub use option_rule::{Occurrence, Rule};
 pub use options::Opt;
 pub use path::{MAX_SEGMENT_LEN, MAX_SEGMENTS, Path, PathRefusal, path_law};
 pub use recognised_options::{carries, lacks_critical, recognised, recognised_value};
 pub use recognition::rule;
+pub use remembered::{DEFAULT_REMEMBERED, MAX_REMEMBERED, Remembered};
 pub use request::{Method, Request};
 pub use role::Role;
 pub use szx::{MAX_SZX, RESERVED_SZX, Szx};

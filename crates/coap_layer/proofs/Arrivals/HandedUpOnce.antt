@@ -1,4 +1,5 @@
 -- What follows from the rows alone: what is handed up was not handed up in the last 247 s.
+use Rattle.coap_layer.specs.Trace.{Setup}
 use Rattle.std.proofs.Common.{◌≡◌, ◌⊎◌, inl, inr, ℕ, ◌<◌, true, false, Option, Some, None, List, refl, ap, ◌∙◌, subst}
 use Rattle.coap_types.specs.declared.endpoint.Endpoint.{Endpoint}
 use Rattle.coap_types.specs.declared.message.Kind.{Kind}
@@ -6,12 +7,11 @@ use Rattle.coap_types.specs.declared.message.Kind.TheVariants.{Con, Non, Ack, Rs
 use Rattle.coap_codec.specs.Message.{Message}
 use Rattle.coap_layer.specs.Arrivals.{Arrival, Unreadable, Faulted, Whole}
 use Rattle.coap_layer.specs.Trace.{Call, Receive, Reply, Confirm, Plain, Settle, Ticks, Take, Room, AsksFree, Pass}
-use Rattle.coap_layer.specs.Trace.{Dropped, Replayed, Rejected, Request, Response, Acked, Reset, Answer, Becomes, Entry}
+use Rattle.coap_layer.specs.Trace.{Dropped, Replayed, Rejected, Request, Response, Acked, Reset, Unmatched, Answer, Becomes, Entry}
 use Rattle.coap_layer.specs.Words.{Incoming, handed_by, kept_by, from_there, handed_in, taken_in, handed, taken}
 use Rattle.coap_layer.specs.Words.{Remembered, remembered}
 use Rattle.coap_layer.specs.Rows.{Stands, Row, Arrives, Sorts, HandedAs, rejects, drops, takes_ack, takes_reset}
-use Rattle.coap_layer.specs.Rows.{takes_answer, replays, hands_over}
-use Rattle.coap_layer.specs.declared.dedup.TheConstants.{MAX_REMEMBERED as max_remembered}
+use Rattle.coap_layer.specs.Rows.{passes_reset, takes_answer, replays, hands_over}
 
 -- an answer that hands nothing up
 nothing_up : (from : Endpoint) (answer a : Answer) (m : Incoming) → answer ≡ a → handed_by a ≡ None
@@ -38,60 +38,61 @@ response_up Rst n h (inr c) = absurd (cc c)
 acknowledged_up : (n : Message) → n.kind ≡ Ack → handed_by (Becomes (Response n)) ≡ None
 acknowledged_up n h = rw h refl
 
-handed_up : (word : ℕ) (past : List Entry) (e : Entry) (m : Incoming) → (m.message.kind ≡ Con) ⊎ (m.message.kind ≡ Non)
-    → HandedAs word past e m → handed_by e.answer ≡ Some m.message
-handed_up word past e m k (inl a) = ap handed_by a.2
-handed_up word past e m k (inr (inl a)) = ap handed_by a.3
-handed_up word past e m k (inr (inr a)) = ap handed_by a.1 ∙ response_up m.message.kind m.message refl k
+pub handed_up : (setup : Setup) (past : List Entry) (e : Entry) (m : Incoming) → (m.message.kind ≡ Con) ⊎ (m.message.kind ≡ Non)
+    → HandedAs setup past e m → handed_by e.answer ≡ Some m.message
+handed_up setup past e m k (inl a) = ap handed_by a.2
+handed_up setup past e m k (inr (inl a)) = ap handed_by a.3
+handed_up setup past e m k (inr (inr a)) = ap handed_by a.1 ∙ response_up m.message.kind m.message refl k
 
 -- .. is not remembered, and there is a place for it
-abbrev IsNew : List Entry → Entry → Incoming → Type 0
-IsNew past e m = (Remembered past e.at m.from m.message.id → ⊥) × (remembered e.at past < max_remembered)
+abbrev IsNew : ℕ → List Entry → Entry → Incoming → Type 0
+IsNew most past e m = (Remembered past e.at m.from m.message.id → ⊥) × (remembered e.at past < most)
 
-sorted_new : (word : ℕ) (past : List Entry) (e : Entry) (n m : Incoming) → Sorts word past e n
-    → from_there n.from (handed_by e.answer) ≡ Some m → IsNew past e m
-sorted_new word past e n m (rejects r) h = absurd (nothing_up n.from e.answer _ m r.answer refl h)
-sorted_new word past e n m (drops r) h = absurd (nothing_up n.from e.answer _ m r.answer refl h)
-sorted_new word past e n m (takes_ack r) h = absurd (nothing_up n.from e.answer _ m r.answer refl h)
-sorted_new word past e n m (takes_reset r) h = absurd (nothing_up n.from e.answer _ m r.answer refl h)
-sorted_new word past e n m (takes_answer r) h =
+sorted_new : (setup : Setup) (past : List Entry) (e : Entry) (n m : Incoming) → Sorts setup past e n
+    → from_there n.from (handed_by e.answer) ≡ Some m → IsNew setup.remembered past e m
+sorted_new setup past e n m (rejects r) h = absurd (nothing_up n.from e.answer _ m r.answer refl h)
+sorted_new setup past e n m (drops r) h = absurd (nothing_up n.from e.answer _ m r.answer refl h)
+sorted_new setup past e n m (takes_ack r) h = absurd (nothing_up n.from e.answer _ m r.answer refl h)
+sorted_new setup past e n m (takes_reset r) h = absurd (nothing_up n.from e.answer _ m r.answer refl h)
+sorted_new setup past e n m (passes_reset r) h = absurd (nothing_up n.from e.answer _ m r.answer refl h)
+sorted_new setup past e n m (takes_answer r) h =
     absurd (nothing_up n.from e.answer _ m r.answer (acknowledged_up n.message r.kind) h)
-sorted_new word past e n m (replays r) h = absurd (nothing_up n.from e.answer _ m r.answer refl h)
-sorted_new word past e n m (hands_over r) h = (
+sorted_new setup past e n m (replays r) h = absurd (nothing_up n.from e.answer _ m r.answer refl h)
+sorted_new setup past e n m (hands_over r) h = (
   subst (λ (x : Incoming). Remembered past e.at x.from x.message.id → ⊥)
-      (this_up n.from e.answer n.message m (handed_up word past e n r.kind r.answer) h) r.new,
+      (this_up n.from e.answer n.message m (handed_up setup past e n r.kind r.answer) h) r.new,
   r.room,
 )
 
-arrived_new : (word : ℕ) (past : List Entry) (e : Entry) (from : Endpoint) (what : Arrival) (m : Incoming)
-    → Arrives word past e from what → from_there from (handed_by e.answer) ≡ Some m → IsNew past e m
-arrived_new word past e from Unreadable m r h = absurd (nothing_up from e.answer _ m r.0 refl h)
-arrived_new word past e from (Faulted Con id) m r h = absurd (nothing_up from e.answer _ m r.0 refl h)
-arrived_new word past e from (Faulted Non id) m r h = absurd (nothing_up from e.answer _ m r.0 refl h)
-arrived_new word past e from (Faulted Ack id) m r h = absurd (nothing_up from e.answer _ m r.0 refl h)
-arrived_new word past e from (Faulted Rst id) m r h = absurd (nothing_up from e.answer _ m r.0 refl h)
-arrived_new word past e from (Whole n) m r h = sorted_new word past e (record { from = from; message = n }) m r h
+arrived_new : (setup : Setup) (past : List Entry) (e : Entry) (from : Endpoint) (what : Arrival) (m : Incoming)
+    → Arrives setup past e from what → from_there from (handed_by e.answer) ≡ Some m → IsNew setup.remembered past e m
+arrived_new setup past e from Unreadable m r h = absurd (nothing_up from e.answer _ m r.0 refl h)
+arrived_new setup past e from (Faulted Con id) m r h = absurd (nothing_up from e.answer _ m r.0 refl h)
+arrived_new setup past e from (Faulted Non id) m r h = absurd (nothing_up from e.answer _ m r.0 refl h)
+arrived_new setup past e from (Faulted Ack id) m r h = absurd (nothing_up from e.answer _ m r.0 refl h)
+arrived_new setup past e from (Faulted Rst id) m r h = absurd (nothing_up from e.answer _ m r.0 refl h)
+arrived_new setup past e from (Whole n) m r h = sorted_new setup past e (record { from = from; message = n }) m r h
 
-handed_new : (word : ℕ) (past : List Entry) (e : Entry) (call : Call) (m : Incoming) → Row word past e call
-    → handed_in call e.answer ≡ Some m → IsNew past e m
-handed_new word past e (Receive from bytes) m row h = arrived_new word past e from row.1.0 m row.1.2 h
-handed_new word past e (Reply to id bytes) m row h = absurd (cc h)
-handed_new word past e (Confirm to content wish) m row h = absurd (cc h)
-handed_new word past e (Plain to content) m row h = absurd (cc h)
-handed_new word past e (Settle to id) m row h = absurd (cc h)
-handed_new word past e Ticks m row h = absurd (cc h)
-handed_new word past e Take m row h = absurd (cc h)
-handed_new word past e (Room to) m row h = absurd (cc h)
-handed_new word past e AsksFree m row h = absurd (cc h)
-handed_new word past e Pass m row h = absurd (cc h)
+handed_new : (setup : Setup) (past : List Entry) (e : Entry) (call : Call) (m : Incoming) → Row setup past e call
+    → handed_in call e.answer ≡ Some m → IsNew setup.remembered past e m
+handed_new setup past e (Receive from bytes) m row h = arrived_new setup past e from row.1.0 m row.1.2 h
+handed_new setup past e (Reply to id bytes) m row h = absurd (cc h)
+handed_new setup past e (Confirm to content wish) m row h = absurd (cc h)
+handed_new setup past e (Plain to content) m row h = absurd (cc h)
+handed_new setup past e (Settle to id) m row h = absurd (cc h)
+handed_new setup past e Ticks m row h = absurd (cc h)
+handed_new setup past e Take m row h = absurd (cc h)
+handed_new setup past e (Room to) m row h = absurd (cc h)
+handed_new setup past e AsksFree m row h = absurd (cc h)
+handed_new setup past e Pass m row h = absurd (cc h)
 
-pub up_new : (word : ℕ) (past : List Entry) (e : Entry) (m : Incoming) → Stands word past e → handed e ≡ Some m
+pub up_new : (setup : Setup) (past : List Entry) (e : Entry) (m : Incoming) → Stands setup past e → handed e ≡ Some m
     → Remembered past e.at m.from m.message.id → ⊥
-up_new word past e m law h = (handed_new word past e e.call m law.row h).0
+up_new setup past e m law h = (handed_new setup past e e.call m law.row h).0
 
-pub up_room : (word : ℕ) (past : List Entry) (e : Entry) (m : Incoming) → Stands word past e → handed e ≡ Some m
-    → remembered e.at past < max_remembered
-up_room word past e m law h = (handed_new word past e e.call m law.row h).1
+pub up_room : (setup : Setup) (past : List Entry) (e : Entry) (m : Incoming) → Stands setup past e → handed e ≡ Some m
+    → remembered e.at past < setup.remembered
+up_room setup past e m law h = (handed_new setup past e e.call m law.row h).1
 
 -- what is remembered is handed up
 kept_handed : (a : Answer) (n : Message) → kept_by a ≡ Some n → handed_by a ≡ Some n
@@ -103,6 +104,7 @@ kept_handed (Becomes Replayed) n h = absurd (cc h)
 kept_handed (Becomes Rejected) n h = absurd (cc h)
 kept_handed (Becomes (Acked id)) n h = absurd (cc h)
 kept_handed (Becomes (Reset id)) n h = absurd (cc h)
+kept_handed (Becomes (Unmatched id)) n h = absurd (cc h)
 kept_handed Answer.Nothing n h = absurd (cc h)
 kept_handed (Answer.Is b) n h = absurd (cc h)
 kept_handed (Answer.Sent id) n h = absurd (cc h)
@@ -135,6 +137,6 @@ pub taken_handed : (e : Entry) (m : Incoming) → taken e ≡ Some m → handed 
 taken_handed e m h = taken_handed_in e.call e.answer m h
 
 -- no message is remembered that is remembered
-pub new_only : (word : ℕ) (past : List Entry) (e : Entry) (m : Incoming) → Stands word past e → taken e ≡ Some m
+pub new_only : (setup : Setup) (past : List Entry) (e : Entry) (m : Incoming) → Stands setup past e → taken e ≡ Some m
     → Remembered past e.at m.from m.message.id → ⊥
-new_only word past e m law h = up_new word past e m law (taken_handed e m h)
+new_only setup past e m law h = up_new setup past e m law (taken_handed e m h)

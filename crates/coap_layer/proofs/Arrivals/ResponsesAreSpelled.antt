@@ -1,4 +1,5 @@
 -- A response is what its datagram spells.
+use Rattle.coap_layer.specs.Trace.{Setup}
 use Rattle.std.proofs.Common.{◌≡◌, inl, inr, ⊎_elim, ℕ, Option, Some, None, List, [], ◌∷◌, refl, ap, ◌∙◌, subst}
 use Rattle.coap_types.specs.declared.endpoint.Endpoint.{Endpoint}
 use Rattle.coap_types.specs.declared.message.Kind.TheVariants.{Con, Non, Ack, Rst}
@@ -8,35 +9,36 @@ use Rattle.coap_layer.specs.Trace.{Call, Receive, Reply, Confirm, Plain, Settle,
 use Rattle.coap_layer.specs.Trace.{Answer, Becomes, Response, Entry}
 use Rattle.coap_layer.specs.Words.{Incoming}
 use Rattle.coap_layer.specs.Rows.{LayerLaw, Row, Arrives, Sorts, HandedAs, rejects, drops, takes_ack, takes_reset}
-use Rattle.coap_layer.specs.Rows.{takes_answer, replays, hands_over, copies, expires, rests}
+use Rattle.coap_layer.specs.Rows.{passes_reset, takes_answer, replays, hands_over, copies, expires, rests}
 use Rattle.coap_layer.specs.Follows.{Carried, ResponsesSpelled}
 
 abbrev told_in : Answer → Option Message
 told_in (Becomes (Response m)) = Some m
 told_in _ = None
 
-module _ (word : ℕ) (past : List Entry) (e : Entry) (m : Message) (h : told_in e.answer ≡ Some m) where
+module _ (setup : Setup) (past : List Entry) (e : Entry) (m : Message) (h : told_in e.answer ≡ Some m) where
   not_told : (X : Type 0) (a : Answer) → e.answer ≡ a → told_in a ≡ None → X
   not_told X a is none = let k : told_in e.answer ≡ None = ap told_in is ∙ none in absurd (cc (k, h))
 
   is_told : (n : Message) → e.answer ≡ Becomes (Response n) → n ≡ m
   is_told n is = let k = ap told_in is in cc (k, h)
 
-  sorted : (n : Incoming) → Sorts word past e n → n.message ≡ m
+  sorted : (n : Incoming) → Sorts setup past e n → n.message ≡ m
   sorted n (rejects r) = not_told _ _ r.answer refl
   sorted n (drops r) = not_told _ _ r.answer refl
   sorted n (takes_ack r) = not_told _ _ r.answer refl
   sorted n (takes_reset r) = not_told _ _ r.answer refl
+  sorted n (passes_reset r) = not_told _ _ r.answer refl
   sorted n (takes_answer r) = is_told n.message r.answer
   sorted n (replays r) = not_told _ _ r.answer refl
   sorted n (hands_over r) = go r.answer
     where
-      go : HandedAs word past e n → n.message ≡ m
+      go : HandedAs setup past e n → n.message ≡ m
       go (inl a) = not_told _ _ a.2 refl
       go (inr (inl a)) = not_told _ _ a.3 refl
       go (inr (inr a)) = is_told n.message a.1
 
-  arrived : (from : Endpoint) (bytes : List ℕ) (what : Arrival) → Shows bytes what → Arrives word past e from what
+  arrived : (from : Endpoint) (bytes : List ℕ) (what : Arrival) → Shows bytes what → Arrives setup past e from what
       → Spells bytes m
   arrived from bytes Unreadable s r = not_told _ _ r.0 refl
   arrived from bytes (Faulted Con id) s r = not_told _ _ r.0 refl
@@ -45,7 +47,7 @@ module _ (word : ℕ) (past : List Entry) (e : Entry) (m : Message) (h : told_in
   arrived from bytes (Faulted Rst id) s r = not_told _ _ r.0 refl
   arrived from bytes (Whole n) s r = subst (Spells bytes) (sorted (record { from = from; message = n }) r) s
 
-  carried : (call : Call) → e.call ≡ call → Row word past e call → Carried e m
+  carried : (call : Call) → e.call ≡ call → Row setup past e call → Carried e m
   carried (Receive from bytes) is row = record
       { from = from; bytes = bytes; call = is; are_bytes = row.0; spells = arrived from bytes row.1.0 row.1.1 row.1.2 }
   carried (Reply to id bytes) is row = not_told _ _ row.1 refl
@@ -61,9 +63,9 @@ module _ (word : ℕ) (past : List Entry) (e : Entry) (m : Message) (h : told_in
   carried AsksFree is row = ⊎_elim (λ k. not_told _ _ k.1 refl) (λ k. not_told _ _ k.1 refl) row.0
   carried Pass is row = not_told _ _ row.0 refl
 
-pub responses_spelled : (word : ℕ) (t : List Entry) → LayerLaw word t → ResponsesSpelled t
-responses_spelled word [] law = tt
-responses_spelled word (e ∷ past) law = (
-  (λ m h. carried word past e m (ap told_in h) e.call refl law.0.row),
-  responses_spelled word past law.1,
+pub responses_spelled : (setup : Setup) (t : List Entry) → LayerLaw setup t → ResponsesSpelled t
+responses_spelled setup [] law = tt
+responses_spelled setup (e ∷ past) law = (
+  (λ m h. carried setup past e m (ap told_in h) e.call refl law.0.row),
+  responses_spelled setup past law.1,
 )

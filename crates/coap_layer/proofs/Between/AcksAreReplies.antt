@@ -1,4 +1,5 @@
 -- An acknowledgement is the reply that the other layer was given to that very CON.
+use Rattle.coap_layer.specs.Trace.{Setup}
 use Rattle.std.proofs.Common.{◌-◌, ◌≡◌, inl, inr, ⊎_elim, ℕ, ◌+◌, ◌≤◌, false, List, [], ◌∷◌, ◌++◌, Some, None, refl, ap}
 use Rattle.std.proofs.Common.{sym, ◌∙◌, subst, arith, append_assoc}
 use Rattle.coap_types.specs.Past.{Ever, Sometime, Since}
@@ -30,36 +31,36 @@ use Rattle.coap_layer.proofs.Out.EachGoesOut.{goes_out}
 use Rattle.coap_layer.proofs.Between.TakenOnce.{alone, takes_it}
 
 -- no entry is later than the clock
-by_clock : (word : ℕ) (P : Entry → Type 0) (t : List Entry) (now : ℕ) → LayerLaw word t → clock t ≤ now → Ever P t
+pub by_clock : (setup : Setup) (P : Entry → Type 0) (t : List Entry) (now : ℕ) → LayerLaw setup t → clock t ≤ now → Ever P t
     → Ever (λ e. P e × (e.at ≤ now)) t
-by_clock word P [] now law le h = h
-by_clock word P (e ∷ past) now law le (inl h) = inl (h, le)
-by_clock word P (e ∷ past) now law le (inr h) =
-    inr (by_clock word P past now law.1 (let l = law.0.time in omega (arith, l, le)) h)
+by_clock setup P [] now law le h = h
+by_clock setup P (e ∷ past) now law le (inl h) = inl (h, le)
+by_clock setup P (e ∷ past) now law le (inr h) =
+    inr (by_clock setup P past now law.1 (let l = law.0.time in omega (arith, l, le)) h)
 
 -- a stored reply was given at most 247 s before
-since_young : (word now : ℕ) (from : Endpoint) (id : ℕ) (B : Entry → Type 0) (t : List Entry) → LayerLaw word t
+pub since_young : (setup : Setup) (now : ℕ) (from : Endpoint) (id : ℕ) (B : Entry → Type 0) (t : List Entry) → LayerLaw setup t
     → Since B (λ b. hands_up from id b ≡ false) t → Remembered t now from id
     → Ever (λ b. B b × (now ≤ b.at + exchange_lifetime)) t
-since_young word now from id B [] law h k = absurd h
-since_young word now from id B (e ∷ past) law (inl b) (inl k) = inl (b, k.young)
-since_young word now from id B (e ∷ past) law (inl b) (inr k) =
+since_young setup now from id B [] law h k = absurd h
+since_young setup now from id B (e ∷ past) law (inl b) (inl k) = inl (b, k.young)
+since_young setup now from id B (e ∷ past) law (inl b) (inr k) =
     inl (
       b,
       forget _ past (Ever_map _ (λ y. now ≤ e.at + exchange_lifetime)
           (λ y z. let a = z.0.young in let l = z.1 in omega (arith, a, l)) past
-          (by_clock word _ past e.at law.1 law.0.time k)),
+          (by_clock setup _ past e.at law.1 law.0.time k)),
     )
-since_young word now from id B (e ∷ past) law (inr h) (inl k) = let a = h.0 in let b = k.up in absurd (cc (a, b))
-since_young word now from id B (e ∷ past) law (inr h) (inr k) = inr (since_young word now from id B past law.1 h.1 k)
+since_young setup now from id B (e ∷ past) law (inr h) (inl k) = let a = h.0 in let b = k.up in absurd (cc (a, b))
+since_young setup now from id B (e ∷ past) law (inr h) (inr k) = inr (since_young setup now from id B past law.1 h.1 k)
 
 -- the front of the trace in which something happened, in the whole of it
-record Part (one other : ℕ) (near far : Endpoint) (whole r : List Hop) : Type 0 where
+pub record Part (one other : Setup) (near far : Endpoint) (whole r : List Hop) : Type 0 where
   pub law : ChannelLaw one other near far r
   pub later : List Hop
   pub is : whole ≡ later ++ r
 
-module _ (one other : ℕ) (near far : Endpoint) (whole : List Hop) (x : Entry) (con : Open)
+module _ (one other : Setup) (near far : Endpoint) (whole : List Hop) (x : Entry) (con : Open)
     (all_law : ChannelLaw one other near far (Near x ∷ whole)) (to_is : con.to ≡ far)
     (open_is : IsIn con (outstanding (near_of whole))) where
   abbrev P : List Hop → Type 0
@@ -250,7 +251,7 @@ module _ (one other : ℕ) (near far : Endpoint) (whole : List Hop) (x : Entry) 
       (record { law = earlier one other near far whole (Near x) all_law; later = []; is = refl })
       (Sometime_of_Ever _ whole (all_law.fair.0 h.bytes (h.call ∙ ap (λ (f : Endpoint). Receive f h.bytes) to_is))))
 
-pub acks_replied : (one other : ℕ) (near far : Endpoint) (all : List Hop) → ChannelLaw one other near far all
+pub acks_replied : (one other : Setup) (near far : Endpoint) (all : List Hop) → ChannelLaw one other near far all
     → AcksReplied near far all
 acks_replied one other near far all law =
     each_hop one other near far _ (λ past h l x con is to_is k. ack_replied one other near far past x con
@@ -263,7 +264,7 @@ replied_taken near con bytes past (Near k) r = absurd r
 replied_taken near con bytes past (Far k) r =
     inr (to_far _ past (Ever_map _ _ (λ y z. z.0) (far_of past) (Ever_of_Since _ _ (far_of past) r.to_it)))
 
-pub acks_taken : (one other : ℕ) (near far : Endpoint) (all : List Hop) → ChannelLaw one other near far all
+pub acks_taken : (one other : Setup) (near far : Endpoint) (all : List Hop) → ChannelLaw one other near far all
     → AcksTaken near far all
 acks_taken one other near far all law =
     each_hop one other near far _

@@ -1,4 +1,5 @@
 -- A CON that is gone where another one begins isn't handed up behind that one.
+use Rattle.coap_layer.specs.Trace.{Setup}
 use Rattle.std.proofs.Common.{◌≡◌, ◌⊎◌, inl, inr, ⊎_elim, ℕ, ◌+◌, ◌≤◌, ◌<◌, Some, None, List, [], ◌∷◌, refl, ap, sym}
 use Rattle.std.proofs.Common.{◌∙◌, subst, arith, option_to_list}
 use Rattle.std.specs.List.{filter_map, cons_option}
@@ -50,11 +51,11 @@ first_begun : (old new : Open) (t : List Entry) → Sometime (Order old new) t �
 first_begun old new t h = Ever_of_Sometime (Order old new) (IsBegun old) (λ p e z. inr z.1) t h
 
 -- where another CON to its place was begun since, it isn't outstanding
-not_open : (word : ℕ) (old new : Open) (t : List Entry) → old.to ≡ new.to → LayerLaw word t → Sometime (Order old new) t
+not_open : (setup : Setup) (old new : Open) (t : List Entry) → old.to ≡ new.to → LayerLaw setup t → Sometime (Order old new) t
     → IsOpen t old → ⊥
-not_open word old new [] to law h o = h
-not_open word old new (e ∷ past) to law h o =
-    ⊎_elim (before h (λ k i. not_open word old new past to law.1 k i)) now
+not_open setup old new [] to law h o = h
+not_open setup old new (e ∷ past) to law h o =
+    ⊎_elim (before h (λ k i. not_open setup old new past to law.1 k i)) now
     (Ever_append (λ y. as_begun y ≡ old) (filter_map (left_by e) (outstanding past)) (option_to_list (begun e)) o)
   where
     known : Sometime (Order old new) (e ∷ past) → Ever (IsBegun old) past
@@ -62,7 +63,7 @@ not_open word old new (e ∷ past) to law h o =
     known (inr k) = first_begun old new past k
 
     now : Ever (λ y. as_begun y ≡ old) (option_to_list (begun e)) → ⊥
-    now k = begun_once word past e old law (is (begun e) refl k) (known h)
+    now k = begun_once setup past e old law (is (begun e) refl k) (known h)
       where
         is : (b : _) → begun e ≡ b → Ever (λ y. as_begun y ≡ old) (option_to_list b) → begun e ≡ Some old
         is (Some y) s (inl z) =
@@ -86,21 +87,21 @@ not_open word old new (e ∷ past) to law h o =
     before : Sometime (Order old new) (e ∷ past) → (Sometime (Order old new) past → IsOpen past old → ⊥)
         → Ever (λ y. as_begun y ≡ old) (filter_map (left_by e) (outstanding past)) → ⊥
     before (inl k) f z =
-        (one_outstanding word (e ∷ past) law).0 new k.0
+        (one_outstanding setup (e ∷ past) law).0 new k.0
         (Ever_map _ _ (λ (y : Open) w. place_same y.to new.to (ap (λ (c : Open). c.to) w ∙ to)) (outstanding past)
         (still (outstanding past) z))
     before (inr k) f z = f k (still (outstanding past) z)
 
 -- so it isn't sent any more, and not by that entry
-not_sent : (word : ℕ) (old new : Open) (past : List Entry) (e : Entry) → old.to ≡ new.to → LayerLaw word (e ∷ past)
+not_sent : (setup : Setup) (old new : Open) (past : List Entry) (e : Entry) → old.to ≡ new.to → LayerLaw setup (e ∷ past)
     → Sometime (Order old new) past → SendsIt old past e → ⊥
-not_sent word old new past e to law h (inl b) = begun_once word past e old law b (first_begun old new past h)
-not_sent word old new past e to law h (inr o) = not_open word old new past to law.1 h o.0
+not_sent setup old new past e to law h (inl b) = begun_once setup past e old law b (first_begun old new past h)
+not_sent setup old new past e to law h (inr o) = not_open setup old new past to law.1 h o.0
 
-not_both : (word : ℕ) (old new : Open) (past : List Entry) (e : Entry) → LayerLaw word (e ∷ past) → Order old new past e
+not_both : (setup : Setup) (old new : Open) (past : List Entry) (e : Entry) → LayerLaw setup (e ∷ past) → Order old new past e
     → SendsIt old past e → ⊥
-not_both word old new past e law k (inl b) = begun_once word past e old law b k.1
-not_both word old new past e law k (inr o) = let c = copied_by e.call e.answer old.to old.id o.1 in let s =
+not_both setup old new past e law k (inl b) = begun_once setup past e old law b k.1
+not_both setup old new past e law k (inr o) = let c = copied_by e.call e.answer old.to old.id o.1 in let s =
     (begins_of e new k.0).answer_is in cc (c, s)
 
 -- a sending of it, at most 100,000 ms before
@@ -108,14 +109,14 @@ abbrev SentBy : Open → ℕ → List Entry → Entry → Type 0
 SentBy con when p e = SendsIt con p e × (when ≤ e.at + max_latency)
 
 -- no entry is later than the clock
-late_by : (word : ℕ) (P : Entry → Type 0) (at : ℕ) → ((e : Entry) → P e → at ≤ e.at) → (t : List Entry) (now : ℕ)
-    → LayerLaw word t → clock t ≤ now → Ever P t → at ≤ now
-late_by word P at f [] now law le h = absurd h
-late_by word P at f (e ∷ past) now law le (inl h) = let k = f e h in omega (arith, k, le)
-late_by word P at f (e ∷ past) now law le (inr h) =
-    late_by word P at f past now law.1 (let l = law.0.time in omega (arith, l, le)) h
+late_by : (setup : Setup) (P : Entry → Type 0) (at : ℕ) → ((e : Entry) → P e → at ≤ e.at) → (t : List Entry) (now : ℕ)
+    → LayerLaw setup t → clock t ≤ now → Ever P t → at ≤ now
+late_by setup P at f [] now law le h = absurd h
+late_by setup P at f (e ∷ past) now law le (inl h) = let k = f e h in omega (arith, k, le)
+late_by setup P at f (e ∷ past) now law le (inr h) =
+    late_by setup P at f past now law.1 (let l = law.0.time in omega (arith, l, le)) h
 
-module _ (one other : ℕ) (near far : Endpoint) (old new : Open) where
+module _ (one other : Setup) (near far : Endpoint) (old new : Open) where
   -- the part of the near trace, in the whole of it
   record Part (whole t : List Entry) : Type 0 where
     pub law : LayerLaw one t
@@ -248,7 +249,7 @@ module _ (one other : ℕ) (near far : Endpoint) (old new : Open) where
       late k = never_sent (near_of past) x.at (same_place_is past follows) since law.near_law
           (sent_by past x law there takes) k
 
-pub cons_apart : (one other : ℕ) (near far : Endpoint) (all : List Hop) → ChannelLaw one other near far all
+pub cons_apart : (one other : Setup) (near far : Endpoint) (all : List Hop) → ChannelLaw one other near far all
     → ConsApart near all
 cons_apart one other near far all law old new =
     each_hop one other near far _ (λ past h l. apart_here one other near far old new past h l) all law

@@ -1,4 +1,5 @@
 -- What is taken of a CON: that very CON, and once.
+use Rattle.coap_layer.specs.Trace.{Setup}
 use Rattle.std.proofs.Common.{◌-◌, ◌≡◌, inl, inr, ⊎_elim, ℕ, ◌+◌, ◌≤◌, true, false, Option, Some, None, List, [], ◌∷◌}
 use Rattle.std.proofs.Common.{refl, ap, sym, ◌∙◌, subst, arith, option_to_list, append_assoc, ◌++◌}
 use Rattle.std.proofs.lemmas.Bool.Decides.{nat_tests}
@@ -45,16 +46,16 @@ pub up_by : (from : Endpoint) (id : ℕ) (e : Entry) (m : Incoming) → taken e 
 up_by from id e m is place n = rw (hands_up, is) (both _ _ (place_same m.from from place) (grind (arith, nat_tests, n)))
 
 -- a CON that is outstanding was begun no earlier than any other to its place
-pub alone : (word : ℕ) (t : List Entry) (c d : Open) → LayerLaw word t → IsIn c (outstanding t) → Ever (IsBegun d) t
+pub alone : (setup : Setup) (t : List Entry) (c d : Open) → LayerLaw setup t → IsIn c (outstanding t) → Ever (IsBegun d) t
     → c.to ≡ d.to → d.first ≤ c.first
-alone word [] c d law h b to = absurd h
-alone word (e ∷ past) c d law h b to = ⊎_elim (old (λ x k l. alone word past x d law.1 k l)) new
+alone setup [] c d law h b to = absurd h
+alone setup (e ∷ past) c d law h b to = ⊎_elim (old (λ x k l. alone setup past x d law.1 k l)) new
     (Ever_append (λ y. y ≡ c) (filter_map (left_by e) (outstanding past)) (option_to_list (begun e)) h)
   where
     new : IsIn c (option_to_list (begun e)) → d.first ≤ c.first
     new k =
         let f = (begins_of e c (in_option c (begun e) k)).first_is in
-        let g = begun_by word (e ∷ past) d law b in
+        let g = begun_by setup (e ∷ past) d law b in
         omega (arith, f, g)
 
     old : ((x : Open) → IsIn x (outstanding past) → Ever (IsBegun d) past → x.to ≡ d.to → d.first ≤ x.first)
@@ -71,12 +72,12 @@ alone word (e ∷ past) c d law h b to = ⊎_elim (old (λ x k l. alone word pas
         place = ap (λ (x : Open). x.to) same ∙ to
 
         go : Ever (IsBegun d) (e ∷ past) → d.first ≤ c.first
-        go (inl now) = absurd ((one_outstanding word (e ∷ past) law).0 d now (busy_with past q.0 d q.1 place))
+        go (inl now) = absurd ((one_outstanding setup (e ∷ past) law).0 d now (busy_with past q.0 d q.1 place))
         go (inr before) = let a = f q.0 q.1 before place in let i : q.0.first
             ≡ c.first = ap (λ (x : Open). x.first) same in omega (arith, a, i)
 
 -- what is handed up under a CON's Message ID less than 400 s from its first sending is that CON
-module _ (one other : ℕ) (near far : Endpoint) (whole past : List Hop) (x : Entry) (con : Open)
+module _ (one other : Setup) (near far : Endpoint) (whole past : List Hop) (x : Entry) (con : Open)
     (near_law : LayerLaw one (near_of whole)) (law : ChannelLaw one other near far (Far x ∷ past))
     (lift : (P : Entry → Type 0) → Ever P (near_of past) → Ever P (near_of whole))
     (begun : Ever (IsBegun con) (near_of whole)) where
@@ -116,7 +117,7 @@ module _ (one other : ℕ) (near far : Endpoint) (whole past : List Hop) (x : En
       go (reply_came (inl k)) = absurd (⊎_elim (λ a. cc (a, k)) (λ a. cc (a, k)) h.kind)
       go (reply_came (inr k)) = absurd (⊎_elim (λ a. cc (a, k)) (λ a. cc (a, k)) h.kind)
 
-module _ (one other : ℕ) (near far : Endpoint) where
+module _ (one other : Setup) (near far : Endpoint) where
   only_in : (con : Open) (whole : List Hop) → LayerLaw one (near_of whole) → Ever (IsBegun con) (near_of whole)
       → (r later : List Hop) → whole ≡ later ++ r → ChannelLaw one other near far r
       → Always (λ past e. OnFar (HandsUpAs near con) e → OnFar (Takes near con) e) r

@@ -1,4 +1,5 @@
 -- What came from the other layer.
+use Rattle.coap_layer.specs.Trace.{Setup}
 use Rattle.std.proofs.Common.{◌≡◌, ◌⊎◌, inl, inr, ℕ, ◌+◌, ◌≤◌, List, ◌∷◌, ap, sym, subst, arith}
 use Rattle.coap_types.specs.Past.{Ever, Sometime, Always}
 use Rattle.coap_types.proofs.Facts.Traces.{Ever_of_Sometime, Sometime_of_Ever, by_law, by_suffix, found}
@@ -16,7 +17,7 @@ use Rattle.coap_layer.proofs.Out.EachGoesOut.{goes_out}
 use Rattle.coap_layer.proofs.Between.WhatComesByType.{Comes, a_con, a_non, a_reply, a_stored, a_reset, comes}
 use Rattle.coap_layer.proofs.Numbers.OneEntryForAnId.{SendsPlain}
 
-module _ (one other : ℕ) (near far : Endpoint) where
+module _ (one other : Setup) (near far : Endpoint) where
   -- what arrives was sent by a row
   pub sent_so : (past : List Hop) (x : Entry) (bytes : List ℕ) → ChannelLaw one other near far (Far x ∷ past)
       → x.call ≡ Receive near bytes → Sometime (SentSo far bytes x.at) (near_of past)
@@ -56,13 +57,13 @@ came_later to bytes m when e t (con_came k b) = con_came k (begun_later to bytes
 came_later to bytes m when e t (non_came k at p from till) = non_came k at (inr p) from till
 came_later to bytes m when e t (reply_came k) = reply_came k
 
-record Lawful (word : ℕ) (t : List Entry) : Type 0 where
-  pub law : LayerLaw word t
+record Lawful (setup : Setup) (t : List Entry) : Type 0 where
+  pub law : LayerLaw setup t
   pub replies : Always RepliesSo t
 
-came_here : (word : ℕ) (t : List Entry) (b : Entry) (to : Endpoint) (bytes : List ℕ) (m : Message) (when : ℕ)
-    → Lawful word (b ∷ t) → AreBytes bytes → Spells bytes m → SentSo to bytes when t b → Came to bytes m when (b ∷ t)
-came_here word t b to bytes m when l are spells s = go (comes word t b p m l.law l.replies are spells s.goes)
+came_here : (setup : Setup) (t : List Entry) (b : Entry) (to : Endpoint) (bytes : List ℕ) (m : Message) (when : ℕ)
+    → Lawful setup (b ∷ t) → AreBytes bytes → Spells bytes m → SentSo to bytes when t b → Came to bytes m when (b ∷ t)
+came_here setup t b to bytes m when l are spells s = go (comes setup t b p m l.law l.replies are spells s.goes)
   where
     p : Packet
     p = record { to = to; bytes = bytes }
@@ -83,7 +84,7 @@ came_here word t b to bytes m when l are spells s = go (comes word t b p m l.law
     go (a_stored k r is) = reply_came k
     go (a_reset k) = reply_came (inr k)
 
-module _ (one other : ℕ) (near far : Endpoint) where
+module _ (one other : Setup) (near far : Endpoint) where
   pub came : (past : List Hop) (x : Entry) (bytes : List ℕ) (m : Message) → ChannelLaw one other near far (Far x ∷ past)
       → x.call ≡ Receive near bytes → AreBytes bytes → Spells bytes m → Came far bytes m x.at (near_of past)
   came past x bytes m law call are spells =
@@ -94,9 +95,9 @@ module _ (one other : ℕ) (near far : Endpoint) where
       (λ t b l s. came_here one t b far bytes m x.at l are spells s) (near_of past)
       (record { law = law.near_law; replies = law.near_replies }) (sent_so one other near far past x bytes law call))
 
-  pub are_bytes : (word : ℕ) (past : List Entry) (x : Entry) (from : Endpoint) (bytes : List ℕ) → Stands word past x
+  pub are_bytes : (setup : Setup) (past : List Entry) (x : Entry) (from : Endpoint) (bytes : List ℕ) → Stands setup past x
       → x.call ≡ Receive from bytes → AreBytes bytes
-  are_bytes word past x from bytes here call = (subst (Row word past x) call here.row).0
+  are_bytes setup past x from bytes here call = (subst (Row setup past x) call here.row).0
 
   pub begun_as : (past : List Hop) (x : Entry) (bytes : List ℕ) (m : Message)
       → ChannelLaw one other near far (Far x ∷ past) → x.call ≡ Receive near bytes → Spells bytes m → m.kind ≡ Con
@@ -115,10 +116,10 @@ module _ (one other : ℕ) (near far : Endpoint) where
       (λ past h l x bytes m is call spells con. begun_as past x bytes m
       (subst (λ (y : Hop). ChannelLaw one other near far (y ∷ past)) is l) call spells con) all law
 
-plain_here : (word : ℕ) (t : List Entry) (b : Entry) (to : Endpoint) (bytes : List ℕ) (m : Message) (when : ℕ)
-    → Lawful word (b ∷ t) → AreBytes bytes → Spells bytes m → m.kind ≡ Non → SentSo to bytes when t b
+plain_here : (setup : Setup) (t : List Entry) (b : Entry) (to : Endpoint) (bytes : List ℕ) (m : Message) (when : ℕ)
+    → Lawful setup (b ∷ t) → AreBytes bytes → Spells bytes m → m.kind ≡ Non → SentSo to bytes when t b
     → PlainSent to bytes when b
-plain_here word t b to bytes m when l are spells non s = go (comes word t b p m l.law l.replies are spells s.goes)
+plain_here setup t b to bytes m when l are spells non s = go (comes setup t b p m l.law l.replies are spells s.goes)
   where
     p : Packet
     p = record { to = to; bytes = bytes }
@@ -132,8 +133,8 @@ plain_here word t b to bytes m when l are spells non s = go (comes word t b p m 
     go (a_stored (inr k) r is) = absurd (cc (k, non))
     go (a_reset k) = absurd (cc (k, non))
 
-module _ (one other : ℕ) (near far : Endpoint) where
-  plain_sent : (past : List Hop) (x : Entry) (bytes : List ℕ) (m : Message)
+module _ (one other : Setup) (near far : Endpoint) where
+  pub plain_sent : (past : List Hop) (x : Entry) (bytes : List ℕ) (m : Message)
       → ChannelLaw one other near far (Far x ∷ past) → x.call ≡ Receive near bytes → Spells bytes m → m.kind ≡ Non
       → Ever (PlainSent far bytes x.at) (near_of past)
   plain_sent past x bytes m law call spells non =

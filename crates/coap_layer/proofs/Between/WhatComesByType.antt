@@ -1,4 +1,5 @@
 -- What goes out, by the type of the message that it spells.
+use Rattle.coap_layer.specs.Trace.{Setup}
 use Rattle.std.proofs.Common.{◌≡◌, ◌⊎◌, inl, inr, ⊎_elim, ℕ, ◌+◌, ◌*◌, ◌≤◌, Bool, true, false, ◌&&◌, ◌==◌, cond, Some}
 use Rattle.std.proofs.Common.{None, List, [], ◌∷◌, length, refl, ap, sym, ◌∙◌, subst, arith}
 use Rattle.coap_types.specs.Past.{Ever, Always}
@@ -80,7 +81,7 @@ kind_of : (past : List Entry) (at id : ℕ) (bytes : List ℕ) → (a : RepliesA
     → (a.reply.kind ≡ Ack) ⊎ (a.reply.kind ≡ Rst)
 kind_of past at id bytes a = ⊎_elim (λ k. inr k) (λ k. inl k.0) a.kind
 
-stored_reply : (from : Endpoint) (id : ℕ) (bytes : List ℕ) (t : List Entry) → Always RepliesSo t
+pub stored_reply : (from : Endpoint) (id : ℕ) (bytes : List ℕ) (t : List Entry) → Always RepliesSo t
     → Ever (λ b. reply_in from id b.call ≡ Some bytes) t → SpellsReply id bytes
 stored_reply from id bytes t law h = forget (SpellsReply id bytes) t
     (Ever_by_law RepliesSo _ (λ b. SpellsReply id bytes) here t law h)
@@ -92,10 +93,10 @@ stored_reply from id bytes t law h = forget (SpellsReply id bytes) t
         let a = l.0 from id bytes c in
         record { reply = a.reply; spells = a.spells; id_is = a.id_is; kind = kind_of past b.at id bytes a }
 
-pub spelled_begun : (word : ℕ) (t : List Entry) (c : Open) → LayerLaw word t → Ever (IsBegun c) t → SpellsCon c
-spelled_begun word [] c law h = absurd h
-spelled_begun word (e ∷ past) c law (inl h) = (cons_spelled word (e ∷ past) law).0 c h
-spelled_begun word (e ∷ past) c law (inr h) = spelled_begun word past c law.1 h
+pub spelled_begun : (setup : Setup) (t : List Entry) (c : Open) → LayerLaw setup t → Ever (IsBegun c) t → SpellsCon c
+spelled_begun setup [] c law h = absurd h
+spelled_begun setup (e ∷ past) c law (inl h) = (cons_spelled setup (e ∷ past) law).0 c h
+spelled_begun setup (e ∷ past) c law (inr h) = spelled_begun setup past c law.1 h
 
 -- a Reset's first byte
 reset_kind : (m : Message) (rest : List ℕ) → Spells (112 ∷ rest) m → m.kind ≡ Rst
@@ -113,7 +114,7 @@ reset_kind m rest s = go m.kind refl
     go Ack h = let k : 112 ≡ 64 + (2 * 16 + length m.token) = byte
         ∙ ap (λ (x : Kind). 64 + (kind_number x * 16 + length m.token)) h in absurd (omega (arith, k, s.token))
 
-module _ (word : ℕ) (past : List Entry) (e : Entry) (p : Packet) (m : Message) (law : LayerLaw word (e ∷ past))
+module _ (setup : Setup) (past : List Entry) (e : Entry) (p : Packet) (m : Message) (law : LayerLaw setup (e ∷ past))
     (replies : Always RepliesSo (e ∷ past)) (are : AreBytes p.bytes) (spells : Spells p.bytes m) where
   same_message : (n : Message) → Spells p.bytes n → n ≡ m
   same_message n s = one_message p.bytes n m are s spells
@@ -121,7 +122,7 @@ module _ (word : ℕ) (past : List Entry) (e : Entry) (p : Packet) (m : Message)
   same_con : (c : Open) → p ≡ packet_of c → Ever (IsBegun c) (e ∷ past) → SendsIt c past e → c.first ≤ e.at
       → e.at ≤ c.first + last_retransmission → Comes past e p m
   same_con c is begun sends from till =
-      let s : SpellsCon c = spelled_begun word (e ∷ past) c law begun in
+      let s : SpellsCon c = spelled_begun setup (e ∷ past) c law begun in
       let same : s.0 ≡ m = same_message s.0 (subst (λ (x : List ℕ). Spells x s.0)
       (sym (ap (λ (x : Packet). x.bytes) is)) s.1) in
       a_con (ap (λ (x : Message). x.kind) (sym same) ∙ s.2)

@@ -47,6 +47,7 @@ step_of h s new now at call answer out is may when told sent left =
 
 abbrev pub moved : State → ℕ → Option Awaited → List Arrived → List Open → List Packet → State
 moved h at w es cs q = record {
+  most = h.most;
   clock = at;
   awaits = w;
   upcoming = h.upcoming;
@@ -73,6 +74,7 @@ still h at call answer w s l t b g n a =
 module _ (h : State) (at : ℕ) (to : Endpoint) (content : Content) (id : ℕ) where
   abbrev sent : State → List Open → Packet → State
   sent h cs p = record {
+    most = h.most;
     clock = at;
     awaits = None;
     upcoming = (id + 1) % message_ids;

@@ -62,6 +62,7 @@ handed_so verdict.Reject m = refl
 handed_so verdict.Drop m = refl
 handed_so verdict.TakeAck m = refl
 handed_so verdict.TakeReset m = refl
+handed_so verdict.PassReset m = refl
 handed_so verdict.Replay m = refl
 handed_so (verdict.HandUpRequest k) m = refl
 handed_so verdict.HandUpResponse m = refl
@@ -76,6 +77,7 @@ kept_so verdict.Reject m = refl
 kept_so verdict.Drop m = refl
 kept_so verdict.TakeAck m = refl
 kept_so verdict.TakeReset m = refl
+kept_so verdict.PassReset m = refl
 kept_so verdict.Replay m = refl
 kept_so (verdict.HandUpRequest k) m = refl
 kept_so verdict.HandUpResponse m = refl
@@ -99,6 +101,7 @@ module _ (s : State) (at : ℕ) (from : Endpoint) (m : Message) where
   sent_so verdict.Drop = refl
   sent_so verdict.TakeAck = refl
   sent_so verdict.TakeReset = refl
+  sent_so verdict.PassReset = refl
   sent_so verdict.Replay = refl
   sent_so (verdict.HandUpRequest k) = refl
   sent_so verdict.HandUpResponse = refl
@@ -109,6 +112,7 @@ module _ (s : State) (at : ℕ) (from : Endpoint) (m : Message) where
   ended_so verdict.Drop bytes to id = refl
   ended_so verdict.TakeAck bytes to id = refl
   ended_so verdict.TakeReset bytes to id = refl
+  ended_so verdict.PassReset bytes to id = refl
   ended_so verdict.Replay bytes to id = refl
   ended_so (verdict.HandUpRequest k) bytes to id = refl
   ended_so verdict.HandUpResponse bytes to id = refl
@@ -118,7 +122,7 @@ module _ (s : State) (at : ℕ) (from : Endpoint) (m : Message) where
   message_arrives v e =
       let down : is_remembered at from m.id s.arrived ≡ true → handed_by (Becomes (answer_by v m)) ≡ None =
       λ r. ap (λ d. handed_by (Becomes d)) (e ∙ ap
-      (λ b. up_of m.kind (role_of m.code) m (is_outstanding from m.id s.open_cons) b (is_full at s.arrived)
+      (λ b. up_of m.kind (role_of m.code) m (is_outstanding from m.id s.open_cons) b (is_full s.most at s.arrived)
       (is_free at s.upcoming s.last_used)) r)
       ∙ again_down m.kind (role_of m.code) m _ _ _ refl in
       record {
@@ -135,7 +139,7 @@ module _ (s : State) (at : ℕ) (from : Endpoint) (m : Message) where
 
   pub judged : (kind : Kind) (id : Id) (v : Verdict) (o r f i : Bool) → kind ≡ m.kind → id.0 ≡ m.id
       → answer_by v m ≡ up_of kind (role_of m.code) m o r f i
-      → o ≡ is_outstanding from m.id s.open_cons → r ≡ is_remembered at from m.id s.arrived → f ≡ is_full at s.arrived
+      → o ≡ is_outstanding from m.id s.open_cons → r ≡ is_remembered at from m.id s.arrived → f ≡ is_full s.most at s.arrived
       → i ≡ is_free at s.upcoming s.last_used
       → IsArriving s at from (Whole m) (record { kind = kind; id = id; verdict = v })
       × (answer_by v m ≡ sorted_by s at (record { from = from; message = m }))
@@ -214,6 +218,7 @@ kept_hands verdict.Reject kind h = h
 kept_hands verdict.Drop kind h = h
 kept_hands verdict.TakeAck kind h = h
 kept_hands verdict.TakeReset kind h = h
+kept_hands verdict.PassReset kind h = h
 kept_hands verdict.Replay kind h = h
 kept_hands (verdict.HandUpRequest k) kind h = refl
 kept_hands verdict.HandUpResponse kind h = h

@@ -34,6 +34,7 @@ module _ (h : State) (now : ℕ) (from : Endpoint) (bytes : List ℕ) (a : Arriv
   -- what the entry leaves
   abbrev left : ℕ → Option Awaited → List Arrived → List Open → List Packet → State
   left at w es cs q = record {
+    most = h.most;
     clock = at;
     awaits = w;
     upcoming = h.upcoming;
@@ -86,6 +87,7 @@ module _ (h : State) (now : ℕ) (from : Endpoint) (bytes : List ℕ) (a : Arriv
       → cs ≡ open_by from a h.open_cons → d ≡ sent_by at from h.arrived a → q ≡ h.queue ++ d → w ≡ awaits_by from a
       → Step s now (Receive from bytes) answer (forgotten
       (record {
+        most = h.most;
         clock = at;
         awaits = w;
         upcoming = h.upcoming;

@@ -34,7 +34,7 @@ nat_turned : (a b : ℕ) → (a == b) ≡ (b == a)
 nat_turned a b = grind (arith, nat_tests)
 
 -- the test of a key, by its parts, whichever comes first
-key_turned : (k : Key) (from : Endpoint) (id : ℕ)
+pub key_turned : (k : Key) (from : Endpoint) (id : ℕ)
     → (same_endpoint from k.from && (id == k.id.0)) ≡ (same_endpoint k.from from && (k.id.0 == id))
 key_turned k from id =
     let there : same_endpoint from k.from ≡ same_endpoint k.from from =
@@ -42,7 +42,7 @@ key_turned k from id =
     let number : (id == k.id.0) ≡ (k.id.0 == id) = nat_turned id k.id.0 in
     cc (there, number)
 
-same_key_through : (k a b : Key) → same_key k a ≡ true → same_key a b ≡ false → same_key k b ≡ false
+pub same_key_through : (k a b : Key) → same_key k a ≡ true → same_key a b ≡ false → same_key k b ≡ false
 same_key_through k a b h down =
     let from : k.from ≡ a.from = same_endpoint_is k.from a.from (and_left _ _ h) in
     let id : k.id.0 ≡ a.id.0 = same_nat k.id.0 a.id.0 (and_right (same_endpoint k.from a.from) _ h) in

@@ -58,6 +58,7 @@ module _ (h s : State) (now at : ℕ) (to : Endpoint) (content : Content) (is : 
       → q ≡ h.queue ++ record { to = to; bytes = message_bytes (with_head Con id.0 content) } ∷ []
       → Step s now (Confirm to content word) (sent_as (Ok id))
       (forgotten (record {
+        most = h.most;
         clock = at;
         awaits = None;
         upcoming = next;
@@ -97,6 +98,7 @@ module _ (h s : State) (now at : ℕ) (to : Endpoint) (content : Content) (is : 
       → q ≡ h.queue ++ record { to = to; bytes = message_bytes (with_head Non id.0 content) } ∷ []
       → Step s now (Plain to content) (sent_as (Ok id))
       (forgotten (record {
+        most = h.most;
         clock = at;
         awaits = None;
         upcoming = next;

@@ -17,17 +17,23 @@ use Rattle.coap_layer.specs.Machine.Parts.{awaited, before_of, state_of_parts, o
 use Rattle.coap_layer.specs.Machine.Sound.{HasRoom, IsKept, IsWithin}
 use Rattle.coap_layer.specs.Machine.State.{Arrived, forgotten, is_live, is_remembered}
 use Rattle.coap_layer.specs.Trace.{Packet}
-use Rattle.coap_layer.specs.Words.{Open, is_con}
+use Rattle.coap_layer.specs.Words.{Awaited, Open, is_con}
 use Rattle.coap_layer.proofs.ListLemmas.{filter_implied, length_append}
 use Rattle.coap_layer.proofs.Calls.Remembered.{unknown_filtered, upto_filtered, upto_later, upto_more}
 
+-- what an input found, by lists that are the same
+pub same_found : (most clock : ℕ) (w : Option Awaited) (ids : IdState) (es fs : List Arrived) (cs ds : List Open)
+    (q r : List Packet) → es ≡ fs → cs ≡ ds → q ≡ r
+    → Some (forgotten (state_of_parts most clock w ids es cs q)) ≡ Some (forgotten (state_of_parts most clock w ids fs ds r))
+same_found most clock w ids es fs cs ds q r a b d = cc (a, b, d)
+
 module _ (clock : ℕ) (es fs : List Arrived) (settled : fs ≡ filter (is_live clock) es) where
-  pub before_grown : {Z : Type 0} (mark : Mark) (awaits : Option Awaiting) (ids : IdState) (old : List Open)
+  pub before_grown : {Z : Type 0} (most : ℕ) (mark : Mark) (awaits : Option Awaiting) (ids : IdState) (old : List Open)
       (ds : List (Sending Z)) (q r d : List Packet)
       → open_before ds ≡ old → r ≡ q ++ d → mark.clock.0 ≡ clock → mark.awaits ≡ awaits → mark.ids ≡ ids
       → mark.queued ≡ length q
-      → before_of (Some mark) fs ds r ≡ Some (forgotten (state_of_parts clock (awaited awaits) ids es old q))
-  before_grown mark awaits ids old ds q r d opened sent c w i k =
+      → before_of most (Some mark) fs ds r ≡ Some (forgotten (state_of_parts most clock (awaited awaits) ids es old q))
+  before_grown most mark awaits ids old ds q r d opened sent c w i k =
       let queue : take mark.queued r ≡ q = rw (k, sent) (take-append_seam q d) in
       let here : filter (is_live clock) fs ≡ filter (is_live clock) es =
       ap (filter (is_live clock)) settled ∙ filter_implied (is_live clock) (is_live clock) (λ x y. y) es in

@@ -1,4 +1,5 @@
 -- What is outstanding was begun; a copy goes out at most 47 s after that, with equal bytes.
+use Rattle.coap_layer.specs.Trace.{Setup}
 use Rattle.std.proofs.Common.{◌≡◌, ◌⊎◌, inl, inr, ⊎_elim, ℕ, ◌+◌, ◌%◌, ◌≤◌, Bool, true, false, Option, Some, None, List}
 use Rattle.std.proofs.Common.{[], ◌∷◌, refl, ap, sym, ◌∙◌, subst, arith, cond, option_to_list}
 use Rattle.std.specs.List.{filter_map, cons_option}
@@ -13,7 +14,7 @@ use Rattle.coap_layer.specs.Arrivals.{Arrival, Unreadable, Faulted, Whole}
 use Rattle.coap_layer.specs.Words.{Incoming, clock, Open, ends_in, copies_in, left_by, sent_by, open_of, begun_in}
 use Rattle.coap_layer.specs.Words.{begun, outstanding, numbers}
 use Rattle.coap_layer.specs.Rows.{Busy, Stands, LayerLaw, Row, Arrives, Sorts, HandedAs, rejects, drops, takes_ack}
-use Rattle.coap_layer.specs.Rows.{takes_reset, takes_answer, replays, hands_over, SendsAs, RefusesIds, copies, expires}
+use Rattle.coap_layer.specs.Rows.{takes_reset, passes_reset, takes_answer, replays, hands_over, SendsAs, RefusesIds, copies, expires}
 use Rattle.coap_layer.specs.Rows.{rests, HasStep, Fails, CopyDue, IsFirst, Copies}
 use Rattle.coap_layer.specs.Sends.{IsIn, as_begun}
 use Rattle.coap_layer.specs.Follows.{HandedUpOnce, CopyOf, CopiesInTime, IdsApart, OneOutstanding}
@@ -25,9 +26,9 @@ use Rattle.coap_layer.proofs.Arrivals.HandedUpOnce.{up_new}
 use Rattle.coap_layer.proofs.Machine.WhatIsIssued.{numbers_law}
 use Rattle.coap_layer.proofs.Numbers.EqualIdsAreApart.{apart}
 
-pub handed_up_once : (word : ℕ) (t : List Entry) → LayerLaw word t → HandedUpOnce t
-handed_up_once word [] law = tt
-handed_up_once word (e ∷ past) law = ((λ m h. up_new word past e m law.0 h), handed_up_once word past law.1)
+pub handed_up_once : (setup : Setup) (t : List Entry) → LayerLaw setup t → HandedUpOnce t
+handed_up_once setup [] law = tt
+handed_up_once setup (e ∷ past) law = ((λ m h. up_new setup past e m law.0 h), handed_up_once setup past law.1)
 
 pub in_option : {A : Type 0} (x : A) (o : Option A) → IsIn x (option_to_list o) → o ≡ Some x
 in_option x (Some y) (inl h) = ap Some h
@@ -106,11 +107,11 @@ was_begun (e ∷ past) c h = ⊎_elim (old (was_begun past)) new
     old f k = let q = in_filter_map (left_by e) c (outstanding past) k in
         inr (subst (λ (d : Open). Ever (λ b. begun b ≡ Some d) past) (left_same e q.0 c q.2) (f q.0 q.1))
 
-pub begun_by : (word : ℕ) (t : List Entry) (c : Open) → LayerLaw word t → Ever (λ b. begun b ≡ Some c) t
+pub begun_by : (setup : Setup) (t : List Entry) (c : Open) → LayerLaw setup t → Ever (λ b. begun b ≡ Some c) t
     → c.first ≤ clock t
-begun_by word [] c law h = absurd h
-begun_by word (e ∷ past) c law (inl h) = let f = begun_fresh e.at e.call e.answer c h in omega (arith, f.0)
-begun_by word (e ∷ past) c law (inr h) = let k = begun_by word past c law.1 h in omega (arith, k, law.0.time)
+begun_by setup [] c law h = absurd h
+begun_by setup (e ∷ past) c law (inl h) = let f = begun_fresh e.at e.call e.answer c h in omega (arith, f.0)
+begun_by setup (e ∷ past) c law (inr h) = let k = begun_by setup past c law.1 h in omega (arith, k, law.0.time)
 
 pub in_first : (P : Open → Type 0) (c : Open) (cs : List Open) → IsFirst P c cs → IsIn c cs
 in_first P c [] h = h
@@ -121,57 +122,58 @@ not_copied : (e : Entry) (a : Answer) (to : Endpoint) (id : ℕ) → e.answer �
     → e.answer ≡ Copied to id → ⊥
 not_copied e a to id is other h = other (sym is ∙ h)
 
-copies_sorted : (word : ℕ) (past : List Entry) (e : Entry) (m : Incoming) (to : Endpoint) (id : ℕ) → Sorts word past e m
+copies_sorted : (setup : Setup) (past : List Entry) (e : Entry) (m : Incoming) (to : Endpoint) (id : ℕ) → Sorts setup past e m
     → e.answer ≡ Copied to id → ⊥
-copies_sorted word past e m to id (rejects r) h = not_copied e _ to id r.answer (λ z. cc z) h
-copies_sorted word past e m to id (drops r) h = not_copied e _ to id r.answer (λ z. cc z) h
-copies_sorted word past e m to id (takes_ack r) h = not_copied e _ to id r.answer (λ z. cc z) h
-copies_sorted word past e m to id (takes_reset r) h = not_copied e _ to id r.answer (λ z. cc z) h
-copies_sorted word past e m to id (takes_answer r) h = not_copied e _ to id r.answer (λ z. cc z) h
-copies_sorted word past e m to id (replays r) h = not_copied e _ to id r.answer (λ z. cc z) h
-copies_sorted word past e m to id (hands_over r) h = go r.answer
+copies_sorted setup past e m to id (rejects r) h = not_copied e _ to id r.answer (λ z. cc z) h
+copies_sorted setup past e m to id (drops r) h = not_copied e _ to id r.answer (λ z. cc z) h
+copies_sorted setup past e m to id (takes_ack r) h = not_copied e _ to id r.answer (λ z. cc z) h
+copies_sorted setup past e m to id (takes_reset r) h = not_copied e _ to id r.answer (λ z. cc z) h
+copies_sorted setup past e m to id (passes_reset r) h = not_copied e _ to id r.answer (λ z. cc z) h
+copies_sorted setup past e m to id (takes_answer r) h = not_copied e _ to id r.answer (λ z. cc z) h
+copies_sorted setup past e m to id (replays r) h = not_copied e _ to id r.answer (λ z. cc z) h
+copies_sorted setup past e m to id (hands_over r) h = go r.answer
   where
-    go : HandedAs word past e m → ⊥
+    go : HandedAs setup past e m → ⊥
     go (inl a) = not_copied e _ to id a.2 (λ z. cc z) h
     go (inr (inl a)) = not_copied e _ to id a.3 (λ z. cc z) h
     go (inr (inr a)) = not_copied e _ to id a.1 (λ z. cc z) h
 
-copies_arrived : (word : ℕ) (past : List Entry) (e : Entry) (from : Endpoint) (what : Arrival) (to : Endpoint) (id : ℕ)
-    → Arrives word past e from what → e.answer ≡ Copied to id → ⊥
-copies_arrived word past e from Unreadable to id r h = not_copied e _ to id r.0 (λ z. cc z) h
-copies_arrived word past e from (Faulted Con n) to id r h = not_copied e _ to id r.0 (λ z. cc z) h
-copies_arrived word past e from (Faulted Non n) to id r h = not_copied e _ to id r.0 (λ z. cc z) h
-copies_arrived word past e from (Faulted Ack n) to id r h = not_copied e _ to id r.0 (λ z. cc z) h
-copies_arrived word past e from (Faulted Rst n) to id r h = not_copied e _ to id r.0 (λ z. cc z) h
-copies_arrived word past e from (Whole m) to id r h = copies_sorted word past e _ to id r h
+copies_arrived : (setup : Setup) (past : List Entry) (e : Entry) (from : Endpoint) (what : Arrival) (to : Endpoint) (id : ℕ)
+    → Arrives setup past e from what → e.answer ≡ Copied to id → ⊥
+copies_arrived setup past e from Unreadable to id r h = not_copied e _ to id r.0 (λ z. cc z) h
+copies_arrived setup past e from (Faulted Con n) to id r h = not_copied e _ to id r.0 (λ z. cc z) h
+copies_arrived setup past e from (Faulted Non n) to id r h = not_copied e _ to id r.0 (λ z. cc z) h
+copies_arrived setup past e from (Faulted Ack n) to id r h = not_copied e _ to id r.0 (λ z. cc z) h
+copies_arrived setup past e from (Faulted Rst n) to id r h = not_copied e _ to id r.0 (λ z. cc z) h
+copies_arrived setup past e from (Whole m) to id r h = copies_sorted setup past e _ to id r h
 
-copies_sent : (kind : Kind) (word : ℕ) (past : List Entry) (e : Entry) (place : Endpoint) (content : Content)
-    (to : Endpoint) (id : ℕ) → RefusesIds word past e ⊎ SendsAs kind word past e place content → e.answer ≡ Copied to id
+copies_sent : (kind : Kind) (setup : Setup) (past : List Entry) (e : Entry) (place : Endpoint) (content : Content)
+    (to : Endpoint) (id : ℕ) → RefusesIds setup past e ⊎ SendsAs kind setup past e place content → e.answer ≡ Copied to id
     → ⊥
-copies_sent kind word past e place content to id (inl r) h = not_copied e _ to id r.answer (λ z. cc z) h
-copies_sent kind word past e place content to id (inr r) h = not_copied e _ to id r.answer (λ z. cc z) h
+copies_sent kind setup past e place content to id (inl r) h = not_copied e _ to id r.answer (λ z. cc z) h
+copies_sent kind setup past e place content to id (inr r) h = not_copied e _ to id r.answer (λ z. cc z) h
 
-pub copies_row : (word : ℕ) (past : List Entry) (e : Entry) (call : Call) (to : Endpoint) (id : ℕ)
-    → Row word past e call → e.answer ≡ Copied to id → Copies past e
-copies_row word past e (Receive from bytes) to id row h =
-    absurd (copies_arrived word past e from row.1.0 to id row.1.2 h)
-copies_row word past e (Reply place n bytes) to id row h = absurd (not_copied e _ to id row.1 (λ z. cc z) h)
-copies_row word past e (Confirm place content wish) to id row h =
+pub copies_row : (setup : Setup) (past : List Entry) (e : Entry) (call : Call) (to : Endpoint) (id : ℕ)
+    → Row setup past e call → e.answer ≡ Copied to id → Copies past e
+copies_row setup past e (Receive from bytes) to id row h =
+    absurd (copies_arrived setup past e from row.1.0 to id row.1.2 h)
+copies_row setup past e (Reply place n bytes) to id row h = absurd (not_copied e _ to id row.1 (λ z. cc z) h)
+copies_row setup past e (Confirm place content wish) to id row h =
     absurd (⊎_elim (λ r. not_copied e _ to id r.answer (λ z. cc z) h)
-    (λ r. copies_sent Con word past e place content to id r.1 h) row.1)
-copies_row word past e (Plain place content) to id row h =
-    absurd (copies_sent Non word past e place content to id row.1 h)
-copies_row word past e (Settle place n) to id row h =
+    (λ r. copies_sent Con setup past e place content to id r.1 h) row.1)
+copies_row setup past e (Plain place content) to id row h =
+    absurd (copies_sent Non setup past e place content to id row.1 h)
+copies_row setup past e (Settle place n) to id row h =
     absurd (⊎_elim (λ k. not_copied e _ to id k.1 (λ z. cc z) h) (λ k. not_copied e _ to id k.1 (λ z. cc z) h) row.0.0)
-copies_row word past e Ticks to id (copies r) h = r
-copies_row word past e Ticks to id (expires r) h = absurd (not_copied e _ to id r.answer (λ z. cc z) h)
-copies_row word past e Ticks to id (rests r) h = absurd (not_copied e _ to id r.answer (λ z. cc z) h)
-copies_row word past e Take to id row h = absurd (not_copied e _ to id row.0 (λ z. cc z) h)
-copies_row word past e (Room place) to id row h =
+copies_row setup past e Ticks to id (copies r) h = r
+copies_row setup past e Ticks to id (expires r) h = absurd (not_copied e _ to id r.answer (λ z. cc z) h)
+copies_row setup past e Ticks to id (rests r) h = absurd (not_copied e _ to id r.answer (λ z. cc z) h)
+copies_row setup past e Take to id row h = absurd (not_copied e _ to id row.0 (λ z. cc z) h)
+copies_row setup past e (Room place) to id row h =
     absurd (⊎_elim (λ k. not_copied e _ to id k.2 (λ z. cc z) h) (λ k. not_copied e _ to id k.1 (λ z. cc z) h) row.0)
-copies_row word past e AsksFree to id row h =
+copies_row setup past e AsksFree to id row h =
     absurd (⊎_elim (λ k. not_copied e _ to id k.1 (λ z. cc z) h) (λ k. not_copied e _ to id k.1 (λ z. cc z) h) row.0)
-copies_row word past e Pass to id row h = absurd (not_copied e _ to id row.0 (λ z. cc z) h)
+copies_row setup past e Pass to id row h = absurd (not_copied e _ to id row.0 (λ z. cc z) h)
 
 early : (now : ℕ) (con : Open) (cs : List Open) → IsFirst (HasStep now) con cs → (Fails now con → ⊥)
     → now ≤ con.first + last_retransmission
@@ -181,10 +183,10 @@ early now con (c ∷ cs) (inl k) a = ⊎_elim (λ f. absurd (a (subst (Fails now
     (let w = d.early in omega (arith, w))) k.1
 early now con (c ∷ cs) (inr k) a = early now con cs k.1 a
 
-copy_of : (word : ℕ) (past : List Entry) (e : Entry) (to : Endpoint) (id : ℕ) → LayerLaw word past → Stands word past e
+copy_of : (setup : Setup) (past : List Entry) (e : Entry) (to : Endpoint) (id : ℕ) → LayerLaw setup past → Stands setup past e
     → e.answer ≡ Copied to id → CopyOf past e to id
-copy_of word past e to id law here h =
-    let r : Copies past e = copies_row word past e e.call to id here.row h in
+copy_of setup past e to id law here h =
+    let r : Copies past e = copies_row setup past e e.call to id here.row h in
     let there : Ever (λ b. begun b ≡ Some (as_begun r.con)) past =
     was_begun past r.con (in_first (HasStep e.at) r.con (outstanding past) r.first) in
     let same : Copied r.con.to r.con.id ≡ Copied to id = sym r.answer ∙ h in
@@ -193,41 +195,41 @@ copy_of word past e to id law here h =
       begun_before = there;
       to_is = cc same;
       id_is = cc same;
-      from = let k = begun_by word past (as_begun r.con) law there in omega (arith, k, here.time);
+      from = let k = begun_by setup past (as_begun r.con) law there in omega (arith, k, here.time);
       till = early e.at r.con (outstanding past) r.first r.alive;
       out = r.out;
     }
 
-pub copies_in_time : (word : ℕ) (t : List Entry) → LayerLaw word t → CopiesInTime t
-copies_in_time word [] law = tt
-copies_in_time word (e ∷ past) law = (
-  (λ to id h. copy_of word past e to id law.1 law.0 h),
-  copies_in_time word past law.1,
+pub copies_in_time : (setup : Setup) (t : List Entry) → LayerLaw setup t → CopiesInTime t
+copies_in_time setup [] law = tt
+copies_in_time setup (e ∷ past) law = (
+  (λ to id h. copy_of setup past e to id law.1 law.0 h),
+  copies_in_time setup past law.1,
 )
 
-pub ids_apart : (word : ℕ) (t : List Entry) → LayerLaw word t → IdsApart t
-ids_apart word t law = apart word (numbers t) (numbers_law word t law)
+pub ids_apart : (setup : Setup) (t : List Entry) → LayerLaw setup t → IdsApart t
+ids_apart setup t law = apart setup.word (numbers t) (numbers_law setup t law)
 
 -- a CON is begun only where none to there is outstanding
-free_row : (word : ℕ) (past : List Entry) (e : Entry) (call : Call) (c : Open) → Row word past e call
+free_row : (setup : Setup) (past : List Entry) (e : Entry) (call : Call) (c : Open) → Row setup past e call
     → begun_in e.at call e.answer ≡ Some c → Busy past c.to → ⊥
-free_row word past e (Confirm to content wish) c row h busy =
+free_row setup past e (Confirm to content wish) c row h busy =
     let b = begun_as e.at to content wish (sent_by e.answer) c h in
     ⊎_elim (λ r. let none : sent_by e.answer ≡ None = ap sent_by r.answer in let some = b.3.1 in cc (none, some))
     (λ r. r.0 (subst (Busy past) b.2 busy)) row.1
-free_row word past e (Receive from bytes) c row h busy = absurd (cc h)
-free_row word past e (Reply to id bytes) c row h busy = absurd (cc h)
-free_row word past e (Plain to content) c row h busy = absurd (cc h)
-free_row word past e (Settle to id) c row h busy = absurd (cc h)
-free_row word past e Ticks c row h busy = absurd (cc h)
-free_row word past e Take c row h busy = absurd (cc h)
-free_row word past e (Room to) c row h busy = absurd (cc h)
-free_row word past e AsksFree c row h busy = absurd (cc h)
-free_row word past e Pass c row h busy = absurd (cc h)
+free_row setup past e (Receive from bytes) c row h busy = absurd (cc h)
+free_row setup past e (Reply to id bytes) c row h busy = absurd (cc h)
+free_row setup past e (Plain to content) c row h busy = absurd (cc h)
+free_row setup past e (Settle to id) c row h busy = absurd (cc h)
+free_row setup past e Ticks c row h busy = absurd (cc h)
+free_row setup past e Take c row h busy = absurd (cc h)
+free_row setup past e (Room to) c row h busy = absurd (cc h)
+free_row setup past e AsksFree c row h busy = absurd (cc h)
+free_row setup past e Pass c row h busy = absurd (cc h)
 
-pub one_outstanding : (word : ℕ) (t : List Entry) → LayerLaw word t → OneOutstanding t
-one_outstanding word [] law = tt
-one_outstanding word (e ∷ past) law = (
-  (λ c h busy. free_row word past e e.call c law.0.row h busy),
-  one_outstanding word past law.1,
+pub one_outstanding : (setup : Setup) (t : List Entry) → LayerLaw setup t → OneOutstanding t
+one_outstanding setup [] law = tt
+one_outstanding setup (e ∷ past) law = (
+  (λ c h busy. free_row setup past e e.call c law.0.row h busy),
+  one_outstanding setup past law.1,
 )

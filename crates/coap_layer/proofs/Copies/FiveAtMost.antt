@@ -1,4 +1,5 @@
 -- A CON goes out at most five times: each copy passes one of four due moments.
+use Rattle.coap_layer.specs.Trace.{Setup}
 use Rattle.std.proofs.Common.{◌≡◌, ◌⊎◌, inl, inr, ⊎_elim, ℕ, zero, suc, ◌+◌, ◌-◌, ◌≤◌, true, false, Some, List, [], ◌∷◌}
 use Rattle.std.proofs.Common.{ap, sym, ◌∙◌, subst, arith, option_to_list}
 use Rattle.std.specs.List.{filter_map}
@@ -32,30 +33,30 @@ least_begun : (c : Open) (n : ℕ) (t : List Entry) → AtLeast (suc n) (SendsIt
 least_begun c n t h = was_sent c t (Sometime_map _ _ (λ past e k. k.0) t h)
 
 -- a CON that is begun now was not sent before
-none_before : (word : ℕ) (past : List Entry) (e : Entry) (c : Open) (n : ℕ) → LayerLaw word (e ∷ past)
+none_before : (setup : Setup) (past : List Entry) (e : Entry) (c : Open) (n : ℕ) → LayerLaw setup (e ∷ past)
     → begun e ≡ Some c → AtLeast n (SendsIt c) past → n ≤ 0
-none_before word past e c zero law b h = omega arith
-none_before word past e c (suc n) law b h = absurd (begun_once word past e c law b (least_begun c n past h))
+none_before setup past e c zero law b h = omega arith
+none_before setup past e c (suc n) law b h = absurd (begun_once setup past e c law b (least_begun c n past h))
 
 -- each sending but the first passes a due moment
-copy_step : (word : ℕ) (past : List Entry) (e : Entry) (c x : Open) → LayerLaw word (e ∷ past)
+copy_step : (setup : Setup) (past : List Entry) (e : Entry) (c x : Open) → LayerLaw setup (e ∷ past)
     → IsIn x (outstanding past) → as_begun x ≡ c → e.answer ≡ Copied c.to c.id
     → count x + 1 ≤ passed x.timeout (e.at - x.first)
-copy_step word past e c x law there is answer =
+copy_step setup past e c x law there is answer =
     due (subst (HasStep e.at) same (first_has (HasStep e.at) r.con (outstanding past) r.first))
   where
     r : Copies past e
-    r = copies_row word past e e.call c.to c.id law.0.row answer
+    r = copies_row setup past e e.call c.to c.id law.0.row answer
 
     con_to : r.con.to ≡ c.to
     con_to = let k = r.answer in cc (k, answer)
 
     same : r.con ≡ x
-    same = one_open word past law.1 r.con x (in_first (HasStep e.at) r.con (outstanding past) r.first) there
+    same = one_open setup past law.1 r.con x (in_first (HasStep e.at) r.con (outstanding past) r.first) there
         (con_to ∙ sym (ap (λ (y : Open). y.to) is))
 
     later : x.last ≤ e.at
-    later = let k = last_by word past x law.1 there in omega (arith, k, law.0.time)
+    later = let k = last_by setup past x law.1 there in omega (arith, k, law.0.time)
 
     due : HasStep e.at x → count x + 1 ≤ passed x.timeout (e.at - x.first)
     due (inl f) = absurd (r.alive (subst (Fails e.at) (sym same) f))
@@ -79,7 +80,7 @@ suc_first : (n a : ℕ) → n ≤ 0 → suc n ≤ a + 1
 suc_first n a h = omega (arith, h)
 
 -- an entry's sending, and the entries before it
-module _ (word : ℕ) (past : List Entry) (e : Entry) (c : Open) (law : LayerLaw word (e ∷ past))
+module _ (setup : Setup) (past : List Entry) (e : Entry) (c : Open) (law : LayerLaw setup (e ∷ past))
     (counted : Counted past c) where
   -- of a CON that goes on
   went_on : (x y : Open) (n : ℕ) → IsIn x (outstanding past) → as_begun x ≡ c → Left e x y
@@ -94,7 +95,7 @@ module _ (word : ℕ) (past : List Entry) (e : Entry) (c : Open) (law : LayerLaw
       count_is = ap (λ k. passed k (y.last - y.first)) left.timeout_is ∙ ap (passed x.timeout) first_is
 
       before : x.last ≤ e.at
-      before = let k = last_by word past x law.1 there in omega (arith, k, law.0.time)
+      before = let k = last_by setup past x law.1 there in omega (arith, k, law.0.time)
 
       grows : ((y.last ≡ x.last) × (copies_in e.call e.answer x.to x.id ≡ false)) ⊎ (y.last ≡ e.at) → count x ≤ count y
       grows (inl k) = subst (λ z. count x ≤ z) (sym count_is)
@@ -109,51 +110,51 @@ module _ (word : ℕ) (past : List Entry) (e : Entry) (c : Open) (law : LayerLaw
       steps k (inr l) =
           subst (λ z. count x + 1 ≤ z) (sym count_is)
           (subst (λ z. count x + 1 ≤ passed x.timeout (z - x.first)) (sym l)
-          (copy_step word past e c x law there is (copied_by e.call e.answer c.to c.id k)))
+          (copy_step setup past e c x law there is (copied_by e.call e.answer c.to c.id k)))
 
       go : AtLeast (suc n) (SendsIt c) (e ∷ past) → suc n ≤ count y + 1
-      go (inl (inl b, k)) = suc_first n (count y) (none_before word past e c n law b k)
+      go (inl (inl b, k)) = suc_first n (count y) (none_before setup past e c n law b k)
       go (inl (inr s, k)) = suc_more n (count x) (count y) (counted x n there is k) (steps s.1 left.last_is)
       go (inr k) = more (suc n) (count x) (count y) (counted x (suc n) there is k) (grows left.last_is)
 
   begun_here : (y : Open) (n : ℕ) → begun e ≡ Some c → AtLeast n (SendsIt c) (e ∷ past) → n ≤ count y + 1
   begun_here y zero b h = omega arith
-  begun_here y (suc n) b (inl k) = suc_first n (count y) (none_before word past e c n law b k.1)
-  begun_here y (suc n) b (inr k) = absurd (begun_once word past e c law b (least_begun c n past k))
+  begun_here y (suc n) b (inl k) = suc_first n (count y) (none_before setup past e c n law b k.1)
+  begun_here y (suc n) b (inr k) = absurd (begun_once setup past e c law b (least_begun c n past k))
 
-counted_in : (word : ℕ) (t : List Entry) (c : Open) → LayerLaw word t → Counted t c
-counted_in word [] c law x n there is h = absurd there
-counted_in word (e ∷ past) c law x n there is h =
-    ⊎_elim (old (counted_in word past c law.1)) (new (counted_in word past c law.1))
+counted_in : (setup : Setup) (t : List Entry) (c : Open) → LayerLaw setup t → Counted t c
+counted_in setup [] c law x n there is h = absurd there
+counted_in setup (e ∷ past) c law x n there is h =
+    ⊎_elim (old (counted_in setup past c law.1)) (new (counted_in setup past c law.1))
     (Ever_append (λ y. y ≡ x) (filter_map (left_by e) (outstanding past)) (option_to_list (begun e)) there)
   where
     old : Counted past c → IsIn x (filter_map (left_by e) (outstanding past)) → n ≤ count x + 1
     old f k =
         let q = in_filter_map (left_by e) x (outstanding past) k in
-        went_on word past e c law f q.0 x n q.1 (left_same e q.0 x q.2 ∙ is) (left_of e q.0 x q.2) h
+        went_on setup past e c law f q.0 x n q.1 (left_same e q.0 x q.2 ∙ is) (left_of e q.0 x q.2) h
 
     new : Counted past c → IsIn x (option_to_list (begun e)) → n ≤ count x + 1
     new f k =
         let b = in_option x (begun e) k in
         let at = begins_of e x b in
-        begun_here word past e c law f x n (b ∙ ap Some
+        begun_here setup past e c law f x n (b ∙ ap Some
         (ap (λ (m : ℕ). record x { last = m }) (at.last_is ∙ sym at.first_is) ∙ is)) h
 
-five_by : (word : ℕ) (t : List Entry) (c : Open) (n : ℕ) → LayerLaw word t → AtLeast n (SendsIt c) t
+five_by : (setup : Setup) (t : List Entry) (c : Open) (n : ℕ) → LayerLaw setup t → AtLeast n (SendsIt c) t
     → n ≤ 1 + max_retransmit
-five_by word t c zero law h = omega arith
-five_by word [] c (suc n) law h = absurd h
-five_by word (e ∷ past) c (suc n) law (inr h) = five_by word past c (suc n) law.1 h
-five_by word (e ∷ past) c (suc n) law (inl (inl b, h)) = let k = none_before word past e c n law b h in omega (arith, k)
-five_by word (e ∷ past) c (suc n) law (inl (inr s, h)) =
+five_by setup t c zero law h = omega arith
+five_by setup [] c (suc n) law h = absurd h
+five_by setup (e ∷ past) c (suc n) law (inr h) = five_by setup past c (suc n) law.1 h
+five_by setup (e ∷ past) c (suc n) law (inl (inl b, h)) = let k = none_before setup past e c n law b h in omega (arith, k)
+five_by setup (e ∷ past) c (suc n) law (inl (inr s, h)) =
     let q = some_in (λ x. as_begun x ≡ c) (outstanding past) s.0 in
-    let k = counted_in word past c law.1 q.0 n q.1 q.2 h in
-    let l = copy_step word past e c q.0 law q.1 q.2 (copied_by e.call e.answer c.to c.id s.1) in
+    let k = counted_in setup past c law.1 q.0 n q.1 q.2 h in
+    let l = copy_step setup past e c q.0 law q.1 q.2 (copied_by e.call e.answer c.to c.id s.1) in
     let m = at_most_all q.0.timeout (e.at - q.0.first) in
     sum_up n (count q.0) (passed q.0.timeout (e.at - q.0.first)) k l m
   where
     sum_up : (n a b : ℕ) → n ≤ a + 1 → a + 1 ≤ b → b ≤ max_retransmit → suc n ≤ 1 + max_retransmit
     sum_up n a b h k l = omega (arith, h, k, l)
 
-pub five_at_most : (word : ℕ) (t : List Entry) → LayerLaw word t → FiveAtMost t
-five_at_most word t law c h = let k = five_by word t c (2 + max_retransmit) law h in absurd (omega (arith, k))
+pub five_at_most : (setup : Setup) (t : List Entry) → LayerLaw setup t → FiveAtMost t
+five_at_most setup t law c h = let k = five_by setup t c (2 + max_retransmit) law h in absurd (omega (arith, k))

@@ -1,4 +1,5 @@
 -- What is outstanding: one CON to a place, each as it was begun, sent again by ticks alone.
+use Rattle.coap_layer.specs.Trace.{Setup}
 use Rattle.std.proofs.Common.{◌≡◌, ◌⊎◌, inl, inr, ⊎_elim, ℕ, ◌≤◌, Bool, true, false, Some, None, List, [], ◌∷◌, refl}
 use Rattle.std.proofs.Common.{ap, sym, ◌∙◌, subst, arith, cond, option_to_list}
 use Rattle.std.proofs.lemmas.Bool.Decides.{nat_tests}
@@ -42,10 +43,10 @@ pub busy_with : (past : List Entry) (a b : Open) → IsIn a (outstanding past) �
 busy_with past a b h to = Ever_map _ _ (λ x k. place_same x.to b.to (ap (λ (y : Open). y.to) k ∙ to))
     (outstanding past) h
 
-pub one_open : (word : ℕ) (t : List Entry) → LayerLaw word t → OneOpen t
-one_open word [] law a b h k to = absurd h
-one_open word (e ∷ past) law a b h k to = ⊎_elim
-    (λ p. ⊎_elim (λ q. old (one_open word past law.1) p q) (λ q. absurd (mixed a b p q to)) (split b k))
+pub one_open : (setup : Setup) (t : List Entry) → LayerLaw setup t → OneOpen t
+one_open setup [] law a b h k to = absurd h
+one_open setup (e ∷ past) law a b h k to = ⊎_elim
+    (λ p. ⊎_elim (λ q. old (one_open setup past law.1) p q) (λ q. absurd (mixed a b p q to)) (split b k))
     (λ p. ⊎_elim (λ q. absurd (mixed b a q p (sym to))) (λ q. new p q) (split b k))
     (split a h)
   where
@@ -73,7 +74,7 @@ one_open word (e ∷ past) law a b h k to = ⊎_elim
     mixed : (c d : Open) → Old c → New d → c.to ≡ d.to → ⊥
     mixed c d p q is =
         let x = in_filter_map (left_by e) c (outstanding past) p in
-        (one_outstanding word (e ∷ past) law).0 d (in_option d (begun e) q)
+        (one_outstanding setup (e ∷ past) law).0 d (in_option d (begun e) q)
         (busy_with past x.0 d x.1 (sym (left_to e x.0 c x.2) ∙ is))
 
 -- what is left of it
@@ -110,9 +111,9 @@ left_of e c d h = go (ends_in e.call e.answer c.to c.id) (copies_in e.call e.ans
         })
 
 -- no CON went out later than the clock
-pub last_by : (word : ℕ) (t : List Entry) (c : Open) → LayerLaw word t → IsIn c (outstanding t) → c.last ≤ clock t
-last_by word [] c law h = absurd h
-last_by word (e ∷ past) c law h = ⊎_elim (old (λ d. last_by word past d law.1)) new
+pub last_by : (setup : Setup) (t : List Entry) (c : Open) → LayerLaw setup t → IsIn c (outstanding t) → c.last ≤ clock t
+last_by setup [] c law h = absurd h
+last_by setup (e ∷ past) c law h = ⊎_elim (old (λ d. last_by setup past d law.1)) new
     (Ever_append (λ y. y ≡ c) (filter_map (left_by e) (outstanding past)) (option_to_list (begun e)) h)
   where
     new : IsIn c (option_to_list (begun e)) → c.last ≤ e.at
@@ -145,7 +146,7 @@ pub copied_by : (call : Call) (answer : Answer) (to : Endpoint) (id : ℕ) → c
 copied_by Ticks answer to id h = ticks_copy answer to id h
 copied_by (Receive from bytes) answer to id h = absurd (cc h)
 copied_by (Reply place n bytes) answer to id h = absurd (cc h)
-copied_by (Confirm place content word) answer to id h = absurd (cc h)
+copied_by (Confirm place content setup) answer to id h = absurd (cc h)
 copied_by (Plain place content) answer to id h = absurd (cc h)
 copied_by (Settle place n) answer to id h = absurd (cc h)
 copied_by Take answer to id h = absurd (cc h)

@@ -1,5 +1,6 @@
 -- Two layers' traces, entry by entry.
-use Rattle.std.proofs.Common.{◌≡◌, inl, inr, ℕ, List, [], ◌∷◌, ◌++◌, refl, ap, sym, ◌∙◌, subst}
+use Rattle.coap_layer.specs.Trace.{Setup}
+use Rattle.std.proofs.Common.{◌≡◌, inl, inr, List, [], ◌∷◌, ◌++◌, refl, ap, sym, ◌∙◌, subst}
 use Rattle.coap_types.specs.Past.{Ever, Always}
 use Rattle.coap_types.proofs.Facts.Traces.{Ever_back}
 use Rattle.coap_types.specs.declared.endpoint.Endpoint.{Endpoint}
@@ -38,7 +39,7 @@ near_later P whole later r is h = subst (Ever P) (sym (ap near_of is ∙ near_mo
     (Ever_back P (near_of later) (near_of r) h)
 
 -- the law holds of each past
-module _ (one other : ℕ) (near far : Endpoint) where
+module _ (one other : Setup) (near far : Endpoint) where
   pub earlier : (past : List Hop) (h : Hop) → ChannelLaw one other near far (h ∷ past)
       → ChannelLaw one other near far past
   earlier past (Near e) law = record {

@@ -1,4 +1,5 @@
 -- What follows from the laws of a layer and of a channel, as the law functions say it.
+use Rattle.coap_layer.specs.Trace.{Setup}
 use Rattle.std.proofs.Common.{◌≡◌, ◌<◌, ℕ, Some, List, ◌∷◌}
 use Rattle.coap_types.specs.Past.{Ever}
 use Rattle.coap_types.specs.declared.endpoint.Endpoint.{Endpoint}
@@ -27,13 +28,13 @@ use Rattle.coap_layer.proofs.Out.InOrder as order
 use Rattle.coap_layer.proofs.Out.EachGoesOut as outs
 use Rattle.coap_layer.proofs.Between.TakenOnce as takings
 
-pub handed_up_once : (word : ℕ) (t : List Entry) → LayerLaw word t → HandedUpOnce t
+pub handed_up_once : (setup : Setup) (t : List Entry) → LayerLaw setup t → HandedUpOnce t
 handed_up_once = copies.handed_up_once
 
-pub copies_in_time : (word : ℕ) (t : List Entry) → LayerLaw word t → CopiesInTime t
+pub copies_in_time : (setup : Setup) (t : List Entry) → LayerLaw setup t → CopiesInTime t
 copies_in_time = copies.copies_in_time
 
-pub one_outstanding : (word : ℕ) (t : List Entry) → LayerLaw word t → OneOutstanding t
+pub one_outstanding : (setup : Setup) (t : List Entry) → LayerLaw setup t → OneOutstanding t
 one_outstanding = copies.one_outstanding
 
 -- a Message ID has 16 bits
@@ -45,14 +46,14 @@ small = ids.small
 pub begins_of : (e : Entry) (c : Open) → begun e ≡ Some c → Begins e.at e.call e.answer c
 begins_of = numbered.begins_of
 
-pub cons_spelled : (word : ℕ) (t : List Entry) → LayerLaw word t → ConsSpelled t
+pub cons_spelled : (setup : Setup) (t : List Entry) → LayerLaw setup t → ConsSpelled t
 cons_spelled = outs.cons_spelled
 
-pub spelled_begun : (word : ℕ) (t : List Entry) (c : Open) → LayerLaw word t → Ever (λ b. begun b ≡ Some c) t
+pub spelled_begun : (setup : Setup) (t : List Entry) (c : Open) → LayerLaw setup t → Ever (λ b. begun b ≡ Some c) t
     → SpellsCon c
 spelled_begun = comes.spelled_begun
 
-pub each_goes_out : (word : ℕ) (t : List Entry) → LayerLaw word t → EachGoesOut t
+pub each_goes_out : (setup : Setup) (t : List Entry) → LayerLaw setup t → EachGoesOut t
 each_goes_out = outs.each_goes_out
 
 pub taken_since : TakenSince
@@ -60,16 +61,16 @@ taken_since = order.taken_since
 
 -- what arrives
 
-pub handed_spelled : (word : ℕ) (t : List Entry) → LayerLaw word t → HandedAsSpelled t
+pub handed_spelled : (setup : Setup) (t : List Entry) → LayerLaw setup t → HandedAsSpelled t
 handed_spelled = handed.handed_spelled
 
-pub acks_heard : (word : ℕ) (t : List Entry) → LayerLaw word t → AcksHeard t
+pub acks_heard : (setup : Setup) (t : List Entry) → LayerLaw setup t → AcksHeard t
 acks_heard = handed.acks_heard
 
-pub responses_spelled : (word : ℕ) (t : List Entry) → LayerLaw word t → ResponsesSpelled t
+pub responses_spelled : (setup : Setup) (t : List Entry) → LayerLaw setup t → ResponsesSpelled t
 responses_spelled = responses.responses_spelled
 
-module _ (one other : ℕ) (near far : Endpoint) where
+module _ (one other : Setup) (near far : Endpoint) where
   pub begun_as : (past : List Hop) (x : Entry) (bytes : List ℕ) (m : Message)
       → ChannelLaw one other near far (Far x ∷ past) → x.call ≡ Receive near bytes → Spells bytes m → m.kind ≡ Con
       → BegunAs far bytes m.id x.at (near_of past)

@@ -1,4 +1,5 @@
 -- What is no longer live decides nothing; and one call more.
+use Rattle.coap_layer.specs.Trace.{Setup}
 use Rattle.std.proofs.Common.{◌≡◌, ℕ, ◌+◌, ◌≤◌, nat_le, Bool, true, false, Option, List, [], ◌∷◌, ◌++◌, length, filter}
 use Rattle.std.proofs.Common.{map, drop, refl, ap, sym, ◌∙◌, subst, arith, cond, option_to_list}
 use Rattle.std.specs.List.{filter_map}
@@ -6,6 +7,7 @@ use Rattle.coap_types.specs.declared.endpoint.Endpoint.{Endpoint}
 use Rattle.coap_types.specs.Roles.{role_of}
 use Rattle.coap_layer.specs.Trace.{Packet, Call, Receive, Reply, Confirm, Plain, Settle, Ticks, Take, Room, AsksFree}
 use Rattle.coap_layer.specs.Trace.{Pass, Disposition, Dropped, Replayed, Rejected, Request, Response, Acked, Reset}
+use Rattle.coap_layer.specs.Trace.{Unmatched}
 use Rattle.coap_layer.specs.Trace.{Answer, Becomes, Entry}
 use Rattle.coap_layer.specs.Machine.Table.{up_of}
 use Rattle.coap_layer.specs.Arrivals.{Arrival, Unreadable, Faulted, Whole, arrival_at}
@@ -17,7 +19,6 @@ use Rattle.coap_layer.specs.Machine.State.{forgotten, moment, made, Step}
 use Rattle.coap_layer.specs.Rows.{Stands, LayerLaw}
 use Rattle.coap_layer.specs.Machine.LayerLed.{LayerLed}
 use Rattle.coap_types.specs.declared.transmission.TheConstants.{EXCHANGE_LIFETIME_MS as exchange_lifetime}
-use Rattle.coap_layer.specs.declared.dedup.TheConstants.{MAX_REMEMBERED as max_remembered}
 use Rattle.coap_layer.proofs.ListLemmas.{le_true, true_le, and_left, filter_implied, any_implied, filter_more}
 use Rattle.coap_layer.proofs.ListLemmas.{filter_changed}
 use Rattle.coap_layer.proofs.Machine.WhatIsRemembered.{same_live}
@@ -55,11 +56,11 @@ module _ (h : State) (at : ℕ) (le : h.clock ≤ at) where
       ≡ is_remembered at m.from m.message.id h.arrived
       = any_implied (is_live h.clock) (is_of at m.from m.message.id)
       (λ a k. live_before h.clock at a le (of_live at m.from m.message.id a k)) h.arrived in
-      let full : is_full at (filter (is_live h.clock) h.arrived)
-      ≡ is_full at h.arrived = ap (λ es. nat_le max_remembered (length es)) live_then in
+      let full : is_full h.most at (filter (is_live h.clock) h.arrived)
+      ≡ is_full h.most at h.arrived = ap (λ es. nat_le h.most (length es)) live_then in
       let free : Bool = is_free at h.upcoming h.last_used in
       ap (λ r. up_of m.message.kind (role_of m.message.code) m.message
-      (is_outstanding m.from m.message.id h.open_cons) r (is_full at (filter (is_live h.clock) h.arrived)) free)
+      (is_outstanding m.from m.message.id h.open_cons) r (is_full h.most at (filter (is_live h.clock) h.arrived)) free)
       known
       ∙ ap (λ f. up_of m.message.kind (role_of m.message.code) m.message
       (is_outstanding m.from m.message.id h.open_cons) (is_remembered at m.from m.message.id h.arrived) f free) full
@@ -90,6 +91,7 @@ module _ (h : State) (at : ℕ) (le : h.clock ≤ at) where
   same_replay m (Response x) = refl
   same_replay m (Acked id) = refl
   same_replay m (Reset id) = refl
+  same_replay m (Unmatched id) = refl
 
   same_out_to : (from : Endpoint) (what : Arrival) → out_to (forgotten h) at from what ≡ out_to h at from what
   same_out_to from Unreadable = refl
@@ -125,6 +127,7 @@ same_after h e le =
     ∙ sym (filter_changed (is_live e.at) (stores e) (λ a. same_live e a e.at) h.arrived)))
     ∙ sym (filter_more (is_live e.at) (map (stores e) h.arrived) new)) in
     ap (λ (es : List Arrived). record {
+      most = h.most;
       clock = e.at;
       awaits = awaits_in e.call e.answer h.awaits;
       upcoming = next_after (issued e) h.upcoming;
@@ -146,18 +149,18 @@ after_clock h now (Room to) = omega arith
 after_clock h now AsksFree = omega arith
 after_clock h now Pass = omega arith
 
-is_moment : (word : ℕ) (t : List Entry) (now : ℕ) (call : Call)
-    → IsMoment word t (moment (forgotten (history word t)) now call) call
-is_moment word t now (Receive from bytes) = tt
-is_moment word t now (Reply to id bytes) = refl
-is_moment word t now (Confirm to content wish) = tt
-is_moment word t now (Plain to content) = tt
-is_moment word t now (Settle to id) = refl
-is_moment word t now Ticks = tt
-is_moment word t now Take = refl
-is_moment word t now (Room to) = tt
-is_moment word t now AsksFree = tt
-is_moment word t now Pass = tt
+is_moment : (setup : Setup) (t : List Entry) (now : ℕ) (call : Call)
+    → IsMoment setup t (moment (forgotten (history setup t)) now call) call
+is_moment setup t now (Receive from bytes) = tt
+is_moment setup t now (Reply to id bytes) = refl
+is_moment setup t now (Confirm to content wish) = tt
+is_moment setup t now (Plain to content) = tt
+is_moment setup t now (Settle to id) = refl
+is_moment setup t now Ticks = tt
+is_moment setup t now Take = refl
+is_moment setup t now (Room to) = tt
+is_moment setup t now AsksFree = tt
+is_moment setup t now Pass = tt
 
 may_then : (h : State) (call : Call) → May (forgotten h) call → May h call
 may_then h (Receive from bytes) k = k
@@ -171,31 +174,31 @@ may_then h (Room to) k = tt
 may_then h AsksFree k = tt
 may_then h Pass k = tt
 
-pub stands : (word : ℕ) (t : List Entry) (now : ℕ) (call : Call) → LayerLaw word t → May (history word t) call
-    → Stands word t (made (forgotten (history word t)) now call)
-stands word t now call law may =
-    let e : Entry = made (forgotten (history word t)) now call in
-    let le : (history word t).clock ≤ e.at = after_clock (history word t) now call in
+pub stands : (setup : Setup) (t : List Entry) (now : ℕ) (call : Call) → LayerLaw setup t → May (history setup t) call
+    → Stands setup t (made (forgotten (history setup t)) now call)
+stands setup t now call law may =
+    let e : Entry = made (forgotten (history setup t)) now call in
+    let le : (history setup t).clock ≤ e.at = after_clock (history setup t) now call in
     let time : clock t ≤ e.at = le in
     record {
       time = time;
-      row = row_of word t e call law time (is_moment word t now call) may (same_answer (history word t) e.at le call)
-          (same_out (history word t) e.at le call);
+      row = row_of setup t e call law time (is_moment setup t now call) may (same_answer (history setup t) e.at le call)
+          (same_out (history setup t) e.at le call);
     }
 
 -- one call more
-pub led_step : (word : ℕ) (t : List Entry) (old new : State) (now : ℕ) (call : Call) (answer : Answer)
-    → LayerLed word t old → Step old now call answer new → LayerLed word (made old now call ∷ t) new
-led_step word t old new now call answer led step =
-    subst (λ s. LayerLed word (made s now call ∷ t) new) (sym led.kept) (record {
+pub led_step : (setup : Setup) (t : List Entry) (old new : State) (now : ℕ) (call : Call) (answer : Answer)
+    → LayerLed setup t old → Step old now call answer new → LayerLed setup (made old now call ∷ t) new
+led_step setup t old new now call answer led step =
+    subst (λ s. LayerLed setup (made s now call ∷ t) new) (sym led.kept) (record {
       law = (
-        stands word t now call led.law (may_then (history word t) call
+        stands setup t now call led.law (may_then (history setup t) call
             (subst (λ s. May s call) led.kept step.may)),
         led.law,
       );
       kept = step.new_is ∙ (ap (λ s. forgotten (after s (made s now call))) led.kept
-          ∙ same_after (history word t) (made (forgotten (history word t)) now call)
-          (after_clock (history word t) now call));
+          ∙ same_after (history setup t) (made (forgotten (history setup t)) now call)
+          (after_clock (history setup t) now call));
     })
 
 pub same_made : (h : State) (now : ℕ) (call : Call) → made (forgotten h) now call ≡ made h now call

@@ -1,4 +1,5 @@
 -- The rows and the steps of the state say the same.
+use Rattle.coap_layer.specs.Trace.{Setup}
 use Rattle.std.proofs.Common.{◌≡◌, ◌≢◌, ◌⊎◌, inl, inr, ⊎_elim, ℕ, ◌≤◌, nat_le, Bool, true, false, Option, Some, None}
 use Rattle.std.proofs.Common.{List, [], ◌∷◌, refl, ap, sym, ◌∙◌, subst, arith, ◌&&◌, not, cond}
 use Rattle.coap_types.specs.declared.endpoint.Endpoint.{Endpoint}
@@ -10,7 +11,7 @@ use Rattle.coap_types.specs.declared.role.Role.TheVariants as role
 use Rattle.coap_types.specs.SameEndpoint.{same_endpoint}
 use Rattle.coap_layer.specs.Trace.{Content, with_head, Packet, Call, Receive, Reply, Confirm, Plain, Settle, Ticks}
 use Rattle.coap_layer.specs.Trace.{Take, Room, AsksFree, Pass, Disposition, Dropped, Replayed, Rejected, Request}
-use Rattle.coap_layer.specs.Trace.{Response, Acked, Reset, Answer, Becomes, Is, Sent, Busied, Entry}
+use Rattle.coap_layer.specs.Trace.{Response, Acked, Reset, Unmatched, Answer, Becomes, Is, Sent, Busied, Entry}
 use Rattle.coap_layer.specs.Machine.Table.{up_of, again_or}
 use Rattle.coap_layer.specs.Arrivals.{Arrival, Unreadable, Faulted, Whole, Shows, arrival_at}
 use Rattle.coap_types.specs.Bytes.{AreBytes}
@@ -23,9 +24,9 @@ use Rattle.coap_layer.specs.Machine.State.{sending, sent_out, replay, is_outstan
 use Rattle.coap_layer.specs.Machine.State.{is_free, to_packets, next_id, uses, tick_of}
 use Rattle.coap_layer.specs.Rows.{Outstanding, Busy, MayGive, Withholds, Ignores, ignores_non, ignores_reset}
 use Rattle.coap_layer.specs.Rows.{ignores_ack, ignores_unmatched, ignores_new, Drops, HandedAs, Sorts, rejects, drops}
-use Rattle.coap_layer.specs.Rows.{takes_ack, takes_reset, takes_answer, replays, hands_over, Arrives, stored, SendsAs}
+use Rattle.coap_layer.specs.Rows.{takes_ack, takes_reset, passes_reset, takes_answer, replays, hands_over, Arrives}
+use Rattle.coap_layer.specs.Rows.{stored, SendsAs}
 use Rattle.coap_layer.specs.Rows.{RefusesIds, Confirms, Turns, copies, expires, rests, Row, Stands, LayerLaw}
-use Rattle.coap_layer.specs.declared.message_id.TheConstants.{GROUP_SIZE as group_size}
 use Rattle.coap_layer.proofs.ListLemmas.{le_true, true_le, any_ever, ever_any}
 use Rattle.coap_layer.proofs.Machine.WhatIsRemembered.{remembered_of, of_remembered, count_is}
 use Rattle.coap_layer.proofs.Machine.WhatIsReplied.{found_is}
@@ -50,9 +51,9 @@ is_false : (b : Bool) (P : Type 0) → Decides b P → (P → ⊥) → b ≡ fal
 is_false true P d p = absurd (p d)
 is_false false P d p = refl
 
-module _ (word : ℕ) (t : List Entry) where
+module _ (setup : Setup) (t : List Entry) where
   abbrev h : State
-  h = history word t
+  h = history setup t
 
   outstanding_is : (to : Endpoint) (id : ℕ) → Decides (is_outstanding to id h.open_cons) (Outstanding t to id)
   outstanding_is to id = decided _ _ (any_ever (is_to to id) (λ c. is_to to id c ≡ true) (λ c k. k) (outstanding t))
@@ -67,10 +68,11 @@ module _ (word : ℕ) (t : List Entry) where
       → Decides (is_remembered now from id h.arrived) (Remembered t now from id)
   known_is now from id = decided _ _ (remembered_of now from id t) (of_remembered now from id t)
 
-  full_is : (now : ℕ) → Decides (is_full now h.arrived) (group_size ≤ remembered now t)
-  full_is now = subst (λ n. Decides (nat_le group_size n) (group_size ≤ remembered now t)) (sym (count_is now t))
-      (decided (nat_le group_size (remembered now t)) _ (le_true group_size (remembered now t))
-      (true_le group_size (remembered now t)))
+  full_is : (now : ℕ) → Decides (is_full setup.remembered now h.arrived) (setup.remembered ≤ remembered now t)
+  full_is now = subst (λ n. Decides (nat_le setup.remembered n) (setup.remembered ≤ remembered now t))
+      (sym (count_is now t))
+      (decided (nat_le setup.remembered (remembered now t)) _ (le_true setup.remembered (remembered now t))
+      (true_le setup.remembered (remembered now t)))
 
   stored_shape : (c w : Bool) (to : Endpoint) (r : Option (List ℕ))
       → cond c (to_packets to (cond w r None)) []
@@ -80,30 +82,30 @@ module _ (word : ℕ) (t : List Entry) where
   stored_shape true false to r = refl
   stored_shape false w to r = refl
 
-  stored_is : (now : ℕ) (m : Incoming) → LayerLaw word t → clock t ≤ now → Remembered t now m.from m.message.id
+  stored_is : (now : ℕ) (m : Incoming) → LayerLaw setup t → clock t ≤ now → Remembered t now m.from m.message.id
       → replay h now m Replayed ≡ stored t m
   stored_is now m law le old =
       ap (λ r. cond (is_con m.message.kind) (to_packets m.from r) [])
-      (found_is now m.from m.message.id word t law le (of_remembered now m.from m.message.id t old)).1
+      (found_is now m.from m.message.id setup t law le (of_remembered now m.from m.message.id t old)).1
       ∙ stored_shape (is_con m.message.kind) (was_con m.from m.message.id t) m.from (replied m.from m.message.id t)
 
   -- whether a Message ID is free
   abbrev I : ℕ → Type 0
-  I now = MayGive word t now
+  I now = MayGive setup t now
 
   abbrev J : ℕ → Type 0
-  J now = Withholds word t now
+  J now = Withholds setup t now
 
-  free_here : LayerLaw word t → (now : ℕ) → Chooses (is_free now h.upcoming h.last_used) (I now) (J now)
-  free_here law now = subst (λ n. Chooses (is_free now n (uses t)) (I now) (J now)) (sym (next_is word t))
-      (free_is word (numbers t) (uses t) now (uses_are word t law))
+  free_here : LayerLaw setup t → (now : ℕ) → Chooses (is_free now h.upcoming h.last_used) (I now) (J now)
+  free_here law now = subst (λ n. Chooses (is_free now n (uses t)) (I now) (J now)) (sym (next_is setup t))
+      (free_is setup.word (numbers t) (uses t) now (uses_are setup t law))
 
   is_true_by : (now : ℕ) (b : Bool) → Chooses b (I now) (J now) → I now → b ≡ true
   is_true_by now true c k = refl
-  is_true_by now false c k = absurd (one_of word (numbers t) now k c)
+  is_true_by now false c k = absurd (one_of setup.word (numbers t) now k c)
 
   is_false_by : (now : ℕ) (b : Bool) → Chooses b (I now) (J now) → J now → b ≡ false
-  is_false_by now true c k = absurd (one_of word (numbers t) now c k)
+  is_false_by now true c k = absurd (one_of setup.word (numbers t) now c k)
   is_false_by now false c k = refl
 
   -- the table, by what is known
@@ -121,26 +123,26 @@ module _ (word : ℕ) (t : List Entry) where
     R = Remembered t e.at m.from m.message.id
 
     abbrev F : Type 0
-    F = group_size ≤ remembered e.at t
+    F = setup.remembered ≤ remembered e.at t
 
     abbrev Out : Type 0
     Out = (e.answer ≡ Becomes Rejected → e.out ≡ replay h e.at m Rejected)
         × (e.answer ≡ Becomes Replayed → e.out ≡ stored t m)
         × (e.answer ≢ Becomes Rejected → e.answer ≢ Becomes Replayed → e.out ≡ [])
 
-    handed_rejected : HandedAs word t e m → e.answer ≢ Becomes Rejected
+    handed_rejected : HandedAs setup t e m → e.answer ≢ Becomes Rejected
     handed_rejected (inl a) z = let k = a.2 in cc (k, z)
     handed_rejected (inr (inl a)) z = let k = a.3 in cc (k, z)
     handed_rejected (inr (inr a)) z = let k = a.1 in cc (k, z)
 
-    handed_replayed : HandedAs word t e m → e.answer ≢ Becomes Replayed
+    handed_replayed : HandedAs setup t e m → e.answer ≢ Becomes Replayed
     handed_replayed (inl a) z = let k = a.2 in cc (k, z)
     handed_replayed (inr (inl a)) z = let k = a.3 in cc (k, z)
     handed_replayed (inr (inr a)) z = let k = a.1 in cc (k, z)
 
     new_of : (k : (k_is ≡ Con) ⊎ (k_is ≡ Non)) (c : (c_is ≡ role.Request) ⊎ (c_is ≡ role.Response)) (a : Disposition)
-        → (e.answer ≡ Becomes a → HandedAs word t e m)
-        → (r f : Bool) → Decides r R → Decides f F → e.answer ≡ Becomes (again_or r f a) → Out → Sorts word t e m
+        → (e.answer ≡ Becomes a → HandedAs setup t e m)
+        → (r f : Bool) → Decides r R → Decides f F → e.answer ≡ Becomes (again_or r f a) → Out → Sorts setup t e m
     new_of k c a w true f hr hf is out = replays (record { kind = k; class = c; old = hr; answer = is; out = out.1 is })
     new_of k c a w false true hr hf is out = drops
         (record {
@@ -158,13 +160,13 @@ module _ (word : ℕ) (t : List Entry) where
         })
 
     non_request : (i : Bool) → k_is ≡ Non → c_is ≡ role.Request → Chooses i (I e.at) (J e.at)
-        → e.answer ≡ Becomes (Request m.message i) → HandedAs word t e m
+        → e.answer ≡ Becomes (Request m.message i) → HandedAs setup t e m
     non_request true hk hc hi is = inl (hc, inr hi, is)
     non_request false hk hc hi is = inr (inl (hc, hk, hi, is))
 
     -- from the table to the rows
     arrives : (k : Kind) (c : Role) (o r f i : Bool) → k_is ≡ k → c_is ≡ c → Decides o O → Decides r R → Decides f F
-        → Chooses i (I e.at) (J e.at) → e.answer ≡ Becomes (up_of k c m.message o r f i) → Out → Sorts word t e m
+        → Chooses i (I e.at) (J e.at) → e.answer ≡ Becomes (up_of k c m.message o r f i) → Out → Sorts setup t e m
     arrives Con role.Empty o r f i hk hc ho hr hf hi is out =
         rejects (record { kind = hk; class = inl hc; answer = is; out = out.0 is })
     arrives Con role.Reserved o r f i hk hc ho hr hf hi is out =
@@ -215,19 +217,21 @@ module _ (word : ℕ) (t : List Entry) where
         })
     arrives Ack role.Empty false r f i hk hc ho hr hf hi is out =
         drops (record {
-          why = ignores_unmatched (record { kind = inl (hk, inl hc); alone = ho });
+          why = ignores_unmatched (record { kind = hk; class = inl hc; alone = ho });
           answer = is;
           out = out.2 (λ z. cc (is, z)) (λ z. cc (is, z));
         })
     arrives Ack role.Response false r f i hk hc ho hr hf hi is out =
         drops (record {
-          why = ignores_unmatched (record { kind = inl (hk, inr hc); alone = ho });
+          why = ignores_unmatched (record { kind = hk; class = inr hc; alone = ho });
           answer = is;
           out = out.2 (λ z. cc (is, z)) (λ z. cc (is, z));
         })
     arrives Rst role.Empty false r f i hk hc ho hr hf hi is out =
-        drops (record {
-          why = ignores_unmatched (record { kind = inr (hk, hc); alone = ho });
+        passes_reset (record {
+          kind = hk;
+          class = hc;
+          alone = ho;
           answer = is;
           out = out.2 (λ z. cc (is, z)) (λ z. cc (is, z));
         })
@@ -282,7 +286,7 @@ module _ (word : ℕ) (t : List Entry) where
     again_is (inr hk) (inl hc) o r f i = sym (sorted Non role.Request o r f i hk hc)
     again_is (inr hk) (inr hc) o r f i = sym (sorted Non role.Response o r f i hk hc)
 
-    drop_is : (o r f i : Bool) → Decides o O → Decides r R → Decides f F → Drops t e m
+    drop_is : (o r f i : Bool) → Decides o O → Decides r R → Decides f F → Drops setup t e m
         → Dropped ≡ up_of k_is c_is m.message o r f i
     drop_is o r f i ho hr hf d = go d.why
       where
@@ -292,19 +296,13 @@ module _ (word : ℕ) (t : List Entry) where
         ack_class role.Response = refl
         ack_class role.Reserved = refl
 
-        rst_class : (c : Role) → Dropped ≡ up_of Rst c m.message false r f i
-        rst_class role.Empty = refl
-        rst_class role.Request = refl
-        rst_class role.Response = refl
-        rst_class role.Reserved = refl
-
         odd : (c : Role) → c_is ≡ c → c_is ≢ role.Empty → Dropped ≡ up_of Rst c m.message o r f i
         odd role.Empty h n = absurd (n h)
         odd role.Request h n = refl
         odd role.Response h n = refl
         odd role.Reserved h n = refl
 
-        go : Ignores t e m → Dropped ≡ up_of k_is c_is m.message o r f i
+        go : Ignores setup t e m → Dropped ≡ up_of k_is c_is m.message o r f i
         go (ignores_non w) = ⊎_elim (λ c. sorted Non role.Empty o r f i w.kind c)
             (λ c. sorted Non role.Reserved o r f i w.kind c) w.class
         go (ignores_reset w) = odd c_is refl w.class ∙ sorted Rst c_is o r f i w.kind refl
@@ -312,19 +310,18 @@ module _ (word : ℕ) (t : List Entry) where
             (λ c. sorted Ack role.Reserved o r f i w.kind c) w.class
         go (ignores_unmatched w) =
             let none = ap (λ x. up_of k_is c_is m.message x r f i) (sym (is_false o O ho w.alone)) in
-            ⊎_elim (λ k. ack_class c_is ∙ (sorted Ack c_is false r f i k.0 refl ∙ none))
-            (λ k. rst_class c_is ∙ (sorted Rst c_is false r f i k.0 refl ∙ none)) w.kind
+            ack_class c_is ∙ (sorted Ack c_is false r f i w.kind refl ∙ none)
         go (ignores_new w) =
             ap (λ x. again_or x true (fresh w.kind w.class i)) (sym (is_false r R hr w.new))
             ∙ (ap (λ x. again_or r x (fresh w.kind w.class i)) (sym (is_true f F hf w.full))
             ∙ sym (again_is w.kind w.class o r f i))
 
-    abbrev class_of : HandedAs word t e m → (c_is ≡ role.Request) ⊎ (c_is ≡ role.Response)
+    abbrev class_of : HandedAs setup t e m → (c_is ≡ role.Request) ⊎ (c_is ≡ role.Response)
     class_of (inl w) = inl w.0
     class_of (inr (inl w)) = inl w.0
     class_of (inr (inr w)) = inr w.0
 
-    given_is : (k : (k_is ≡ Con) ⊎ (k_is ≡ Non)) (i : Bool) → Chooses i (I e.at) (J e.at) → (w : HandedAs word t e m)
+    given_is : (k : (k_is ≡ Con) ⊎ (k_is ≡ Non)) (i : Bool) → Chooses i (I e.at) (J e.at) → (w : HandedAs setup t e m)
         → e.answer ≡ Becomes (fresh k (class_of w) i)
     given_is (inl hk) i hi (inl w) = w.2
     given_is (inr hk) i hi (inl w) = w.2 ∙ ap (λ b. Becomes (Request m.message b))
@@ -336,7 +333,7 @@ module _ (word : ℕ) (t : List Entry) where
     given_is (inr hk) i hi (inr (inr w)) = w.1
 
     answer_is : (o r f i : Bool) → Decides o O → Decides r R → Decides f F → Chooses i (I e.at) (J e.at)
-        → Sorts word t e m → e.answer ≡ Becomes (up_of k_is c_is m.message o r f i)
+        → Sorts setup t e m → e.answer ≡ Becomes (up_of k_is c_is m.message o r f i)
     answer_is o r f i ho hr hf hi (rejects w) = w.answer
         ∙ ap Becomes (⊎_elim (λ c. sorted Con role.Empty o r f i w.kind c)
         (λ c. sorted Con role.Reserved o r f i w.kind c) w.class)
@@ -347,6 +344,9 @@ module _ (word : ℕ) (t : List Entry) where
     answer_is o r f i ho hr hf hi (takes_reset w) = w.answer
         ∙ ap Becomes (sorted Rst role.Empty true r f i w.kind w.class
         ∙ ap (λ x. up_of k_is c_is m.message x r f i) (sym (is_true o O ho w.matches)))
+    answer_is o r f i ho hr hf hi (passes_reset w) = w.answer
+        ∙ ap Becomes (sorted Rst role.Empty false r f i w.kind w.class
+        ∙ ap (λ x. up_of k_is c_is m.message x r f i) (sym (is_false o O ho w.alone)))
     answer_is o r f i ho hr hf hi (takes_answer w) = w.answer
         ∙ ap Becomes (sorted Ack role.Response true r f i w.kind w.class
         ∙ ap (λ x. up_of k_is c_is m.message x r f i) (sym (is_true o O ho w.matches)))
@@ -364,22 +364,23 @@ module _ (word : ℕ) (t : List Entry) where
     told (Becomes d) = replay h e.at m d
     told _ = []
 
-    handed_out : HandedAs word t e m → [] ≡ told e.answer
+    handed_out : HandedAs setup t e m → [] ≡ told e.answer
     handed_out (inl a) = sym (ap told a.2)
     handed_out (inr (inl a)) = sym (ap told a.3)
     handed_out (inr (inr a)) = sym (ap told a.1)
 
-    out_is : LayerLaw word t → clock t ≤ e.at → Sorts word t e m → e.out ≡ told e.answer
+    out_is : LayerLaw setup t → clock t ≤ e.at → Sorts setup t e m → e.out ≡ told e.answer
     out_is law le (rejects w) = w.out ∙ sym (ap told w.answer)
     out_is law le (drops w) = w.out ∙ sym (ap told w.answer)
     out_is law le (takes_ack w) = w.out ∙ sym (ap told w.answer)
     out_is law le (takes_reset w) = w.out ∙ sym (ap told w.answer)
+    out_is law le (passes_reset w) = w.out ∙ sym (ap told w.answer)
     out_is law le (takes_answer w) = w.out ∙ sym (ap told w.answer)
     out_is law le (replays w) = w.out ∙ (sym (stored_is e.at m law le w.old) ∙ sym (ap told w.answer))
     out_is law le (hands_over w) = w.out ∙ handed_out w.answer
 
     -- both ways
-    received : LayerLaw word t → clock t ≤ e.at → Sorts word t e m
+    received : LayerLaw setup t → clock t ≤ e.at → Sorts setup t e m
         → (e.answer ≡ Becomes (sorted_by h e.at m)) × (e.out ≡ replay h e.at m (sorted_by h e.at m))
     received law le w =
         let a : e.answer ≡ Becomes (sorted_by h e.at m) =
@@ -398,6 +399,7 @@ module _ (word : ℕ) (t : List Entry) where
     quiet (Response x) n k = refl
     quiet (Acked id) n k = refl
     quiet (Reset id) n k = refl
+    quiet (Unmatched id) n k = refl
 
     replayed_old : (k : Kind) (c : Role) (o r f i : Bool) → up_of k c m.message o r f i ≡ Replayed → r ≡ true
     replayed_old k c o true f i h = refl
@@ -425,8 +427,8 @@ module _ (word : ℕ) (t : List Entry) where
     replayed_old Rst role.Response o false f i h = absurd (cc h)
     replayed_old Rst role.Reserved o false f i h = absurd (cc h)
 
-    receives : LayerLaw word t → clock t ≤ e.at → e.answer ≡ Becomes (sorted_by h e.at m)
-        → e.out ≡ replay h e.at m (sorted_by h e.at m) → Sorts word t e m
+    receives : LayerLaw setup t → clock t ≤ e.at → e.answer ≡ Becomes (sorted_by h e.at m)
+        → e.out ≡ replay h e.at m (sorted_by h e.at m) → Sorts setup t e m
     receives law le a o =
         arrives k_is c_is _ _ _ _ refl refl (outstanding_is m.from m.message.id) (known_is e.at m.from m.message.id)
         (full_is e.at) (free_here law e.at) a (
@@ -437,8 +439,8 @@ module _ (word : ℕ) (t : List Entry) where
         )
 
   -- a datagram
-  arrived : (e : Entry) (from : Endpoint) (what : Arrival) → LayerLaw word t → clock t ≤ e.at
-      → Arrives word t e from what → (e.answer ≡ Becomes (answer_to h e.at from what))
+  arrived : (e : Entry) (from : Endpoint) (what : Arrival) → LayerLaw setup t → clock t ≤ e.at
+      → Arrives setup t e from what → (e.answer ≡ Becomes (answer_to h e.at from what))
       × (e.out ≡ out_to h e.at from what)
   arrived e from Unreadable law le w = w
   arrived e from (Faulted Con id) law le w = w
@@ -447,8 +449,8 @@ module _ (word : ℕ) (t : List Entry) where
   arrived e from (Faulted Rst id) law le w = w
   arrived e from (Whole m) law le w = received e (record { from = from; message = m }) law le w
 
-  arrives_so : (e : Entry) (from : Endpoint) (what : Arrival) → LayerLaw word t → clock t ≤ e.at
-      → e.answer ≡ Becomes (answer_to h e.at from what) → e.out ≡ out_to h e.at from what → Arrives word t e from what
+  arrives_so : (e : Entry) (from : Endpoint) (what : Arrival) → LayerLaw setup t → clock t ≤ e.at
+      → e.answer ≡ Becomes (answer_to h e.at from what) → e.out ≡ out_to h e.at from what → Arrives setup t e from what
   arrives_so e from Unreadable law le a o = (a, o)
   arrives_so e from (Faulted Con id) law le a o = (a, o)
   arrives_so e from (Faulted Non id) law le a o = (a, o)
@@ -456,12 +458,12 @@ module _ (word : ℕ) (t : List Entry) where
   arrives_so e from (Faulted Rst id) law le a o = (a, o)
   arrives_so e from (Whole m) law le a o = receives e (record { from = from; message = m }) law le a o
 
-  shown : (e : Entry) (from : Endpoint) (bytes : List ℕ) (what : Arrival) → LayerLaw word t → clock t ≤ e.at
-      → AreBytes bytes → Shows bytes what → Arrives word t e from what
+  shown : (e : Entry) (from : Endpoint) (bytes : List ℕ) (what : Arrival) → LayerLaw setup t → clock t ≤ e.at
+      → AreBytes bytes → Shows bytes what → Arrives setup t e from what
       → (e.answer ≡ Becomes (answer_to h e.at from (arrival_at bytes)))
       × (e.out ≡ out_to h e.at from (arrival_at bytes))
   shown e from bytes what law le are shows w =
-      arrived e from (arrival_at bytes) law le (subst (Arrives word t e from) (one_arrival bytes what are shows) w)
+      arrived e from (arrival_at bytes) law le (subst (Arrives setup t e from) (one_arrival bytes what are shows) w)
 
   -- every call
   settled : (b : Bool) (P : Type 0) (answer : Answer) → Decides b P
@@ -486,35 +488,35 @@ module _ (word : ℕ) (t : List Entry) where
 
   -- sendings, by whether a Message ID is free
   abbrev SentBy : Kind → Entry → Endpoint → Content → Bool → Type 0
-  SentBy kind e to content b = (e.answer ≡ sending b (next_id word t))
-      × (e.out ≡ sent_out b kind (next_id word t) to content)
+  SentBy kind e to content b = (e.answer ≡ sending b (next_id setup t))
+      × (e.out ≡ sent_out b kind (next_id setup t) to content)
 
   sends_by : (kind : Kind) (e : Entry) (to : Endpoint) (content : Content) (b : Bool) → Chooses b (I e.at) (J e.at)
-      → RefusesIds word t e ⊎ SendsAs kind word t e to content → SentBy kind e to content b
-  sends_by kind e to content true d (inl r) = absurd (one_of word (numbers t) e.at d r.held)
+      → RefusesIds setup t e ⊎ SendsAs kind setup t e to content → SentBy kind e to content b
+  sends_by kind e to content true d (inl r) = absurd (one_of setup.word (numbers t) e.at d r.held)
   sends_by kind e to content false d (inl r) = (r.answer, r.out)
   sends_by kind e to content true d (inr r) =
-      let is : r.id ≡ next_id word t = r.gives.next ∙ sym (next_is word t) in (
+      let is : r.id ≡ next_id setup t = r.gives.next ∙ sym (next_is setup t) in (
         r.answer ∙ ap Sent is,
         r.out ∙ ap (λ (n : ℕ). record
             { to = to; bytes = message_bytes (with_head kind n content) } ∷ []) is,
       )
-  sends_by kind e to content false d (inr r) = absurd (one_of word (numbers t) e.at (gives_may e r.id r.gives) d)
+  sends_by kind e to content false d (inr r) = absurd (one_of setup.word (numbers t) e.at (gives_may e r.id r.gives) d)
     where
-      gives_may : (e : Entry) (id : ℕ) → ids.Gives word (numbers t) e.at id → I e.at
+      gives_may : (e : Entry) (id : ℕ) → ids.Gives setup.word (numbers t) e.at id → I e.at
       gives_may e id g = g.may
 
   sends_so : (kind : Kind) (e : Entry) (to : Endpoint) (content : Content) (b : Bool) → Chooses b (I e.at) (J e.at)
-      → e.answer ≡ sending b (next_id word t) → e.out ≡ sent_out b kind (next_id word t) to content
-      → RefusesIds word t e ⊎ SendsAs kind word t e to content
+      → e.answer ≡ sending b (next_id setup t) → e.out ≡ sent_out b kind (next_id setup t) to content
+      → RefusesIds setup t e ⊎ SendsAs kind setup t e to content
   sends_so kind e to content true d a o = inr (record
-      { id = next_id word t; gives = record { next = next_is word t; may = d }; answer = a; out = o })
+      { id = next_id setup t; gives = record { next = next_is setup t; may = d }; answer = a; out = o })
   sends_so kind e to content false d a o = inl (record { held = d; answer = a; out = o })
 
   confirmed : (e : Entry) (to : Endpoint) (content : Content) (busy free : Bool) → Decides busy (Busy t to)
-      → Chooses free (I e.at) (J e.at) → Confirms word t e to content
-      → (e.answer ≡ cond busy Busied (sending free (next_id word t)))
-      × (e.out ≡ cond busy [] (sent_out free Con (next_id word t) to content))
+      → Chooses free (I e.at) (J e.at) → Confirms setup t e to content
+      → (e.answer ≡ cond busy Busied (sending free (next_id setup t)))
+      × (e.out ≡ cond busy [] (sent_out free Con (next_id setup t) to content))
   confirmed e to content true free d c (inl r) = (r.answer, r.out)
   confirmed e to content false free d c (inl r) = absurd (d r.busy)
   confirmed e to content true free d c (inr r) = absurd (r.0 d)
@@ -522,8 +524,8 @@ module _ (word : ℕ) (t : List Entry) where
 
   confirms_so : (e : Entry) (to : Endpoint) (content : Content) (busy free : Bool) → Decides busy (Busy t to)
       → Chooses free (I e.at) (J e.at)
-      → e.answer ≡ cond busy Busied (sending free (next_id word t))
-      → e.out ≡ cond busy [] (sent_out free Con (next_id word t) to content) → Confirms word t e to content
+      → e.answer ≡ cond busy Busied (sending free (next_id setup t))
+      → e.out ≡ cond busy [] (sent_out free Con (next_id setup t) to content) → Confirms setup t e to content
   confirms_so e to content true free d c a o = inl (record { busy = d; answer = a; out = o })
   confirms_so e to content false free d c a o = inr (d, sends_so Con e to content free c a o)
 
@@ -532,9 +534,9 @@ module _ (word : ℕ) (t : List Entry) where
       → e.answer ≡ Is (not busy && free)
   roomed e to true free d c (inl r) = absurd (r.0 d)
   roomed e to false true d c (inl r) = r.2
-  roomed e to false false d c (inl r) = absurd (one_of word (numbers t) e.at r.1 c)
+  roomed e to false false d c (inl r) = absurd (one_of setup.word (numbers t) e.at r.1 c)
   roomed e to true free d c (inr r) = r.1
-  roomed e to false true d c (inr r) = absurd (⊎_elim d (λ j. one_of word (numbers t) e.at c j) r.0)
+  roomed e to false true d c (inr r) = absurd (⊎_elim d (λ j. one_of setup.word (numbers t) e.at c j) r.0)
   roomed e to false false d c (inr r) = r.1
 
   rooms_so : (e : Entry) (to : Endpoint) (busy free : Bool) → Decides busy (Busy t to) → Chooses free (I e.at) (J e.at)
@@ -555,7 +557,7 @@ module _ (word : ℕ) (t : List Entry) where
   frees_so e false c a = inr (c, a)
 
   -- the rows give what the state gives
-  pub right_of : (e : Entry) (call : Call) → LayerLaw word t → clock t ≤ e.at → Row word t e call
+  pub right_of : (e : Entry) (call : Call) → LayerLaw setup t → clock t ≤ e.at → Row setup t e call
       → (e.answer ≡ answer_of h e.at call) × (e.out ≡ out_of h e.at call)
   right_of e (Receive from bytes) law le row = shown e from bytes row.1.0 law le row.0 row.1.1 row.1.2
   right_of e (Reply to id bytes) law le row = (row.1, row.2)
@@ -577,8 +579,8 @@ module _ (word : ℕ) (t : List Entry) where
   IsMoment at _ = Unit {0}
 
   -- and back
-  pub row_of : (e : Entry) (call : Call) → LayerLaw word t → clock t ≤ e.at → IsMoment e.at call → May h call
-      → e.answer ≡ answer_of h e.at call → e.out ≡ out_of h e.at call → Row word t e call
+  pub row_of : (e : Entry) (call : Call) → LayerLaw setup t → clock t ≤ e.at → IsMoment e.at call → May h call
+      → e.answer ≡ answer_of h e.at call → e.out ≡ out_of h e.at call → Row setup t e call
   row_of e (Receive from bytes) law le at may a o =
       (may, (arrival_at bytes, shows_at bytes may, arrives_so e from (arrival_at bytes) law le a o))
   row_of e (Reply to id bytes) law le at may a o = (may, a, o, at)
@@ -594,12 +596,12 @@ module _ (word : ℕ) (t : List Entry) where
   row_of e Pass law le at may a o = (a, o)
 
 -- one answer and one sending for each call
-pub exact : (word : ℕ) (past : List Entry) (e f : Entry) → LayerLaw word past → Stands word past e → Stands word past f
+pub exact : (setup : Setup) (past : List Entry) (e f : Entry) → LayerLaw setup past → Stands setup past e → Stands setup past f
     → e.call ≡ f.call → e.at ≡ f.at → (e.answer ≡ f.answer) × (e.out ≡ f.out)
-exact word past e f law one two call at =
-    let a = right_of word past e e.call law one.time one.row in
-    let b = right_of word past f f.call law two.time two.row in (
-      a.0 ∙ (ap (λ x. answer_of (history word past) x e.call) at
-          ∙ (ap (answer_of (history word past) f.at) call ∙ sym b.0)),
-      a.1 ∙ (ap (λ x. out_of (history word past) x e.call) at ∙ (ap (out_of (history word past) f.at) call ∙ sym b.1)),
+exact setup past e f law one two call at =
+    let a = right_of setup past e e.call law one.time one.row in
+    let b = right_of setup past f f.call law two.time two.row in (
+      a.0 ∙ (ap (λ x. answer_of (history setup past) x e.call) at
+          ∙ (ap (answer_of (history setup past) f.at) call ∙ sym b.0)),
+      a.1 ∙ (ap (λ x. out_of (history setup past) x e.call) at ∙ (ap (out_of (history setup past) f.at) call ∙ sym b.1)),
     )

@@ -1,4 +1,5 @@
 -- The Message IDs that a layer gives, in its law and in its state.
+use Rattle.coap_layer.specs.Trace.{Setup}
 use Rattle.std.proofs.Common.{◌≡◌, ◌⊎◌, inl, inr, ⊎_elim, ℕ, ◌+◌, ◌/◌, ◌%◌, ◌<◌, ◌≤◌, ◌==◌, nat_lt, Bool, true, false}
 use Rattle.std.proofs.Common.{not, ◌||◌, Option, Some, None, List, [], ◌∷◌, ◌++◌, replicate, slice_get, refl, ap, sym}
 use Rattle.std.proofs.Common.{◌∙◌, subst, arith, zero, suc}
@@ -14,7 +15,7 @@ use Rattle.coap_layer.specs.Trace.{Content, Call, Receive, Reply, Confirm, Plain
 use Rattle.coap_layer.specs.Trace.{Pass, Answer, Sent, Entry}
 use Rattle.coap_layer.specs.Words.{Incoming, clock, issued_by, issued, numbers}
 use Rattle.coap_layer.specs.Rows.{LayerLaw, Row, Arrives, Sorts, HandedAs, rejects, drops, takes_ack, takes_reset}
-use Rattle.coap_layer.specs.Rows.{takes_answer, replays, hands_over, SendsAs, RefusesIds, Turns, copies, expires, rests}
+use Rattle.coap_layer.specs.Rows.{passes_reset, takes_answer, replays, hands_over, SendsAs, RefusesIds, Turns, copies, expires, rests}
 use Rattle.coap_layer.specs.Machine.State.{next_after, uses_after, next_id, uses, is_rested, is_free}
 use Rattle.coap_types.specs.declared.transmission.TheConstants.{ID_REUSE_AFTER_MS as id_reuse_after}
 use Rattle.coap_layer.specs.declared.message_id.TheConstants.{GROUP_SIZE as group_size}
@@ -22,29 +23,30 @@ use Rattle.coap_layer.proofs.Numbers.StepsOfASource.{uses_more}
 use Rattle.coap_layer.proofs.Numbers.EqualIdsAreApart.{small, not_both}
 
 -- each entry gives no number, or the one that is next
-abbrev GivesOne : ℕ → List Entry → Entry → Type 0
+abbrev GivesOne : Setup → List Entry → Entry → Type 0
 GivesOne word past e = (issued_by e.at e.answer ≡ [])
-    ⊎ ((id : ℕ) × Gives word (numbers past) e.at id × (e.answer ≡ Sent id))
+    ⊎ ((id : ℕ) × Gives word.word (numbers past) e.at id × (e.answer ≡ Sent id))
 
 none_by : (at : ℕ) (answer a : Answer) → answer ≡ a → issued_by at a ≡ [] → issued_by at answer ≡ []
 none_by at answer a is no_number = ap (issued_by at) is ∙ no_number
 
-module _ (word : ℕ) (past : List Entry) (e : Entry) where
-  sorted_gives : (m : Incoming) → Sorts word past e m → issued_by e.at e.answer ≡ []
+module _ (setup : Setup) (past : List Entry) (e : Entry) where
+  sorted_gives : (m : Incoming) → Sorts setup past e m → issued_by e.at e.answer ≡ []
   sorted_gives m (rejects r) = none_by e.at e.answer _ r.answer refl
   sorted_gives m (drops r) = none_by e.at e.answer _ r.answer refl
   sorted_gives m (takes_ack r) = none_by e.at e.answer _ r.answer refl
   sorted_gives m (takes_reset r) = none_by e.at e.answer _ r.answer refl
+  sorted_gives m (passes_reset r) = none_by e.at e.answer _ r.answer refl
   sorted_gives m (takes_answer r) = none_by e.at e.answer _ r.answer refl
   sorted_gives m (replays r) = none_by e.at e.answer _ r.answer refl
   sorted_gives m (hands_over r) = handed_gives r.answer
     where
-      handed_gives : HandedAs word past e m → issued_by e.at e.answer ≡ []
+      handed_gives : HandedAs setup past e m → issued_by e.at e.answer ≡ []
       handed_gives (inl a) = none_by e.at e.answer _ a.2 refl
       handed_gives (inr (inl a)) = none_by e.at e.answer _ a.3 refl
       handed_gives (inr (inr a)) = none_by e.at e.answer _ a.1 refl
 
-  arrived_gives : (from : Endpoint) (what : Arrival) → Arrives word past e from what → issued_by e.at e.answer ≡ []
+  arrived_gives : (from : Endpoint) (what : Arrival) → Arrives setup past e from what → issued_by e.at e.answer ≡ []
   arrived_gives from Unreadable r = none_by e.at e.answer _ r.0 refl
   arrived_gives from (Faulted Con id) r = none_by e.at e.answer _ r.0 refl
   arrived_gives from (Faulted Non id) r = none_by e.at e.answer _ r.0 refl
@@ -53,7 +55,7 @@ module _ (word : ℕ) (past : List Entry) (e : Entry) where
   arrived_gives from (Whole m) r = sorted_gives _ r
 
   plain_gives : (kind : Kind) (to : Endpoint) (content : Content)
-      → RefusesIds word past e ⊎ SendsAs kind word past e to content → GivesOne word past e
+      → RefusesIds setup past e ⊎ SendsAs kind setup past e to content → GivesOne setup past e
   plain_gives kind to content (inl r) = inl (none_by e.at e.answer _ r.answer refl)
   plain_gives kind to content (inr r) = inr (r.id, r.gives, r.answer)
 
@@ -62,7 +64,7 @@ module _ (word : ℕ) (past : List Entry) (e : Entry) where
   turn_gives (expires r) = none_by e.at e.answer _ r.answer refl
   turn_gives (rests r) = none_by e.at e.answer _ r.answer refl
 
-  gives_one : (call : Call) → Row word past e call → GivesOne word past e
+  gives_one : (call : Call) → Row setup past e call → GivesOne setup past e
   gives_one (Receive from bytes) row = inl (arrived_gives from row.1.0 row.1.2)
   gives_one (Reply to id bytes) row = inl (none_by e.at e.answer _ row.1 refl)
   gives_one (Confirm to content wish) row = ⊎_elim (λ r. inl (none_by e.at e.answer _ r.answer refl))
@@ -78,30 +80,30 @@ module _ (word : ℕ) (past : List Entry) (e : Entry) where
       (λ r. none_by e.at e.answer _ r.1 refl) row.0)
   gives_one Pass row = inl (none_by e.at e.answer _ row.0 refl)
 
-  latest_step : GivesOne word past e → latest (numbers past) ≤ e.at
+  latest_step : GivesOne setup past e → latest (numbers past) ≤ e.at
       → latest (issued_by e.at e.answer ++ numbers past) ≤ e.at
   latest_step (inl r) le = subst (λ gs. latest (gs ++ numbers past) ≤ e.at) (sym r) le
   latest_step (inr r) le = subst (λ a. latest (issued_by e.at a ++ numbers past) ≤ e.at) (sym r.2) (omega arith)
 
-  law_step : GivesOne word past e → latest (numbers past) ≤ e.at → NumbersLaw word (numbers past)
-      → NumbersLaw word (issued_by e.at e.answer ++ numbers past)
-  law_step (inl r) le law = subst (λ gs. NumbersLaw word (gs ++ numbers past)) (sym r) law
-  law_step (inr r) le law = subst (λ a. NumbersLaw word (issued_by e.at a ++ numbers past)) (sym r.2)
+  law_step : GivesOne setup past e → latest (numbers past) ≤ e.at → NumbersLaw setup.word (numbers past)
+      → NumbersLaw setup.word (issued_by e.at e.answer ++ numbers past)
+  law_step (inl r) le law = subst (λ gs. NumbersLaw setup.word (gs ++ numbers past)) (sym r) law
+  law_step (inr r) le law = subst (λ a. NumbersLaw setup.word (issued_by e.at a ++ numbers past)) (sym r.2)
       (record { time = le; right = r.1 }, law)
 
-latest_by : (word : ℕ) (t : List Entry) → LayerLaw word t → latest (numbers t) ≤ clock t
-latest_by word [] law = omega arith
-latest_by word (e ∷ past) law =
-    latest_step word past e (gives_one word past e e.call law.0.row)
-    (let le = latest_by word past law.1 in let le' = law.0.time in omega (arith, le, le'))
+latest_by : (setup : Setup) (t : List Entry) → LayerLaw setup t → latest (numbers t) ≤ clock t
+latest_by setup [] law = omega arith
+latest_by setup (e ∷ past) law =
+    latest_step setup past e (gives_one setup past e e.call law.0.row)
+    (let le = latest_by setup past law.1 in let le' = law.0.time in omega (arith, le, le'))
 
 -- the numbers of a layer stand in the law of numbers
-pub numbers_law : (word : ℕ) (t : List Entry) → LayerLaw word t → NumbersLaw word (numbers t)
-numbers_law word [] law = tt
-numbers_law word (e ∷ past) law =
-    law_step word past e (gives_one word past e e.call law.0.row)
-    (let le = latest_by word past law.1 in let le' = law.0.time in omega (arith, le, le'))
-    (numbers_law word past law.1)
+pub numbers_law : (setup : Setup) (t : List Entry) → LayerLaw setup t → NumbersLaw setup.word (numbers t)
+numbers_law setup [] law = tt
+numbers_law setup (e ∷ past) law =
+    law_step setup past e (gives_one setup past e e.call law.0.row)
+    (let le = latest_by setup past law.1 in let le' = law.0.time in omega (arith, le, le'))
+    (numbers_law setup past law.1)
 
 -- what is kept of them
 
@@ -109,9 +111,9 @@ next_in : (word : ℕ) (gs past : List Issued) → upcoming word (gs ++ past) �
 next_in word [] past = refl
 next_in word (g ∷ gs) past = refl
 
-pub next_is : (word : ℕ) (t : List Entry) → next_id word t ≡ upcoming word (numbers t)
-next_is word [] = refl
-next_is word (e ∷ past) = ap (next_after (issued e)) (next_is word past) ∙ sym (next_in word (issued e) (numbers past))
+pub next_is : (setup : Setup) (t : List Entry) → next_id setup t ≡ upcoming setup.word (numbers t)
+next_is setup [] = refl
+next_is setup (e ∷ past) = ap (next_after (issued e)) (next_is setup past) ∙ sym (next_in setup.word (issued e) (numbers past))
 
 uses_in : (word : ℕ) (gs past : List Issued) (us : List (Option ℕ)) → NumbersLaw word (gs ++ past) → AreUses past us
     → AreUses (gs ++ past) (uses_after gs us)
@@ -129,10 +131,10 @@ none_used zero group le = absurd (omega (arith, le))
 none_used (suc n) zero le = refl
 none_used (suc n) (suc group) le = none_used n group (omega (arith, le))
 
-pub uses_are : (word : ℕ) (t : List Entry) → LayerLaw word t → AreUses (numbers t) (uses t)
-uses_are word [] law = λ group le. none_used 16 group le
-uses_are word (e ∷ past) law = uses_in word (issued e) (numbers past) (uses past) (numbers_law word (e ∷ past) law)
-    (uses_are word past law.1)
+pub uses_are : (setup : Setup) (t : List Entry) → LayerLaw setup t → AreUses (numbers t) (uses t)
+uses_are setup [] law = λ group le. none_used 16 group le
+uses_are setup (e ∷ past) law = uses_in setup.word (issued e) (numbers past) (uses past) (numbers_law setup (e ∷ past) law)
+    (uses_are setup past law.1)
 
 -- the test, and what it decides
 abbrev pub Chooses : Bool → Type 0 → Type 0 → Type 0

@@ -1,4 +1,5 @@
 -- The stored reply, in the table and in the trace.
+use Rattle.coap_layer.specs.Trace.{Setup}
 use Rattle.std.proofs.Common.{◌≡◌, inl, inr, ℕ, ◌+◌, ◌≤◌, nat_le, Bool, true, false, Option, Some, None, List, [], ◌∷◌}
 use Rattle.std.proofs.Common.{◌++◌, map, refl, ap, sym, ◌∙◌, subst, arith, ◌&&◌, ◌||◌, cond, if◌then◌else◌}
 use Rattle.std.specs.List.{list_any}
@@ -138,7 +139,7 @@ module _ (now : ℕ) (from : Endpoint) (id : ℕ) where
               ∙ shape (reply_in from id e.call) (was_con from id past) (replied from id past)))),
         )
 
-    new_found : (word : ℕ) (m : Incoming) (b : Bool) → is_from from id m ≡ b → taken e ≡ Some m → Stands word past e
+    new_found : (setup : Setup) (m : Incoming) (b : Bool) → is_from from id m ≡ b → taken e ≡ Some m → Stands setup past e
         → e.at ≤ now
         → list_any (is_of now from id) (stored_xs ++ newly e.at (Some m)) ≡ true
         → (is_remembered now from id (arrivals past) ≡ true → Found past)
@@ -148,7 +149,7 @@ module _ (now : ℕ) (from : Endpoint) (id : ℕ) where
         ≡ cond (cond b (is_con m.message.kind) (was_con from id past))
         (cond b None (elim (reply_in from id e.call) [ Some bytes ↦ Some bytes | None ↦ replied from id past ]))
         None)
-    new_found word m false is up law le h found =
+    new_found setup m false is up law le h found =
         kept_found (newly e.at (Some m)) (go (list_any (is_of now from id) stored_xs)
         (sym (any_append (is_of now from id) stored_xs (newly e.at (Some m))) ∙ h)
         (quiet (nat_le now (e.at + exchange_lifetime)))) found
@@ -161,7 +162,7 @@ module _ (now : ℕ) (from : Endpoint) (id : ℕ) where
             → list_any (is_of now from id) (newly e.at (Some m)) ≡ false → c ≡ true
         go true k q = refl
         go false k q = absurd (cc (k, q))
-    new_found word m true is up law le h found =
+    new_found setup m true is up law le h found =
         (con_append stored_xs new false gone ∙ only.0, reply_append stored_xs new false gone ∙ only.1)
       where
         no : Option (List ℕ)
@@ -176,7 +177,7 @@ module _ (now : ℕ) (from : Endpoint) (id : ℕ) where
             let id_is : m.message.id ≡ id = same_nat m.message.id id (and_right (same_endpoint m.from from) _ is) in
             let r : Remembered past e.at from id = younger past e.at le
             (remembered_of now from id past (sym any_stored ∙ k)) in
-            new_only word past e m law up (subst (λ f. Remembered past e.at f m.message.id) (sym from_is)
+            new_only setup past e m law up (subst (λ f. Remembered past e.at f m.message.id) (sym from_is)
             (subst (λ i. Remembered past e.at from i) (sym id_is) r))
 
         gone : list_any (is_of now from id) stored_xs ≡ false
@@ -203,7 +204,7 @@ module _ (now : ℕ) (from : Endpoint) (id : ℕ) where
             × (reply_of now from id new ≡ cond (is_con m.message.kind) no no)
         only = look _ here
 
-    found_step : (word : ℕ) (o : Option Incoming) → taken e ≡ o → Stands word past e → e.at ≤ now
+    found_step : (setup : Setup) (o : Option Incoming) → taken e ≡ o → Stands setup past e → e.at ≤ now
         → list_any (is_of now from id) (stored_xs ++ newly e.at o) ≡ true
         → (is_remembered now from id (arrivals past) ≡ true → Found past)
         → (con_of now from id (stored_xs ++ newly e.at o)
@@ -220,16 +221,16 @@ module _ (now : ℕ) (from : Endpoint) (id : ℕ) where
         ])
         (cond (elim o [ Some m ↦ is_from from id m | None ↦ false ]) None
         (elim (reply_in from id e.call) [ Some bytes ↦ Some bytes | None ↦ replied from id past ])) None)
-    found_step word None up law le h found = kept_found []
+    found_step setup None up law le h found = kept_found []
         (go (list_any (is_of now from id) stored_xs) (sym (any_append (is_of now from id) stored_xs []) ∙ h)) found
       where
         go : (c : Bool) → (c || false) ≡ true → c ≡ true
         go true k = refl
         go false k = k
-    found_step word (Some m) up law le h found = new_found word m (is_from from id m) refl up law le h found
+    found_step setup (Some m) up law le h found = new_found setup m (is_from from id m) refl up law le h found
 
-  pub found_is : (word : ℕ) (t : List Entry) → LayerLaw word t → clock t ≤ now
+  pub found_is : (setup : Setup) (t : List Entry) → LayerLaw setup t → clock t ≤ now
       → is_remembered now from id (arrivals t) ≡ true → Found t
-  found_is word [] law le h = absurd (cc h)
-  found_is word (e ∷ past) law le h = found_step e past word (taken e) refl law.0 le h
-      (found_is word past law.1 (omega (arith, law.0.time, le)))
+  found_is setup [] law le h = absurd (cc h)
+  found_is setup (e ∷ past) law le h = found_step e past setup (taken e) refl law.0 le h
+      (found_is setup past law.1 (omega (arith, law.0.time, le)))

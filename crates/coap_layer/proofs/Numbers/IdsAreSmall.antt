@@ -1,4 +1,5 @@
 -- Each Message ID that is given has 16 bits.
+use Rattle.coap_layer.specs.Trace.{Setup}
 use Rattle.std.proofs.Common.{◌≡◌, ◌<◌, ℕ, List, [], ◌∷◌, ◌++◌, subst, arith}
 use Rattle.coap_layer.specs.Ids.{Issued, NumbersLaw}
 use Rattle.coap_layer.specs.Trace.{Sent, Entry}
@@ -10,16 +11,16 @@ use Rattle.coap_layer.proofs.Numbers.EqualIdsAreApart.{small}
 use Rattle.coap_layer.proofs.Machine.WhatIsIssued.{numbers_law}
 use Rattle.coap_layer.proofs.Numbers.OneEntryForAnId.{sent_number}
 
-small_here : (word : ℕ) (past : List Entry) (e : Entry) (id : ℕ) → LayerLaw word (e ∷ past) → e.answer ≡ Sent id
+small_here : (setup : Setup) (past : List Entry) (e : Entry) (id : ℕ) → LayerLaw setup (e ∷ past) → e.answer ≡ Sent id
     → id < message_ids
-small_here word past e id law h =
-    let numbered : NumbersLaw word (record { at = e.at; id = id } ∷ numbers past) =
-    subst (λ (gs : List Issued). NumbersLaw word (gs ++ numbers past)) (sent_number e id h)
-    (numbers_law word (e ∷ past) law) in
+small_here setup past e id law h =
+    let numbered : NumbersLaw setup.word (record { at = e.at; id = id } ∷ numbers past) =
+    subst (λ (gs : List Issued). NumbersLaw setup.word (gs ++ numbers past)) (sent_number e id h)
+    (numbers_law setup (e ∷ past) law) in
     let next = numbered.0.right.next in
-    let bound = small word (numbers past) in
+    let bound = small setup.word (numbers past) in
     omega (arith, next, bound)
 
-pub ids_small : (word : ℕ) (t : List Entry) → LayerLaw word t → IdsSmall t
-ids_small word [] law = tt
-ids_small word (e ∷ past) law = ((λ id h. small_here word past e id law h), ids_small word past law.1)
+pub ids_small : (setup : Setup) (t : List Entry) → LayerLaw setup t → IdsSmall t
+ids_small setup [] law = tt
+ids_small setup (e ∷ past) law = ((λ id h. small_here setup past e id law h), ids_small setup past law.1)

@@ -1,4 +1,5 @@
 -- What is sent under one Message ID within 400 s is sent by one entry.
+use Rattle.coap_layer.specs.Trace.{Setup}
 use Rattle.std.proofs.Common.{◌≡◌, inl, inr, ℕ, ◌+◌, ◌%◌, ◌≤◌, Option, Some, None, List, [], ◌∷◌, ◌++◌, refl, ap, sym}
 use Rattle.std.proofs.Common.{◌∙◌, subst, arith}
 use Rattle.coap_types.specs.Past.{Ever}
@@ -91,9 +92,9 @@ Near g h = (h.id ≡ g.id) × (g.at ≤ h.at + id_reuse_after)
 fresh_in : (gs past : List Issued) (g : Issued) → gs ≡ g ∷ [] → AreApart (gs ++ past) → Ever (Near g) past → ⊥
 fresh_in gs past g is apart k = (subst (λ (xs : List Issued). AreApart (xs ++ past)) is apart).0 k
 
-fresh : (word : ℕ) (past : List Entry) (e : Entry) (g : Issued) → LayerLaw word (e ∷ past) → Numbers g e
+fresh : (setup : Setup) (past : List Entry) (e : Entry) (g : Issued) → LayerLaw setup (e ∷ past) → Numbers g e
     → Ever (Near g) (numbers past) → ⊥
-fresh word past e g law is k = fresh_in (issued e) (numbers past) g is (ids_apart word (e ∷ past) law) k
+fresh setup past e g law is k = fresh_in (issued e) (numbers past) g is (ids_apart setup (e ∷ past) law) k
 
 given_there : (g h : Issued) → h.id ≡ g.id → g.at ≤ h.at + id_reuse_after → (P : Entry → Type 0)
     → ((e : Entry) → P e → Numbers h e) → (t : List Entry) → Ever P t → Ever (Near g) (numbers t)
@@ -106,22 +107,22 @@ given_there g h id le P f t k = Ever_out issued (Near g) t (Ever_map P (λ e. Ev
 module _ (P Q : Entry → Type 0) (g h : Issued) (f : (e : Entry) → P e → Numbers g e)
     (k : (e : Entry) → Q e → Numbers h e) (id : g.id ≡ h.id) (before : g.at ≤ h.at + id_reuse_after)
     (after : h.at ≤ g.at + id_reuse_after) where
-  pub one_entry : (word : ℕ) (t : List Entry) → LayerLaw word t → Ever P t → Ever Q t → Ever (λ e. P e × Q e) t
-  one_entry word [] law a b = a
-  one_entry word (e ∷ past) law (inl a) (inl b) = inl (a, b)
-  one_entry word (e ∷ past) law (inl a) (inr b) =
-      absurd (fresh word past e g law (f e a) (given_there g h (sym id) before Q k past b))
-  one_entry word (e ∷ past) law (inr a) (inl b) =
-      absurd (fresh word past e h law (k e b) (given_there h g id after P f past a))
-  one_entry word (e ∷ past) law (inr a) (inr b) = inr (one_entry word past law.1 a b)
+  pub one_entry : (setup : Setup) (t : List Entry) → LayerLaw setup t → Ever P t → Ever Q t → Ever (λ e. P e × Q e) t
+  one_entry setup [] law a b = a
+  one_entry setup (e ∷ past) law (inl a) (inl b) = inl (a, b)
+  one_entry setup (e ∷ past) law (inl a) (inr b) =
+      absurd (fresh setup past e g law (f e a) (given_there g h (sym id) before Q k past b))
+  one_entry setup (e ∷ past) law (inr a) (inl b) =
+      absurd (fresh setup past e h law (k e b) (given_there h g id after P f past a))
+  one_entry setup (e ∷ past) law (inr a) (inr b) = inr (one_entry setup past law.1 a b)
 
 -- two CONs under one Message ID, begun no more than 400 s apart, are one
-pub one_con : (word : ℕ) (t : List Entry) (c d : Open) → LayerLaw word t → Ever (IsBegun c) t → Ever (IsBegun d) t
+pub one_con : (setup : Setup) (t : List Entry) (c d : Open) → LayerLaw setup t → Ever (IsBegun c) t → Ever (IsBegun d) t
     → c.id ≡ d.id → c.first ≤ d.first + id_reuse_after → d.first ≤ c.first + id_reuse_after → c ≡ d
-one_con word t c d law a b id before after =
+one_con setup t c d law a b id before after =
     forget (c ≡ d) t (Ever_map _ _ (λ e k. let p = k.0 in let q = k.1 in cc (p, q)) t
     (one_entry (IsBegun c) (IsBegun d) (number_of c) (number_of d) (λ e. begun_number e c)
-    (λ e. begun_number e d) id before after word t law a b))
+    (λ e. begun_number e d) id before after setup t law a b))
 
 -- a NON has no CON's Message ID within 400 s
 pub record SendsPlain (id at : ℕ) (e : Entry) : Type 0 where
@@ -131,12 +132,12 @@ pub record SendsPlain (id at : ℕ) (e : Entry) : Type 0 where
   pub answer : e.answer ≡ Sent id
   pub at_is : e.at ≡ at
 
-pub no_plain : (word : ℕ) (t : List Entry) (c : Open) (at : ℕ) → LayerLaw word t → Ever (IsBegun c) t
+pub no_plain : (setup : Setup) (t : List Entry) (c : Open) (at : ℕ) → LayerLaw setup t → Ever (IsBegun c) t
     → Ever (SendsPlain c.id at) t → c.first ≤ at + id_reuse_after → at ≤ c.first + id_reuse_after → ⊥
-no_plain word t c at law a b before after =
+no_plain setup t c at law a b before after =
     forget ⊥ t (Ever_map _ _ both t
     (one_entry (IsBegun c) (SendsPlain c.id at) (number_of c) (record { at = at; id = c.id })
-    (λ e. begun_number e c) numbered refl before after word t law a b))
+    (λ e. begun_number e c) numbered refl before after setup t law a b))
   where
     numbered : (e : Entry) → SendsPlain c.id at e → Numbers (record { at = at; id = c.id }) e
     numbered e p = sent_number e c.id p.answer ∙ ap (λ (n : ℕ). record { at = n; id = c.id } ∷ []) p.at_is
@@ -145,7 +146,7 @@ no_plain word t c at law a b before after =
     both e k = let b = begins_of e c k.0 in let p = k.1.call in let q = b.call_is in cc (p, q)
 
 -- a CON is begun once
-pub begun_once : (word : ℕ) (past : List Entry) (e : Entry) (c : Open) → LayerLaw word (e ∷ past) → begun e ≡ Some c
+pub begun_once : (setup : Setup) (past : List Entry) (e : Entry) (c : Open) → LayerLaw setup (e ∷ past) → begun e ≡ Some c
     → Ever (IsBegun c) past → ⊥
-begun_once word past e c law h k = fresh word past e (number_of c) law (begun_number e c h)
+begun_once setup past e c law h k = fresh setup past e (number_of c) law (begun_number e c h)
     (given_there (number_of c) (number_of c) refl (omega arith) (IsBegun c) (λ x. begun_number x c) past k)

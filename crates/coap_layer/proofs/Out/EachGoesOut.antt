@@ -1,4 +1,5 @@
 -- What goes out, by the rows.
+use Rattle.coap_layer.specs.Trace.{Setup}
 use Rattle.std.proofs.Common.{◌≡◌, ◌⊎◌, inl, inr, ⊎_elim, ℕ, ◌+◌, ◌%◌, ◌<◌, Bool, true, false, ◌&&◌, cond, Option, Some}
 use Rattle.std.proofs.Common.{None, List, [], ◌∷◌, refl, ap, sym, ◌∙◌, subst, arith}
 use Rattle.coap_types.specs.Past.{Always, Since}
@@ -13,7 +14,7 @@ use Rattle.coap_layer.specs.Trace.{Take, Room, AsksFree, Pass, Answer, Copied, E
 use Rattle.coap_layer.specs.Words.{Incoming, is_con, was_con, hands_up, reply_in, replied, Open, sent_by, open_of}
 use Rattle.coap_layer.specs.Words.{begun_in, begun, outstanding, numbers, copies_in}
 use Rattle.coap_layer.specs.Rows.{Stands, LayerLaw, Row, Arrives, Sorts, rejects, drops, takes_ack, takes_reset}
-use Rattle.coap_layer.specs.Rows.{takes_answer, replays, hands_over, IsSpelled, Confirms, SendsAs, RefusesIds, copies}
+use Rattle.coap_layer.specs.Rows.{passes_reset, takes_answer, replays, hands_over, IsSpelled, Confirms, SendsAs, RefusesIds, copies}
 use Rattle.coap_layer.specs.Rows.{expires, rests, HasStep, Fails, CopyDue, Copies}
 use Rattle.coap_layer.specs.Sends.{IsIn, as_begun, SendsIt, packet_of, GoesAlike, AllAlike, SpellsCon, ConsSpelled}
 use Rattle.coap_layer.specs.Sends.{GoesOut, first, copy, plain, reply, reset, EachGoesOut, Begins}
@@ -33,16 +34,16 @@ pub record ConGoes (e : Entry) (c : Open) : Type 0 where
   pub out : e.out ≡ packet_of c ∷ []
   pub spells : SpellsCon c
 
-con_row : (word : ℕ) (past : List Entry) (e : Entry) (c : Open) → Stands word past e → begun e ≡ Some c → ConGoes e c
-con_row word past e c here h = go row.1
+con_row : (setup : Setup) (past : List Entry) (e : Entry) (c : Open) → Stands setup past e → begun e ≡ Some c → ConGoes e c
+con_row setup past e c here h = go row.1
   where
     b : Begins e.at e.call e.answer c
     b = begins_of e c h
 
-    row : IsSpelled b.content × Confirms word past e c.to b.content
-    row = subst (Row word past e) b.call_is here.row
+    row : IsSpelled b.content × Confirms setup past e c.to b.content
+    row = subst (Row setup past e) b.call_is here.row
 
-    go : Confirms word past e c.to b.content → ConGoes e c
+    go : Confirms setup past e c.to b.content → ConGoes e c
     go (inl r) = let k = b.answer_is in let l = r.answer in absurd (cc (k, l))
     go (inr (f, inl r)) = let k = b.answer_is in let l = r.answer in absurd (cc (k, l))
     go (inr (f, inr r)) =
@@ -50,7 +51,7 @@ con_row word past e c here h = go row.1
         let bytes_is : message_bytes (with_head Con r.id b.content)
         ≡ c.bytes = ap (λ (n : ℕ). message_bytes (with_head Con n b.content)) id_is ∙ sym b.bytes_are in
         let bound : c.id < message_ids = let k = r.gives.next in let l =
-        small word (numbers past) in omega (arith, id_is, k, l) in
+        small setup.word (numbers past) in omega (arith, id_is, k, l) in
         record {
           out = r.out ∙ ap (λ (x : List ℕ). record { to = c.to; bytes = x } ∷ []) bytes_is;
           spells = (
@@ -62,26 +63,26 @@ con_row word past e c here h = go row.1
           );
         }
 
-pub cons_spelled : (word : ℕ) (t : List Entry) → LayerLaw word t → ConsSpelled t
-cons_spelled word [] law = tt
-cons_spelled word (e ∷ past) law = ((λ c h. (con_row word past e c law.0 h).spells), cons_spelled word past law.1)
+pub cons_spelled : (setup : Setup) (t : List Entry) → LayerLaw setup t → ConsSpelled t
+cons_spelled setup [] law = tt
+cons_spelled setup (e ∷ past) law = ((λ c h. (con_row setup past e c law.0 h).spells), cons_spelled setup past law.1)
 
 -- each sending of a CON is alike
-first_alike : (word : ℕ) (past : List Entry) (e : Entry) (c : Open) → Stands word past e → begun e ≡ Some c
+first_alike : (setup : Setup) (past : List Entry) (e : Entry) (c : Open) → Stands setup past e → begun e ≡ Some c
     → GoesAlike c e
-first_alike word past e c here h =
+first_alike setup past e c here h =
     let b = begins_of e c h in
     record {
       from = omega (arith, b.first_is);
       till = omega (arith, b.first_is);
-      out = (con_row word past e c here h).out;
+      out = (con_row setup past e c here h).out;
     }
 
-copy_alike : (word : ℕ) (past : List Entry) (e : Entry) (x : Open) → LayerLaw word (e ∷ past)
+copy_alike : (setup : Setup) (past : List Entry) (e : Entry) (x : Open) → LayerLaw setup (e ∷ past)
     → IsIn x (outstanding past) → e.answer ≡ Copied x.to x.id → GoesAlike (as_begun x) e
-copy_alike word past e x law there answer =
+copy_alike setup past e x law there answer =
     record {
-      from = let k = begun_by word past (as_begun x) law.1 (was_begun past x there) in omega (arith, k, law.0.time);
+      from = let k = begun_by setup past (as_begun x) law.1 (was_begun past x there) in omega (arith, k, law.0.time);
       till = ⊎_elim (λ f. absurd (r.alive (subst (Fails e.at) (sym same) f)))
           (λ (d : CopyDue e.at x). let w = d.early in omega (arith, w))
           (subst (HasStep e.at) same (first_has (HasStep e.at) r.con (outstanding past) r.first));
@@ -89,30 +90,30 @@ copy_alike word past e x law there answer =
     }
   where
     r : Copies past e
-    r = copies_row word past e e.call x.to x.id law.0.row answer
+    r = copies_row setup past e e.call x.to x.id law.0.row answer
 
     to_is : r.con.to ≡ x.to
     to_is = let k = r.answer in cc (k, answer)
 
     same : r.con ≡ x
-    same = one_open word past law.1 r.con x (in_first (HasStep e.at) r.con (outstanding past) r.first) there to_is
+    same = one_open setup past law.1 r.con x (in_first (HasStep e.at) r.con (outstanding past) r.first) there to_is
 
-alike : (word : ℕ) (past : List Entry) (e : Entry) (c : Open) → LayerLaw word (e ∷ past) → SendsIt c past e
+alike : (setup : Setup) (past : List Entry) (e : Entry) (c : Open) → LayerLaw setup (e ∷ past) → SendsIt c past e
     → GoesAlike c e
-alike word past e c law (inl b) = first_alike word past e c law.0 b
-alike word past e c law (inr s) =
+alike setup past e c law (inl b) = first_alike setup past e c law.0 b
+alike setup past e c law (inr s) =
     let q = some_in (λ x. as_begun x ≡ c) (outstanding past) s.0 in
     let answer : e.answer ≡ Copied q.0.to q.0.id = copied_by e.call e.answer c.to c.id s.1
     ∙ ap (λ (y : Open). Copied y.to y.id) (sym q.2) in
-    subst (λ (y : Open). GoesAlike y e) q.2 (copy_alike word past e q.0 law q.1 answer)
+    subst (λ (y : Open). GoesAlike y e) q.2 (copy_alike setup past e q.0 law q.1 answer)
 
-alike_in : (word : ℕ) (c : Open) (t : List Entry) → LayerLaw word t
+alike_in : (setup : Setup) (c : Open) (t : List Entry) → LayerLaw setup t
     → Always (λ past e. SendsIt c past e → GoesAlike c e) t
-alike_in word c [] law = tt
-alike_in word c (e ∷ past) law = ((λ s. alike word past e c law s), alike_in word c past law.1)
+alike_in setup c [] law = tt
+alike_in setup c (e ∷ past) law = ((λ s. alike setup past e c law s), alike_in setup c past law.1)
 
-pub all_alike : (word : ℕ) (t : List Entry) → LayerLaw word t → AllAlike t
-all_alike word t law c = alike_in word c t law
+pub all_alike : (setup : Setup) (t : List Entry) → LayerLaw setup t → AllAlike t
+all_alike setup t law c = alike_in setup c t law
 
 -- what goes out, by the row
 none_out : (X : Type 0) (p : Packet) (out : List Packet) → out ≡ [] → IsIn p out → X
@@ -143,10 +144,10 @@ replied_since from id (e ∷ past) bytes h = go (hands_up from id e) (reply_in f
     go false (Some x) a b k f = inl (b ∙ k)
     go false None a b k f = inr (a, f k)
 
-module _ (word : ℕ) (past : List Entry) (e : Entry) (p : Packet) (law : LayerLaw word (e ∷ past))
+module _ (setup : Setup) (past : List Entry) (e : Entry) (p : Packet) (law : LayerLaw setup (e ∷ past))
     (sends : IsIn p e.out) where
   sorted_out : (from : Endpoint) (bytes : List ℕ) (m : Incoming) → m.from ≡ from → e.call ≡ Receive from bytes
-      → Spells bytes m.message → Sorts word past e m → GoesOut past e p
+      → Spells bytes m.message → Sorts setup past e m → GoesOut past e p
   sorted_out from bytes m place call spells (rejects r) =
       subst (GoesOut past e) (one_out p _ e.out r.out sends)
       (reset (record {
@@ -160,6 +161,7 @@ module _ (word : ℕ) (past : List Entry) (e : Entry) (p : Packet) (law : LayerL
   sorted_out from bytes m place call spells (drops r) = none_out _ p e.out r.out sends
   sorted_out from bytes m place call spells (takes_ack r) = none_out _ p e.out r.out sends
   sorted_out from bytes m place call spells (takes_reset r) = none_out _ p e.out r.out sends
+  sorted_out from bytes m place call spells (passes_reset r) = none_out _ p e.out r.out sends
   sorted_out from bytes m place call spells (takes_answer r) = none_out _ p e.out r.out sends
   sorted_out from bytes m place call spells (hands_over r) = none_out _ p e.out r.out sends
   sorted_out from bytes m place call spells (replays r) =
@@ -188,13 +190,13 @@ module _ (word : ℕ) (past : List Entry) (e : Entry) (p : Packet) (law : LayerL
           }))
 
   fault_out : (from : Endpoint) (bytes : List ℕ) (id : ℕ) → e.call ≡ Receive from bytes → Shows bytes (Faulted Con id)
-      → Arrives word past e from (Faulted Con id) → GoesOut past e p
+      → Arrives setup past e from (Faulted Con id) → GoesOut past e p
   fault_out from bytes id call shows r =
       subst (GoesOut past e) (one_out p _ e.out r.1 sends)
       (reset (record { bytes = bytes; id = id; call = call; shows = inl shows; answer = r.0; is = refl }))
 
   arrived_out : (from : Endpoint) (bytes : List ℕ) (what : Arrival) → e.call ≡ Receive from bytes → Shows bytes what
-      → Arrives word past e from what → GoesOut past e p
+      → Arrives setup past e from what → GoesOut past e p
   arrived_out from bytes Unreadable call shows r = none_out _ p e.out r.1 sends
   arrived_out from bytes (Faulted Con id) call shows r = fault_out from bytes id call shows r
   arrived_out from bytes (Faulted Non id) call shows r = none_out _ p e.out r.1 sends
@@ -204,7 +206,7 @@ module _ (word : ℕ) (past : List Entry) (e : Entry) (p : Packet) (law : LayerL
       sorted_out from bytes (record { from = from; message = m }) refl call shows r
 
   confirmed_out : (to : Endpoint) (content : Content) (wish : ℕ) → e.call ≡ Confirm to content wish
-      → Confirms word past e to content → GoesOut past e p
+      → Confirms setup past e to content → GoesOut past e p
   confirmed_out to content wish call (inl r) = none_out _ p e.out r.out sends
   confirmed_out to content wish call (inr (f, inl r)) = none_out _ p e.out r.out sends
   confirmed_out to content wish call (inr (f, inr r)) =
@@ -224,7 +226,7 @@ module _ (word : ℕ) (past : List Entry) (e : Entry) (p : Packet) (law : LayerL
       }))
 
   plain_out : (to : Endpoint) (content : Content) → e.call ≡ Plain to content → IsSpelled content
-      → RefusesIds word past e ⊎ SendsAs Non word past e to content → GoesOut past e p
+      → RefusesIds setup past e ⊎ SendsAs Non setup past e to content → GoesOut past e p
   plain_out to content call spelled (inl r) = none_out _ p e.out r.out sends
   plain_out to content call spelled (inr r) =
       subst (GoesOut past e) (one_out p _ e.out r.out sends)
@@ -233,7 +235,7 @@ module _ (word : ℕ) (past : List Entry) (e : Entry) (p : Packet) (law : LayerL
         id = r.id;
         call = call;
         answer = r.answer;
-        spells = spelled Non r.id (let k = r.gives.next in let l = small word (numbers past) in omega (arith, k, l));
+        spells = spelled Non r.id (let k = r.gives.next in let l = small setup.word (numbers past) in omega (arith, k, l));
       }))
 
   copied_out : e.call ≡ Ticks → Copies past e → GoesOut past e p
@@ -245,7 +247,7 @@ module _ (word : ℕ) (past : List Entry) (e : Entry) (p : Packet) (law : LayerL
       ∙ both _ _ (place_same r.con.to r.con.to refl) (grind (arith, nat_tests))) in
       let sends_it : SendsIt (as_begun r.con) past e =
       inr (Ever_map _ _ (λ (x : Open) k. ap as_begun k) (outstanding past) there, again) in
-      let a : GoesAlike (as_begun r.con) e = alike word past e (as_begun r.con) law sends_it in
+      let a : GoesAlike (as_begun r.con) e = alike setup past e (as_begun r.con) law sends_it in
       subst (GoesOut past e) (one_out p _ e.out a.out sends)
       (copy (record {
         con = as_begun r.con;
@@ -257,7 +259,7 @@ module _ (word : ℕ) (past : List Entry) (e : Entry) (p : Packet) (law : LayerL
         is = refl;
       }))
 
-  row_out : (call : Call) → e.call ≡ call → Row word past e call → GoesOut past e p
+  row_out : (call : Call) → e.call ≡ call → Row setup past e call → GoesOut past e p
   row_out (Receive from bytes) is row = arrived_out from bytes row.1.0 is row.1.1 row.1.2
   row_out (Reply to id bytes) is row = subst (GoesOut past e) (one_out p _ e.out row.2 sends)
       (reply (record { id = id; awaited = row.0; call = is }))
@@ -272,10 +274,10 @@ module _ (word : ℕ) (past : List Entry) (e : Entry) (p : Packet) (law : LayerL
   row_out AsksFree is row = none_out _ p e.out row.1 sends
   row_out Pass is row = none_out _ p e.out row.1 sends
 
-pub goes_out : (word : ℕ) (past : List Entry) (e : Entry) (p : Packet) → LayerLaw word (e ∷ past) → IsIn p e.out
+pub goes_out : (setup : Setup) (past : List Entry) (e : Entry) (p : Packet) → LayerLaw setup (e ∷ past) → IsIn p e.out
     → GoesOut past e p
-goes_out word past e p law sends = row_out word past e p law sends e.call refl law.0.row
+goes_out setup past e p law sends = row_out setup past e p law sends e.call refl law.0.row
 
-pub each_goes_out : (word : ℕ) (t : List Entry) → LayerLaw word t → EachGoesOut t
-each_goes_out word [] law = tt
-each_goes_out word (e ∷ past) law = ((λ p h. goes_out word past e p law h), each_goes_out word past law.1)
+pub each_goes_out : (setup : Setup) (t : List Entry) → LayerLaw setup t → EachGoesOut t
+each_goes_out setup [] law = tt
+each_goes_out setup (e ∷ past) law = ((λ p h. goes_out setup past e p law h), each_goes_out setup past law.1)

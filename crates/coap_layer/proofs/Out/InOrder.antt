@@ -1,4 +1,5 @@
 -- What is taken was sent, in the order of sending.
+use Rattle.coap_layer.specs.Trace.{Setup}
 use Rattle.std.proofs.Common.{◌≡◌, ◌⊎◌, inl, inr, ⊎_elim, ℕ, zero, suc, Some, List, [], ◌∷◌, ◌++◌, drop, slice_get}
 use Rattle.std.proofs.Common.{refl, ap, sym, ◌∙◌, subst, append_assoc}
 use Rattle.coap_types.specs.Past.{Ever}
@@ -15,24 +16,24 @@ taken_first : (q : List Packet) (answer : Answer) → answer ≡ Gives (slice_ge
 taken_first [] answer h = rw h refl
 taken_first (p ∷ q) answer h = rw h refl
 
-taken_now : (word : ℕ) (past : List Entry) (e : Entry) (call : Call) → Row word past e call
+taken_now : (setup : Setup) (past : List Entry) (e : Entry) (call : Call) → Row setup past e call
     → waiting past ≡ collected_in call e.answer ++ drop (takes_in call) (waiting past)
-taken_now word past e Take row = taken_first (waiting past) e.answer row.0
-taken_now word past e (Receive from bytes) row = refl
-taken_now word past e (Reply to id bytes) row = refl
-taken_now word past e (Confirm to content wish) row = refl
-taken_now word past e (Plain to content) row = refl
-taken_now word past e (Settle to id) row = refl
-taken_now word past e Ticks row = refl
-taken_now word past e (Room to) row = refl
-taken_now word past e AsksFree row = refl
-taken_now word past e Pass row = refl
+taken_now setup past e Take row = taken_first (waiting past) e.answer row.0
+taken_now setup past e (Receive from bytes) row = refl
+taken_now setup past e (Reply to id bytes) row = refl
+taken_now setup past e (Confirm to content wish) row = refl
+taken_now setup past e (Plain to content) row = refl
+taken_now setup past e (Settle to id) row = refl
+taken_now setup past e Ticks row = refl
+taken_now setup past e (Room to) row = refl
+taken_now setup past e AsksFree row = refl
+taken_now setup past e Pass row = refl
 
-pub in_order : (word : ℕ) (t : List Entry) → LayerLaw word t → InOrder t
-in_order word [] law = refl
-in_order word (e ∷ past) law =
-    ap (λ x. x ++ e.out) (in_order word past law.1
-    ∙ ap (λ x. collected past ++ x) (taken_now word past e e.call law.0.row))
+pub in_order : (setup : Setup) (t : List Entry) → LayerLaw setup t → InOrder t
+in_order setup [] law = refl
+in_order setup (e ∷ past) law =
+    ap (λ x. x ++ e.out) (in_order setup past law.1
+    ∙ ap (λ x. collected past ++ x) (taken_now setup past e e.call law.0.row))
     ∙ joined (collected past) (collected_in e.call e.answer) (drop (takes_in e.call) (waiting past)) e.out
   where
     joined : (a b c d : List Packet) → (a ++ (b ++ c)) ++ d ≡ (a ++ b) ++ (c ++ d)
@@ -61,16 +62,16 @@ waits_sent p [] h = h
 waits_sent p (e ∷ past) h = ⊎_elim (λ k. inr (waits_sent p past (in_drop (takes_in e.call) p (waiting past) k)))
     (λ k. inl k) (Ever_append (λ y. y ≡ p) (drop (takes_in e.call) (waiting past)) e.out h)
 
-pub taken_sent : (word : ℕ) (t : List Entry) → LayerLaw word t → TakenSent t
-taken_sent word [] law = tt
-taken_sent word (e ∷ past) law = (
+pub taken_sent : (setup : Setup) (t : List Entry) → LayerLaw setup t → TakenSent t
+taken_sent setup [] law = tt
+taken_sent setup (e ∷ past) law = (
   (λ p call answer. waits_sent p past (first_waits (waiting past) p
-      (sym (subst (Row word past e) call law.0.row).0 ∙ answer))),
-  taken_sent word past law.1,
+      (sym (subst (Row setup past e) call law.0.row).0 ∙ answer))),
+  taken_sent setup past law.1,
 )
 
 pub taken_since : TakenSince
-taken_since word past later e p law none call answer =
+taken_since setup past later e p law none call answer =
     ⊎_elim (λ k. k) (λ k. absurd (subst (IsIn p) none k))
     (waits_since p later past (first_waits (waiting (later ++ past)) p
-    (sym (subst (Row word (later ++ past) e) call law.0.row).0 ∙ answer)))
+    (sym (subst (Row setup (later ++ past) e) call law.0.row).0 ∙ answer)))

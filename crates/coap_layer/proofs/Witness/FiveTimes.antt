@@ -1,4 +1,5 @@
 -- A CON that goes out five times: in the lawful trace of `LawfulRun`, at 0, 3,000, 9,000, 21,000 and 45,000.
+use Rattle.coap_layer.specs.Examples.{began}
 use Rattle.std.proofs.Common.{inl, inr, List, [], ◌∷◌, ◌++◌, drop, refl}
 use Rattle.coap_codec.specs.Spelling.{options_bytes}
 use Rattle.coap_layer.specs.Words.{Open}
@@ -24,8 +25,8 @@ earlier = drop 1 run
 pub five_times : FiveTimes
 unfolding options_bytes
 five_times = record {
-  past = entries (start 0) earlier ++ [];
-  last = made (left_after (start 0) earlier) 93000 Ticks;
+  past = entries (start began) earlier ++ [];
+  last = made (left_after (start began) earlier) 93000 Ticks;
   law = witness;
   con = con;
   five = inr (inl (

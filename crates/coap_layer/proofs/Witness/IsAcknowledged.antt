@@ -1,5 +1,6 @@
 -- Two layers that stand in the law of a channel: a CON is begun at 0, arrives at 10 and is acknowledged; the
 -- acknowledgement is taken at 20 (RFC 7252, section 4.2).
+use Rattle.coap_layer.specs.Examples.{began}
 use Rattle.std.proofs.Common.{◌≡◌, ◌<◌, inl, inr, ℕ, List, [], ◌∷◌, ◌++◌, true, refl, ap, subst, arith}
 use Rattle.coap_types.specs.declared.endpoint.Endpoint.{Endpoint}
 use Rattle.coap_types.specs.declared.message.Kind.TheVariants.{Con, Ack}
@@ -88,7 +89,7 @@ near_run = near_hears ∷ near_begins ∷ []
 abbrev far_run : List Asked
 far_run = far_replies ∷ far_takes ∷ []
 
-near_steps : Steps (start 0) near_run (left_after (start 0) near_run)
+near_steps : Steps (start began) near_run (left_after (start began) near_run)
 unfolding decoded frame_fault body_at walk walk_of option_at nibbles_at value_at extended payload_at
 near_steps = (
   _,
@@ -100,7 +101,7 @@ near_steps = (
   },
 )
 
-far_steps : Steps (start 0) far_run (left_after (start 0) far_run)
+far_steps : Steps (start began) far_run (left_after (start began) far_run)
 unfolding decoded frame_fault body_at walk walk_of option_at nibbles_at value_at extended payload_at
 far_steps = (
   _,
@@ -117,29 +118,29 @@ far_steps = (
 )
 
 abbrev near_trace : List Entry
-near_trace = entries (start 0) near_run ++ []
+near_trace = entries (start began) near_run ++ []
 
 abbrev far_trace : List Entry
-far_trace = entries (start 0) far_run ++ []
+far_trace = entries (start began) far_run ++ []
 
-near_lawful : LayerLaw 0 near_trace
-near_lawful = (led_steps 0 [] (start 0) (left_after (start 0) near_run) near_run
+near_lawful : LayerLaw began near_trace
+near_lawful = (led_steps began [] (start began) (left_after (start began) near_run) near_run
     (record { law = tt; kept = refl }) near_steps).law
 
-far_lawful : LayerLaw 0 far_trace
-far_lawful = (led_steps 0 [] (start 0) (left_after (start 0) far_run) far_run
+far_lawful : LayerLaw began far_trace
+far_lawful = (led_steps began [] (start began) (left_after (start began) far_run) far_run
     (record { law = tt; kept = refl }) far_steps).law
 
 -- in the order of time
 abbrev hops : List Hop
 hops =
-    Near (made (left_after (start 0) (near_begins ∷ [])) 20 near_hears.call) ∷
-    Far (made (left_after (start 0) (far_takes ∷ [])) 10 far_replies.call) ∷
-    Far (made (start 0) 10 far_takes.call) ∷
-    Near (made (start 0) 0 near_begins.call) ∷
+    Near (made (left_after (start began) (near_begins ∷ [])) 20 near_hears.call) ∷
+    Far (made (left_after (start began) (far_takes ∷ [])) 10 far_replies.call) ∷
+    Far (made (start began) 10 far_takes.call) ∷
+    Near (made (start began) 0 near_begins.call) ∷
     []
 
-reply_once : RepliesAtOnce (made (start 0) 10 far_takes.call ∷ []) 10 0 ack
+reply_once : RepliesAtOnce (made (start began) 10 far_takes.call ∷ []) 10 0 ack
 unfolding decoded frame_fault body_at walk walk_of option_at nibbles_at value_at extended payload_at
 reply_once = record {
   to_what = record { from = client; message = request_message };
@@ -153,15 +154,15 @@ reply_once = record {
 same_bytes : (a b : List ℕ) (from to : Endpoint) → Receive from a ≡ Receive to b → a ≡ b
 same_bytes a b from to h = cc h
 
-request_out : GaveOut server request 10 (made (start 0) 0 near_begins.call)
+request_out : GaveOut server request 10 (made (start began) 0 near_begins.call)
 unfolding options_bytes
 request_out = record { out = inl refl; from = omega arith; till = omega arith }
 
-ack_out : GaveOut client ack 20 (made (left_after (start 0) (far_takes ∷ [])) 10 far_replies.call)
+ack_out : GaveOut client ack 20 (made (left_after (start began) (far_takes ∷ [])) 10 far_replies.call)
 unfolding decoded frame_fault body_at walk walk_of option_at nibbles_at value_at extended payload_at
 ack_out = record { out = inl refl; from = omega arith; till = omega arith }
 
-channel : ChannelLaw 0 0 client server hops
+channel : ChannelLaw began began client server hops
 unfolding decoded frame_fault body_at walk walk_of option_at nibbles_at value_at extended payload_at
 channel = record {
   near_law = near_lawful;
@@ -169,18 +170,18 @@ channel = record {
   near_replies = ((λ to id bytes h. absurd (cc h)), ((λ to id bytes h. absurd (cc h)), tt));
   far_replies = (
     (λ to id bytes h. let i : 0 ≡ id = cc h in let b : ack
-        ≡ bytes = cc h in subst (λ (n : ℕ). RepliesAtOnce (made (start 0) 10 far_takes.call ∷ []) 10 n bytes) i
-        (subst (λ (x : List ℕ). RepliesAtOnce (made (start 0) 10 far_takes.call ∷ []) 10 0 x) b reply_once)),
+        ≡ bytes = cc h in subst (λ (n : ℕ). RepliesAtOnce (made (start began) 10 far_takes.call ∷ []) 10 n bytes) i
+        (subst (λ (x : List ℕ). RepliesAtOnce (made (start began) 10 far_takes.call ∷ []) 10 0 x) b reply_once)),
     ((λ to id bytes h. absurd (cc h)), tt),
   );
   fair = (
     (λ bytes h. inl (subst (λ (x : List ℕ). GaveOut client x 20
-        (made (left_after (start 0) (far_takes ∷ [])) 10 far_replies.call))
+        (made (left_after (start began) (far_takes ∷ [])) 10 far_replies.call))
         (same_bytes ack bytes server server h) ack_out)),
     (
       (λ bytes h. absurd (cc h)),
       (
-        (λ bytes h. inl (subst (λ (x : List ℕ). GaveOut server x 10 (made (start 0) 0 near_begins.call))
+        (λ bytes h. inl (subst (λ (x : List ℕ). GaveOut server x 10 (made (start began) 0 near_begins.call))
             (same_bytes request bytes client client h) request_out)),
         ((λ bytes h. absurd (cc h)), tt),
       ),
@@ -192,12 +193,12 @@ channel = record {
 abbrev con : Open
 con = record { to = server; id = 0; bytes = request; timeout = 3000; first = 0; last = 0 }
 
-hears : HearsAck con (made (start 0) 0 near_begins.call ∷ [])
-    (made (left_after (start 0) (near_begins ∷ [])) 20 near_hears.call)
+hears : HearsAck con (made (start began) 0 near_begins.call ∷ [])
+    (made (left_after (start began) (near_begins ∷ [])) 20 near_hears.call)
 unfolding decoded frame_fault body_at walk walk_of option_at nibbles_at value_at extended payload_at options_bytes
 hears = record { is_outstanding = inl refl; bytes = ack; call = refl; answer = inl refl }
 
-takes : Takes client con (made (start 0) 10 far_takes.call)
+takes : Takes client con (made (start began) 10 far_takes.call)
 unfolding decoded frame_fault body_at walk walk_of option_at nibbles_at value_at extended payload_at
 takes = record { call = refl; up = refl; from = omega arith; till = omega arith }
 

@@ -1,5 +1,6 @@
 -- A trace that stands in the law: a CON with an initial timeout of 3,000 ms, sent at 0, sent again at 3,000, 9,000,
 -- 21,000 and 45,000, failed at 93,000 (RFC 7252, section 4.2).
+use Rattle.coap_layer.specs.Examples.{began}
 use Rattle.std.proofs.Common.{◌≡◌, ℕ, List, [], ◌∷◌, ◌++◌, refl, arith}
 use Rattle.coap_types.specs.declared.endpoint.Endpoint.{Endpoint}
 use Rattle.coap_codec.specs.Spelling.{options_bytes}
@@ -48,7 +49,7 @@ step : (s : State) (a : Asked) → (a.call ≡ Ticks) → a.answer ≡ (made s a
     → Step s a.now a.call a.answer (forgotten (after s (made s a.now a.call)))
 step s a ticks is = record { may = rw ticks tt; right = is; new_is = refl }
 
-runs : Steps (start 0) run (left_after (start 0) run)
+runs : Steps (start began) run (left_after (start began) run)
 runs = (
   _,
   (
@@ -79,5 +80,5 @@ runs = (
   step _ (tick 93000 (Expired server 0)) refl refl,
 )
 
-pub witness : LayerLaw 0 (entries (start 0) run ++ [])
-witness = (led_steps 0 [] (start 0) (left_after (start 0) run) run (record { law = tt; kept = refl }) runs).law
+pub witness : LayerLaw began (entries (start began) run ++ [])
+witness = (led_steps began [] (start began) (left_after (start began) run) run (record { law = tt; kept = refl }) runs).law

@@ -1,4 +1,5 @@
 -- What a call does to a layer, as its contract says it.
+use Rattle.coap_layer.specs.Trace.{Setup}
 use Rattle.std.specs.Prelude.{ℕ, List, ◌∷◌, max}
 use Rattle.coap_layer.specs.Trace.{Call, Answer, Entry}
 use Rattle.coap_layer.specs.Machine.LayerLed.{LayerLed}
@@ -12,7 +13,7 @@ Moves old now call answer new = Step old.state now call answer new.state
 -- what led to the layer, and then the call, leads to the layer as it is then
 abbrev pub Leads : Shown → ℕ → Call → Shown → Type 0
 Leads old now call new =
-    (word : ℕ) (t : List Entry) → LayerLed word t old.state → LayerLed word (made old.state now call ∷ t) new.state
+    (setup : Setup) (t : List Entry) → LayerLed setup t old.state → LayerLed setup (made old.state now call ∷ t) new.state
 
 -- what the layer would answer to the call at this moment
 abbrev pub would_answer : Shown → ℕ → Call → Answer

@@ -32,9 +32,10 @@ abbrev pub put_back : {Z : Type 0} → Sending Z → Sending Z
 put_back c = record c { last = c.before }
 
 -- what is kept, with what is no longer remembered still there
-abbrev pub state_of_parts : ℕ → Option Awaited → IdState → List Arrived → List Open → List Packet → State
-state_of_parts clock awaits ids es cs q =
+abbrev pub state_of_parts : ℕ → ℕ → Option Awaited → IdState → List Arrived → List Open → List Packet → State
+state_of_parts most clock awaits ids es cs q =
     record {
+      most = most;
       clock = clock;
       awaits = awaits;
       upcoming = ids.upcoming;
@@ -45,13 +46,13 @@ state_of_parts clock awaits ids es cs q =
     }
 
 -- .. by an object's parts
-abbrev pub held : {Z X Y : Type 0} → ℕ → Option Awaiting → IdState → Lists Z X Y → State
-held clock awaits ids lists =
-    state_of_parts clock (awaited awaits) ids (arrivals_in lists.entries) (open_now lists.sendings.items)
+abbrev pub held : {Z X Y : Type 0} → ℕ → ℕ → Option Awaiting → IdState → Lists Z X Y → State
+held most clock awaits ids lists =
+    state_of_parts most clock (awaited awaits) ids (arrivals_in lists.entries) (open_now lists.sendings.items)
     lists.waiting.items
 
 -- what `undo` would leave, where these are settled
-abbrev pub before_of : {Z : Type 0} → Option Mark → List Arrived → List (Sending Z) → List Packet → Option State
-before_of None es cs q = None
-before_of (Some m) es cs q =
-    Some (forgotten (state_of_parts m.clock.0 (awaited m.awaits) m.ids es (open_before cs) (take m.queued q)))
+abbrev pub before_of : {Z : Type 0} → ℕ → Option Mark → List Arrived → List (Sending Z) → List Packet → Option State
+before_of most None es cs q = None
+before_of most (Some m) es cs q =
+    Some (forgotten (state_of_parts most m.clock.0 (awaited m.awaits) m.ids es (open_before cs) (take m.queued q)))

@@ -14,6 +14,7 @@ use Rattle.coap_layer.specs.BackOff.{factors}
 use Rattle.coap_layer.specs.Arrivals.{Arrival, Unreadable, Faulted, Whole, arrival_at}
 use Rattle.coap_layer.specs.Ids.{Issued}
 use Rattle.coap_layer.specs.Trace.{Content, with_head, Packet, Call, Receive, Reply, Confirm, Plain, Settle, Ticks}
+use Rattle.coap_layer.specs.Trace.{Setup}
 use Rattle.coap_layer.specs.Trace.{Take, Room, AsksFree, Pass, Disposition, Dropped, Replayed, Rejected, Answer}
 use Rattle.coap_layer.specs.Trace.{Becomes, Nothing, Is, Sent, Busied, NoIds, Idle, Copied, Expired, Gives, Entry}
 use Rattle.coap_layer.specs.Machine.Table.{up_of}
@@ -25,8 +26,8 @@ use Rattle.coap_types.specs.declared.transmission.TheConstants.{ID_REUSE_AFTER_M
 use Rattle.coap_types.specs.declared.transmission.TheConstants.{LAST_RETRANSMISSION_MS as last_retransmission}
 use Rattle.coap_types.specs.declared.transmission.TheConstants.{MAX_RETRANSMIT as max_retransmit}
 use Rattle.coap_types.specs.declared.transmission.TheConstants.{FAILURE_TIMEOUTS as failure_timeouts}
-use Rattle.coap_layer.specs.declared.dedup.TheConstants.{MAX_REMEMBERED as max_remembered}
 use Rattle.coap_layer.specs.declared.message_id.TheConstants.{GROUP_SIZE as group_size, GROUPS as groups}
+use Rattle.coap_types.specs.declared.remembered.TheConstants.{DEFAULT_REMEMBERED as usually_remembered}
 use Rattle.coap_types.specs.declared.message.TheConstants.{MESSAGE_IDS as message_ids}
 
 pub record Arrived : Type 0 where
@@ -46,13 +47,19 @@ pub record State : Type 0 where
   pub arrived : List Arrived
   pub open_cons : List Open
   pub queue : List Packet
+  pub most : ℕ
 
-abbrev pub start : ℕ → State
-start word =
+-- with as many remembered as where nothing else is chosen
+abbrev pub usual : ℕ → Setup
+usual word = record { word = word; remembered = usually_remembered }
+
+abbrev pub start : Setup → State
+start setup =
     record {
+      most = setup.remembered;
       clock = 0;
       awaits = None;
-      upcoming = word % groups * group_size;
+      upcoming = setup.word % groups * group_size;
       last_used = replicate groups None;
       arrived = [];
       open_cons = [];
@@ -68,8 +75,8 @@ is_of now from id a = is_live now a && (same_endpoint a.from from && (a.id == id
 abbrev pub is_remembered : ℕ → Endpoint → ℕ → List Arrived → Bool
 is_remembered now from id es = list_any (is_of now from id) es
 
-abbrev pub is_full : ℕ → List Arrived → Bool
-is_full now es = nat_le max_remembered (length (filter (is_live now) es))
+abbrev pub is_full : ℕ → ℕ → List Arrived → Bool
+is_full most now es = nat_le most (length (filter (is_live now) es))
 
 abbrev pub reply_of : ℕ → Endpoint → ℕ → List Arrived → Option (List ℕ)
 reply_of now from id [] = None
@@ -122,7 +129,7 @@ abbrev pub sorted_by : State → ℕ → Incoming → Disposition
 sorted_by s at m =
     up_of m.message.kind (role_of m.message.code) m.message (is_outstanding m.from m.message.id s.open_cons)
     (is_remembered at m.from m.message.id s.arrived)
-    (is_full at s.arrived) (is_free at s.upcoming s.last_used)
+    (is_full s.most at s.arrived) (is_free at s.upcoming s.last_used)
 
 abbrev pub answer_to : State → ℕ → Endpoint → Arrival → Disposition
 answer_to s at from Unreadable = Dropped
@@ -199,6 +206,7 @@ uses_after (g ∷ gs) uses = slice_set (uses_after gs uses) (g.id / group_size) 
 abbrev pub after : State → Entry → State
 after s e =
     record {
+      most = s.most;
       clock = e.at;
       awaits = awaits_in e.call e.answer s.awaits;
       upcoming = next_after (issued e) s.upcoming;
@@ -213,21 +221,22 @@ abbrev pub arrivals : List Entry → List Arrived
 arrivals [] = []
 arrivals (e ∷ past) = map (stores e) (arrivals past) ++ newly e.at (taken e)
 
-abbrev pub next_id : ℕ → List Entry → ℕ
-next_id word [] = word % groups * group_size
-next_id word (e ∷ past) = next_after (issued e) (next_id word past)
+abbrev pub next_id : Setup → List Entry → ℕ
+next_id setup [] = setup.word % groups * group_size
+next_id setup (e ∷ past) = next_after (issued e) (next_id setup past)
 
 abbrev pub uses : List Entry → List (Option ℕ)
 uses [] = replicate groups None
 uses (e ∷ past) = uses_after (issued e) (uses past)
 
 -- what a trace adds up to, nothing forgotten
-abbrev pub history : ℕ → List Entry → State
-history word t =
+abbrev pub history : Setup → List Entry → State
+history setup t =
     record {
+      most = setup.remembered;
       clock = clock t;
       awaits = awaits t;
-      upcoming = next_id word t;
+      upcoming = next_id setup t;
       last_used = uses t;
       arrived = arrivals t;
       open_cons = outstanding t;

@@ -6,6 +6,7 @@ use Rattle.coap_types.specs.declared.role.Role.{Role}
 use Rattle.coap_types.specs.declared.role.Role.TheVariants as role
 use Rattle.coap_codec.specs.Message.{Message}
 use Rattle.coap_layer.specs.Trace.{Disposition, Dropped, Replayed, Rejected, Request, Response, Acked, Reset}
+use Rattle.coap_layer.specs.Trace.{Unmatched}
 
 abbrev pub again_or : (remembered full : Bool) → Disposition → Disposition
 again_or true full u = Replayed
@@ -28,7 +29,7 @@ up_of Ack role.Response m true r f i = Response m
 up_of Rst role.Empty m true r f i = Reset m.id
 up_of Ack role.Empty m false r f i = Dropped
 up_of Ack role.Response m false r f i = Dropped
-up_of Rst role.Empty m false r f i = Dropped
+up_of Rst role.Empty m false r f i = Unmatched m.id
 up_of Ack role.Request m o r f i = Dropped
 up_of Ack role.Reserved m o r f i = Dropped
 up_of Rst role.Request m o r f i = Dropped

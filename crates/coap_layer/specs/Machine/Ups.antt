@@ -9,7 +9,7 @@ use Rattle.coap_layer.specs.declared.up.Tick.TheVariants as tick
 use Rattle.coap_layer.specs.declared.up.Up.{Up}
 use Rattle.coap_layer.specs.declared.up.Up.TheVariants as up
 use Rattle.coap_layer.specs.Trace.{Disposition, Dropped, Replayed, Rejected, Request, Response, Acked, Reset, Answer}
-use Rattle.coap_layer.specs.Trace.{Becomes, Sent, Busied, NoIds, Idle, Copied, Expired, Nothing, Entry}
+use Rattle.coap_layer.specs.Trace.{Unmatched, Becomes, Sent, Busied, NoIds, Idle, Copied, Expired, Nothing, Entry}
 use Rattle.coap_layer.specs.Words.{handed}
 
 abbrev pub disposition_of : Up → Disposition
@@ -20,6 +20,7 @@ disposition_of (up.Request m remembered) = Request m remembered
 disposition_of (up.Response m) = Response m
 disposition_of (up.Acked id) = Acked id.0
 disposition_of (up.Reset id) = Reset id.0
+disposition_of (up.Unmatched id) = Unmatched id.0
 
 abbrev pub answer_as : Up → Answer
 answer_as u = Becomes (disposition_of u)

@@ -7,7 +7,7 @@ use Rattle.coap_layer.proofs.Calls.Sendings.{outstanding_is}
 use Rattle.coap_layer.proofs.arriving.of_message.Goals as goal
 
 pub returns : goal.returns
-returns g c s arrived opened free =
+returns g c s bound arrived opened free =
     let from = c.args.from in
     let id : c.id-id.result.0 ≡ c.args.message.now.id = c.id-id.ensures in
     let code = c.code.ensures in
@@ -19,5 +19,6 @@ returns g c s arrived opened free =
     (λ x. is_some x.last && (same_endpoint x.to from && (x.id.0 == n))) cs) c.deref.ensures.value
     ∙ (outstanding_is from n c.args.lists.now.sendings.items ∙ ap (is_outstanding from n) (sym opened)))))
     (rw (← id) (c.is_remembered.ensures ∙ ap (is_remembered c.args.at.0 from n) (sym arrived)))
-    (c.is_full.ensures ∙ ap (is_full c.args.at.0) (sym arrived))
+    (c.is_full.ensures ∙ (ap (is_full c.args.most c.args.at.0) (sym arrived)
+    ∙ ap (λ n. is_full n c.args.at.0 s.arrived) (sym bound)))
     (sym free)

@@ -6,6 +6,11 @@ use Rattle.coap_layer.proofs.Arrivals.EndsOfOutstanding.{ends_outstanding}
 use Rattle.coap_layer.proofs.Arrivals.FewAreRemembered.{few}
 use Rattle.coap_layer.proofs.Numbers.IdsAreSmall.{ids_small}
 use Rattle.coap_layer.proofs.Arrivals.ResponsesAreSpelled.{responses_spelled}
+use Rattle.coap_layer.proofs.Arrivals.AcksAreTaken.{all_take_acks}
+use Rattle.coap_layer.proofs.Machine.WhatIsIssued.{numbers_law}
+use Rattle.coap_layer.proofs.Numbers.HeldIsMany.{held_is_many}
+use Rattle.coap_layer.specs.Words.{numbers}
+use Rattle.coap_layer.proofs.Copies.OverStays.{over}
 use Rattle.coap_layer.proofs.laws.layer_law.Goals as goal
 
 pub returns-clause-step : goal.returns-clause-step
@@ -40,3 +45,12 @@ returns-clause-small c = ids_small
 
 pub returns-clause-responses : goal.returns-clause-responses
 returns-clause-responses c = responses_spelled
+
+pub returns-clause-acks : goal.returns-clause-acks
+returns-clause-acks c = all_take_acks
+
+pub returns-clause-held : goal.returns-clause-held
+returns-clause-held c word t law = held_is_many word.word (numbers t) (numbers_law word t law)
+
+pub returns-clause-over : goal.returns-clause-over
+returns-clause-over c word t law con = over word t con law

@@ -1,4 +1,4 @@
-use Rattle.std.proofs.Common.{rules, ◌≡◌, ap, sym, subst, ◌∙◌, ◌++◌, ℕ, refl, true, false, filter, None}
+use Rattle.std.proofs.Common.{rules, ◌≡◌, ap, sym, subst, ◌∙◌, ◌++◌, ℕ, refl, true, false, filter, None, Some}
 use Rattle.std.specs.Option.{option_to_list}
 use Rattle.coap_layer.specs.Arrivals.{arrival_at}
 use Rattle.coap_layer.specs.Machine.Arriving.{IsArriving, newly_by, open_by}
@@ -11,7 +11,7 @@ use Rattle.coap_layer.specs.Trace.{Becomes}
 use Rattle.coap_layer.proofs.Machine.Forgetting.{led_step}
 use Rattle.coap_layer.proofs.Calls.Remembered.{same_arrivals}
 use Rattle.coap_layer.proofs.Calls.Received.{received, awaited_so, quiet_so}
-use Rattle.coap_layer.proofs.Calls.TakenIn.{none_of, room_kept}
+use Rattle.coap_layer.proofs.Calls.TakenIn.{none_of, room_kept, same_found}
 use Rattle.coap_layer.proofs.layer.Layer.receive.Goals as goal
 
 pub take_in-mark-requires-clause-place : goal.take_in-mark-requires-clause-place
@@ -23,10 +23,10 @@ take_in-mark-requires-clause-up_to g c = subst (IsUpTo c.self.inside.clock.0)
 
 pub take_in-mark-requires-clause-unknown : goal.take_in-mark-requires-clause-unknown
 take_in-mark-requires-clause-unknown g c up =
-    let h : State = held c.self.inside.clock.0 c.self.inside.awaits c.self.inside.ids c.self.inside.lists in
+    let h : State = held c.self.inside.most c.self.inside.clock.0 c.self.inside.awaits c.self.inside.ids c.self.inside.lists in
     let at : ℕ = c.later.result.0 in
     let a = c.judge-arriving.result in
-    let judged = c.judge-arriving.ensures h refl refl (sym c.would_give-free.ensures) in
+    let judged = c.judge-arriving.ensures h refl refl refl (sym c.would_give-free.ensures) in
     let arrives : IsArriving h at c.args.from (arrival_at c.args.bytes.now) a =
     subst (λ x. IsArriving h at c.args.from x a) c.read-datagram.ensures.shows judged.0 in
     ap (is_remembered at c.args.from a.id.0) (same_arrivals c.in_ok-grow.ensures.settled c.in_ok-grow.ensures.newest)
@@ -34,11 +34,11 @@ take_in-mark-requires-clause-unknown g c up =
 
 pub returns-clause-step : goal.returns-clause-step
 returns-clause-step g c =
-    let h : State = held c.self.inside.clock.0 c.self.inside.awaits c.self.inside.ids c.self.inside.lists in
+    let h : State = held c.self.inside.most c.self.inside.clock.0 c.self.inside.awaits c.self.inside.ids c.self.inside.lists in
     let at : ℕ = c.later.result.0 in
     let a = c.judge-arriving.result in
     let shows = c.read-datagram.ensures.shows in
-    let judged = c.judge-arriving.ensures h refl refl (sym c.would_give-free.ensures) in
+    let judged = c.judge-arriving.ensures h refl refl refl (sym c.would_give-free.ensures) in
     received h c.args.now.0 c.args.from c.args.bytes.now a at (search rules) c.args.self.now.state _
     (arrivals_in c.take_in-mark.new.lists.entries) (open_now c.take_in-mark.new.lists.sendings.items)
     (option_to_list c.in_ok-sent.sent) c.take_in-mark.new.lists.waiting.items _
@@ -58,10 +58,10 @@ returns-clause-led g c _ word t led = led_step word t _ _ _ _ _ led (returns-cla
 
 pub returns-in_err-sent-clause-quiet : goal.returns-in_err-sent-clause-quiet
 returns-in_err-sent-clause-quiet g c quiet =
-    let h : State = held c.self.inside.clock.0 c.self.inside.awaits c.self.inside.ids c.self.inside.lists in
+    let h : State = held c.self.inside.most c.self.inside.clock.0 c.self.inside.awaits c.self.inside.ids c.self.inside.lists in
     let at : ℕ = c.later.result.0 in
     let a = c.judge-arriving.result in
-    let judged = c.judge-arriving.ensures h refl refl (sym c.would_give-free.ensures) in
+    let judged = c.judge-arriving.ensures h refl refl refl (sym c.would_give-free.ensures) in
     let arrives : IsArriving h at c.args.from (arrival_at c.args.bytes.now) a =
     subst (λ x. IsArriving h at c.args.from x a) c.read-datagram.ensures.shows judged.0 in
     let none = quiet_so h c.args.now.0 c.args.from c.args.bytes.now a at c.args.self.now.state (search rules)
@@ -70,10 +70,10 @@ returns-in_err-sent-clause-quiet g c quiet =
 
 pub returns-in_err-grow-clause-quiet : goal.returns-in_err-grow-clause-quiet
 returns-in_err-grow-clause-quiet g c quiet =
-    let h : State = held c.self.inside.clock.0 c.self.inside.awaits c.self.inside.ids c.self.inside.lists in
+    let h : State = held c.self.inside.most c.self.inside.clock.0 c.self.inside.awaits c.self.inside.ids c.self.inside.lists in
     let at : ℕ = c.later.result.0 in
     let a = c.judge-arriving.result in
-    let judged = c.judge-arriving.ensures h refl refl (sym c.would_give-free.ensures) in
+    let judged = c.judge-arriving.ensures h refl refl refl (sym c.would_give-free.ensures) in
     let arrives : IsArriving h at c.args.from (arrival_at c.args.bytes.now) a =
     subst (λ x. IsArriving h at c.args.from x a) c.read-datagram.ensures.shows judged.0 in
     let none = quiet_so h c.args.now.0 c.args.from c.args.bytes.now a at c.args.self.now.state (search rules)
@@ -95,11 +95,11 @@ invariant_of-self-2 g c =
 
 pub returns-clause-may_reply : goal.returns-clause-may_reply
 returns-clause-may_reply g c m up =
-    let h : State = held c.self.inside.clock.0 c.self.inside.awaits c.self.inside.ids c.self.inside.lists in
+    let h : State = held c.self.inside.most c.self.inside.clock.0 c.self.inside.awaits c.self.inside.ids c.self.inside.lists in
     let at : ℕ = c.later.result.0 in
     let a = c.judge-arriving.result in
     let shows = c.read-datagram.ensures.shows in
-    let judged = c.judge-arriving.ensures h refl refl (sym c.would_give-free.ensures) in
+    let judged = c.judge-arriving.ensures h refl refl refl (sym c.would_give-free.ensures) in
     let arrives : IsArriving h at c.args.from (arrival_at c.args.bytes.now) a =
     subst (λ x. IsArriving h at c.args.from x a) shows judged.0 in
     let there = awaited_so h c.args.now.0 c.args.from c.args.bytes.now a at None _ m arrives
@@ -112,3 +112,11 @@ returns-clause-may_reply g c m up =
 
 pub returns-clause-kept : goal.returns-clause-kept
 returns-clause-kept g c has = c.in_ok-grow.ensures.kept (ap (λ s. s.has_room) c.self.view_is ∙ has)
+
+pub returns-clause-before : goal.returns-clause-before
+returns-clause-before g c =
+    c.take_in-mark.ensures.before c.self.inside.most
+    ∙ (same_found c.self.inside.most c.self.inside.clock.0 _ c.self.inside.ids _ _ _ _ _ _
+    (same_arrivals c.in_ok-grow.ensures.settled c.in_ok-grow.ensures.newest)
+    (ap open_now c.in_ok-grow.ensures.sendings) c.in_ok-grow.ensures.waiting
+    ∙ ap (λ s. Some s.state) c.self.view_is)

@@ -30,7 +30,7 @@ invariant_of-self g c =
 
 pub returns-in-Some-clause-step : goal.returns-in-Some-clause-step
 returns-in-Some-clause-step g c =
-    let h : State = held c.self.inside.clock.0 c.self.inside.awaits c.self.inside.ids c.self.inside.lists in
+    let h : State = held c.self.inside.most c.self.inside.clock.0 c.self.inside.awaits c.self.inside.ids c.self.inside.lists in
     let old = c.self.inside.lists.entries in
     let id = c.args.id.0 in
     let bytes = c.args.bytes.now in
@@ -55,7 +55,7 @@ returns-in-Some-clause-led g c word t led = led_step word t _ _ _ _ _ led (retur
 
 pub returns-in-Some-clause-before : goal.returns-in-Some-clause-before
 returns-in-Some-clause-before g c =
-    before_same c.self.inside.mark c.self.inside.lists.entries.settled c.store_reply.new.self.settled
+    before_same c.self.inside.most c.self.inside.mark c.self.inside.lists.entries.settled c.store_reply.new.self.settled
     c.self.inside.lists.sendings.items c.self.inside.lists.sendings.items c.self.inside.lists.waiting.items
     c.push_within.new.waiting.items _
     c.self.invariant.0 c.store_reply.ensures.settled refl c.push_within.ensures.items

@@ -1,4 +1,4 @@
-use Rattle.std.proofs.Common.{rules, ap, sym, ◌∙◌, ◌++◌, ℕ, filter, subst, refl, max, false, [], ◌≡◌}
+use Rattle.std.proofs.Common.{rules, ap, sym, ◌∙◌, ◌++◌, ℕ, filter, subst, refl, max, false, [], ◌≡◌, Some}
 use Rattle.std.proofs.lemmas.List.{append-nil}
 use Rattle.std.specs.List.{filter_map}
 use Rattle.std.specs.Option.{option_to_list}
@@ -18,7 +18,7 @@ use Rattle.coap_layer.proofs.layer.Layer.tick.Goals as goal
 
 pub returns-clause-step : goal.returns-clause-step
 returns-clause-step g c =
-    let h : State = held c.self.inside.clock.0 c.self.inside.awaits c.self.inside.ids c.self.inside.lists in
+    let h : State = held c.self.inside.most c.self.inside.clock.0 c.self.inside.awaits c.self.inside.ids c.self.inside.lists in
     let at : ℕ = c.later.result.0 in
     let due = c.take_tick-mark.result.1 in
     let out = option_to_list c.in_ok-sent.sent in
@@ -104,3 +104,12 @@ invariant_of-self-2 g c = (
       c.take_tick-mark.ensures.waiting_room,
   c.take_tick-mark.ensures.kept,
 )
+
+pub returns-clause-before : goal.returns-clause-before
+returns-clause-before g c =
+    let before = c.take_tick-mark.ensures.before c.self.inside.most in
+    let arrived = same_arrivals c.in_ok-grow.ensures.settled c.in_ok-grow.ensures.newest in
+    let sendings = c.in_ok-grow.ensures.sendings in
+    let waiting = c.in_ok-grow.ensures.waiting in
+    let shown = ap (λ s. Some s.state) c.self.view_is in
+    cc (before, arrived, sendings, waiting, shown)

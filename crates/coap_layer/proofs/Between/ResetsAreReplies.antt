@@ -1,0 +1,451 @@
+-- A Reset that is taken for a request or a response is the reply that the other layer was given to that very CON.
+use Rattle.std.proofs.Common.{◌-◌, ◌≡◌, ◌⊎◌, inl, inr, ⊎_elim, ℕ, ◌+◌, ◌≤◌, ◌<◌, ◌/◌, ◌%◌, List, [], ◌∷◌, ◌++◌, Some, None, refl, ap}
+use Rattle.std.proofs.Common.{sym, ◌∙◌, subst, arith, append_assoc}
+use Rattle.coap_types.specs.Past.{Ever, Sometime, Always, Since}
+use Rattle.coap_types.proofs.Facts.Traces.{Ever_of_Sometime, Ever_of_Since, Sometime_of_Ever}
+use Rattle.coap_types.proofs.Facts.Traces.{Sometime_of_Sometime, by_suffix, forget}
+use Rattle.coap_types.specs.Roles.{role_of}
+use Rattle.coap_types.specs.declared.endpoint.Endpoint.{Endpoint}
+use Rattle.coap_types.specs.declared.message.Kind.TheVariants.{Con, Non, Ack, Rst}
+use Rattle.coap_types.specs.declared.role.Role.TheVariants as role
+use Rattle.coap_types.specs.Bytes.{AreBytes}
+use Rattle.coap_types.specs.declared.message.TheConstants.{MESSAGE_IDS as message_ids}
+use Rattle.std.specs.Int.{byte_at}
+use Rattle.coap_codec.specs.Faulty.{head_of}
+use Rattle.coap_codec.specs.Message.{Message, Spells}
+use Rattle.coap_codec.specs.declared.fault.Reason.{Reason}
+use Rattle.coap_codec.specs.declared.fault.Reason.TheVariants.{Short, Version, TokenLength, TokenCut, EmptyNotBare}
+use Rattle.coap_codec.specs.declared.fault.Reason.TheVariants.{DeltaReserved, LengthReserved, OptionCut, NumberTooLarge}
+use Rattle.coap_codec.specs.declared.fault.Reason.TheVariants.{NoPayload}
+use Rattle.coap_layer.specs.Arrivals.{Arrival, Unreadable, Faulted, Whole, Shows, by_head}
+use Rattle.coap_layer.specs.EmptyMessages.{reset_bytes}
+use Rattle.coap_layer.specs.Trace.{Setup, with_head, Packet, Receive, Reply, Reset, Rejected, Becomes, Entry}
+use Rattle.coap_layer.specs.Words.{Incoming, handed, reply_in, awaits, Open, outstanding}
+use Rattle.coap_layer.specs.Rows.{LayerLaw, Row, Arrives, Sorts, HandedAs, rejects, drops, takes_ack, takes_reset}
+use Rattle.coap_layer.specs.Rows.{passes_reset, takes_answer, replays, hands_over}
+use Rattle.coap_layer.specs.Sends.{IsIn, as_begun, ReplyOut, StoredOut, ResetOut, SpellsCon, GoesOut, first, copy, plain}
+use Rattle.coap_layer.specs.Sends.{reply, stored, reset}
+use Rattle.coap_layer.specs.Channel.{HandedBy, Hop, Near, Far, near_of, far_of, OnFar, GaveOut, IsLatest, RepliesAtOnce}
+use Rattle.coap_layer.specs.Channel.{RepliesSo, ChannelLaw, BegunAs, Takes, RepliesTo, OnFarThen, SentSo}
+use Rattle.coap_layer.specs.Taking.{IsTold, HearsReset, ResetsMeant}
+use Rattle.coap_types.specs.declared.transmission.TheConstants.{EXCHANGE_LIFETIME_MS as exchange_lifetime}
+use Rattle.coap_types.specs.declared.transmission.TheConstants.{LAST_ARRIVAL_MS as last_arrival}
+use Rattle.coap_types.specs.declared.transmission.TheConstants.{ID_REUSE_AFTER_MS as id_reuse_after}
+use Rattle.coap_types.specs.declared.transmission.TheConstants.{MAX_LATENCY_MS as max_latency}
+use Rattle.coap_layer.proofs.Copies.CopiesInTime.{was_begun, begun_by}
+use Rattle.coap_layer.proofs.Between.AcksAreReplies.{by_clock, since_young, Part}
+use Rattle.coap_layer.proofs.Between.WhatComesByType.{one_message, replied_call, spelled_begun, SpellsReply, stored_reply}
+use Rattle.coap_layer.proofs.Arrivals.AcksAreTaken.{sorts_as}
+use Rattle.coap_layer.proofs.Arrivals.HandedAsSpelled.{handed_so, IsOf, latest_is}
+use Rattle.coap_layer.proofs.Facts.Arrivals.{one_arrival}
+use Rattle.coap_layer.proofs.Facts.Hops.{to_far, near_later, earlier, each_hop}
+use Rattle.coap_layer.proofs.Between.WhatArrivesWasSent.{begun_as, sent_so, Came, con_came, non_came, reply_came, came}
+use Rattle.coap_layer.specs.Machine.Calls.{IsBegun}
+use Rattle.coap_layer.proofs.Numbers.OneEntryForAnId.{one_con, no_plain, SendsPlain}
+use Rattle.coap_layer.proofs.Out.EachGoesOut.{goes_out}
+use Rattle.coap_layer.proofs.Between.TakenOnce.{alone, takes_it}
+
+-- what a Reset shows
+
+reset_id : (m : Message) (id : ℕ) → Spells (reset_bytes id) m → m.id ≡ id
+reset_id m id s =
+    let parts = s.parts in
+    let high : id / 256 ≡ byte_at 1 m.id = cc parts in
+    let low : id % 256 ≡ byte_at 0 m.id = cc parts in
+    let high_is : id / 256 ≡ m.id / 256 % 256 = high in
+    let low_is : id % 256 ≡ m.id % 256 = low in
+    let bound : m.id < message_ids = s.id in
+    omega (arith, high_is, low_is, bound)
+
+not_con : (reason : Reason) (rest : List ℕ) (id : ℕ) → Faulted Con id ≡ by_head (head_of reason (0x70 ∷ rest)) → ⊥
+not_con Short rest id h = cc h
+not_con Version rest id h = cc h
+not_con TokenLength rest id h = cc h
+not_con TokenCut rest id h = cc h
+not_con EmptyNotBare rest id h = cc h
+not_con DeltaReserved rest id h = cc h
+not_con LengthReserved rest id h = cc h
+not_con OptionCut rest id h = cc h
+not_con NumberTooLarge rest id h = cc h
+not_con NoPayload rest id h = cc h
+
+no_fault : (bytes : List ℕ) (n id : ℕ) → bytes ≡ reset_bytes n → Shows bytes (Faulted Con id) → ⊥
+no_fault bytes n id is h =
+    not_con h.0 _ id (subst (λ (x : List ℕ). Faulted Con id ≡ by_head (head_of h.0 x)) is h.3)
+
+-- what goes out spells a message, or is a Reset
+sent_what : (setup : Setup) (past : List Entry) (e : Entry) (p : Packet) → LayerLaw setup (e ∷ past)
+    → Always RepliesSo (e ∷ past) → GoesOut past e p
+    → ((m : Message) × Spells p.bytes m) ⊎ ((id : ℕ) × (p.bytes ≡ reset_bytes id))
+sent_what setup past e p law replies (first r) =
+    let s : SpellsCon r.con = spelled_begun setup (e ∷ past) r.con law (inl r.begins) in
+    inl (s.0, subst (λ (x : List ℕ). Spells x s.0) (sym (ap (λ (x : Packet). x.bytes) r.is)) s.1)
+sent_what setup past e p law replies (copy r) =
+    let s : SpellsCon r.con = spelled_begun setup (e ∷ past) r.con law (inr r.begun_before) in
+    inl (s.0, subst (λ (x : List ℕ). Spells x s.0) (sym (ap (λ (x : Packet). x.bytes) r.is)) s.1)
+sent_what setup past e p law replies (plain r) = inl (with_head Non r.id r.content, r.spells)
+sent_what setup past e p law replies (reply r) =
+    let a = replies.0 p.to r.id p.bytes r.call in inl (a.reply, a.spells)
+sent_what setup past e p law replies (stored r) =
+    let a : SpellsReply r.message.id p.bytes = stored_reply p.to r.message.id p.bytes past replies.1
+    (Ever_of_Since _ _ past r.given) in inl (a.reply, a.spells)
+sent_what setup past e p law replies (reset r) = inr (r.id, ap (λ (x : Packet). x.bytes) r.is)
+
+record Lawful (setup : Setup) (t : List Entry) : Type 0 where
+  pub law : LayerLaw setup t
+  pub replies : Always RepliesSo t
+
+-- a Reset that is taken
+record HeardReset (bytes : List ℕ) (id : ℕ) : Type 0 where
+  pub are : AreBytes bytes
+  pub message : Message
+  pub spells : Spells bytes message
+  pub kind : message.kind ≡ Rst
+  pub id_is : message.id ≡ id
+
+sorted_reset : (setup : Setup) (past : List Entry) (e : Entry) (n : Incoming) (id : ℕ) → Sorts setup past e n
+    → e.answer ≡ Becomes (Reset id) → (n.message.kind ≡ Rst) × (n.message.id ≡ id)
+sorted_reset setup past e n id (rejects r) h = let a = r.answer in absurd (cc (a, h))
+sorted_reset setup past e n id (drops r) h = let a = r.answer in absurd (cc (a, h))
+sorted_reset setup past e n id (takes_ack r) h = let a = r.answer in absurd (cc (a, h))
+sorted_reset setup past e n id (takes_reset r) h = (r.kind, (let a = r.answer in cc (a, h)))
+sorted_reset setup past e n id (passes_reset r) h = let a = r.answer in absurd (cc (a, h))
+sorted_reset setup past e n id (takes_answer r) h = let a = r.answer in absurd (cc (a, h))
+sorted_reset setup past e n id (replays r) h = let a = r.answer in absurd (cc (a, h))
+sorted_reset setup past e n id (hands_over r) h = absurd (up r.answer)
+  where
+    up : HandedAs setup past e n → ⊥
+    up (inl a) = let b = a.2 in cc (b, h)
+    up (inr (inl a)) = let b = a.3 in cc (b, h)
+    up (inr (inr a)) = let b = a.1 in cc (b, h)
+
+arrived_reset : (setup : Setup) (past : List Entry) (e : Entry) (from : Endpoint) (bytes : List ℕ) (what : Arrival) (id : ℕ)
+    → AreBytes bytes → Shows bytes what → Arrives setup past e from what → e.answer ≡ Becomes (Reset id)
+    → HeardReset bytes id
+arrived_reset setup past e from bytes Unreadable id are s r h = let a = r.0 in absurd (cc (a, h))
+arrived_reset setup past e from bytes (Faulted Con n) id are s r h = let a = r.0 in absurd (cc (a, h))
+arrived_reset setup past e from bytes (Faulted Non n) id are s r h = let a = r.0 in absurd (cc (a, h))
+arrived_reset setup past e from bytes (Faulted Ack n) id are s r h = let a = r.0 in absurd (cc (a, h))
+arrived_reset setup past e from bytes (Faulted Rst n) id are s r h = let a = r.0 in absurd (cc (a, h))
+arrived_reset setup past e from bytes (Whole m) id are s r h =
+    let k = sorted_reset setup past e (record { from = from; message = m }) id r h in
+    record { are = are; message = m; spells = s; kind = k.0; id_is = k.1 }
+
+-- a CON that is rejected is of neither class
+rejected_class : (setup : Setup) (past : List Entry) (e : Entry) (n : Incoming) → Sorts setup past e n
+    → e.answer ≡ Becomes Rejected
+    → (role_of n.message.code ≡ role.Empty) ⊎ (role_of n.message.code ≡ role.Reserved)
+rejected_class setup past e n (rejects r) h = r.class
+rejected_class setup past e n (drops r) h = let a = r.answer in absurd (cc (a, h))
+rejected_class setup past e n (takes_ack r) h = let a = r.answer in absurd (cc (a, h))
+rejected_class setup past e n (takes_reset r) h = let a = r.answer in absurd (cc (a, h))
+rejected_class setup past e n (passes_reset r) h = let a = r.answer in absurd (cc (a, h))
+rejected_class setup past e n (takes_answer r) h = let a = r.answer in absurd (cc (a, h))
+rejected_class setup past e n (replays r) h = let a = r.answer in absurd (cc (a, h))
+rejected_class setup past e n (hands_over r) h = absurd (up r.answer)
+  where
+    up : HandedAs setup past e n → ⊥
+    up (inl a) = let b = a.2 in cc (b, h)
+    up (inr (inl a)) = let b = a.3 in cc (b, h)
+    up (inr (inr a)) = let b = a.1 in cc (b, h)
+
+module _ (one other : Setup) (near far : Endpoint) (whole : List Hop) (x : Entry) (con : Open)
+    (all_law : ChannelLaw one other near far (Near x ∷ whole)) (to_is : con.to ≡ far)
+    (open_is : IsIn con (outstanding (near_of whole))) (told : IsTold con.bytes)
+    (young_is : x.at ≤ con.first + id_reuse_after) where
+  abbrev P : List Hop → Type 0
+  P r = Part one other near far whole r
+
+  down : (past : List Hop) (h : Hop) → P (h ∷ past) → P past
+  down past h p = record {
+    law = earlier one other near far past h p.law;
+    later = p.later ++ h ∷ [];
+    is = p.is ∙ sym (append_assoc p.later (h ∷ []) past);
+  }
+
+  near_law : LayerLaw one (near_of whole)
+  near_law = all_law.near_law.1
+
+  begun_there : Ever (IsBegun (as_begun con)) (near_of whole)
+  begun_there = was_begun (near_of whole) con open_is
+
+  lift : (r : List Hop) → P r → (Q : Entry → Type 0) → Ever Q (near_of r) → Ever Q (near_of whole)
+  lift r p Q h = near_later Q whole p.later r p.is h
+
+  late : con.first ≤ x.at
+  late = let k = begun_by one (near_of whole) (as_begun con) near_law begun_there in let t =
+      all_law.near_law.0.time in omega (arith, k, t)
+
+  -- a CON under the same Message ID that reached the other layer at most 100 s before is this one
+  same_con : (q : List Hop) (bytes : List ℕ) (id when : ℕ) → P q → (b : BegunAs far bytes id when (near_of q))
+      → id ≡ con.id → when ≤ x.at → x.at ≤ when + max_latency → b.con ≡ as_begun con
+  same_con q bytes id when p b is before after =
+      let there = lift q p (IsBegun b.con) b.begun in
+      let first : b.con.first ≤ con.first = alone one (near_of whole) con b.con near_law open_is there
+      (to_is ∙ sym b.to_is) in
+      let t = b.till in
+      one_con one (near_of whole) b.con (as_begun con) near_law there begun_there
+      (b.id_is ∙ is) (omega (arith, first)) (omega (arith, late, t, after))
+
+  this_con : (q : List Hop) (bytes : List ℕ) (id when : ℕ) → P q → BegunAs far bytes id when (near_of q) → id ≡ con.id
+      → when ≤ x.at → x.at ≤ when + max_latency → (con.first ≤ when) × (when ≤ con.first + last_arrival)
+  this_con q bytes id when p b is before after =
+      let f = b.from in
+      let t = b.till in
+      let i : b.con.first ≡ con.first =
+      ap (λ (y : Open). y.first) (same_con q bytes id when p b is before after) in
+      (omega (arith, i, f), omega (arith, i, t))
+
+  as_con : (e : Entry) → Takes near (as_begun con) e → Takes near con e
+  as_con e t = record { call = t.call; up = t.up; from = t.from; till = t.till }
+
+  module _ (m : Message) (rst : m.kind ≡ Rst) (id_is : m.id ≡ con.id) (bytes : List ℕ) (are : AreBytes bytes)
+      (spells : Spells bytes m) where
+    abbrev R : List Hop → Hop → Type 0
+    R = OnFarThen (RepliesTo near con bytes)
+
+    -- what was handed up last is this CON
+    last_is : (at : ℕ) (up : Incoming) → up.from ≡ near → up.message.id ≡ con.id
+        → con.first ≤ at + (id_reuse_after - last_arrival) → at ≤ con.first + id_reuse_after → (q : List Hop) → P q
+        → IsLatest (far_of q) at up
+        → Since (λ y. Takes near con y × (y.at ≡ at)) (λ y. handed y ≡ None) (far_of q)
+    last_is at up place id before after [] p h = absurd h
+    last_is at up place id before after (Near e ∷ q) p h = last_is at up place id before after q (down q (Near e) p) h
+    last_is at up place id before after (Far y ∷ q) p (inl z) =
+        let k = z.1 in
+        inl (
+          as_con y (takes_it one other near far whole q y (as_begun con) near_law p.law
+              (lift q (down q (Far y) p)) begun_there up z.0 place id (omega (arith, k, after)) (omega (arith, k, before))),
+          z.1,
+        )
+    last_is at up place id before after (Far y ∷ q) p (inr z) =
+        inr (z.0, last_is at up place id before after q (down q (Far y) p) z.1)
+
+    -- a reply that is given under the CON's Message ID, less than 400 s from its first sending
+    record Replied (q : List Hop) (k : Entry) (id : ℕ) : Type 0 where
+      pub call : k.call ≡ Reply near id bytes
+      pub awaited : awaits (far_of q) ≡ Some (record { from = near; id = id })
+      pub at_once : RepliesAtOnce (far_of q) k.at id bytes
+      pub id_there : id ≡ con.id
+      pub of : IsOf at_once.to_what (record { from = near; id = id })
+      pub con_there : at_once.to_what.message.kind ≡ Con
+
+    -- it was given to no NON: none has the CON's Message ID within 400 s
+    to_a_con : (q : List Hop) (k : Entry) (id : ℕ) → P (Far k ∷ q) → con.first ≤ k.at + (id_reuse_after - max_latency)
+        → k.at ≤ con.first + id_reuse_after → (up : Incoming) → IsOf up (record { from = near; id = id }) → id ≡ con.id
+        → IsLatest (far_of q) k.at up → up.message.kind ≡ Con
+    to_a_con q k id p low high up of id_there latest =
+        forget W q (Ever_of_Sometime _ (λ h. W) (λ t h z. inl z) q
+        (by_suffix P (λ t h. OnFar Up h) (λ t h. W) down at_place q (down q (Far k) p)
+        (Sometime_of_Ever _ q (to_far _ q (Ever_of_Since _ _ (far_of q) latest)))))
+      where
+        W : Type 0
+        W = up.message.kind ≡ Con
+
+        Up : Entry → Type 0
+        Up y = (handed y ≡ Some up) × (y.at ≡ k.at)
+
+        at_place : (t : List Hop) (h : Hop) → P (h ∷ t) → OnFar Up h → W
+        at_place t (Near y) w z = absurd z
+        at_place t (Far y) w z = go (came one other near far t y u.bytes up.message w.law call u.are_bytes u.spells)
+          where
+            u : HandedBy y up
+            u = handed_so other (far_of t) y up w.law.far_law.0 z.0
+
+            call : y.call ≡ Receive near u.bytes
+            call = u.call ∙ ap (λ (f : Endpoint). Receive f u.bytes) of.from_is
+
+            go : Came far u.bytes up.message y.at (near_of t) → W
+            go (con_came c b) = c
+            go (non_came c at s from till) =
+                let here = z.1 in
+                absurd (no_plain one (near_of whole) (as_begun con) at near_law begun_there
+                (subst (λ (i : ℕ). Ever (SendsPlain i at) (near_of whole)) (of.id_is ∙ id_there)
+                (lift t (down t (Far y) w) (SendsPlain up.message.id at) s))
+                (omega (arith, low, here, till)) (omega (arith, high, here, from)))
+            go (reply_came (inl c)) = absurd (⊎_elim (λ a. cc (a, c)) (λ a. cc (a, c)) u.kind)
+            go (reply_came (inr c)) = absurd (⊎_elim (λ a. cc (a, c)) (λ a. cc (a, c)) u.kind)
+
+    replied : (q : List Hop) (k : Entry) (id : ℕ) → P (Far k ∷ q) → con.first ≤ k.at + (id_reuse_after - max_latency)
+        → k.at ≤ con.first + id_reuse_after → k.call ≡ Reply near id bytes
+        → awaits (far_of q) ≡ Some (record { from = near; id = id }) → (a : RepliesAtOnce (far_of q) k.at id bytes)
+        → Replied q k id
+    replied q k id p low high call awaited a =
+        let same : a.reply ≡ m = one_message bytes a.reply m are a.spells spells in
+        let id_there : id ≡ con.id = sym a.id_is ∙ (ap (λ (z : Message). z.id) same ∙ id_is) in
+        let of : IsOf a.to_what (record { from = near; id = id }) =
+        latest_is (far_of q) k.at a.to_what _ awaited a.latest in
+        record {
+          call = call;
+          awaited = awaited;
+          at_once = a;
+          id_there = id_there;
+          of = of;
+          con_there = to_a_con q k id p low high a.to_what of id_there a.latest;
+        }
+
+    replies_to : (q : List Hop) (k : Entry) (id : ℕ) → P (Far k ∷ q) → Replied q k id
+        → con.first ≤ k.at + (id_reuse_after - last_arrival) → k.at ≤ con.first + id_reuse_after → R q (Far k)
+    replies_to q k id p r before after =
+        record {
+          call = r.call ∙ ap (λ (i : ℕ). Reply near i bytes) r.id_there;
+          to_it = last_is k.at r.at_once.to_what r.of.from_is (r.of.id_is ∙ r.id_there) before after q
+              (down q (Far k) p) r.at_once.latest;
+        }
+
+    -- when it is given, for the first time
+    window : (q : List Hop) (k : Entry) (id : ℕ) → P (Far k ∷ q) → k.at ≤ x.at → x.at ≤ k.at + max_latency
+        → Replied q k id → (con.first ≤ k.at) × (k.at ≤ con.first + last_arrival)
+    window q k id p before after r =
+        forget W q (Ever_of_Sometime _ (λ h. W) (λ t h z. inl z) q
+        (by_suffix P (λ t h. OnFar Up h) (λ t h. W) down at_place q (down q (Far k) p)
+        (Sometime_of_Ever _ q (to_far _ q (Ever_of_Since _ _ (far_of q) r.at_once.latest)))))
+      where
+        W : Type 0
+        W = (con.first ≤ k.at) × (k.at ≤ con.first + last_arrival)
+
+        up : Incoming
+        up = r.at_once.to_what
+
+        Up : Entry → Type 0
+        Up y = (handed y ≡ Some up) × (y.at ≡ k.at)
+
+        at_place : (t : List Hop) (h : Hop) → P (h ∷ t) → OnFar Up h → W
+        at_place t (Near y) w z = absurd z
+        at_place t (Far y) w z =
+            let u : HandedBy y up = handed_so other (far_of t) y up w.law.far_law.0 z.0 in
+            let call = u.call ∙ ap (λ (f : Endpoint). Receive f u.bytes) r.of.from_is in
+            let b = begun_as one other near far t y u.bytes up.message w.law call u.spells r.con_there in
+            let at = z.1 in
+            let c = this_con t u.bytes up.message.id y.at (down t (Far y) w) b (r.of.id_is ∙ r.id_there)
+            (omega (arith, at, before)) (omega (arith, at, after)) in
+            let f = c.0 in
+            let l = c.1 in
+            (omega (arith, at, f), omega (arith, at, l))
+
+    given : (q : List Hop) (k : Entry) → P (Far k ∷ q) → k.at ≤ x.at → x.at ≤ k.at + max_latency
+        → (r : ReplyOut (far_of q) k (record { to = near; bytes = bytes })) → R q (Far k)
+    given q k p before after r =
+        let is : Replied q k r.id = replied q k r.id p (omega (arith, late, after)) (omega (arith, before, young_is))
+        r.call r.awaited (p.law.far_replies.0 near r.id bytes r.call) in
+        let w = window q k r.id p before after is in
+        let f = w.0 in
+        let l = w.1 in
+        replies_to q k r.id p is (omega (arith, f)) (omega (arith, l))
+
+    -- a stored reply
+    stored_again : (q : List Hop) (k : Entry) → P (Far k ∷ q) → k.at ≤ x.at → x.at ≤ k.at + max_latency
+        → (r : StoredOut (far_of q) k (record { to = near; bytes = bytes })) → r.message.id ≡ m.id → Sometime R q
+    stored_again q k p before after r is =
+        by_suffix P (λ t h. OnFar Gives h) R down at_place q (down q (Far k) p)
+        (Sometime_of_Ever _ q (to_far _ q (by_clock other _ (far_of q) k.at p.law.far_law.1 p.law.far_law.0.time
+        (since_young other k.at near r.message.id _ (far_of q) p.law.far_law.1 r.given r.old))))
+      where
+        Gives : Entry → Type 0
+        Gives b = ((reply_in near r.message.id b.call ≡ Some bytes) × (k.at ≤ b.at + exchange_lifetime)) × (b.at ≤ k.at)
+
+        here : (con.first ≤ k.at) × (k.at ≤ con.first + last_arrival)
+        here = this_con q r.bytes r.message.id k.at (down q (Far k) p)
+            (begun_as one other near far q k r.bytes r.message p.law r.call r.spells r.kind) (is ∙ id_is) before after
+
+        at_place : (t : List Hop) (h : Hop) → P (h ∷ t) → OnFar Gives h → R t h
+        at_place t (Near b) w z = absurd z
+        at_place t (Far b) w z =
+            let call = replied_call near r.message.id bytes b.call z.0.0 in
+            let row = subst (Row other (far_of t) b) call w.law.far_law.0.row in
+            let young = z.0.1 in
+            let at = z.1 in
+            let f = here.0 in
+            let l = here.1 in
+            replies_to t b r.message.id w (replied t b r.message.id w (omega (arith, young, f)) (omega (arith, at, l))
+            call row.0 (w.law.far_replies.0 near r.message.id bytes call)) (omega (arith, young, f))
+            (omega (arith, at, l))
+
+    -- it is no Reset of a CON that was rejected: this one isn't
+    not_rejected : (q : List Hop) (k : Entry) → P (Far k ∷ q) → k.at ≤ x.at → x.at ≤ k.at + max_latency
+        → ResetOut k (record { to = near; bytes = bytes }) → ⊥
+    not_rejected q k p before after r = ⊎_elim faulty read r.shows
+      where
+        row : Row other (far_of q) k (Receive near r.bytes)
+        row = subst (Row other (far_of q) k) r.call p.law.far_law.0.row
+
+        id_there : r.id ≡ con.id
+        id_there = sym (reset_id m r.id (subst (λ (y : List ℕ). Spells y m) (ap (λ (y : Packet). y.bytes) r.is) spells))
+            ∙ id_is
+
+        faulty : Shows r.bytes (Faulted Con r.id) → ⊥
+        faulty h = forget ⊥ (near_of q) (Ever_of_Sometime _ (λ e. ⊥) (λ t e z. inl z) (near_of q)
+            (by_suffix (Lawful one) (SentSo far r.bytes k.at) (λ t e. ⊥)
+            (λ t e l. record { law = l.law.1; replies = l.replies.1 })
+            (λ t e l s. ⊎_elim
+            (λ z. (let a = one_arrival r.bytes (Whole z.0) row.0 z.1 in
+            let b = one_arrival r.bytes (Faulted Con r.id) row.0 h in cc (a, b)))
+            (λ z. no_fault r.bytes z.0 r.id z.1 h)
+            (sent_what one t e (record { to = far; bytes = r.bytes }) l.law l.replies s.goes)) (near_of q)
+            (record { law = p.law.near_law; replies = p.law.near_replies })
+            (sent_so one other near far q k r.bytes p.law r.call)))
+
+        read : (n : Message) × Shows r.bytes (Whole n) × (n.kind ≡ Con) × (n.id ≡ r.id) → ⊥
+        read n =
+            let b : BegunAs far r.bytes n.0.id k.at (near_of q) =
+            begun_as one other near far q k r.bytes n.0 p.law r.call n.1 n.2 in
+            let same : b.con ≡ as_begun con = same_con q r.bytes n.0.id k.at (down q (Far k) p) b (n.3 ∙ id_there) before
+            after in
+            let bytes_are : con.bytes ≡ r.bytes = sym (ap (λ (y : Open). y.bytes) same) ∙ b.bytes_are in
+            let message_is : told.message ≡ n.0 = one_message r.bytes told.message n.0 row.0
+            (subst (λ (y : List ℕ). Spells y told.message) bytes_are told.spells) n.1 in
+            let code_is : role_of told.message.code
+            ≡ role_of n.0.code = ap (λ (y : Message). role_of y.code) message_is in
+            let class = rejected_class other (far_of q) k (record { from = near; message = n.0 })
+            (sorts_as other (far_of q) k near r.bytes n.0 p.law.far_law.0 r.call n.1) r.answer in
+            ⊎_elim (λ a. ⊎_elim (λ c. cc (a, c, code_is)) (λ c. cc (a, c, code_is)) class)
+            (λ a. ⊎_elim (λ c. cc (a, c, code_is)) (λ c. cc (a, c, code_is)) class) told.class
+
+    gave : (q : List Hop) (h : Hop) → P (h ∷ q) → OnFar (GaveOut near bytes x.at) h → Sometime R (h ∷ q)
+    gave q (Near k) p g = absurd g
+    gave q (Far k) p g = out (goes_out other (far_of q) k packet p.law.far_law g.out)
+      where
+        packet : Packet
+        packet = record { to = near; bytes = bytes }
+
+        not_con_out : (c : Open) → (s : SpellsCon c) → packet ≡ record { to = c.to; bytes = c.bytes } → Sometime R (Far k ∷ q)
+        not_con_out c s is =
+            let same : s.0 ≡ m = one_message bytes s.0 m are
+            (subst (λ (y : List ℕ). Spells y s.0) (sym (ap (λ (y : Packet). y.bytes) is)) s.1) spells in
+            let kind : s.0.kind ≡ m.kind = ap (λ (y : Message). y.kind) same in
+            let con_is = s.2 in absurd (cc (kind, con_is, rst))
+
+        stored_id : (r : StoredOut (far_of q) k packet) → r.message.id ≡ m.id
+        stored_id r =
+            let a : SpellsReply r.message.id bytes = stored_reply near r.message.id bytes (far_of q) p.law.far_replies.1
+            (Ever_of_Since _ _ (far_of q) r.given) in
+            sym a.id_is ∙ ap (λ (y : Message). y.id) (one_message bytes a.reply m are a.spells spells)
+
+        out : GoesOut (far_of q) k packet → Sometime R (Far k ∷ q)
+        out (first r) = not_con_out r.con (spelled_begun other (k ∷ far_of q) r.con p.law.far_law (inl r.begins)) r.is
+        out (copy r) = not_con_out r.con (spelled_begun other (k ∷ far_of q) r.con p.law.far_law (inr r.begun_before)) r.is
+        out (plain r) = let same : with_head Non r.id r.content ≡ m = one_message bytes (with_head Non r.id r.content) m are r.spells spells in
+            let kind : Non ≡ m.kind = ap (λ (y : Message). y.kind) same in absurd (cc (kind, rst))
+        out (reply r) = inl (given q k p g.from g.till r)
+        out (stored r) = inr (stored_again q k p g.from g.till r (stored_id r))
+        out (reset r) = absurd (not_rejected q k p g.from g.till r)
+
+  reset_replied : (h : HearsReset con (near_of whole) x) → Sometime (OnFarThen (RepliesTo near con h.bytes)) whole
+  reset_replied h =
+      let row : Row one (near_of whole) x (Receive con.to h.bytes) =
+      subst (Row one (near_of whole) x) h.call all_law.near_law.0.row in
+      let r : HeardReset h.bytes con.id =
+      arrived_reset one (near_of whole) x con.to h.bytes row.1.0 con.id row.0 row.1.1 row.1.2 h.answer in
+      Sometime_of_Sometime (λ q k. Sometime (OnFarThen (RepliesTo near con h.bytes)) (k ∷ q))
+      (OnFarThen (RepliesTo near con h.bytes)) (λ q k z. z) whole
+      (by_suffix P (λ q k. OnFar (GaveOut near h.bytes x.at) k)
+      (λ q k. Sometime (OnFarThen (RepliesTo near con h.bytes)) (k ∷ q)) down
+      (gave r.message r.kind r.id_is h.bytes r.are r.spells) whole
+      (record { law = earlier one other near far whole (Near x) all_law; later = []; is = refl })
+      (Sometime_of_Ever _ whole (all_law.fair.0 h.bytes (h.call ∙ ap (λ (f : Endpoint). Receive f h.bytes) to_is))))
+
+pub resets_meant : (one other : Setup) (near far : Endpoint) (all : List Hop) → ChannelLaw one other near far all
+    → ResetsMeant near far all
+resets_meant one other near far all law =
+    each_hop one other near far _ (λ past h l x con is to_is told k. reset_replied one other near far past x con
+    (subst (λ (y : Hop). ChannelLaw one other near far (y ∷ past)) is l) to_is k.is_outstanding told k.young k) all law
