@@ -26,8 +26,8 @@ module _ (config : Config) where
   -- No call makes more exchanges: so many requests are sent for it, each with a token of its own.
   abbrev pub AreBounded : List Entry → Type 0
   AreBounded all =
-      (x : Taken) → WasTaken x (client_of all) → requests config.client_szx x.number
-      (client_of all) ≤ most_exchanges config.client_szx x.request x.request.method
+      (x : Taken) → WasTaken x (client_of all) → requests config.client_sizes x.number
+      (client_of all) ≤ most_exchanges config.client_sizes x.request x.request.method
 
   -- No path holds a body that is longer than MAX_BODY_LEN.
   abbrev pub AreShort : List Entry → Type 0

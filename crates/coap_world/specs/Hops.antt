@@ -36,21 +36,21 @@ SentIn hops g = ((g.from ≡ client_end) × Ever (OnNear (SendsAt g.at g.packet)
 module _ (config : Config) where
   -- what a call of the client asks of its layer, and the entries that it adds to it
   abbrev pub client_asks : List C.Call → C.Call → List Asked
-  client_asks past c = adds.call_asks server_end config.client_szx config.client_word past c
+  client_asks past c = adds.call_asks server_end config.client_sizes config.client_word past c
 
   abbrev pub client_asked : List C.Call → List Asked
-  client_asked past = adds.all_asked server_end config.client_szx config.client_word past
+  client_asked past = adds.all_asked server_end config.client_sizes config.client_word past
 
   abbrev pub client_adds : List C.Call → C.Call → List L.Entry
-  client_adds past c = adds.call_adds server_end config.client_szx config.client_word past c
+  client_adds past c = adds.call_adds server_end config.client_sizes config.client_word past c
 
   -- .. and of the server
   abbrev pub server_asks : List S.Call → S.Call → List Asked
-  server_asks past c = asked_by_server (server.lower_of config.limit config.server_szx past)
-      (asks.lower (server.own_of config.limit config.server_szx past) c)
+  server_asks past c = asked_by_server (server.lower_of config.limits config.server_szx past)
+      (asks.lower (server.own_of config.limits config.server_szx past) c)
 
   abbrev pub server_asked : List S.Call → List Asked
-  server_asked past = answerer.lower_of (server.lower_of config.limit config.server_szx past)
+  server_asked past = answerer.lower_of (server.lower_of config.limits config.server_szx past)
 
   abbrev pub server_adds : List S.Call → S.Call → List L.Entry
   server_adds past c = entries (left_after (start config.server_word) (server_asked past)) (server_asks past c)

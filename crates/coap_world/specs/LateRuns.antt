@@ -22,7 +22,7 @@ module _ {config : Config} {events : List Event} {given : List Given} (run : Run
 
 -- blocks of 16 bytes
 abbrev pub by_16 : Config
-by_16 = record config { client_szx = 0 }
+by_16 = record config { client_sizes = usual_sizes 0 }
 
 -- the token of a request
 abbrev pub key : ℕ → List ℕ

@@ -167,10 +167,10 @@ module _ (t : ℕ) (F : Endpoint → List ℕ → Type 0) where
 
 module _ (config : Config) where
   abbrev own : List Call → Own
-  own past = own_of config.client_szx past
+  own past = own_of config.client_sizes past
 
   abbrev exchanges : List Call → List A.Call
-  exchanges past = lower_of config.client_szx past
+  exchanges past = lower_of config.client_sizes past
 
   abbrev before : List Call → State
   before past = left_after (start config.client_word) (client_asked config past)

@@ -13,6 +13,7 @@ use Rattle.coap_layer.specs.Trace.{Packet}
 use Rattle.coap_layer.specs.Words.{waiting}
 use Rattle.coap_layer.proofs.Facts.Calls.{steps_left, led_steps}
 use Rattle.coap_layer.proofs.Facts.StepsOfLayer.{steps_split}
+use Rattle.coap_layer.specs.Machine.State.{usual}
 use Rattle.coap_client.specs.Trace.{Call, NextOut, NextReport, Reported}
 use Rattle.coap_world.specs.Delivery.{FedToClient}
 use Rattle.coap_world.specs.Events.{client_end, server_end, Config}
@@ -62,9 +63,9 @@ module _ (config : Config) where
       (subst (λ a. Steps (start config.client_word) a good.0) (client_asked_next config past c) good.1) in
       (k.0, k.1)
 
-  law : (past : List Call) → IsGood past → LayerLaw config.client_word (client_layer config past)
+  law : (past : List Call) → IsGood past → LayerLaw (usual config.client_word) (client_layer config past)
   law past good =
-      subst (LayerLaw config.client_word) (append-nil (client_layer config past))
+      subst (LayerLaw (usual config.client_word)) (append-nil (client_layer config past))
       (led_steps config.client_word [] (start config.client_word) good.0 (client_asked config past)
       (record { law = tt; kept = refl }) good.1).law
 
@@ -142,7 +143,7 @@ module _ (config : Config) where
           k.by,
           subst (λ (m : ℕ). Ever (OnNear (SendsAt m g.packet)) (map Near adds ++ hops_in config es)) (sym k.at)
               (on_near (SendsAt t g.packet) adds (hops_in config es)
-              (sent_at_once config.client_word t (client_layer config) (client_adds config)
+              (sent_at_once (usual config.client_word) t (client_layer config) (client_adds config)
               (client_next config) IsGood down law NextOut took g.packet all (client_of es) good still.client_none
               (every_map (Timely t G) (InTime t) (λ e w. in_time t G e w) adds timely) k.taken)),
         )

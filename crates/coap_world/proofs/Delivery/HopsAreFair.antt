@@ -95,7 +95,7 @@ module _ (config : Config) where
       }
 
   -- a server begins at moment 0
-  begins_by : (t : ℕ) (ds : List S.Delay) → (server_law.own_of config.limit config.server_szx
+  begins_by : (t : ℕ) (ds : List S.Delay) → (server_law.own_of config.limits config.server_szx
       (map (λ (d : S.Delay). S.Delays d.path d.ms true) ds)).clock ≤ t
   begins_by t [] = omega arith
   begins_by t (d ∷ ds) = begins_by t ds

@@ -156,12 +156,12 @@ module _ (szx : ℕ) where
 
 pub all_given : (config : Config) (turns : List Turn)
     → Always (λ past t. Makes past t.event.at t.event.word t.event.what t.refused t.entries) turns
-    → ClientRows config.client_szx (client_of (entries_of turns)) → AllGiven config (entries_of turns)
+    → ClientRows config.client_sizes (client_of (entries_of turns)) → AllGiven config (entries_of turns)
 all_given config turns made rows =
     let t : List C.Call = client_of (entries_of turns) in
-    let k = are_taken config.client_szx turns made rows in
+    let k = are_taken config.client_sizes turns made rows in
     record {
       none_left = k.left;
       given_all = sym
-          (all_wait config.client_szx t rows k.dropped ∙ (ap (λ rs. given t ++ rs) k.left ∙ append-nil (given t)));
+          (all_wait config.client_sizes t rows k.dropped ∙ (ap (λ rs. given t ++ rs) k.left ∙ append-nil (given t)));
     }

@@ -107,10 +107,10 @@ module _ (t : ℕ) (F : Endpoint → List ℕ → Type 0) where
 
 module _ (config : Config) where
   abbrev own : List Call → Own
-  own past = own_of config.limit config.server_szx past
+  own past = own_of config.limits config.server_szx past
 
   abbrev exchanges : List Call → List R.Call
-  exchanges past = lower_of config.limit config.server_szx past
+  exchanges past = lower_of config.limits config.server_szx past
 
   abbrev before : List Call → State
   before past = left_after (start config.server_word) (server_asked config past)

@@ -13,6 +13,7 @@ use Rattle.coap_layer.specs.Trace.{Packet}
 use Rattle.coap_layer.specs.Words.{waiting}
 use Rattle.coap_layer.proofs.Facts.Calls.{steps_left, led_steps}
 use Rattle.coap_layer.proofs.Facts.StepsOfLayer.{steps_split}
+use Rattle.coap_layer.specs.Machine.State.{usual}
 use Rattle.coap_server.specs.Trace.{Call, NextOut}
 use Rattle.coap_world.specs.Delivery.{FedToServer}
 use Rattle.coap_world.specs.Events.{client_end, server_end, Config}
@@ -53,9 +54,9 @@ module _ (config : Config) where
       (subst (λ a. Steps (start config.server_word) a good.0) (server_asked_next config past c) good.1) in
       (k.0, k.1)
 
-  law : (past : List Call) → IsGood past → LayerLaw config.server_word (server_layer config past)
+  law : (past : List Call) → IsGood past → LayerLaw (usual config.server_word) (server_layer config past)
   law past good =
-      subst (LayerLaw config.server_word) (append-nil (server_layer config past))
+      subst (LayerLaw (usual config.server_word)) (append-nil (server_layer config past))
       (led_steps config.server_word [] (start config.server_word) good.0 (server_asked config past)
       (record { law = tt; kept = refl }) good.1).law
 
@@ -125,7 +126,7 @@ module _ (config : Config) where
           k.by,
           subst (λ (m : ℕ). Ever (OnFar (SendsAt m g.packet)) (map Far adds ++ hops_in config es)) (sym k.at)
               (on_far (SendsAt t g.packet) adds (hops_in config es)
-              (sent_at_once config.server_word t (server_layer config) (server_adds config)
+              (sent_at_once (usual config.server_word) t (server_layer config) (server_adds config)
               (server_next config) IsGood down law NextOut took g.packet all past good still.server_none
               (every_map (Timely t G) (InTime t) (λ e w. in_time t G e w) adds timely) k.taken)),
         )

@@ -197,6 +197,6 @@ module _ (limit szx : ℕ) where
 pub bodies_short : (config : Config) (all : List Entry) → Rows config all → AreShort config all
 bodies_short config [] rows = tt
 bodies_short config (e ∷ past) rows = (
-  (λ path held is. held_short config.limit config.server_szx path held (server_trace config (e ∷ past)) rows is),
+  (λ path held is. held_short config.limits config.server_szx path held (server_trace config (e ∷ past)) rows is),
   bodies_short config past (rows_back config e past rows),
 )

@@ -132,7 +132,7 @@ module _ (limit szx : ℕ) where
 
 module _ (config : Config) where
   begun_small : (ds : List S.Delay) (path : List (List ℕ))
-      → IsSmall (held_at config.limit config.server_szx path (map (λ (d : S.Delay). S.Delays d.path d.ms true) ds))
+      → IsSmall (held_at config.limits config.server_szx path (map (λ (d : S.Delay). S.Delays d.path d.ms true) ds))
   begun_small [] path = tt
   begun_small (d ∷ ds) path = begun_small ds path
 
@@ -140,5 +140,5 @@ module _ (config : Config) where
       → IsSmall (last_at config path all)
   formats_held [] rows f = begun_small config.delays
   formats_held (OfClient c ∷ past) rows f = formats_held past rows f
-  formats_held (OfServer c ∷ past) rows f = small_step config.limit config.server_szx
+  formats_held (OfServer c ∷ past) rows f = small_step config.limits config.server_szx
       (server_trace config past) c rows f.0 (formats_held past (rows_back config (OfServer c) past rows) f.1)

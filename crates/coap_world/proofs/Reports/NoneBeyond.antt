@@ -31,7 +31,7 @@ ends_before body num szx more part p is = by_not (λ k. let e : more ≡ false =
 module _ (config : Config) (small : config.server_szx ≤ 6) where
   -- what is heard shows a part of what was held, which is no longer
   not_here : (number : ℕ) (past : List Entry) (c : C.Call) → Lawful config (OfClient c ∷ past) → FormatsIn past
-      → HearsBeyond config.client_szx number (client_of past) c → ⊥
+      → HearsBeyond config.client_sizes number (client_of past) c → ⊥
   not_here number past c law formats h =
       let m = h.message in
       let g = h.part in
@@ -39,13 +39,13 @@ module _ (config : Config) (small : config.server_szx ≤ 6) where
       let k = some_shown config m past (heard_shown config small past c law formats m h.heard.heard h.code) in
       let ends = ends_before k.held.body g.block.num g.block.szx g.block.more m.payload
       (k.shown.part.piece g.block g.says) g.more in
-      let short = was_short config.limit config.server_szx k.path k.held
+      let short = was_short config.limits config.server_szx k.path k.held
       (server_trace config past) before.server.rows k.was in
       let beyond = g.beyond in
       omega (arith, ends, short, beyond)
 
   none_beyond : (number : ℕ) (w : List Entry) → Lawful config w → FormatsIn w
-      → Sometime (HearsBeyond config.client_szx number) (client_of w) → ⊥
+      → Sometime (HearsBeyond config.client_sizes number) (client_of w) → ⊥
   none_beyond number [] law formats h = h
   none_beyond number (OfServer c ∷ past) law formats h =
       none_beyond number past (lawful_back config past (OfServer c) law)
@@ -54,8 +54,8 @@ module _ (config : Config) (small : config.server_szx ≤ 6) where
   none_beyond number (OfClient c ∷ past) law formats (inr h) =
       none_beyond number past (lawful_back config past (OfClient c) law) formats h
 
-  by_method : (r : Request) (method : Method) (n : ℕ) → n ≤ most_requests config.client_szx r method
-      → n ≤ most_exchanges config.client_szx r Get → n ≤ most_exchanges config.client_szx r method
+  by_method : (r : Request) (method : Method) (n : ℕ) → n ≤ most_requests config.client_sizes r method
+      → n ≤ most_exchanges config.client_sizes r Get → n ≤ most_exchanges config.client_sizes r method
   by_method r Get n few passes = passes
   by_method r Post n few passes = few
   by_method r Put n few passes = few
@@ -64,8 +64,8 @@ module _ (config : Config) (small : config.server_szx ≤ 6) where
   pub bounded : (all : List Entry) → Lawful config all → FormatsIn all → AreBounded config all
   bounded all law formats x was =
       let t : List C.Call = client_of all in
-      let few = are_bounded server_end config.client_szx config.client_word t law.client x was in
-      elim (within_or_beyond server_end config.client_szx config.client_word t law.client x.number) [
-        | inl passes ↦ by_method x.request x.request.method (requests config.client_szx x.number t) few passes
+      let few = are_bounded server_end config.client_sizes config.client_word t law.client x was in
+      elim (within_or_beyond server_end config.client_sizes config.client_word t law.client x.number) [
+        | inl passes ↦ by_method x.request x.request.method (requests config.client_sizes x.number t) few passes
         | inr beyond ↦ absurd (none_beyond x.number all law formats beyond)
       ]

@@ -42,7 +42,7 @@ record CameSo (config : Config) (a : Asked) (v : Verdict) (w : List Entry) : Typ
   past : List Entry
   entry : Entry
   came : CameFrom config past entry a v
-  sent : WasSent config.client_szx came.sending (client_of w)
+  sent : WasSent config.client_sizes came.sending (client_of w)
 
 came_so : (config : Config) (a : Asked) (v : Verdict) (w : List Entry) → CamesFrom config w → a.from ≡ client_end
     → Sometime (ComesAt config a v) w → CameSo config a v w
@@ -96,7 +96,7 @@ single_is szx Post body h = absurd h
 single_is szx Put body h = absurd h
 single_is szx Delete body h = refl
 
-module _ (config : Config) (number : ℕ) (all : List Entry) (small : config.client_szx ≤ 6) (whole : Lawful config all)
+module _ (config : Config) (number : ℕ) (all : List Entry) (small : config.client_sizes ≤ 6) (whole : Lawful config all)
     (in_range : (x : Taken) → WasTaken x (client_of all) → IsRequest x.request) (w : List Entry)
     (later : Later config number all small whole in_range w) (law : Lawful config w) (x : Serving)
     (from : x.asked.from ≡ client_end) (k : Known config number all small whole in_range w x)
@@ -126,16 +126,16 @@ module _ (config : Config) (number : ℕ) (all : List Entry) (small : config.cli
       ∙ (ap (uint_at block1) (sym k.options) ∙ (ap (λ (q : Question). uint_at block1 q.options) read.0.is ∙ read.1))
 
   body_by : (t : Transfer) → k.transfer ≡ t → (k.request.method ≡ Delete) ⊎ (payload_of t ≡ k.request.body)
-  body_by Single e = inl (single_is config.client_szx k.request.method k.request.body
-      (subst (CarriesBody config.client_szx k.request.method k.request.body) e k.carries))
-  body_by (Fetches f) e = absurd (no_fetch config.client_szx k.request.method k.request.body f k.change
-      (subst (CarriesBody config.client_szx k.request.method k.request.body) e k.carries))
+  body_by Single e = inl (single_is config.client_sizes k.request.method k.request.body
+      (subst (CarriesBody config.client_sizes k.request.method k.request.body) e k.carries))
+  body_by (Fetches f) e = absurd (no_fetch config.client_sizes k.request.method k.request.body f k.change
+      (subst (CarriesBody config.client_sizes k.request.method k.request.body) e k.carries))
   body_by (Uploads u) e = inr (by (is_longer u) refl)
     where
       by : (b : Bool) → is_longer u ≡ b → part_of u.body u.num u.szx ≡ k.request.body
       by true long =
-          let s = sends_body config.client_szx k.request.method k.request.body u k.change
-          (subst (CarriesBody config.client_szx k.request.method k.request.body) e k.carries) in
+          let s = sends_body config.client_sizes k.request.method k.request.body u k.change
+          (subst (CarriesBody config.client_sizes k.request.method k.request.body) e k.carries) in
           let z = s.size in
           let size : u.szx ≤ 6 = omega (arith, z, small) in
           let n : ℕ = block_value (block_to_send u) in
@@ -147,11 +147,11 @@ module _ (config : Config) (number : ℕ) (all : List Entry) (small : config.cli
           let both : Some n ≡ None = sym said ∙ none in
           absurd (cc both)
       by false short =
-          let s = sends_body config.client_szx k.request.method k.request.body u k.change
-          (subst (CarriesBody config.client_szx k.request.method k.request.body) e k.carries) in
+          let s = sends_body config.client_sizes k.request.method k.request.body u k.change
+          (subst (CarriesBody config.client_sizes k.request.method k.request.body) e k.carries) in
           let few = fits (size_of u.szx) (length u.body) short in
-          let begins = begins_at config.client_szx (client_of all)
-          (client_facts.pieces server_end config.client_szx config.client_word (client_of all) whole.client)
+          let begins = begins_at config.client_sizes (client_of all)
+          (client_facts.pieces server_end config.client_sizes config.client_word (client_of all) whole.client)
           k.sending number u k.sent
           (ap carried k.operation ∙ ap (λ t. carried (Calling number (record k.request { body = [] }) t)) e)
           in
