@@ -224,7 +224,7 @@ module _ (config : Config) where
   begins_by [] few = record {
     rows = tt;
     exchanges =
-        record { rows = tt; left = layer.start config.server_word; layer = refl };
+        record { rows = tt; left = layer.start (layer.usual config.server_word); layer = refl };
   }
   begins_by (d ∷ ds) few =
       let have = (own_of config.limits config.server_szx (begun_by ds)).delays in
@@ -243,7 +243,7 @@ module _ (config : Config) where
     client = record {
       rows = tt;
       exchanges = record
-          { rows = tt; left = layer.start config.client_word; layer = refl };
+          { rows = tt; left = layer.start (layer.usual config.client_word); layer = refl };
     };
     server = begins_by config.delays range.few;
   }

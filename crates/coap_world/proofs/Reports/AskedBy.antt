@@ -5,6 +5,7 @@ use Rattle.coap_types.specs.Recognised.{recognised}
 use Rattle.coap_types.specs.RequestPath.{path_of}
 use Rattle.coap_types.specs.declared.block.Block.{Block}
 use Rattle.coap_types.specs.declared.direction.Direction.TheVariants.{Request}
+use Rattle.coap_resource.specs.Limits.{Limits}
 use Rattle.coap_codec.specs.Message.{Message}
 use Rattle.coap_observe.specs.Observers.{Observer}
 use Rattle.coap_resource.specs.RequestOptions.{block_of, szx_by}
@@ -30,12 +31,12 @@ use Rattle.coap_world.proofs.Requests.Traced.{sent_later, traced, brought_in}
 use Rattle.coap_world.proofs.Reports.PathRead.{path_read}
 
 -- what is asked of the store has the server's block size
-szx_asked : (limit szx : ℕ) (past : List S.Call) (c : S.Call) (a : Asked) (q : Question) (m : Message) (v : Verdict)
-    → AsksBy limit szx past c a q v → ReadsOf szx m v → q.szx ≡ szx
-szx_asked limit szx past c a q m Ignored h r = absurd h
-szx_asked limit szx past c a q m (Refused code) h r = absurd h
-szx_asked limit szx past c a q m (Asks p) h r = ap (λ (z : Question). z.szx) h ∙ ap (λ (z : Question). z.szx) r.0.is
-szx_asked limit szx past c a q m (Uploads p b) h r = ap (λ (z : Question). z.szx) h.question
+szx_asked : (limits : Limits) (szx : ℕ) (past : List S.Call) (c : S.Call) (a : Asked) (q : Question) (m : Message) (v : Verdict)
+    → AsksBy limits szx past c a q v → ReadsOf szx m v → q.szx ≡ szx
+szx_asked limits szx past c a q m Ignored h r = absurd h
+szx_asked limits szx past c a q m (Refused code) h r = absurd h
+szx_asked limits szx past c a q m (Asks p) h r = ap (λ (z : Question). z.szx) h ∙ ap (λ (z : Question). z.szx) r.0.is
+szx_asked limits szx past c a q m (Uploads p b) h r = ap (λ (z : Question). z.szx) h.question
     ∙ ap (λ (z : Question). z.szx) r.0.is
 
 good_of : (m : Message) (v : Verdict) → NoFaultIn m v → Final v → HasNoFault m

@@ -6,6 +6,7 @@ use Rattle.coap_types.specs.Past.{Sometime}
 use Rattle.coap_types.specs.declared.request.Method.{Method}
 use Rattle.coap_types.specs.declared.request.Method.TheVariants.{Get, Post, Put, Delete}
 use Rattle.coap_types.proofs.Facts.Traces.{Sometime_map}
+use Rattle.coap_resource.specs.Limits.{Limits}
 use Rattle.coap_block.specs.AssemblyState.{AssemblyState}
 use Rattle.coap_block.specs.declared.block_verdict.BlockVerdict.{BlockVerdict}
 use Rattle.coap_block.specs.declared.block_verdict.BlockVerdict.TheVariants as ruling
@@ -83,39 +84,39 @@ get_is Put b h = absurd (cc h)
 get_is Delete b h = absurd (cc h)
 
 -- the request that is refused in a call, and what it comes to
-record RefusedIn (limit szx word : ℕ) (past : List S.Call) (c : S.Call) (a : Asked) : Type 0 where
+record RefusedIn (limits : Limits) (szx word : ℕ) (past : List S.Call) (c : S.Call) (a : Asked) : Type 0 where
   verdict : Verdict
-  comes : Comes limit szx word past c a verdict
+  comes : Comes limits szx word past c a verdict
   uploads : AssemblyState
   at : ℕ
   code : ℕ
   refuses_so : refusal_of uploads at a verdict ≡ Some code
 
-refused_in : (limit szx word : ℕ) (past : List S.Call) (c : S.Call) (a : Asked) (code : ℕ)
-    → Rattle.coap_server.specs.Law.ServerLaw limit szx word (c ∷ past)
-    → hands c ≡ Some a → refusal_in (own_of limit szx past) c ≡ Some code → RefusedIn limit szx word past c a
-refused_in limit szx word past (S.Feeds now from bytes w up (Some p) h below) a code law is refuses_so =
-    let s : S.Own = own_of limit szx past in
+refused_in : (limits : Limits) (szx word : ℕ) (past : List S.Call) (c : S.Call) (a : Asked) (code : ℕ)
+    → Rattle.coap_server.specs.Law.ServerLaw limits szx word (c ∷ past)
+    → hands c ≡ Some a → refusal_in (own_of limits szx past) c ≡ Some code → RefusedIn limits szx word past c a
+refused_in limits szx word past (S.Feeds now from bytes w up (Some p) h below) a code law is refuses_so =
+    let s : S.Own = own_of limits szx past in
     let same : p.0 ≡ a = cc is in
     record {
       verdict = verdict_on szx p.1;
-      comes = subst (λ z. Comes limit szx word past (S.Feeds now from bytes w up (Some p) h below) z
-          (verdict_on szx p.1)) same (comes_here limit szx word past now from bytes w up p h below law);
+      comes = subst (λ z. Comes limits szx word past (S.Feeds now from bytes w up (Some p) h below) z
+          (verdict_on szx p.1)) same (comes_here limits szx word past now from bytes w up p h below law);
       uploads = s.uploads;
       at = max s.clock now;
       code = code;
       refuses_so = ap (λ z. refusal_of s.uploads (max s.clock now) z (verdict_on szx p.1)) (sym same)
-          ∙ (ap (λ n. refusal_of s.uploads (max s.clock now) p.0 (verdict_on n p.1)) (sym (szx_is limit szx past))
+          ∙ (ap (λ n. refusal_of s.uploads (max s.clock now) p.0 (verdict_on n p.1)) (sym (szx_is limits szx past))
           ∙ refuses_so);
     }
-refused_in limit szx word past (S.Feeds now from bytes w up None h below) a code law is refuses_so = absurd (cc is)
-refused_in limit szx word past (S.Sets now path format body answer left) a code law is refuses_so = absurd (cc is)
-refused_in limit szx word past (S.Removes now path answer left) a code law is refuses_so = absurd (cc is)
-refused_in limit szx word past (S.Delays path ms answer) a code law is refuses_so = absurd (cc is)
-refused_in limit szx word past (S.Gets path answer) a code law is refuses_so = absurd (cc is)
-refused_in limit szx word past (S.TellsApplied answer) a code law is refuses_so = absurd (cc is)
-refused_in limit szx word past (S.Ticks now w below room d passed h id answer) a code law is refuses_so = absurd (cc is)
-refused_in limit szx word past (S.NextOut answer) a code law is refuses_so = absurd (cc is)
+refused_in limits szx word past (S.Feeds now from bytes w up None h below) a code law is refuses_so = absurd (cc is)
+refused_in limits szx word past (S.Sets now path format body answer left) a code law is refuses_so = absurd (cc is)
+refused_in limits szx word past (S.Removes now path answer left) a code law is refuses_so = absurd (cc is)
+refused_in limits szx word past (S.Delays path ms answer) a code law is refuses_so = absurd (cc is)
+refused_in limits szx word past (S.Gets path answer) a code law is refuses_so = absurd (cc is)
+refused_in limits szx word past (S.TellsApplied answer) a code law is refuses_so = absurd (cc is)
+refused_in limits szx word past (S.Ticks now w below room d passed h id answer) a code law is refuses_so = absurd (cc is)
+refused_in limits szx word past (S.NextOut answer) a code law is refuses_so = absurd (cc is)
 
 -- what is known wherever it happens
 known_so : {E : Type 0} (P : List E → E → Type 0) (X : Type 0) → (t : List E) → Sometime (λ past e. P past e × X) t → X

@@ -121,5 +121,5 @@ module _ (config : Config) (events : List Event) (turns : List Turn) (run : Reco
       }
 
   pub exchanges_bounded : AreBounded config (entries_of turns)
-  exchanges_bounded = bounded config legal.range.server_szx (entries_of turns) law
+  exchanges_bounded = bounded config legal.range.server_szx legal.range.client_limit.0 (entries_of turns) law
       (formats_in turns run.made legal.events)

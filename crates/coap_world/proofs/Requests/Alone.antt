@@ -12,6 +12,7 @@ use Rattle.coap_types.specs.declared.option_number.TheConstants.{BLOCK1 as block
 use Rattle.coap_types.specs.declared.request.Method.{Method}
 use Rattle.coap_types.specs.declared.request.Method.TheVariants.{Get, Post, Put, Delete}
 use Rattle.coap_types.proofs.Facts.Uints.{uint_read}
+use Rattle.coap_block.specs.Sizes.{Sizes}
 use Rattle.coap_codec.specs.Message.{Message}
 use Rattle.coap_block.specs.UploadStep.{UploadState, block_to_send, more_follows}
 use Rattle.coap_resource.specs.Serves.{Question}
@@ -54,11 +55,11 @@ came_so config a v (e ∷ w) came from (inr h) = let k =
     { past = k.past; entry = k.entry; came = k.came; sent = sent_later config k.came.sending w e k.sent }
 
 -- a block that is sent begins in its body
-begins_at : (szx : ℕ) (t : List C.Call) → SendsPieces szx t → (x : Sending) (number : ℕ) (u : UploadState)
-    → WasSent szx x t → carried x.operation ≡ Some (record { number = number; upload = u }) → Begins u.body u.num u.szx
-begins_at szx [] law x number u h of = absurd h
-begins_at szx (c ∷ t) law x number u (inl h) of = (law.0 x (record { number = number; upload = u }) h of).sent.begins
-begins_at szx (c ∷ t) law x number u (inr h) of = begins_at szx t law.1 x number u h of
+begins_at : (sizes : Sizes) (t : List C.Call) → SendsPieces sizes t → (x : Sending) (number : ℕ) (u : UploadState)
+    → WasSent sizes x t → carried x.operation ≡ Some (record { number = number; upload = u }) → Begins u.body u.num u.szx
+begins_at sizes [] law x number u h of = absurd h
+begins_at sizes (c ∷ t) law x number u (inl h) of = (law.0 x (record { number = number; upload = u }) h of).sent.begins
+begins_at sizes (c ∷ t) law x number u (inr h) of = begins_at sizes t law.1 x number u h of
 
 -- a body that fits a block is its first block
 
@@ -90,11 +91,11 @@ whole_part body num szx zero_num short =
 fits : (s l : ℕ) → nat_lt s l ≡ false → l ≤ s
 fits s l h = grind (arith, nat_tests, h)
 
-single_is : (szx : ℕ) (m : Method) (body : List ℕ) → CarriesBody szx m body Single → m ≡ Delete
-single_is szx Get body h = absurd h
-single_is szx Post body h = absurd h
-single_is szx Put body h = absurd h
-single_is szx Delete body h = refl
+single_is : (sizes : Sizes) (m : Method) (body : List ℕ) → CarriesBody sizes m body Single → m ≡ Delete
+single_is sizes Get body h = absurd h
+single_is sizes Post body h = absurd h
+single_is sizes Put body h = absurd h
+single_is sizes Delete body h = refl
 
 module _ (config : Config) (number : ℕ) (all : List Entry) (small : config.client_sizes ≤ 6) (whole : Lawful config all)
     (in_range : (x : Taken) → WasTaken x (client_of all) → IsRequest x.request) (w : List Entry)

@@ -3,6 +3,7 @@ use Rattle.std.proofs.Common.{◌≡◌, inl, inr, ℕ, true, Option, Some, None
 use Rattle.coap_types.specs.MethodCode.{method_code, method_of}
 use Rattle.coap_types.specs.Past.{Always}
 use Rattle.coap_types.specs.declared.request.Method.TheVariants.{Get}
+use Rattle.coap_block.specs.Sizes.{Sizes}
 use Rattle.coap_codec.specs.Message.{Message}
 use Rattle.coap_exchange.specs.declared.answerer.Asked.{Asked}
 use Rattle.coap_client.specs.Follows.Begins.{WasSent}
@@ -27,11 +28,11 @@ use Rattle.coap_world.proofs.Requests.OfACall.{method_asked, Lawful, lawful_back
 use Rattle.coap_world.proofs.Requests.Traced.{Traced, traced, brought_in}
 
 -- what is sent for no call is a GET
-get_at : (szx : ℕ) (t : List C.Call) → OthersAreGets szx t → (x : Sending) → WasSent szx x t
+get_at : (sizes : Sizes) (t : List C.Call) → OthersAreGets sizes t → (x : Sending) → WasSent sizes x t
     → call_of x.operation ≡ None → x.request.code ≡ (method_code Get).0
-get_at szx [] law x h none = absurd h
-get_at szx (c ∷ t) law x (inl h) none = law.0 x h none
-get_at szx (c ∷ t) law x (inr h) none = get_at szx t law.1 x h none
+get_at sizes [] law x h none = absurd h
+get_at sizes (c ∷ t) law x (inl h) none = law.0 x h none
+get_at sizes (c ∷ t) law x (inr h) none = get_at sizes t law.1 x h none
 
 module _ (config : Config) (all : List Entry) where
   abbrev Later : List Entry → Type 0

@@ -2,6 +2,7 @@
 use Rattle.std.proofs.Common.{◌≡◌, ℕ, true, None, Some, List, [], ◌∷◌, refl, ap, ◌∙◌, cond, map}
 use Rattle.coap_types.specs.Past.{Always}
 use Rattle.coap_types.proofs.Facts.Paths.{same_path-decides}
+use Rattle.coap_resource.specs.Limits.{Limits}
 use Rattle.coap_server.specs.Trace as S
 use Rattle.coap_server.specs.Law.{own_of, ServerRows, ServerLaw}
 use Rattle.coap_server.specs.Follows.Holds.{Change, change, held_then}
@@ -13,10 +14,10 @@ use Rattle.coap_world.specs.Record.{Entry, OfClient, OfServer, server_trace}
 use Rattle.coap_world.specs.Words.{holds_at, last_at}
 
 -- a server begins with nothing: its delays change nothing
-begun_empty : (limit szx : ℕ) (ds : List S.Delay) (path : List (List ℕ))
-    → (own_of limit szx (map (λ (d : S.Delay). S.Delays d.path d.ms true) ds)).store.holds path ≡ None
-begun_empty limit szx [] path = refl
-begun_empty limit szx (d ∷ ds) path = begun_empty limit szx ds path
+begun_empty : (limits : Limits) (szx : ℕ) (ds : List S.Delay) (path : List (List ℕ))
+    → (own_of limits szx (map (λ (d : S.Delay). S.Delays d.path d.ms true) ds)).store.holds path ≡ None
+begun_empty limits szx [] path = refl
+begun_empty limits szx (d ∷ ds) path = begun_empty limits szx ds path
 
 module _ (config : Config) where
   abbrev pub Rows : List Entry → Type 0

@@ -7,6 +7,7 @@ use Rattle.coap_types.specs.Past.{Ever}
 use Rattle.coap_types.specs.RequestPath.{path_of}
 use Rattle.coap_types.specs.declared.request.Method.{Method}
 use Rattle.coap_types.specs.declared.request.Method.TheVariants.{Get, Post, Put, Delete}
+use Rattle.coap_resource.specs.Limits.{Limits}
 use Rattle.coap_codec.specs.Message.{Message, Spells}
 use Rattle.coap_layer.specs.Channel.{near_of}
 use Rattle.coap_layer.specs.Words.{Open, begun}
@@ -53,30 +54,30 @@ changes_by Put q old left h = tt
 changes_by Delete q old left h = tt
 
 -- what is asked of the store is of the request that was handed up
-pub final_of : (limit szx : ℕ) (past : List S.Call) (c : S.Call) (a : Asked) (q : Question) (v : Verdict)
-    → AsksBy limit szx past c a q v → Final v
-final_of limit szx past c a q Ignored h = h
-final_of limit szx past c a q (Refused code) h = h
-final_of limit szx past c a q (Asks p) h = tt
-final_of limit szx past c a q (Uploads p b) h = h.last
+pub final_of : (limits : Limits) (szx : ℕ) (past : List S.Call) (c : S.Call) (a : Asked) (q : Question) (v : Verdict)
+    → AsksBy limits szx past c a q v → Final v
+final_of limits szx past c a q Ignored h = h
+final_of limits szx past c a q (Refused code) h = h
+final_of limits szx past c a q (Asks p) h = tt
+final_of limits szx past c a q (Uploads p b) h = h.last
 
-pub method_asked : (limit szx : ℕ) (past : List S.Call) (c : S.Call) (a : Asked) (q : Question) (m : Message)
-    (v : Verdict) → AsksBy limit szx past c a q v → ReadsOf szx m v → method_of m.code ≡ Some q.method
-method_asked limit szx past c a q m Ignored h r = absurd h
-method_asked limit szx past c a q m (Refused code) h r = absurd h
-method_asked limit szx past c a q m (Asks p) h r = r.0.method ∙ ap (λ (z : Question). Some z.method) (sym h)
-method_asked limit szx past c a q m (Uploads p b) h r = r.0.method
+pub method_asked : (limits : Limits) (szx : ℕ) (past : List S.Call) (c : S.Call) (a : Asked) (q : Question) (m : Message)
+    (v : Verdict) → AsksBy limits szx past c a q v → ReadsOf szx m v → method_of m.code ≡ Some q.method
+method_asked limits szx past c a q m Ignored h r = absurd h
+method_asked limits szx past c a q m (Refused code) h r = absurd h
+method_asked limits szx past c a q m (Asks p) h r = r.0.method ∙ ap (λ (z : Question). Some z.method) (sym h)
+method_asked limits szx past c a q m (Uploads p b) h r = r.0.method
     ∙ ap (λ (z : Question). Some z.method) (sym h.question)
 
-pub options_asked : (limit szx : ℕ) (past : List S.Call) (c : S.Call) (a : Asked) (q : Question) (m : Message)
-    (v : Verdict) → AsksBy limit szx past c a q v → ReadsOf szx m v → (q.options ≡ asks m) × (q.path ≡ path_of (asks m))
-options_asked limit szx past c a q m Ignored h r = absurd h
-options_asked limit szx past c a q m (Refused code) h r = absurd h
-options_asked limit szx past c a q m (Asks p) h r = (
+pub options_asked : (limits : Limits) (szx : ℕ) (past : List S.Call) (c : S.Call) (a : Asked) (q : Question) (m : Message)
+    (v : Verdict) → AsksBy limits szx past c a q v → ReadsOf szx m v → (q.options ≡ asks m) × (q.path ≡ path_of (asks m))
+options_asked limits szx past c a q m Ignored h r = absurd h
+options_asked limits szx past c a q m (Refused code) h r = absurd h
+options_asked limits szx past c a q m (Asks p) h r = (
   ap (λ (z : Question). z.options) h ∙ ap (λ (z : Question). z.options) r.0.is,
   ap (λ (z : Question). z.path) h ∙ ap (λ (z : Question). z.path) r.0.is,
 )
-options_asked limit szx past c a q m (Uploads p b) h r = (
+options_asked limits szx past c a q m (Uploads p b) h r = (
   ap (λ (z : Question). z.options) h.question ∙ ap (λ (z : Question). z.options) r.0.is,
   ap (λ (z : Question). z.path) h.question ∙ ap (λ (z : Question). z.path) r.0.is,
 )

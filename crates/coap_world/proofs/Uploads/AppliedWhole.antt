@@ -5,6 +5,7 @@ use Rattle.coap_types.specs.Past.{Sometime, Always}
 use Rattle.coap_types.specs.declared.request.Method.{Method}
 use Rattle.coap_types.specs.declared.request.Method.TheVariants.{Get, Post, Put, Delete}
 use Rattle.coap_types.specs.declared.block.Block.{Block}
+use Rattle.coap_block.specs.Sizes.{Sizes}
 use Rattle.coap_layer.specs.Words.{Open}
 use Rattle.coap_resource.specs.Content.{Content, Held}
 use Rattle.coap_resource.specs.RequestOptions.{format_of, precondition_fails}
@@ -66,13 +67,13 @@ does_of Post q old left r n before after b a v body format h = (
 does_of Delete q old left r n before after b a v body format h = sym a ∙ h
 
 -- a DELETE carries no block, and no payload
-none_sent : (szx : ℕ) (m : Method) (body : List ℕ) (t : Transfer) → CarriesBody szx m body t → m ≡ Delete → t ≡ Single
-none_sent szx Delete body Single h is = refl
-none_sent szx Delete body (Fetches f) h is = absurd h
-none_sent szx Delete body (Uploads u) h is = absurd h
-none_sent szx Get body t h is = absurd (cc is)
-none_sent szx Put body t h is = absurd (cc is)
-none_sent szx Post body t h is = absurd (cc is)
+none_sent : (sizes : Sizes) (m : Method) (body : List ℕ) (t : Transfer) → CarriesBody sizes m body t → m ≡ Delete → t ≡ Single
+none_sent sizes Delete body Single h is = refl
+none_sent sizes Delete body (Fetches f) h is = absurd h
+none_sent sizes Delete body (Uploads u) h is = absurd h
+none_sent sizes Get body t h is = absurd (cc is)
+none_sent sizes Put body t h is = absurd (cc is)
+none_sent sizes Post body t h is = absurd (cc is)
 
 module _ (config : Config) (number : ℕ) (all : List Entry) (small : config.client_sizes ≤ 6) (whole : Lawful config all)
     (in_range : (x : Taken) → WasTaken x (client_of all) → IsRequest x.request) where

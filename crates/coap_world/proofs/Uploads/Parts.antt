@@ -5,6 +5,7 @@ use Rattle.coap_types.specs.MethodCode.{method_code, method_of}
 use Rattle.coap_types.specs.Past.{Ever}
 use Rattle.coap_types.specs.declared.block.Block.{Block}
 use Rattle.coap_types.specs.declared.request.Method.TheVariants.{Get}
+use Rattle.coap_block.specs.Sizes.{Sizes}
 use Rattle.coap_codec.specs.Message.{Message, Spells}
 use Rattle.coap_layer.specs.Channel.{near_of}
 use Rattle.coap_layer.specs.Trace as T
@@ -38,11 +39,11 @@ use Rattle.coap_client.specs.Follows.Apart.{IsBlockOf}
 use Rattle.coap_world.proofs.Uploads.BlockRead.{uploads_change, ReadsBlock, reads_block}
 
 -- what is sent for no call is a GET
-get_at : (szx : ℕ) (t : List C.Call) → OthersAreGets szx t → (x : Sending) → WasSent szx x t
+get_at : (sizes : Sizes) (t : List C.Call) → OthersAreGets sizes t → (x : Sending) → WasSent sizes x t
     → call_of x.operation ≡ None → x.request.code ≡ (method_code Get).0
-get_at szx [] law x h none = absurd h
-get_at szx (c ∷ t) law x (inl h) none = law.0 x h none
-get_at szx (c ∷ t) law x (inr h) none = get_at szx t law.1 x h none
+get_at sizes [] law x h none = absurd h
+get_at sizes (c ∷ t) law x (inl h) none = law.0 x h none
+get_at sizes (c ∷ t) law x (inr h) none = get_at sizes t law.1 x h none
 
 taken_later : (x : Taken) (past : List Entry) (e : Entry) → WasTaken x (client_of past)
     → WasTaken x (client_of (e ∷ past))
