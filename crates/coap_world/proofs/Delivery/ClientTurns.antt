@@ -55,29 +55,29 @@ to_entries from bytes (c ∷ cs) (inr h) = inr (to_entries from bytes cs h)
 module _ (config : Config) where
   -- the layer has answered so
   abbrev pub IsGood : List Call → Type 0
-  IsGood past = (h : State) × Steps (start config.client_word) (client_asked config past) h
+  IsGood past = (h : State) × Steps (start (usual config.client_word)) (client_asked config past) h
 
   pub down : (past : List Call) (c : Call) → IsGood (c ∷ past) → IsGood past
   down past c good =
-      let k = steps_split (start config.client_word) good.0 (client_asks config past c) (client_asked config past)
-      (subst (λ a. Steps (start config.client_word) a good.0) (client_asked_next config past c) good.1) in
+      let k = steps_split (start (usual config.client_word)) good.0 (client_asks config past c) (client_asked config past)
+      (subst (λ a. Steps (start (usual config.client_word)) a good.0) (client_asked_next config past c) good.1) in
       (k.0, k.1)
 
   law : (past : List Call) → IsGood past → LayerLaw (usual config.client_word) (client_layer config past)
   law past good =
       subst (LayerLaw (usual config.client_word)) (append-nil (client_layer config past))
-      (led_steps config.client_word [] (start config.client_word) good.0 (client_asked config past)
+      (led_steps (usual config.client_word) [] (start (usual config.client_word)) good.0 (client_asked config past)
       (record { law = tt; kept = refl }) good.1).law
 
   took : (answer : Option Packet) (past : List Call) → IsGood (NextOut answer ∷ past)
       → Took answer (client_adds config past (NextOut answer))
   took answer past good =
       record {
-        entry = made (left_after (start config.client_word) (client_asked config past)) 0 L.Take;
+        entry = made (left_after (start (usual config.client_word)) (client_asked config past)) 0 L.Take;
         is = refl;
         call = refl;
         answer_is = ap (λ (s : State). L.Gives (slice_get s.queue 0))
-            (sym (steps_left (start config.client_word) (client_asked config past) good.1.0 good.1.1))
+            (sym (steps_left (start (usual config.client_word)) (client_asked config past) good.1.0 good.1.1))
             ∙ sym good.1.2.right;
         out = refl;
       }

@@ -9,6 +9,7 @@ use Rattle.coap_common.proofs.Facts.Adds.{answerer_append, entries_append}
 use Rattle.coap_world.specs.Hops.{client_asks, client_asked, client_adds, server_asks, server_asked, server_adds}
 use Rattle.coap_world.specs.Hops.{hops_in}
 use Rattle.coap_layer.specs.Trace as L
+use Rattle.coap_layer.specs.Machine.State.{usual}
 use Rattle.coap_exchange.specs.AnswererLaw as answerer
 use Rattle.coap_client.specs.Trace as C
 use Rattle.coap_client.specs.Law as client
@@ -57,8 +58,8 @@ module _ (config : Config) where
 
   pub server_next : (past : List S.Call) (c : S.Call)
       → server_layer (c ∷ past) ≡ server_adds config past c ++ server_layer past
-  server_next past c = ap (entries (start config.server_word)) (server_asked_next past c)
-      ∙ entries_append (start config.server_word) (server_asks config past c) (server_asked config past)
+  server_next past c = ap (entries (start (usual config.server_word))) (server_asked_next past c)
+      ∙ entries_append (start (usual config.server_word)) (server_asks config past c) (server_asked config past)
 
   -- a server begins with no call of its layer
   pub begins_silent : (ds : List S.Delay) → server.lower_of config.limits config.server_szx
@@ -74,7 +75,7 @@ module _ (config : Config) where
       ∙ near_is past
 
   pub far_is : (all : List Entry) → far_of (hops_in config all) ≡ server_layer (server_trace config all)
-  far_is [] = sym (ap (λ t. entries (start config.server_word) (answerer.lower_of t)) (begins_silent config.delays))
+  far_is [] = sym (ap (λ t. entries (start (usual config.server_word)) (answerer.lower_of t)) (begins_silent config.delays))
   far_is (OfServer c ∷ past) = far_far (server_adds config (server_trace config past) c) (hops_in config past)
       ∙ ap (λ t. server_adds config (server_trace config past) c ++ t) (far_is past)
       ∙ sym (server_next (server_trace config past) c)
