@@ -25,7 +25,8 @@ impl<A: Allocator> Model for ListStore<A> {
 
     ghost view = { λ s. record { entries = held_entries s.entries.items; tally = s.tally } };
 
-    ghost invariant = { λ s. Unique (held_entries s.entries.items) × AreShort s.tally.limits.body (held_entries s.entries.items) };
+    ghost invariant = { λ s. Unique (held_entries s.entries.items)
+        × AreShort s.tally.limits.body (held_entries s.entries.items) };
 }
 
 impl<A: Allocator + Copy> Store<A> for ListStore<A> {
