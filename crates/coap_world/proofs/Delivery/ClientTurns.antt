@@ -129,7 +129,7 @@ module _ (config : Config) where
     none_left : IsGood (all ++ client_of es) → waiting (client_layer config (all ++ client_of es)) ≡ []
     none_left good =
         ap waiting (told_same reports (taken_after outs calls) (client_of es))
-        ∙ nothing_waits config.client_word t (client_layer config) (client_adds config)
+        ∙ nothing_waits (usual config.client_word) t (client_layer config) (client_adds config)
         (client_next config) IsGood down law NextOut took
         ((map (λ p. NextOut (Some p)) outs ++ calls) ++ client_of es)
         (told_good reports (taken_after outs calls) (client_of es)

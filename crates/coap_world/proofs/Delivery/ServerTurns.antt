@@ -115,7 +115,7 @@ module _ (config : Config) where
         (adds_timely config t) G all past still.server all_at (λ from bytes h. to_entries from bytes all h)
 
     none_left : IsGood (all ++ past) → waiting (server_layer config (all ++ past)) ≡ []
-    none_left good = nothing_waits config.server_word t (server_layer config) (server_adds config)
+    none_left good = nothing_waits (usual config.server_word) t (server_layer config) (server_adds config)
         (server_next config) IsGood down law NextOut took (outs_after outs calls ++ past) good
 
     sent_now : IsGood (all ++ past) → (g : Given) → Ever (λ h. h ≡ g) (all_of (given_by t) (map OfServer all))
