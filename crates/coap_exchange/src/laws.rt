@@ -7,6 +7,7 @@ ghost use Rattle.coap_exchange.specs.AskerLaw.{State, Step, Exchanged, Led, Exch
 ghost use Rattle.coap_exchange.specs.AskerExact.{IsExact};
 ghost use Rattle.coap_exchange.specs.AskerFollows.{AreExchanges, AreTokens, EndInTime, FewKept, AreFromServer};
 ghost use Rattle.coap_exchange.specs.AskerDue.{EndWhenDue};
+ghost use Rattle.coap_exchange.specs.AskerOpen.{IsOutstanding};
 ghost use Rattle.coap_exchange.specs.AskerTells.{AreRefused, AreRejected};
 ghost use Rattle.coap_exchange.specs.AskerResponses.{AreMatched, AreToldAs};
 ghost use Rattle.coap_exchange.specs.AskerEmpties as empties;
@@ -53,6 +54,9 @@ pub fn asker_law()
     // .. and no later than at the first tick then (RFC 7252, sections 4.2 and 5.2.2).
     ensures when_due { (server : Endpoint) (word : ℕ) (t : List Call) → ExchangeLaw server word t
         → EndWhenDue server word t }
+    // Until it is acknowledged, the request of the exchange that runs is outstanding (RFC 7252, section 4.2).
+    ensures outstanding { (server : Endpoint) (word : ℕ) (t : List Call) → ExchangeLaw server word t
+        → IsOutstanding server word t }
     // The tokens that are kept, at most 16 (RFC 7641, section 3.2).
     ensures few_kept { (server : Endpoint) (word : ℕ) (t : List Call) → ExchangeLaw server word t
         → FewKept server word t }

@@ -11,7 +11,8 @@ use Rattle.coap_layer.specs.Machine.State as L
 use Rattle.coap_layer.specs.Machine.State.{made}
 use Rattle.coap_layer.specs.Machine.Steps.{Asked as Below, Steps, left_after}
 use Rattle.coap_layer.specs.Trace as T
-use Rattle.coap_layer.specs.Trace.{with_head, Entry, Content, Setup}
+use Rattle.coap_layer.specs.Trace.{with_head, Entry, Content}
+use Rattle.coap_layer.specs.declared.setup.Setup.{Setup}
 use Rattle.coap_layer.specs.Words.{numbers}
 use Rattle.coap_layer.proofs.Facts.Laws.{small}
 use Rattle.coap_layer.proofs.Facts.Calls.{steps_left}

@@ -6,7 +6,7 @@ use Rattle.coap_layer.specs.Channel.{Hop, Near, Far, near_of, far_of, OnNear, On
 use Rattle.coap_layer.specs.Channel.{ChannelLaw}
 use Rattle.coap_layer.specs.Rows.{LayerLaw}
 use Rattle.coap_layer.specs.Trace.{Entry}
-use Rattle.coap_layer.specs.Trace.{Setup}
+use Rattle.coap_layer.specs.declared.setup.Setup.{Setup}
 use Rattle.coap_world.specs.Hops.{across}
 
 pub near_across : (hs : List Hop) → near_of (across hs) ≡ far_of hs

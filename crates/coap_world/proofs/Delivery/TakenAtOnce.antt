@@ -9,7 +9,7 @@ use Rattle.coap_layer.specs.Words.{waiting, takes_in}
 use Rattle.coap_layer.specs.Rows.{LayerLaw, Row}
 use Rattle.coap_layer.specs.Sends.{IsIn}
 use Rattle.coap_layer.proofs.Facts.Laws.{taken_since}
-use Rattle.coap_layer.specs.Trace.{Setup}
+use Rattle.coap_layer.specs.declared.setup.Setup.{Setup}
 use Rattle.coap_world.specs.Hops.{SendsAt}
 use Rattle.coap_world.proofs.Delivery.EntriesInTime.{Every, every_join, every_map, Timely}
 

@@ -12,7 +12,7 @@ use Rattle.coap_layer.proofs.Facts.Hops.{earlier, far_ever, to_far}
 use Rattle.coap_layer.proofs.Facts.Laws.{acks_heard, acks_taken, handed_once}
 use Rattle.coap_layer.proofs.Facts.Taken.{alone, kept_by, taken_handed}
 use Rattle.coap_layer.specs.Machine.State.{usual}
-use Rattle.coap_layer.specs.Trace.{Setup}
+use Rattle.coap_layer.specs.declared.setup.Setup.{Setup}
 use Rattle.coap_server.specs.Trace as S
 use Rattle.coap_server.specs.Follows.Told.{TakesAck}
 use Rattle.coap_server.proofs.Facts.EachCall.{acks_arrive}

@@ -15,7 +15,7 @@ use Rattle.coap_layer.proofs.Facts.Hops.{earlier, far_ever}
 use Rattle.coap_layer.proofs.Facts.Laws.{acks_heard, acks_replied, begun_as, handed_spelled, nons_sent}
 use Rattle.coap_layer.proofs.Facts.Laws.{responses_spelled}
 use Rattle.coap_layer.specs.Machine.State.{usual}
-use Rattle.coap_layer.specs.Trace.{Setup}
+use Rattle.coap_layer.specs.declared.setup.Setup.{Setup}
 use Rattle.coap_client.specs.Follows.Hears.{Hears}
 use Rattle.coap_client.specs.Responses.{is_notification}
 use Rattle.coap_client.specs.Trace as C

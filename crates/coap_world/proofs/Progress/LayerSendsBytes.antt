@@ -9,7 +9,7 @@ use Rattle.coap_layer.specs.Machine.State.{start}
 use Rattle.coap_layer.specs.Machine.Steps.{Asked, entries}
 use Rattle.coap_layer.specs.Trace as L
 use Rattle.coap_layer.specs.Trace.{with_head}
-use Rattle.coap_layer.specs.Trace.{Setup}
+use Rattle.coap_layer.specs.declared.setup.Setup.{Setup}
 use Rattle.coap_exchange.specs.AskerArrivals.{replying}
 use Rattle.coap_exchange.specs.EmptyMessages.{ack_bytes, reset_bytes}
 use Rattle.coap_server.specs.Follows.Sources.{Source}

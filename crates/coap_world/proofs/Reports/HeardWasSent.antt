@@ -15,7 +15,7 @@ use Rattle.coap_layer.specs.Rows.{passes_reset, takes_answer, replays, hands_ove
 use Rattle.coap_layer.specs.Sends.{IsIn}
 use Rattle.coap_layer.specs.Trace as T
 use Rattle.coap_layer.proofs.Facts.Hops.{earlier}
-use Rattle.coap_layer.specs.Trace.{Setup}
+use Rattle.coap_layer.specs.declared.setup.Setup.{Setup}
 use Rattle.coap_client.specs.Follows.Hears.{Hears}
 
 -- a response that is handed up is what the datagram spells

@@ -28,7 +28,7 @@ use Rattle.coap_world.specs.Hops.{hops_at, hops_in, server_adds}
 use Rattle.coap_world.specs.Record.{Entry, OfClient, OfServer, client_of, server_trace}
 use Rattle.coap_world.proofs.Delivery.HopsAreEntries.{near_far, near_is, server_next}
 use Rattle.coap_layer.specs.Trace as T
-use Rattle.coap_layer.specs.Trace.{Setup}
+use Rattle.coap_layer.specs.declared.setup.Setup.{Setup}
 use Rattle.coap_layer.specs.Machine.State.{usual}
 use Rattle.coap_server.specs.Trace as S
 use Rattle.coap_client.proofs.Facts.Laws as client_facts
