@@ -81,8 +81,8 @@ impl<S: Store<A>, A: Allocator + Copy, H: BuildHasher> Model for Server<S, A, H>
 }
 
 impl<S: Store<A>, A: Allocator + Copy> Server<S, A, BuildHasherDefault<FoldHasher>> {
-    /// A server to which nothing has happened. Its store holds nothing and was handed no moment;
-    /// the word picks its first Message ID.
+    /// A server to which nothing has happened. Its store holds nothing and was handed no moment, and
+    /// an upload is joined up to its limit; the word picks the first Message ID.
     pub fn new(alloc: A, store: S, szx: Szx, word: u64) -> Self
         requires fresh { (limits : Limits) × (S.content store ≡ nothing limits) }
         ensures led { (limits : Limits) → S.content store ≡ nothing limits
