@@ -110,14 +110,15 @@ fn check_limit<R: Abort + AllocGlobal, S: Store<Global>>(rt: &R) -> Result<(), A
     let large = Vec::from_elem(rt.alloc(), 7u8, 65)?;
     let limit = BodyLimit::new(64).expect(rt, "in range");
     let mut store: S = S::new_sized(rt.alloc(), 4_194_303, limit).expect(rt, "in range");
-    let rows = [
-        Change::Put(&full, Ok(1)),
-        Change::Put(&large, Err(TooLarge)),
+    takes(rt, &mut store, &path, 0, Change::Put(&full, Ok(1)));
+    takes(rt, &mut store, &path, 0, Change::Put(&large, Err(TooLarge)));
+    takes(
+        rt,
+        &mut store,
+        &path,
+        0,
         Change::Append(b"a", Err(TooLarge)),
-    ];
-    for change in rows {
-        takes(rt, &mut store, &path, 0, change);
-    }
+    );
     holds(rt, &store, &path, &full, 1);
     assert_eq!(rt; store.limit(), limit);
     let usual: S = store_of(rt, 1);
