@@ -59,7 +59,7 @@ pub fn changes_law()
     ensures local { InLegalRuns LocalRight }
     // Each change is a local one, or that of the request to its path that is applied there (RFC 7252, section 5.8).
     ensures owned { InLegalRuns ChangesOwned }
-    // No path holds a body that is longer than 65,536 bytes (profile).
+    // No path holds a body that is longer than the store's limit (profile).
     ensures short { InLegalRuns AreShort }
 {}
 
@@ -200,8 +200,9 @@ pub fn agreement()
     // request body is applied whole, at most once, exactly once where success is reported and never where Failed is
     // reported (RFC 7252, sections 4.2, 4.5, 5.3.2, 5.8 and 5.9; RFC 7641; RFC 7959).
     ensures agrees { InLegalRuns Agrees }
-    // A GET makes at most 16,384 exchanges, in 4 passes over the 4,096 blocks of the longest body, an upload at most
-    // 4,096, and each other call one (RFC 7959, sections 2.4 and 2.5; profile).
+    // A GET makes at most as many exchanges as 4 passes over the blocks of the longest body, in blocks of 16 bytes:
+    // 16,384 where the ends' limits are as usual; an upload at most one pass, and each other call one (RFC 7959,
+    // sections 2.4 and 2.5; profile).
     ensures bounded { InLegalRuns AreBounded }
     // Whatever may come has a turn, with which the record goes on; and an input that is refused memory is lost.
     ensures no_fault { OfLegalRuns NoFault }

@@ -12,6 +12,7 @@ use Rattle.coap_layer.specs.Trace as T
 use Rattle.coap_layer.specs.Words.{Open, begun}
 use Rattle.coap_layer.specs.Machine.State.{usual}
 use Rattle.coap_resource.specs.RequestOptions.{tag_of}
+use Rattle.coap_block.specs.Sizes.{Sizes}
 use Rattle.coap_client.specs.Follows.Hears.{Hears}
 use Rattle.coap_client.specs.Follows.Ended.{WasCancelled}
 use Rattle.coap_client.specs.Law as C
@@ -72,8 +73,8 @@ far_there P (x ∷ adds) (inl h) = inl h
 far_there P (x ∷ adds) (inr h) = inr (far_there P adds h)
 
 module _ (config : Config) where
-  abbrev szx : ℕ
-  szx = config.client_sizes
+  abbrev sizes : Sizes
+  sizes = config.client_sizes
 
   -- what was heard of an observation, as the server told it: in a CON that was handed up, or in an acknowledgement
   data HeardTold (m : Message) (t : List Entry) : Type 0 where
@@ -90,7 +91,7 @@ module _ (config : Config) where
   heard_more m e t (in_ack told) = in_ack (server_more config (TellsAck config m) e t told)
 
   registered_more : (number : ℕ) (token : List ℕ) (e : Entry) (t : List Entry)
-      → WasRegistered szx number token (client_of t) → WasRegistered szx number token (client_of (e ∷ t))
+      → WasRegistered sizes number token (client_of t) → WasRegistered sizes number token (client_of (e ∷ t))
   registered_more number token e t r = record {
     path = r.path;
     sending = r.sending;
@@ -121,33 +122,33 @@ module _ (config : Config) where
   -- what is taken of an observation was heard so, under the token of its registration
   record TakenTold (n : Newly) (t : List Entry) : Type 0 where
     told : HeardTold n.message t
-    registered : WasRegistered szx n.number n.message.token (client_of t)
+    registered : WasRegistered sizes n.number n.message.token (client_of t)
 
   taken_here : (past : List Entry) (c : Call) → Lawful config (OfClient c ∷ past) → (n : Newly)
-      → notifies (C.own_of szx (client_of past)) c ≡ Some n → TakenTold n (OfClient c ∷ past)
+      → notifies (C.own_of sizes (client_of past)) c ≡ Some n → TakenTold n (OfClient c ∷ past)
   taken_here past c law n is =
       let t : List Call = client_of (OfClient c ∷ past) in
-      let k = (are_taken server_end szx config.client_word t law.client).0 n is in
-      let types = (are_of_types server_end szx config.client_word t law.client).0 in
+      let k = (are_taken server_end sizes config.client_word t law.client).0 n is in
+      let types = (are_of_types server_end sizes config.client_word t law.client).0 in
       record {
         told = by k types k.comes;
         registered =
             registered_more n.number n.message.token (OfClient c) past k.registered;
       }
     where
-      by : (k : IsTaken szx n (client_of past) c) → IsOfType c
-          → IsFirst szx n (client_of past) c ⊎ IsLater szx n (client_of past) c
+      by : (k : IsTaken sizes n (client_of past) c) → IsOfType c
+          → IsFirst sizes n (client_of past) c ⊎ IsLater sizes n (client_of past) c
           → HeardTold n.message (OfClient c ∷ past)
       by k types (inl f) = heard_here past c law n.message
-          ((client_facts.handed_up server_end szx config.client_word (client_of (OfClient c ∷ past)) law.client).0
+          ((client_facts.handed_up server_end sizes config.client_word (client_of (OfClient c ∷ past)) law.client).0
           n.message f.heard) k.notification (types.heard n.message f.heard)
       by k types (inr l) =
-          heard_here past c law n.message ((are_noted server_end szx config.client_word
+          heard_here past c law n.message ((are_noted server_end sizes config.client_word
           (client_of (OfClient c ∷ past)) law.client).0 n.message l.noted) k.notification
           (elim (types.noted n.message l.noted) [ inl z ↦ inl z | inr z ↦ inr (inl z) ])
 
   taken_told : (t : List Entry) → Lawful config t → (n : Newly)
-      → Sometime (AtClient config (λ p b. notifies (C.own_of szx p) b ≡ Some n)) t → TakenTold n t
+      → Sometime (AtClient config (λ p b. notifies (C.own_of sizes p) b ≡ Some n)) t → TakenTold n t
   taken_told [] law n h = absurd h
   taken_told (OfServer c ∷ past) law n (inl h) = absurd h
   taken_told (OfClient c ∷ past) law n (inl h) = taken_here past c law n h
@@ -162,9 +163,9 @@ module _ (config : Config) where
 
   -- two that are taken, the one after the other
   module _ (past : List Entry) (c : Call) (law : Lawful config (OfClient c ∷ past)) (number : ℕ) (first second : Newly)
-      (after : ComesAfter szx first second (client_of past) c)
+      (after : ComesAfter sizes first second (client_of past) c)
       (of_first : first.number ≡ number) (of_second : second.number ≡ number)
-      (none : WasCancelled szx number (client_of past) → ⊥) where
+      (none : WasCancelled sizes number (client_of past) → ⊥) where
     abbrev m : Message
     m = first.message
 
@@ -177,16 +178,16 @@ module _ (config : Config) where
     abbrev calls : List S.Call
     calls = server_trace config past
 
-    taken : IsTaken szx second (client_of past) c
-    taken = (are_taken server_end szx config.client_word (client_of (OfClient c ∷ past)) law.client).0 second
+    taken : IsTaken sizes second (client_of past) c
+    taken = (are_taken server_end sizes config.client_word (client_of (OfClient c ∷ past)) law.client).0 second
         after.comes
 
     earlier : TakenTold first past
     earlier = taken_told past before first (client_entries config
-        (λ p b. notifies (C.own_of szx p) b ≡ Some first) past after.before)
+        (λ p b. notifies (C.own_of sizes p) b ≡ Some first) past after.before)
 
     abbrev Registered : ℕ → Message → Type 0
-    Registered k x = WasRegistered szx k x.token (client_of past)
+    Registered k x = WasRegistered sizes k x.token (client_of past)
 
     first_registered : Registered number m
     first_registered = subst (λ k. Registered k m) of_first earlier.registered
@@ -199,8 +200,8 @@ module _ (config : Config) where
     token =
         let r = first_registered in
         let s = second_registered in
-        let same = one_registration szx number r.path s.path r.sending s.sending (client_of past)
-        (ask_once server_end szx config.client_word (client_of past) before.client) r.sent s.sent r.registers
+        let same = one_registration sizes number r.path s.path r.sending s.sending (client_of past)
+        (ask_once server_end sizes config.client_word (client_of past) before.client) r.sent s.sent r.registers
         s.registers in
         sym r.token_is ∙ (ap (λ (x : Sending). x.token) same ∙ s.token_is)
 
@@ -208,7 +209,7 @@ module _ (config : Config) where
     Heard = Ever (Hears server_end n) (client_adds config (client_of past) c)
 
     heard : Heard
-    heard = (are_noted server_end szx config.client_word (client_of (OfClient c ∷ past)) law.client).0 n after.noted
+    heard = (are_noted server_end sizes config.client_word (client_of (OfClient c ∷ past)) law.client).0 n after.noted
 
     abbrev First : Option ℕ → List S.Call → S.Call → Type 0
     First k p b = TellsIn config.limits config.server_szx k client_end m p b
@@ -287,7 +288,7 @@ module _ (config : Config) where
               (subst (λ z. Ever (OnFar (HandsUpAs server_end z)) (across (hops_in config past))) e before_up)) x
 
     rises_here : AreRising (tag_in m) (tag_in n)
-    rises_here = by ((are_of_types server_end szx config.client_word (client_of (OfClient c ∷ past)) law.client).0.noted
+    rises_here = by ((are_of_types server_end sizes config.client_word (client_of (OfClient c ∷ past)) law.client).0.noted
         n after.noted)
       where
         by : (n.kind ≡ Con) ⊎ (n.kind ≡ Non) → AreRising (tag_in m) (tag_in n)
@@ -297,8 +298,8 @@ module _ (config : Config) where
 
   -- where the later one was taken
   rises_in_past : (t : List Entry) → Lawful config t → (number : ℕ) (first second : Newly) → first.number ≡ number
-      → second.number ≡ number → (WasCancelled szx number (client_of t) → ⊥)
-      → Sometime (AtClient config (ComesAfter szx first second)) t
+      → second.number ≡ number → (WasCancelled sizes number (client_of t) → ⊥)
+      → Sometime (AtClient config (ComesAfter sizes first second)) t
       → AreRising (tag_in first.message) (tag_in second.message)
   rises_in_past [] law number first second of_first of_second none h = absurd h
   rises_in_past (OfServer c ∷ past) law number first second of_first of_second none (inl h) = absurd h
@@ -318,7 +319,7 @@ module _ (config : Config) where
     first : Newly
     tag_is : tag ≡ tag_in first.message
     number_is : first.number ≡ number
-    shown : Sometime (Shows szx number first) t
+    shown : Sometime (Shows sizes number first) t
 
   earlier_value : (t : List Entry) → Lawful config t → (number : ℕ) (tag : Option (List ℕ))
       → Sometime (ShowsValue config number tag) t → Earlier number tag (client_of t)
@@ -330,13 +331,13 @@ module _ (config : Config) where
       let k = earlier_value past (lawful_back config past (OfClient c) law) number tag h in record
       { first = k.first; tag_is = k.tag_is; number_is = k.number_is; shown = inr k.shown }
   earlier_value (OfClient c ∷ past) law number tag (inl h) =
-      let v = (values_are_whole szx server_end config.client_word (client_of (OfClient c ∷ past)) law.client).0 number
+      let v = (values_are_whole sizes server_end config.client_word (client_of (OfClient c ∷ past)) law.client).0 number
       h.sequence tag h.format h.body h.here in
       record {
         first = v.first;
-        tag_is = tag_of_first szx number h.sequence tag h.format h.body (client_of past) c v;
-        number_is = newest_number szx number (client_of (OfClient c ∷ past)) v.first v.is_newest;
-        shown = inl (shown_of szx number h.sequence tag h.format h.body (client_of past) c v h.here);
+        tag_is = tag_of_first sizes number h.sequence tag h.format h.body (client_of past) c v;
+        number_is = newest_number sizes number (client_of (OfClient c ∷ past)) v.first v.is_newest;
+        shown = inl (shown_of sizes number h.sequence tag h.format h.body (client_of past) c v h.here);
       }
 
   rises_at : (past : List Entry) (e : Entry) → Lawful config (e ∷ past) → (number : ℕ) (first second : Option (List ℕ))
@@ -344,25 +345,25 @@ module _ (config : Config) where
   rises_at past (OfServer c) law number first second h sooner = absurd h.here
   rises_at past (OfClient c) law number first second h sooner =
       let t : List Call = client_of (OfClient c ∷ past) in
-      let v = (values_are_whole szx server_end config.client_word t law.client).0 number h.sequence second h.format
+      let v = (values_are_whole sizes server_end config.client_word t law.client).0 number h.sequence second h.format
       h.body h.here in
-      let shows = shown_of szx number h.sequence second h.format h.body (client_of past) c v h.here in
+      let shows = shown_of sizes number h.sequence second h.format h.body (client_of past) c v h.here in
       let k = earlier_value past (lawful_back config past (OfClient c) law) number first sooner in
-      let comes = (values_rise szx server_end config.client_word t law.client).0 number k.first v.first shows k.shown in
-      let none : WasCancelled szx number (client_of past)
-      → ⊥ = λ x. (are_over szx server_end config.client_word t law.client).0.cancelled number x shows.value in
-      let number_is = newest_number szx number t v.first v.is_newest in
+      let comes = (values_rise sizes server_end config.client_word t law.client).0 number k.first v.first shows k.shown in
+      let none : WasCancelled sizes number (client_of past)
+      → ⊥ = λ x. (are_over sizes server_end config.client_word t law.client).0.cancelled number x shows.value in
+      let number_is = newest_number sizes number t v.first v.is_newest in
       let rising = by k.first v.first k.number_is number_is none comes in
       subst (λ z. AreRising z second) (sym k.tag_is)
       (subst (λ z. AreRising (tag_in k.first.message) z)
-      (sym (tag_of_first szx number h.sequence second h.format h.body (client_of past) c v)) rising)
+      (sym (tag_of_first sizes number h.sequence second h.format h.body (client_of past) c v)) rising)
     where
-      by : (a b : Newly) → a.number ≡ number → b.number ≡ number → (WasCancelled szx number (client_of past) → ⊥)
-          → Sometime (ComesAfter szx a b) (client_of (OfClient c ∷ past))
+      by : (a b : Newly) → a.number ≡ number → b.number ≡ number → (WasCancelled sizes number (client_of past) → ⊥)
+          → Sometime (ComesAfter sizes a b) (client_of (OfClient c ∷ past))
           → AreRising (tag_in a.message) (tag_in b.message)
       by a b i j none (inl x) = rises_here past c law number a b x i j none
       by a b i j none (inr x) = rises_in_past past (lawful_back config past (OfClient c) law) number a b i j none
-          (client_entries config (ComesAfter szx a b) past x)
+          (client_entries config (ComesAfter sizes a b) past x)
 
 pub all_rise : (config : Config) (all : List Entry) → Lawful config all → ValuesRise config all
 all_rise config [] law = tt

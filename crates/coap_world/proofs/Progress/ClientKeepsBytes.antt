@@ -95,7 +95,7 @@ with_rest_are k r h os w = changed_are k (λ o. record o { rest = r })
 pub over_are : (k : ℕ) (s : Own) → OwnAre s → OwnAre (over k s)
 over_are k s h = record {
   szx = h.szx;
-limit = h.limit;
+  limit = h.limit;
   queue = each_filter OpAre _ s.queue h.queue;
   running = dropped_are k s.running h.running;
   observations = each_filter WatchAre _ s.observations h.observations;
@@ -126,7 +126,7 @@ fetch_over_are : (k : ℕ) (s : Own) → OwnAre s
     → OwnAre (record s { running = None; observations = with_rest k None s.observations })
 fetch_over_are k s h = record {
   szx = h.szx;
-limit = h.limit;
+  limit = h.limit;
   queue = h.queue;
   running = tt;
   observations = with_rest_are k None tt s.observations h.observations;
@@ -175,7 +175,7 @@ module _ (s : Own) (now : ℕ) (told : Option Event) (h : OwnAre s)
   moves_are (mv.rests un) = h
   moves_are (mv.copies quiet_so) = record {
     szx = h.szx;
-limit = h.limit;
+    limit = h.limit;
     queue = h.queue;
     running = h.running;
     observations = h.observations;
@@ -191,7 +191,7 @@ limit = h.limit;
   moves_are (mv.registers k path a hears runs note) =
       record {
         szx = h.szx;
-limit = h.limit;
+        limit = h.limit;
         queue = h.queue;
         running = tt;
         observations = each_join WatchAre s.observations (begun k path s.sizes now a ∷ []) h.observations
@@ -201,7 +201,7 @@ limit = h.limit;
   moves_are (mv.fetches_on k n a num size hears runs rest code asks) =
       record {
         szx = h.szx;
-limit = h.limit;
+        limit = h.limit;
         queue = h.queue;
         running = tt;
         observations = with_rest_are k _ (rest_are n.sequence n.fetch a (verdict.Ask num size)
@@ -217,7 +217,7 @@ limit = h.limit;
   moves_are (mv.renews o a notes found note newer) =
       record {
         szx = h.szx;
-limit = h.limit;
+        limit = h.limit;
         queue = h.queue;
         running = dropped_are o.number s.running h.running;
         observations = newer_are o.number a;
@@ -231,7 +231,7 @@ closed_are now e token z (quiet q none own_same report_same) = subst OwnAre (sym
 closed_are now e token z (goes_out op key asks given sends_it own_same report_same) =
     subst OwnAre (sym own_same) (record {
       szx = z.szx;
-limit = z.limit;
+      limit = z.limit;
       queue = z.queue;
       running = z.running;
       observations = z.observations;
@@ -262,7 +262,7 @@ pub calling_are : (s : Own) (now : ℕ) (r : Request) (answer : Result ℕ CallR
     → OwnAre (numbered (λ number. calling s.sizes number r) answer (at now s))
 calling_are s now r (Err why) h f = record {
   szx = h.szx;
-limit = h.limit;
+  limit = h.limit;
   queue = h.queue;
   running = h.running;
   observations = h.observations;
@@ -271,7 +271,7 @@ calling_are s now r (Ok number) h f =
     let is = f number refl in
     record {
       szx = h.szx;
-limit = h.limit;
+      limit = h.limit;
       queue = each_join OpAre s.queue (calling s.sizes number r ∷ []) h.queue
           ((head_of r is, transfer_are s.sizes r r.method h.szx h.limit is.body), tt);
       running = h.running;
@@ -286,7 +286,7 @@ observing_are s now path (Err why) h f = record
 observing_are s now path (Ok number) h f =
     record {
       szx = h.szx;
-limit = h.limit;
+      limit = h.limit;
       queue = each_join OpAre s.queue (Registering number path ∷ []) h.queue (f number refl, tt);
       running = h.running;
       observations = h.observations;

@@ -253,7 +253,7 @@ module _ (server : Endpoint) (sizes : Sizes) (small : sizes.szx ≤ 6) (low : si
   call_are t (Cancels now k None) f range inputs h = (
     record {
       szx = h.szx;
-limit = h.limit;
+      limit = h.limit;
       queue = each_join OpAre (own_of sizes t).queue (Cancelling k ∷ []) h.queue (tt, tt);
       running = h.running;
       observations = h.observations;

@@ -8,6 +8,7 @@ use Rattle.coap_types.specs.SameEndpoint.{same_endpoint}
 use Rattle.coap_types.proofs.Facts.Endpoints.{same_endpoint-decides}
 use Rattle.coap_exchange.specs.Tokens.{same_token}
 use Rattle.coap_exchange.specs.declared.answerer.Asked.{Asked}
+use Rattle.coap_block.specs.Sizes.{Sizes}
 use Rattle.coap_client.specs.Follows.Begins.{WasSent}
 use Rattle.coap_client.specs.Law.{own_of}
 use Rattle.coap_client.specs.Follows.Order.{call_of}
@@ -66,22 +67,22 @@ module _ (config : Config) (all : List Entry) (whole : Lawful config all) where
   After t = (x : Sending) → WasSent config.client_sizes x t → WasSent config.client_sizes x (client_of all)
 
   module _ (s : Sending) (k : ℕ) (of : call_of s.operation ≡ Some k) (token : List ℕ) (token_is : s.token ≡ token) where
-    abbrev szx : ℕ
-    szx = config.client_sizes
+    abbrev sizes : Sizes
+    sizes = config.client_sizes
 
-    module _ (c : C.Call) (past : List C.Call) (after : After (c ∷ past)) (sent : WasSent szx s (c ∷ past))
-        (rest : WasSent szx s past → sender_of szx token past ≡ Some k) where
-      by_token : (y : Sending) (b : Bool) → sends (own_of szx past) c ≡ Some y → same_token y.token token ≡ b
-          → noted token (sent_as (Some y)) (sender_of szx token past) ≡ Some k
+    module _ (c : C.Call) (past : List C.Call) (after : After (c ∷ past)) (sent : WasSent sizes s (c ∷ past))
+        (rest : WasSent sizes s past → sender_of sizes token past ≡ Some k) where
+      by_token : (y : Sending) (b : Bool) → sends (own_of sizes past) c ≡ Some y → same_token y.token token ≡ b
+          → noted token (sent_as (Some y)) (sender_of sizes token past) ≡ Some k
       by_token y true is same =
           let y_token : y.token ≡ token = (bytes_decides y.token token).0 same in
           let one : y ≡ s = one_of y s k (after y (inl is)) (after s sent) of (y_token ∙ sym token_is) in
-          noted_here token y.token (operation_number y.operation) (sender_of szx token past) k same
+          noted_here token y.token (operation_number y.operation) (sender_of sizes token past) k same
           (ap (λ (z : Sending). operation_number z.operation) one ∙ number_of_call s.operation k of)
       by_token y false is other = noted_other token y.token (operation_number y.operation)
-          (sender_of szx token past) other ∙ before sent
+          (sender_of sizes token past) other ∙ before sent
         where
-          before : WasSent szx s (c ∷ past) → sender_of szx token past ≡ Some k
+          before : WasSent sizes s (c ∷ past) → sender_of sizes token past ≡ Some k
           before (inl now) =
               let both : Some y ≡ Some s = sym is ∙ now in
               let one : y ≡ s = cc both in
@@ -90,17 +91,17 @@ module _ (config : Config) (all : List Entry) (whole : Lawful config all) where
               absurd (cc (same, other))
           before (inr h) = rest h
 
-      by_sending : (o : Option Sending) → sends (own_of szx past) c ≡ o → WasSent szx s (c ∷ past)
-          → noted token (sent_as (sends (own_of szx past) c)) (sender_of szx token past) ≡ Some k
-      by_sending (Some y) is h = ap (λ o. noted token (sent_as o) (sender_of szx token past)) is
+      by_sending : (o : Option Sending) → sends (own_of sizes past) c ≡ o → WasSent sizes s (c ∷ past)
+          → noted token (sent_as (sends (own_of sizes past) c)) (sender_of sizes token past) ≡ Some k
+      by_sending (Some y) is h = ap (λ o. noted token (sent_as o) (sender_of sizes token past)) is
           ∙ by_token y (same_token y.token token) is refl
       by_sending None is (inl now) = cc (is, now)
-      by_sending None is (inr h) = ap (λ o. noted token (sent_as o) (sender_of szx token past)) is ∙ rest h
+      by_sending None is (inr h) = ap (λ o. noted token (sent_as o) (sender_of sizes token past)) is ∙ rest h
 
-    sender_is : (t : List C.Call) → After t → WasSent szx s t → sender_of szx token t ≡ Some k
+    sender_is : (t : List C.Call) → After t → WasSent sizes s t → sender_of sizes token t ≡ Some k
     sender_is [] after sent = absurd sent
     sender_is (c ∷ past) after sent = by_sending c past after sent (λ h. sender_is past (λ x g. after x (inr g)) h)
-        (sends (own_of szx past) c) refl sent
+        (sends (own_of sizes past) c) refl sent
 
   -- the call to which it belongs is the one that is named
   module _ (past : List Entry) (c : S.Call) (after : After (client_of past)) (law : Lawful config (OfServer c ∷ past))

@@ -4,6 +4,7 @@ use Rattle.std.specs.BTreeMap.{get}
 use Rattle.std.specs.Cmp.Lexicographic.{slice_cmp}
 use Rattle.std.specs.Option.{option_map}
 use Rattle.std.specs.Ordering.{nat_cmp}
+use Rattle.coap_block.specs.Sizes.{Sizes}
 use Rattle.coap_exchange.specs.Tokens.{same_token}
 use Rattle.coap_client.specs.Law.{own_of}
 use Rattle.coap_client.specs.Own.{operation_number}
@@ -28,9 +29,9 @@ noted token None before = before
 noted token (Some r) before = number_if (same_token r.token token) r.number before
 
 -- the number for which it was sent last
-abbrev pub sender_of : ℕ → List ℕ → List Call → Option ℕ
-sender_of szx token [] = None
-sender_of szx token (c ∷ past) = noted token (sent_as (sends (own_of szx past) c)) (sender_of szx token past)
+abbrev pub sender_of : Sizes → List ℕ → List Call → Option ℕ
+sender_of sizes token [] = None
+sender_of sizes token (c ∷ past) = noted token (sent_as (sends (own_of sizes past) c)) (sender_of sizes token past)
 
 -- .. as a run keeps it
 abbrev pub sender_in : {A : Type 0} → declared.Senders A → List ℕ → Option ℕ

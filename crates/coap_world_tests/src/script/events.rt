@@ -1,10 +1,10 @@
 //! With what a run begins, and its events.
 use super::is_event;
-use super::words::{cut, endpoint_of, format_of, method_of, path_of, push_tag, spelt, szx_of};
+use super::words::{cut, endpoint_of, format_of, limit_of, method_of, path_of, push_tag, spelt, szx_of};
 use bytes::Bytes;
 use coap_ends::CallId;
 use coap_resource::MAX_CHANGES_PER_WINDOW;
-use coap_types::{MAX_SZX, Moment, Request, Tags};
+use coap_types::{DEFAULT_BODY_LIMIT, MAX_SZX, Moment, Request, Tags};
 use coap_world::{Event, Side, What, WorldConfig};
 use std::alloc::{Allocator, Global};
 use std::test::Fail;
@@ -15,6 +15,8 @@ struct Settings {
     word: u64,
     client_szx: u8,
     server_szx: u8,
+    client_limit: usize,
+    server_limit: usize,
     changes: u32,
 }
 
@@ -25,6 +27,8 @@ fn settings_of(run: &str) -> Result<Settings, Fail> {
         word: 0,
         client_szx: MAX_SZX,
         server_szx: MAX_SZX,
+        client_limit: DEFAULT_BODY_LIMIT,
+        server_limit: DEFAULT_BODY_LIMIT,
         changes: MAX_CHANGES_PER_WINDOW,
     };
     for line in run.lines() {
@@ -36,6 +40,8 @@ fn settings_of(run: &str) -> Result<Settings, Fail> {
                 ("word", value) => settings.word = value.parse()?,
                 ("client-szx", value) => settings.client_szx = value.parse()?,
                 ("server-szx", value) => settings.server_szx = value.parse()?,
+                ("client-limit", value) => settings.client_limit = value.parse()?,
+                ("server-limit", value) => settings.server_limit = value.parse()?,
                 ("changes", value) => settings.changes = value.parse()?,
                 _ => return Err(Fail::new("no setting")),
             }
@@ -55,6 +61,7 @@ pub(crate) fn config_of<A: Allocator + Copy>(memory: A, run: &str) -> Result<Wor
     else {
         return Err(Fail::new("a window takes 1 change at least"));
     };
+    config.limits(limit_of(settings.client_limit)?, limit_of(settings.server_limit)?);
     for line in run.lines() {
         if let Some(words) = line.strip_prefix("delay ") {
             let (path, ms) = cut(words, " ");

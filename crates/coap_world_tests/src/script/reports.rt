@@ -25,6 +25,7 @@ pub(super) fn report_text<A: Allocator>(alloc: Global, report: &Report<A>) -> Re
         Report::Failed(code) => format!(in alloc; "failed {code}")?,
         Report::Cancelled => String::from_str(alloc, "cancelled")?,
         Report::Timeout => String::from_str(alloc, "timeout")?,
+        Report::TooLarge => String::from_str(alloc, "too-large")?,
         Report::Reset => String::from_str(alloc, "reset")?,
         Report::NoResponse => String::from_str(alloc, "no-response")?,
         _ => String::from_str(alloc, "another")?,

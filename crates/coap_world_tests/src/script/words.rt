@@ -1,5 +1,5 @@
 //! What the words of a line mean.
-use coap_types::{Endpoint, Method, Path, Szx, Tag, Tags};
+use coap_types::{BodyLimit, Endpoint, Method, Path, Szx, Tag, Tags};
 use coap_world::{CLIENT_END, SERVER_END};
 use std::alloc::{Allocator, Global};
 use std::test::Fail;
@@ -82,6 +82,14 @@ pub(super) fn szx_of(number: u8) -> Result<Szx, Fail> {
     match Szx::new(number) {
         Some(szx) => Ok(szx),
         None => Err(Fail::new("a size exponent is 0 to 6")),
+    }
+}
+
+/// A limit of bodies.
+pub(super) fn limit_of(bytes: usize) -> Result<BodyLimit, Fail> {
+    match BodyLimit::new(bytes) {
+        Some(limit) => Ok(limit),
+        None => Err(Fail::new("a limit is 1 to 1048576")),
     }
 }
 
