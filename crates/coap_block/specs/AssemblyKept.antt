@@ -10,6 +10,7 @@ use Rattle.coap_block.specs.declared.assembly_undo.Change.{Change}
 use Rattle.coap_block.specs.declared.assembly_undo.Change.TheVariants.{Clock, Begun, Replaced, TakenOut, Grown}
 use Rattle.coap_block.specs.declared.assembly_undo.Before.{Before}
 use Rattle.coap_block.specs.declared.assembly_judging.TheConstants.{MAX_PARTIALS as max_partials}
+use Rattle.coap_block.specs.Sizes.{Sizes}
 use Rattle.coap_block.specs.AssemblyState.{Key, PartialBody, AssemblyState, same_key, is_live, forgotten}
 
 abbrev pub key_of : {A : Type 0} → UploadKey A → Key
@@ -68,12 +69,17 @@ IsUndoable (Replaced i p) v = i < vec_len v
 IsUndoable (TakenOut i p) v = (i ≤ vec_len v) × (vec_len v < vec_capacity v)
 IsUndoable (Grown i len last) v = i < vec_len v
 
-abbrev pub state_of : ℕ → ℕ → List PartialBody → AssemblyState
-state_of szx clock ps = record { szx = szx; clock = clock; partials = forgotten clock ps }
+abbrev pub state_of : Sizes → ℕ → List PartialBody → AssemblyState
+state_of sizes clock ps = record {
+  szx = sizes.szx;
+  limit = sizes.limit;
+  clock = clock;
+  partials = forgotten clock ps;
+}
 
-abbrev pub before_of : {A : Type 0} → ℕ → List PartialBody → Option (Before A) → Option AssemblyState
-before_of szx ps None = None
-before_of szx ps (Some b) = Some (state_of szx b.clock.0 (restored b.change ps))
+abbrev pub before_of : {A : Type 0} → Sizes → List PartialBody → Option (Before A) → Option AssemblyState
+before_of sizes ps None = None
+before_of sizes ps (Some b) = Some (state_of sizes b.clock.0 (restored b.change ps))
 
 abbrev pub IsUndoableBefore : {A : Type 0} → Option (Before A) → Vec (Partial A) A → Type 0
 IsUndoableBefore None v = Unit {0}
@@ -94,5 +100,5 @@ pub record AssemblyValue : Type 0 where
   pub state : AssemblyState
   pub before : Option AssemblyState
 
-abbrev pub value_of : {A : Type 0} → ℕ → ℕ → List PartialBody → Option (Before A) → AssemblyValue
-value_of szx clock ps before = record { state = state_of szx clock ps; before = before_of szx ps before }
+abbrev pub value_of : {A : Type 0} → Sizes → ℕ → List PartialBody → Option (Before A) → AssemblyValue
+value_of sizes clock ps before = record { state = state_of sizes clock ps; before = before_of sizes ps before }

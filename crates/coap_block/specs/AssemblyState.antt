@@ -6,6 +6,7 @@ use Rattle.coap_types.specs.declared.request.Method.{Method}
 use Rattle.coap_types.specs.MethodCode.{method_code}
 use Rattle.coap_types.specs.Path.{same_path}
 use Rattle.coap_types.specs.SameEndpoint.{same_endpoint}
+use Rattle.coap_block.specs.Sizes.{Sizes}
 use Rattle.coap_block.specs.declared.partial.TheConstants.{PARTIAL_LIFETIME_MS as partial_lifetime}
 
 -- what tells an upload from the others: who sends it, and the resource and the method that it is for
@@ -28,14 +29,15 @@ pub record PartialBody : Type 0 where
   pub bytes : List ℕ
   pub last : ℕ
 
--- the server's block size, the last moment that was handed in, and a partial body for each upload
+-- the server's block size and its longest body, the last moment that was handed in, and a partial body for each upload
 pub record AssemblyState : Type 0 where
   pub szx : ℕ
+  pub limit : ℕ
   pub clock : ℕ
   pub partials : List PartialBody
 
-abbrev pub nothing_yet : ℕ → AssemblyState
-nothing_yet szx = record { szx = szx; clock = 0; partials = [] }
+abbrev pub nothing_yet : Sizes → AssemblyState
+nothing_yet sizes = record { szx = sizes.szx; limit = sizes.limit; clock = 0; partials = [] }
 
 -- at most so long ago did its last block come (EXCHANGE_LIFETIME: RFC 7252, section 4.8.2)
 abbrev pub is_live : ℕ → PartialBody → Bool

@@ -7,7 +7,8 @@ use Rattle.coap_block.specs.declared.assembly_step.AssemblyRefusal.TheVariants.{
 use Rattle.coap_block.specs.declared.block_verdict.BlockVerdict.{BlockVerdict}
 use Rattle.coap_block.specs.declared.block_verdict.BlockVerdict.TheVariants.{Refuse, Join, Done}
 use Rattle.coap_block.specs.declared.assembly_judging.TheConstants.{MAX_PARTIALS as max_partials}
-use Rattle.coap_types.specs.Piece.{size_of, offset_of, max_body_len}
+use Rattle.coap_types.specs.Piece.{size_of, offset_of}
+use Rattle.coap_block.specs.Sizes.{Sizes}
 use Rattle.coap_block.specs.AssemblyState.{Key, PartialBody, AssemblyState, forgotten, without_key, put, with_payload}
 use Rattle.coap_block.specs.AssemblyState.{body_with, reached}
 
@@ -29,15 +30,15 @@ goes_on reached num szx = (num == 0) || ends_at reached (offset_of num szx)
 abbrev pub answered_szx : ℕ → Block → ℕ
 answered_szx szx b = if b.num == 0 then min b.szx szx else b.szx
 
--- The tests in their order, at a server with that block size, where the key has a partial body of
+-- The tests in their order, at a server with these sizes, where the key has a partial body of
 -- so many bytes or none, so many other keys have one, and the payload has so many bytes.
-abbrev pub ruling : ℕ → Option ℕ → ℕ → Block → ℕ → BlockVerdict
-ruling szx reached others b len =
+abbrev pub ruling : Sizes → Option ℕ → ℕ → Block → ℕ → BlockVerdict
+ruling sizes reached others b len =
     if not (fills b.more b.szx len) then Refuse BadRequest
     else if not (goes_on reached b.num b.szx) then Refuse EntityIncomplete
-    else if nat_lt max_body_len (offset_of b.num b.szx + len) then Refuse EntityTooLarge
+    else if nat_lt sizes.limit (offset_of b.num b.szx + len) then Refuse EntityTooLarge
     else if b.more && (b.num == 0) && nat_le max_partials others then Refuse Unavailable
-    else if b.more then Join (answered_szx szx b)
+    else if b.more then Join (answered_szx sizes.szx b)
     else Done
 
 -- a moment before the last one counts as the last one
@@ -50,7 +51,8 @@ there_at s now = forgotten (moment_at s now) s.partials
 
 abbrev pub verdict_at : AssemblyState → ℕ → Key → Block → ℕ → BlockVerdict
 verdict_at s now key b len =
-    ruling s.szx (reached key (there_at s now)) (length (without_key key (there_at s now))) b len
+    ruling (record { szx = s.szx; limit = s.limit }) (reached key (there_at s now))
+    (length (without_key key (there_at s now))) b len
 
 -- the bytes that are joined with the block
 abbrev pub with_block : AssemblyState → ℕ → Key → Block → List ℕ → List ℕ

@@ -4,18 +4,18 @@ use Rattle.coap_types.specs.declared.block.Block.{Block}
 use Rattle.coap_block.specs.declared.block_verdict.BlockVerdict.{BlockVerdict}
 use Rattle.coap_block.specs.declared.block_verdict.BlockVerdict.TheVariants.{Refuse, Join, Done}
 use Rattle.coap_block.specs.declared.assembly_judging.TheConstants.{MAX_PARTIALS as max_partials}
-use Rattle.coap_types.specs.Piece.{max_body_len}
+use Rattle.coap_block.specs.Sizes.{Sizes}
 use Rattle.coap_block.specs.Whole.{Part, Each, joined, Chained, WholeAtServer}
 use Rattle.coap_block.specs.Gathered.{part, IsFull}
 use Rattle.coap_block.specs.AssemblyState.{Key, PartialBody, AssemblyState, same_key, nothing_yet, partial_of}
 use Rattle.coap_block.specs.AssemblyStep.{there_at, verdict_at, with_block, after_block}
 
 pub data AssemblyTrace : Type 0 where
-  Made : (szx : ℕ) → AssemblyTrace
+  Made : (sizes : Sizes) → AssemblyTrace
   Arrived : (earlier : AssemblyTrace) (now : ℕ) (key : Key) (b : Block) (payload : List ℕ) → AssemblyTrace
 
 abbrev pub state_after : AssemblyTrace → AssemblyState
-state_after (Made szx) = nothing_yet szx
+state_after (Made sizes) = nothing_yet sizes
 state_after (Arrived earlier now key b payload) = after_block (state_after earlier) now key b payload
 
 -- this history leaves the assembly so
@@ -34,24 +34,24 @@ blocks_by Done b payload parts = behind parts b payload
 
 -- the blocks that were taken for a key since its last block 0
 abbrev pub blocks_since : Key → AssemblyTrace → List Part
-blocks_since key (Made szx) = []
+blocks_since key (Made sizes) = []
 blocks_since key (Arrived earlier now k b payload) =
     if same_key k key then blocks_by (verdict_at (state_after earlier) now k b (length payload)) b payload
     (blocks_since key earlier)
     else blocks_since key earlier
 
--- a partial body is these blocks, in order and each of its full size
-pub record JoinedFrom (parts : List Part) (p : PartialBody) : Type 0 where
+-- a partial body is these blocks, in order and each of its full size, and is not longer than the limit
+pub record JoinedFrom (limit : ℕ) (parts : List Part) (p : PartialBody) : Type 0 where
   pub bytes : p.bytes ≡ joined parts
   pub some : parts ≢ []
   pub chained : Chained 0 parts
   pub full : Each IsFull parts
-  pub short : length p.bytes ≤ max_body_len
+  pub short : length p.bytes ≤ limit
 
 -- a partial body is the blocks that were taken for its key since its last block 0
 abbrev pub PartialsByHistory : Type 0
 PartialsByHistory = (t : AssemblyTrace) (key : Key) (p : PartialBody) → partial_of key (state_after t).partials ≡ Some p
-    → JoinedFrom (blocks_since key t) p
+    → JoinedFrom (state_after t).limit (blocks_since key t) p
 
 -- there are no more than a server keeps (profile)
 abbrev pub FewPartials : Type 0
@@ -66,16 +66,16 @@ abbrev pub OneForAKey : Type 0
 OneForAKey = (t : AssemblyTrace) → AreDistinct (state_after t).partials
 
 -- Whatever came before, a body that is answered is whole by the blocks that were taken for its key
--- since its last block 0, the last one among them, and is not too long.
-pub record IsWholeBody (parts : List Part) (body : List ℕ) : Type 0 where
+-- since its last block 0, the last one among them, and is not longer than the limit.
+pub record IsWholeBody (limit : ℕ) (parts : List Part) (body : List ℕ) : Type 0 where
   pub whole : WholeAtServer parts body
   pub joined_is : body ≡ joined parts
-  pub short : length body ≤ max_body_len
+  pub short : length body ≤ limit
 
 abbrev pub WholeByBlocks : Type 0
 WholeByBlocks = (t : AssemblyTrace) (s : AssemblyState) (now : ℕ) (key : Key) (b : Block) (payload : List ℕ)
     → Led t s → verdict_at s now key b (length payload) ≡ Done
-    → IsWholeBody (blocks_since key (Arrived t now key b payload)) (with_block s now key b payload)
+    → IsWholeBody s.limit (blocks_since key (Arrived t now key b payload)) (with_block s now key b payload)
 
 -- a body that is answered leaves no partial body of its key
 abbrev pub NoneLeft : Type 0

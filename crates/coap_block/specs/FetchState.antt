@@ -7,29 +7,31 @@ use Rattle.coap_block.specs.declared.fetch_progress.Before.{Before}
 use Rattle.coap_block.specs.declared.fetch_progress.Before.TheVariants.{Nothing, Same, Was}
 use Rattle.coap_block.specs.declared.fetch_verdict.Verdict.{Verdict}
 use Rattle.coap_block.specs.declared.fetch_verdict.Verdict.TheVariants.{Refuse, Again, Done, Ask}
+use Rattle.coap_block.specs.Sizes.{Sizes}
 use Rattle.coap_block.specs.FetchStep.{FetchState}
 
-abbrev pub state_of : ℕ → List ℕ → Progress → FetchState
-state_of szx bytes p = record {
-  szx = szx;
+abbrev pub state_of : Sizes → List ℕ → Progress → FetchState
+state_of sizes bytes p = record {
+  szx = sizes.szx;
+  limit = sizes.limit;
   gathered = take p.len bytes;
   asked = p.asked;
   tag = p.tag;
   restarts = p.restarts;
 }
 
-abbrev pub before_of : ℕ → List ℕ → Progress → Before → Option FetchState
-before_of szx bytes p Nothing = None
-before_of szx bytes p Same = Some (state_of szx bytes p)
-before_of szx bytes p (Was q) = Some (state_of szx bytes q)
+abbrev pub before_of : Sizes → List ℕ → Progress → Before → Option FetchState
+before_of sizes bytes p Nothing = None
+before_of sizes bytes p Same = Some (state_of sizes bytes p)
+before_of sizes bytes p (Was q) = Some (state_of sizes bytes q)
 
 -- what callers see of a fetch
 pub record FetchValue : Type 0 where
   pub state : FetchState
   pub before : Option FetchState
 
-abbrev pub value_of : ℕ → List ℕ → Progress → Before → FetchValue
-value_of szx bytes p before = record { state = state_of szx bytes p; before = before_of szx bytes p before }
+abbrev pub value_of : Sizes → List ℕ → Progress → Before → FetchValue
+value_of sizes bytes p before = record { state = state_of sizes bytes p; before = before_of sizes bytes p before }
 
 -- the block that was asked for has a number that can be written
 abbrev pub IsAskable : Option Asked → Type 0

@@ -8,18 +8,32 @@ use Rattle.coap_block.specs.declared.fetch_step.FetchRefusal.TheVariants.{BadBlo
 use Rattle.coap_block.specs.declared.fetch_verdict.Verdict.{Verdict}
 use Rattle.coap_block.specs.declared.fetch_verdict.Verdict.TheVariants.{Refuse, Again, Done, Ask}
 use Rattle.coap_block.specs.declared.fetch_judging.TheConstants.{MAX_RESTARTS as max_restarts}
-use Rattle.coap_types.specs.Piece.{size_of, offset_of, max_body_len}
+use Rattle.coap_types.specs.Piece.{size_of, offset_of}
+use Rattle.coap_block.specs.Sizes.{Sizes}
 
--- the client's block size, what was gathered since the start, the block that was asked for (none at the start), its tag
+-- the client's block size and its longest body, what was gathered since the start, the block that was asked for (none at
+-- the start), its tag
 pub record FetchState : Type 0 where
   pub szx : ℕ
+  pub limit : ℕ
   pub gathered : List ℕ
   pub asked : Option Asked
   pub tag : Option (List ℕ)
   pub restarts : ℕ
 
-abbrev pub start : ℕ → ℕ → FetchState
-start szx restarts = record { szx = szx; gathered = []; asked = None; tag = None; restarts = restarts }
+abbrev pub start : Sizes → ℕ → FetchState
+start sizes restarts = record {
+  szx = sizes.szx;
+  limit = sizes.limit;
+  gathered = [];
+  asked = None;
+  tag = None;
+  restarts = restarts;
+}
+
+-- those that it was made with
+abbrev pub sizes_of : FetchState → Sizes
+sizes_of s = record { szx = s.szx; limit = s.limit }
 
 -- the first part is block 0, a later one the one asked for
 abbrev pub fits : Option Asked → ℕ → ℕ → Bool
@@ -64,11 +78,11 @@ next_num s b = number_behind s.szx b
 abbrev pub verdict : FetchState → Option Block → Option (List ℕ) → ℕ → Verdict
 verdict s None tag len =
     if is_some s.asked then Refuse BadBlock
-    else if nat_lt max_body_len len then Refuse TooLarge
+    else if nat_lt s.limit len then Refuse TooLarge
     else Done
 verdict s (Some b) tag len =
     if not (fits s.asked b.num b.szx && is_sized b.more b.num b.szx len) then Refuse BadBlock
-    else if nat_lt max_body_len (offset_of b.num b.szx + len) then Refuse TooLarge
+    else if nat_lt s.limit (offset_of b.num b.szx + len) then Refuse TooLarge
     else if lacks_tag b tag then Refuse NoTag
     else if differs s tag then changed s.restarts
     else if b.more then Ask (next_num s b) (next_szx s b)
@@ -76,8 +90,8 @@ verdict s (Some b) tag len =
 
 abbrev pub after : FetchState → Option (List ℕ) → List ℕ → Verdict → FetchState
 after s tag payload (Refuse why) = s
-after s tag payload Again = start s.szx (s.restarts + 1)
-after s tag payload Done = start s.szx 0
+after s tag payload Again = start (sizes_of s) (s.restarts + 1)
+after s tag payload Done = start (sizes_of s) 0
 after s tag payload (Ask num szx) = record s {
   gathered = s.gathered ++ payload;
   asked = Some (record { num = num; szx = szx });

@@ -3,17 +3,17 @@ use Rattle.std.specs.Prelude.{◌≡◌, ◌≤◌, ℕ, List, [], ◌∷◌, �
 use Rattle.coap_types.specs.declared.block.Block.{Block}
 use Rattle.coap_block.specs.declared.fetch_verdict.Verdict.{Verdict}
 use Rattle.coap_block.specs.declared.fetch_verdict.Verdict.TheVariants.{Refuse, Again, Done, Ask}
-use Rattle.coap_types.specs.Piece.{max_body_len}
+use Rattle.coap_block.specs.Sizes.{Sizes}
 use Rattle.coap_block.specs.Whole.{Part, Whole}
 use Rattle.coap_block.specs.FetchStep.{FetchState, start, verdict, after}
 use Rattle.coap_block.specs.Gathered.{part, payloads_of, Gathered}
 
 pub data FetchTrace : Type 0 where
-  Made : (szx : ℕ) → FetchTrace
+  Made : (sizes : Sizes) → FetchTrace
   Took : (earlier : FetchTrace) (block : Option Block) (tag : Option (List ℕ)) (payload : List ℕ) → FetchTrace
 
 abbrev pub state_after : FetchTrace → FetchState
-state_after (Made szx) = start szx 0
+state_after (Made sizes) = start sizes 0
 state_after (Took earlier block tag payload) =
     after (state_after earlier) tag payload (verdict (state_after earlier) block tag (length payload))
 
@@ -26,7 +26,7 @@ parts_by (Ask num szx) (Some b) tag payload parts = parts ++ part b tag payload 
 
 -- the parts that were taken since the start
 abbrev pub parts_since : FetchTrace → List Part
-parts_since (Made szx) = []
+parts_since (Made sizes) = []
 parts_since (Took earlier block tag payload) =
     parts_by (verdict (state_after earlier) block tag (length payload)) block tag payload (parts_since earlier)
 
@@ -45,8 +45,8 @@ WholeByHistory = (t : FetchTrace) (s : FetchState) (block : Option Block) (tag :
 
 -- what is gathered is never too long, nor is a body that is answered (RFC 7959, section 7)
 abbrev pub GatheredIsShort : Type 0
-GatheredIsShort = (t : FetchTrace) (s : FetchState) → Led t s → length s.gathered ≤ max_body_len
+GatheredIsShort = (t : FetchTrace) (s : FetchState) → Led t s → length s.gathered ≤ s.limit
 
 abbrev pub BodyIsShort : Type 0
 BodyIsShort = (t : FetchTrace) (s : FetchState) (block : Option Block) (tag : Option (List ℕ)) (payload : List ℕ)
-    → Led t s → verdict s block tag (length payload) ≡ Done → length (s.gathered ++ payload) ≤ max_body_len
+    → Led t s → verdict s block tag (length payload) ≡ Done → length (s.gathered ++ payload) ≤ s.limit

@@ -4,6 +4,7 @@ use Rattle.coap_types.specs.declared.block.Block.{Block}
 use Rattle.coap_block.specs.declared.fetch_progress.Asked.{Asked}
 use Rattle.coap_block.specs.declared.fetch_verdict.Verdict.TheVariants.{Done, Ask}
 use Rattle.coap_types.specs.Piece.{size_of, offset_of}
+use Rattle.coap_block.specs.Sizes.{Sizes}
 use Rattle.coap_block.specs.Whole.{Part, Each, joined, Chained, HasTag, Payloads, Blocks, Alone, Whole}
 use Rattle.coap_block.specs.FetchStep.{FetchState, start, verdict, after}
 
@@ -29,7 +30,7 @@ pub record Gathered (parts : List Part) (s : FetchState) : Type 0 where
   pub awaits : Awaits s.asked s.tag parts
 
 abbrev pub GatheredAtStart : Type 0
-GatheredAtStart = (szx restarts : ℕ) → Gathered [] (start szx restarts)
+GatheredAtStart = (sizes : Sizes) (restarts : ℕ) → Gathered [] (start sizes restarts)
 
 abbrev pub GatheredByPart : Type 0
 GatheredByPart = (parts : List Part) (s : FetchState) (b : Block) (tag : Option (List ℕ)) (payload : List ℕ)

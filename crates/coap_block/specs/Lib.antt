@@ -1,3 +1,4 @@
+pub mod Sizes
 pub mod Whole
 pub mod FetchStep
 pub mod InMemory

@@ -24,7 +24,7 @@ last_by Done b at last = None
 
 -- when the last block of a key was taken, if a block 0 with more behind it was since its last whole body or 4.13
 abbrev pub last_taken : Key → AssemblyTrace → Option ℕ
-last_taken key (Made szx) = None
+last_taken key (Made sizes) = None
 last_taken key (Arrived earlier now k b payload) =
     if same_key k key then last_by (verdict_at (state_after earlier) now k b (length payload)) b
     (moment_at (state_after earlier) now) (last_taken key earlier)

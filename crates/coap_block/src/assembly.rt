@@ -1,5 +1,6 @@
 ghost use Rattle.std.specs.Prelude.{◌≡◌, ◌≤◌, ◌+◌, true, None, Some, IfOk, OnOk, OnErr, IsOk, IsSome, length, max};
 ghost use Rattle.std.specs.Prelude.{vec_len, vec_capacity};
+ghost use Rattle.coap_block.specs.Sizes.{usual_sizes};
 ghost use Rattle.coap_block.specs.AssemblyState.{body_with, forgotten, nothing_yet, with_payload};
 ghost use Rattle.coap_block.specs.AssemblyStep.{partials_by, verdict_at};
 ghost use Rattle.coap_block.specs.AssemblyAnswer.{IsRefused, TakesBlock, took};
@@ -14,7 +15,7 @@ use crate::block_verdict::BlockVerdict;
 use crate::partial::Partial;
 use crate::partials::{counts, join, restore, take_out, whole};
 use crate::upload_key::UploadKey;
-use coap_types::{Block, Moment, Szx};
+use coap_types::{Block, BodyLimit, Moment, Szx};
 use std::alloc::{AllocError, Allocator, Global};
 use std::marker::Model;
 
@@ -24,6 +25,7 @@ use std::marker::Model;
 #[derive_where(Debug)]
 pub struct Assembly<A: Allocator = Global> {
     szx: Szx,
+    limit: BodyLimit,
     clock: Moment,
     partials: Vec<Partial<A>, A>,
     before: Option<Before<A>>,
@@ -35,21 +37,32 @@ impl<A: Allocator> Model for Assembly<A> {
 
     ghost Value = { AssemblyValue };
 
-    ghost view = { λ a. value_of a.szx a.clock.0 (partials_of a.partials.items) a.before };
+    ghost view = { λ a. value_of (record { szx = a.szx; limit = a.limit }) a.clock.0 (partials_of a.partials.items) a.before };
 
     ghost invariant = { λ a. IsUndoableBefore a.before a.partials
         × AreFew a.clock.0 (partials_of a.partials.items) × AreFewBefore (partials_of a.partials.items) a.before };
 }
 
 impl<A: Allocator + Copy> Assembly<A> {
-    /// An assembly of no blocks, that asks for blocks of at most that size.
+    /// An assembly of no blocks, that asks for blocks of at most that size, and joins bodies of at most
+    /// `DEFAULT_BODY_LIMIT` bytes.
     pub fn new(alloc: A, szx: Szx) -> Assembly<A>
-        ensures state { result.state ≡ nothing_yet szx }
-        ensures led { Led (Made szx) result.state }
+        ensures state { result.state ≡ nothing_yet (usual_sizes szx) }
+        ensures led { Led (Made (usual_sizes szx)) result.state }
+        ensures before { result.before ≡ None }
+    {
+        Assembly::with_limit(alloc, szx, BodyLimit::default())
+    }
+
+    /// The same for bodies of at most that limit.
+    pub fn with_limit(alloc: A, szx: Szx, limit: BodyLimit) -> Assembly<A>
+        ensures state { result.state ≡ nothing_yet (record { szx = szx; limit = limit }) }
+        ensures led { Led (Made (record { szx = szx; limit = limit })) result.state }
         ensures before { result.before ≡ None }
     {
         Assembly {
             szx,
+            limit,
             clock: Moment(0),
             partials: Vec::new(alloc),
             before: None,
@@ -81,7 +94,7 @@ impl<A: Allocator + Copy> Assembly<A> {
         let was = self.clock;
         let at = later(was, now);
         let (reached, others) = counts(&self.partials, key, at);
-        let verdict = judge(self.szx, reached, others, block, payload.len());
+        let verdict = judge(self.szx, self.limit, reached, others, block, payload.len());
         let arrival = Arrival {
             was,
             at,

@@ -4,8 +4,7 @@ ghost use Rattle.coap_block.specs.AssemblyStep.{answered_szx, fills, goes_on, ru
 use crate::assembly_step::AssemblyRefusal;
 use crate::block_verdict::BlockVerdict;
 use crate::fetch_judging::smaller;
-use coap_types::limits::MAX_BODY_LEN;
-use coap_types::{Block, Szx};
+use coap_types::{Block, BodyLimit, Szx};
 
 /// The most uploads of which a server keeps a partial body (profile: RFC 7959, section 7, asks for a
 /// bound).
@@ -44,12 +43,13 @@ fn answered_szx(szx: Szx, block: Block) -> Szx
 /// What a block means, by the tests in their order.
 pub(crate) fn judge(
     szx: Szx,
+    limit: BodyLimit,
     reached: Option<usize>,
     others: usize,
     block: Block,
     len: usize,
 ) -> BlockVerdict
-    ensures { result ≡ ruling szx reached others block len }
+    ensures { result ≡ ruling (record { szx = szx; limit = limit }) reached others block len }
 {
     if !fills(block.more, block.szx, len) {
         return BlockVerdict::Refuse(AssemblyRefusal::BadRequest);
@@ -58,7 +58,7 @@ pub(crate) fn judge(
         return BlockVerdict::Refuse(AssemblyRefusal::EntityIncomplete);
     }
     let offset = block.num as usize * block.szx.size();
-    if offset + len > MAX_BODY_LEN {
+    if offset + len > limit.get() {
         return BlockVerdict::Refuse(AssemblyRefusal::EntityTooLarge);
     }
     if block.more && block.num == 0 && others >= MAX_PARTIALS {

@@ -14,7 +14,7 @@ pub enum AssemblyRefusal {
     /// 4.08 Request Entity Incomplete: NUM is over 0 and the partial body doesn't end where the
     /// block begins, or there is none (RFC 7959, section 2.9.2).
     EntityIncomplete,
-    /// 4.13 Request Entity Too Large: the body would have over `MAX_BODY_LEN` bytes; its partial
+    /// 4.13 Request Entity Too Large: the body would be longer than the assembly's limit; its partial
     /// body is dropped (RFC 7959, section 2.9.3).
     EntityTooLarge,
     /// 5.03 Service Unavailable: `MAX_PARTIALS` other uploads have a partial body (RFC 7252, section

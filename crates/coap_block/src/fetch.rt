@@ -1,4 +1,5 @@
 ghost use Rattle.std.specs.Prelude.{◌≡◌, ◌≤◌, false, None, Some, IfOk, IfSome, OnOk, OnErr, IsOk, IsSome, length};
+ghost use Rattle.coap_block.specs.Sizes.{usual_sizes};
 ghost use Rattle.coap_block.specs.FetchStep.{start, verdict};
 ghost use Rattle.coap_block.specs.FetchTrace.{FetchTrace, Led, Made, Took};
 ghost use Rattle.coap_block.specs.FetchAnswer.{block_asked, Takes, IsNumbered, IsQuiet};
@@ -8,7 +9,7 @@ use crate::fetch_progress::{Asked, Before, Progress};
 use crate::fetch_step::Step;
 use crate::fetch_verdict::Verdict;
 use crate::gathering::Gathering;
-use coap_types::{Block, MAX_NUM, Szx, Tag};
+use coap_types::{Block, BodyLimit, MAX_NUM, Szx, Tag};
 use std::alloc::{AllocError, Allocator, Global};
 use std::marker::Model;
 use std::mem;
@@ -19,6 +20,7 @@ use std::mem;
 #[derive_where(Debug)]
 pub struct Fetch<A: Allocator = Global> {
     szx: Szx,
+    limit: BodyLimit,
     bytes: Gathering<A>,
     progress: Progress,
     before: Before,
@@ -29,20 +31,31 @@ impl<A: Allocator> Model for Fetch<A> {
 
     ghost Value = { FetchValue };
 
-    ghost view = { λ f. value_of f.szx f.bytes f.progress f.before };
+    ghost view = { λ f. value_of (record { szx = f.szx; limit = f.limit }) f.bytes f.progress f.before };
 
     ghost invariant = { λ f. IsGoing f.progress f.bytes × IsGoingBefore f.before f.bytes };
 }
 
 impl<A: Allocator + Copy> Fetch<A> {
-    /// A fetch that asks for blocks of at most that size. The first request carries no Block2.
+    /// A fetch that asks for blocks of at most that size, of a body of at most `DEFAULT_BODY_LIMIT`
+    /// bytes. The first request carries no Block2.
     pub fn new(alloc: A, szx: Szx) -> Fetch<A>
-        ensures state { result.state ≡ start szx 0 }
-        ensures led { Led (Made szx) result.state }
+        ensures state { result.state ≡ start (usual_sizes szx) 0 }
+        ensures led { Led (Made (usual_sizes szx)) result.state }
+        ensures before { result.before ≡ None }
+    {
+        Fetch::with_limit(alloc, szx, BodyLimit::default())
+    }
+
+    /// The same for a body of at most that limit.
+    pub fn with_limit(alloc: A, szx: Szx, limit: BodyLimit) -> Fetch<A>
+        ensures state { result.state ≡ start (record { szx = szx; limit = limit }) 0 }
+        ensures led { Led (Made (record { szx = szx; limit = limit })) result.state }
         ensures before { result.before ≡ None }
     {
         Fetch {
             szx,
+            limit,
             bytes: Gathering::new(alloc),
             progress: Progress::start(0),
             before: Before::Nothing,
@@ -84,7 +97,14 @@ impl<A: Allocator + Copy> Fetch<A> {
         // What is refused or begins anew takes no memory.
         ensures quiet { IsQuiet (verdict self.old.state block tag (length payload.now)) → IsOk result }
     {
-        match judge(self.szx, &self.progress, block, &tag, payload.len()) {
+        match judge(
+            self.szx,
+            self.limit,
+            &self.progress,
+            block,
+            &tag,
+            payload.len(),
+        ) {
             Verdict::Refuse(why) => {
                 self.before = Before::Same;
                 Ok(Step::Refused(why))

@@ -8,8 +8,7 @@ ghost use Rattle.coap_block.specs.declared.fetch_verdict.Verdict.TheVariants.{Ag
 use crate::fetch_progress::{Asked, Progress};
 use crate::fetch_step::FetchRefusal;
 use crate::fetch_verdict::Verdict;
-use coap_types::limits::MAX_BODY_LEN;
-use coap_types::{Block, Szx, Tag};
+use coap_types::{Block, BodyLimit, MAX_BODY_LIMIT, Szx, Tag};
 
 /// How often a body that changes is fetched anew (profile).
 pub const MAX_RESTARTS: u8 = 3;
@@ -72,7 +71,7 @@ fn differs(progress: &Progress, tag: &Option<Tag>) -> bool
 
 // The block behind that one is asked for, in the smaller of both sizes.
 fn ask_behind(szx: Szx, block: Block) -> Verdict
-    requires { offset_of block.num block.szx + size_of block.szx ≤ MAX_BODY_LEN }
+    requires { offset_of block.num block.szx + size_of block.szx ≤ MAX_BODY_LIMIT }
     ensures next { result ≡ Ask (number_behind szx block) (min block.szx szx) }
     ensures numbered { IsNumberedAsk result }
 {
@@ -105,22 +104,24 @@ fn start_again(restarts: u8) -> Verdict
 /// What a part means, by the tests in their order.
 pub(crate) fn judge(
     szx: Szx,
+    limit: BodyLimit,
     progress: &Progress,
     block: Option<Block>,
     tag: &Option<Tag>,
     len: usize,
 ) -> Verdict
-    ensures verdict { (gathered : List ℕ) → result ≡ verdict (state_of szx gathered progress.now) block tag.now len }
+    ensures verdict { (gathered : List ℕ)
+        → result ≡ verdict (state_of (record { szx = szx; limit = limit }) gathered progress.now) block tag.now len }
     ensures again { result ≡ Again → progress.now.restarts < MAX_RESTARTS }
     ensures numbered { IsNumberedAsk result }
 {
     match block {
         None if progress.asked.is_some() => Verdict::Refuse(FetchRefusal::BadBlock),
-        None if len > MAX_BODY_LEN => Verdict::Refuse(FetchRefusal::TooLarge),
+        None if len > limit.get() => Verdict::Refuse(FetchRefusal::TooLarge),
         None => Verdict::Done,
         Some(block) if !fits(progress.asked, block) => Verdict::Refuse(FetchRefusal::BadBlock),
         Some(block) if !is_sized(block, len) => Verdict::Refuse(FetchRefusal::BadBlock),
-        Some(block) if end_of(block, len) > MAX_BODY_LEN => {
+        Some(block) if end_of(block, len) > limit.get() => {
             Verdict::Refuse(FetchRefusal::TooLarge)
         }
         Some(block) if lacks_tag(block, tag) => Verdict::Refuse(FetchRefusal::NoTag),

@@ -10,7 +10,7 @@ pub enum FetchRefusal {
     BadBlock,
     /// One of several parts has no ETag (RFC 7959, section 2.4).
     NoTag,
-    /// The body has over `MAX_BODY_LEN` bytes.
+    /// The body is longer than the fetch's limit.
     TooLarge,
     /// The body changed, and `MAX_RESTARTS` restarts were made.
     Changed,

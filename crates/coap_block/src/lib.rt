@@ -31,7 +31,6 @@ pub use assembly::Assembly;
 pub use assembly_judging::MAX_PARTIALS;
 pub use assembly_step::{AssemblyRefusal, Took};
 pub use block_verdict::BlockVerdict;
-pub use coap_types::limits::MAX_BODY_LEN;
 pub use coap_types::{Block, MAX_BLOCK_LEN, MAX_NUM};
 pub use fetch::Fetch;
 pub use fetch_judging::MAX_RESTARTS;

@@ -1,3 +1,4 @@
 pub mod AsksOnce
 pub mod Beyond
+pub mod Blocks
 pub mod Bounds

@@ -2,6 +2,7 @@
 use Rattle.std.specs.Prelude.{ℕ, List}
 use Rattle.coap_types.specs.declared.endpoint.Endpoint.{Endpoint}
 use Rattle.coap_layer.specs.Trace.{Entry}
+use Rattle.coap_block.specs.Sizes.{Sizes}
 use Rattle.coap_exchange.specs.Above.{sum_of, asked_by, Rows}
 use Rattle.coap_exchange.specs.AskerTrace as E
 use Rattle.coap_exchange.specs.AskerLaw.{ExchangeLaw, below_of}
@@ -9,24 +10,24 @@ use Rattle.coap_client.specs.Trace.{Call}
 use Rattle.coap_client.specs.Own.{Own, start}
 use Rattle.coap_client.specs.Steps.{lower, IsRight, after}
 
-module _ (szx : ℕ) where
+module _ (sizes : Sizes) where
   -- what the calls so far add up to
   abbrev pub own_of : List Call → Own
-  own_of trace = sum_of (start szx) after trace
+  own_of trace = sum_of (start sizes) after trace
 
   -- the calls of the exchanges, one behind the other: nothing is added or left out
   abbrev pub lower_of : List Call → List E.Call
-  lower_of trace = asked_by (start szx) after lower trace
+  lower_of trace = asked_by (start sizes) after lower trace
 
   -- each call has its row
   abbrev pub ClientRows : List Call → Type 0
-  ClientRows trace = Rows (start szx) after IsRight trace
+  ClientRows trace = Rows (start sizes) after IsRight trace
 
 -- .. and the calls of its exchanges stand in their law, those of the message layer in its own
-pub record ClientLaw (server : Endpoint) (szx word : ℕ) (trace : List Call) : Type 0 where
-  pub rows : ClientRows szx trace
-  pub exchanges : ExchangeLaw server word (lower_of szx trace)
+pub record ClientLaw (server : Endpoint) (sizes : Sizes) (word : ℕ) (trace : List Call) : Type 0 where
+  pub rows : ClientRows sizes trace
+  pub exchanges : ExchangeLaw server word (lower_of sizes trace)
 
 -- the trace of the message layer
-abbrev pub layer_of : Endpoint → (szx word : ℕ) → List Call → List Entry
-layer_of server szx word trace = below_of server word (lower_of szx trace)
+abbrev pub layer_of : Endpoint → (sizes : Sizes) (word : ℕ) → List Call → List Entry
+layer_of server sizes word trace = below_of server word (lower_of sizes trace)

@@ -1,6 +1,7 @@
 -- What notifications make of a client (RFC 7641, sections 3.2 to 3.6; RFC 7959, section 2.6).
 use Rattle.std.specs.Prelude.{ℕ, ◌==◌, not, true, false, Option, Some, None, List, [], ◌∷◌, ◌++◌, map, if◌then◌else◌}
 use Rattle.coap_codec.specs.Message.{Message}
+use Rattle.coap_block.specs.Sizes.{Sizes}
 use Rattle.coap_block.specs.FetchStep as F
 use Rattle.coap_observe.specs.Newer.{is_newer, arrived}
 use Rattle.coap_client.specs.Trace.{Report, Ended, Reported}
@@ -11,11 +12,11 @@ use Rattle.coap_client.specs.Fetching.{value, rest}
 use Rattle.coap_client.specs.Effects.{Deed, Rests, Keeps, Releases, Effect, stays, ends, of}
 
 -- a notification's own part is the first
-abbrev pub first_value : ℕ → ℕ → Message → Option Reported
-first_value number szx m = value number (sequence_in m) (F.start szx 0) m (part (F.start szx 0) m)
+abbrev pub first_value : ℕ → Sizes → Message → Option Reported
+first_value number sizes m = value number (sequence_in m) (F.start sizes 0) m (part (F.start sizes 0) m)
 
-abbrev pub first_rest : ℕ → Message → Option Notified
-first_rest szx m = rest (sequence_in m) (F.start szx 0) m (part (F.start szx 0) m)
+abbrev pub first_rest : Sizes → Message → Option Notified
+first_rest sizes m = rest (sequence_in m) (F.start sizes 0) m (part (F.start sizes 0) m)
 
 -- An observation is over, with a last report.
 
@@ -32,21 +33,21 @@ is_over number report s = record {
 
 -- The answer to a registration counts as a notification, and where it is one the observation is live.
 
-abbrev pub begun : ℕ → List (List ℕ) → ℕ → ℕ → Message → Observation
-begun number path szx at m =
+abbrev pub begun : ℕ → List (List ℕ) → Sizes → ℕ → Message → Observation
+begun number path sizes at m =
     record {
       number = number;
       path = path;
       token = m.token;
       watch = arrived (record { clock = 0; mark = None }) (sequence_in m) at true;
-      rest = first_rest szx m;
+      rest = first_rest sizes m;
     }
 
 abbrev pub registered : ℕ → List (List ℕ) → Own → ℕ → Message → Effect
 registered number path s at m =
     if is_notification m then record {
-      own = record s { running = None; observations = s.observations ++ begun number path s.szx at m ∷ [] };
-      report = first_value number s.szx m;
+      own = record s { running = None; observations = s.observations ++ begun number path s.sizes at m ∷ [] };
+      report = first_value number s.sizes m;
       deed = Keeps m.token;
     } else ends (of number (Ended m.code)) s
 
@@ -58,9 +59,10 @@ renewed o s at m = record {
   own = record s {
     running = dropped o.number s.running;
     observations = map (λ (p : Observation). if p.number == o.number then
-        record p { watch = arrived p.watch (sequence_in m) at true; rest = first_rest s.szx m } else p) s.observations;
+        record p
+        { watch = arrived p.watch (sequence_in m) at true; rest = first_rest s.sizes m } else p) s.observations;
   };
-  report = first_value o.number s.szx m;
+  report = first_value o.number s.sizes m;
   deed = Rests;
 }
 

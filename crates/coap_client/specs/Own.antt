@@ -1,6 +1,7 @@
 -- What a client keeps: its operations and its observations (RFC 7252, section 5.2; RFC 7641, section 3; RFC 7959,
 -- section 2).
 use Rattle.std.specs.Prelude.{ℕ, Option, Some, None, List, []}
+use Rattle.coap_block.specs.Sizes.{Sizes}
 use Rattle.coap_block.specs.FetchStep.{FetchState}
 use Rattle.coap_block.specs.UploadStep.{UploadState}
 use Rattle.coap_observe.specs.Newer.{Watched}
@@ -44,12 +45,13 @@ pub record Observation : Type 0 where
   pub watch : Watched
   pub rest : Option Notified
 
--- the latest moment; the client's block size; how many numbers were given; what waits, and what runs; the live
--- observations, in the order of their numbers; when the last datagram of the running operation was sent; that of the
--- upload that holds back others; the reports that wait to be taken; the request that the last datagram or tick sent
+-- the latest moment; the client's block size and its longest body; how many numbers were given; what waits, and what
+-- runs; the live observations, in the order of their numbers; when the last datagram of the running operation was sent;
+-- that of the upload that holds back others; the reports that wait to be taken; the request that the last datagram or
+-- tick sent
 pub record Own : Type 0 where
   pub clock : ℕ
-  pub szx : ℕ
+  pub sizes : Sizes
   pub taken : ℕ
   pub queue : List Operation
   pub running : Option Operation
@@ -59,10 +61,10 @@ pub record Own : Type 0 where
   pub reports : List Reported
   pub asked : Option Requested
 
-abbrev pub start : ℕ → Own
-start szx = record {
+abbrev pub start : Sizes → Own
+start sizes = record {
   clock = 0;
-  szx = szx;
+  sizes = sizes;
   taken = 0;
   queue = [];
   running = None;

@@ -2,10 +2,10 @@
 use Rattle.std.specs.Prelude.{ℕ, ◌+◌, ◌-◌, ◌==◌, ◌^◌, ◌&&◌, ◌||◌, not, nat_le, nat_lt, Bool, true, false, Option, Some}
 use Rattle.std.specs.Prelude.{None, List, [], ◌∷◌, ◌++◌, length, filter, Result, Ok, Err, if◌then◌else◌, option_to_list}
 use Rattle.coap_types.specs.CoapOption.{CoapOption, option}
-use Rattle.coap_types.specs.declared.limits.TheConstants.{MAX_BODY_LEN as max_body}
 use Rattle.coap_types.specs.declared.request.Method.{Method}
 use Rattle.coap_types.specs.declared.request.Method.TheVariants.{Get, Post, Put, Delete}
 use Rattle.coap_codec.specs.Spelling.{options_bytes}
+use Rattle.coap_block.specs.Sizes.{Sizes}
 use Rattle.coap_block.specs.FetchStep as F
 use Rattle.coap_block.specs.UploadStep.{upload_start}
 use Rattle.coap_types.specs.declared.option_number.TheConstants.{BLOCK2 as block2, BLOCK1 as block1}
@@ -56,7 +56,7 @@ taken_by s = if s.taken == max_numbers then Err CallsSpent else Ok s.taken
 abbrev pub call_answer : Own → Request → Result ℕ CallRefusal
 call_answer s r =
     if is_full s then Err QueueFull
-    else (if nat_lt max_body (length r.body) then Err BodyTooLarge
+    else (if nat_lt s.sizes.limit (length r.body) then Err BodyTooLarge
     else (if are_long (block_option_number r.method) (options_of r) then Err BadPath
     else taken_by s))
 
@@ -79,14 +79,14 @@ may_forget s number = is_live number s && not (is_cancelled number s)
 
 -- what is taken waits, behind what waits already
 
-abbrev pub transfer_of : ℕ → Request → Method → Transfer
-transfer_of szx r Get = Fetches (F.start szx 0)
-transfer_of szx r Post = Uploads (upload_start r.body szx)
-transfer_of szx r Put = Uploads (upload_start r.body szx)
-transfer_of szx r Delete = Single
+abbrev pub transfer_of : Sizes → Request → Method → Transfer
+transfer_of sizes r Get = Fetches (F.start sizes 0)
+transfer_of sizes r Post = Uploads (upload_start r.body sizes.szx)
+transfer_of sizes r Put = Uploads (upload_start r.body sizes.szx)
+transfer_of sizes r Delete = Single
 
-abbrev pub calling : ℕ → ℕ → Request → Operation
-calling szx number r = Calling number (record r { body = [] }) (transfer_of szx r r.method)
+abbrev pub calling : Sizes → ℕ → Request → Operation
+calling sizes number r = Calling number (record r { body = [] }) (transfer_of sizes r r.method)
 
 abbrev pub numbered : (ℕ → Operation) → Result ℕ CallRefusal → Own → Own
 numbered op (Ok number) s = record s { taken = s.taken + 1; queue = s.queue ++ op number ∷ [] }

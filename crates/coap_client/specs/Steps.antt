@@ -76,7 +76,7 @@ abbrev pub asking : Option Requested → Own → Own
 asking request s = record s { asked = request }
 
 abbrev pub after : Own → Call → Own
-after s (Calls now r answer) = numbered (λ number. calling s.szx number r) answer (at now s)
+after s (Calls now r answer) = numbered (λ number. calling s.sizes number r) answer (at now s)
 after s (Observes now path answer) = numbered (λ number. Registering number path) answer (at now s)
 after s (Cancels now number answer) = cancelling number answer (at now s)
 after s (Forgets number kept answer) = forgotten answer number s

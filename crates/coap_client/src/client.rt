@@ -30,6 +30,7 @@ ghost use Rattle.std.specs.Prelude.{◌≡◌, ◌≢◌, ◌<◌, ◌^◌, ℕ,
 ghost use Rattle.std.specs.Prelude.{Ok, Err, None, IfNone, IfOk, IfSome, IsOk, OnOk, OnErr, is_ok};
 ghost use Rattle.std.specs.Option.{option_map};
 ghost use Rattle.coap_types.specs.declared.endpoint.Endpoint.{Endpoint};
+ghost use Rattle.coap_block.specs.Sizes.{Sizes, usual_sizes};
 ghost use Rattle.coap_layer.specs.Trace as L;
 ghost use Rattle.coap_exchange.specs.declared.asker.AskRefusal.{AskRefusal};
 ghost use Rattle.coap_exchange.specs.declared.asker.Event.{Event};
@@ -51,7 +52,7 @@ use crate::client::request_options::{is_long_path, is_long_request};
 use crate::{CallRefusal, CancelRefusal};
 use coap_exchange::Asker;
 use coap_layer::Datagram;
-use coap_types::{Endpoint, Moment, Path, Request, Szx, Token};
+use coap_types::{BodyLimit, Endpoint, Moment, Path, Request, Szx, Token};
 pub use report::{CallId, Fetched, Report};
 use std::alloc::{AllocError, Allocator};
 use std::hash::{BuildHasher, BuildHasherDefault, FoldHasher};
@@ -81,11 +82,11 @@ impl<A: Allocator + Copy, H: BuildHasher> Model for Client<A, H> {
 }
 
 impl<A: Allocator + Copy> Client<A, BuildHasherDefault<FoldHasher>> {
-    /// A client to which nothing has happened, which sends blocks of at most that size. The word picks
-    /// the first token and the first Message ID.
+    /// A client to which nothing has happened. It sends and takes bodies of at most `DEFAULT_BODY_LIMIT`
+    /// bytes, in blocks of at most that size. The word picks the first token and the first Message ID.
     pub fn new(alloc: A, server: Endpoint, szx: Szx, word: u64) -> Self
-        ensures led { Led server szx word [] result }
-        ensures start { result ≡ fresh_state server szx word }
+        ensures led { Led server (usual_sizes szx) word [] result }
+        ensures start { result ≡ fresh_state server (usual_sizes szx) word }
     {
         Client::with_hasher(alloc, server, szx, word, BuildHasherDefault::new())
     }
@@ -94,13 +95,28 @@ impl<A: Allocator + Copy> Client<A, BuildHasherDefault<FoldHasher>> {
 impl<A: Allocator + Copy, H: BuildHasher> Client<A, H> {
     /// The same, with a hasher for the messages that are remembered.
     pub fn with_hasher(alloc: A, server: Endpoint, szx: Szx, word: u64, hasher: H) -> Self
-        ensures led { Led server szx word [] result }
-        ensures start { result ≡ fresh_state server szx word }
+        ensures led { Led server (usual_sizes szx) word [] result }
+        ensures start { result ≡ fresh_state server (usual_sizes szx) word }
+    {
+        Client::with_limit(alloc, server, szx, word, BodyLimit::default(), hasher)
+    }
+
+    /// The same, with bodies of at most that limit (RFC 7959, section 7).
+    pub fn with_limit(
+        alloc: A,
+        server: Endpoint,
+        szx: Szx,
+        word: u64,
+        limit: BodyLimit,
+        hasher: H,
+    ) -> Self
+        ensures led { Led server (record { szx = szx; limit = limit }) word [] result }
+        ensures start { result ≡ fresh_state server (record { szx = szx; limit = limit }) word }
     {
         Client {
             alloc,
             asker: Asker::with_hasher(alloc, server, word, hasher),
-            held: Held::new(alloc, szx),
+            held: Held::new(alloc, szx, limit),
         }
     }
 
@@ -116,10 +132,11 @@ impl<A: Allocator + Copy, H: BuildHasher> Client<A, H> {
         ensures step { OnOk result ((up : L.Answer) × (settled : Bool) × (event : Option Event) × (sent : L.Answer)
             × (token : Result (List ℕ) AskRefusal) × (kept : Bool)
             × Step self.old (Feeds now.0 from bytes.now word up settled event sent token kept) self.new) }
-        ensures led { OnOk result ((server : Endpoint) (szx w : ℕ) (t : List Call) → Led server szx w t self.old
+        ensures led { OnOk result ((server : Endpoint) (sizes : Sizes) (w : ℕ) (t : List Call)
+            → Led server sizes w t self.old
             → (up : L.Answer) × (settled : Bool) × (event : Option Event) × (sent : L.Answer)
             × (token : Result (List ℕ) AskRefusal) × (kept : Bool)
-            × Led server szx w (Feeds now.0 from bytes.now word up settled event sent token kept ∷ t) self.new) }
+            × Led server sizes w (Feeds now.0 from bytes.now word up settled event sent token kept ∷ t) self.new) }
         ensures err { OnErr result (self.new ≡ self.old) }
         // Where nothing is sent, kept or told, as for an acknowledgement that matches nothing, it takes no memory.
         ensures quiet { TellsNothing self.old now.0 from bytes.now → IsOk result }
@@ -153,9 +170,9 @@ impl<A: Allocator + Copy, H: BuildHasher> Client<A, H> {
     pub fn call(&mut self, now: Moment, request: Request<A>) -> Result<CallId, CallRefusal>
         ensures step { result ≢ Err refusals.Memory
             → Step self.old (Calls now.0 (shown_request request) (number_of result)) self.new }
-        ensures led { (server : Endpoint) (szx w : ℕ) (t : List Call) → Led server szx w t self.old
+        ensures led { (server : Endpoint) (sizes : Sizes) (w : ℕ) (t : List Call) → Led server sizes w t self.old
             → result ≢ Err refusals.Memory
-            → Led server szx w (Calls now.0 (shown_request request) (number_of result) ∷ t) self.new }
+            → Led server sizes w (Calls now.0 (shown_request request) (number_of result) ∷ t) self.new }
         ensures memory { result ≡ Err refusals.Memory → self.new ≡ self.old }
         // Where it is refused for another reason, it takes no memory.
         ensures refused { is_ok (call_answer self.old.own (shown_request request)) ≡ false
@@ -170,9 +187,9 @@ impl<A: Allocator + Copy, H: BuildHasher> Client<A, H> {
     pub fn observe(&mut self, now: Moment, path: Path<A>) -> Result<CallId, CallRefusal>
         ensures step { result ≢ Err refusals.Memory
             → Step self.old (Observes now.0 path (number_of result)) self.new }
-        ensures led { (server : Endpoint) (szx w : ℕ) (t : List Call) → Led server szx w t self.old
+        ensures led { (server : Endpoint) (sizes : Sizes) (w : ℕ) (t : List Call) → Led server sizes w t self.old
             → result ≢ Err refusals.Memory
-            → Led server szx w (Observes now.0 path (number_of result) ∷ t) self.new }
+            → Led server sizes w (Observes now.0 path (number_of result) ∷ t) self.new }
         ensures memory { result ≡ Err refusals.Memory → self.new ≡ self.old }
         ensures refused { is_ok (observe_answer self.old.own path) ≡ false → result ≢ Err refusals.Memory }
     {
@@ -184,8 +201,8 @@ impl<A: Allocator + Copy, H: BuildHasher> Client<A, H> {
     /// takes no memory.
     pub fn cancel(&mut self, now: Moment, id: CallId) -> Result<(), CancelRefusal>
         ensures step { Step self.old (Cancels now.0 id.0 (refusal_in result)) self.new }
-        ensures led { (server : Endpoint) (szx w : ℕ) (t : List Call) → Led server szx w t self.old
-            → Led server szx w (Cancels now.0 id.0 (refusal_in result) ∷ t) self.new }
+        ensures led { (server : Endpoint) (sizes : Sizes) (w : ℕ) (t : List Call) → Led server sizes w t self.old
+            → Led server sizes w (Cancels now.0 id.0 (refusal_in result) ∷ t) self.new }
     {
         cancelling::cancel(&mut self.held, now, id)
     }
@@ -195,8 +212,8 @@ impl<A: Allocator + Copy, H: BuildHasher> Client<A, H> {
     /// or is being cancelled. It takes no memory.
     pub fn forget(&mut self, id: CallId) -> bool
         ensures step { (kept : Bool) × Step self.old (Forgets id.0 kept result) self.new }
-        ensures led { (server : Endpoint) (szx w : ℕ) (t : List Call) → Led server szx w t self.old
-            → (kept : Bool) × Led server szx w (Forgets id.0 kept result ∷ t) self.new }
+        ensures led { (server : Endpoint) (sizes : Sizes) (w : ℕ) (t : List Call) → Led server sizes w t self.old
+            → (kept : Bool) × Led server sizes w (Forgets id.0 kept result ∷ t) self.new }
     {
         forgetting::forget(&mut self.asker, &mut self.held, id)
     }
@@ -210,10 +227,10 @@ impl<A: Allocator + Copy, H: BuildHasher> Client<A, H> {
         ensures step { IfOk result (λ did. (below : L.Answer) × (due : Turn) × (sent : L.Answer)
             × (token : Result (List ℕ) AskRefusal)
             × (kept : Bool) × Step self.old (Ticks now.0 word below due sent token kept did) self.new) }
-        ensures led { (server : Endpoint) (szx w : ℕ) (t : List Call) → Led server szx w t self.old
+        ensures led { (server : Endpoint) (sizes : Sizes) (w : ℕ) (t : List Call) → Led server sizes w t self.old
             → IfOk result (λ did. (below : L.Answer) × (due : Turn) × (sent : L.Answer)
             × (token : Result (List ℕ) AskRefusal)
-            × (kept : Bool) × Led server szx w (Ticks now.0 word below due sent token kept did ∷ t) self.new) }
+            × (kept : Bool) × Led server sizes w (Ticks now.0 word below due sent token kept did ∷ t) self.new) }
         // Each tick that does something leaves less to be done at its moment.
         ensures less { result ≡ Ok true → work self.new now.0 < work self.old now.0 }
         ensures err { OnErr result (self.new ≡ self.old) }
@@ -227,8 +244,8 @@ impl<A: Allocator + Copy, H: BuildHasher> Client<A, H> {
     /// observation, and its token. It takes no memory.
     pub fn asked(&self) -> Option<(CallId, Token)>
         ensures step { Step self.now (Asked (shown_asked result)) self.now }
-        ensures led { (server : Endpoint) (szx w : ℕ) (t : List Call) → Led server szx w t self.now
-            → Led server szx w (Asked (shown_asked result) ∷ t) self.now }
+        ensures led { (server : Endpoint) (sizes : Sizes) (w : ℕ) (t : List Call) → Led server sizes w t self.now
+            → Led server sizes w (Asked (shown_asked result) ∷ t) self.now }
     {
         last_request::asked(&self.held)
     }
@@ -236,8 +253,8 @@ impl<A: Allocator + Copy, H: BuildHasher> Client<A, H> {
     /// The datagram that is to be sent next. It takes no memory.
     pub fn next_out(&mut self) -> Option<Datagram<A>>
         ensures step { Step self.old (NextOut result) self.new }
-        ensures led { (server : Endpoint) (szx w : ℕ) (t : List Call) → Led server szx w t self.old
-            → Led server szx w (NextOut result ∷ t) self.new }
+        ensures led { (server : Endpoint) (sizes : Sizes) (w : ℕ) (t : List Call) → Led server sizes w t self.old
+            → Led server sizes w (NextOut result ∷ t) self.new }
         ensures some { IfSome result (λ datagram. self.old.layer.layer.queue ≡ datagram ∷ self.new.layer.layer.queue) }
         ensures none { IfNone result ((self.old.layer.layer.queue ≡ []) × (self.new ≡ self.old)) }
         // No more datagrams wait than a list in memory holds.
@@ -249,8 +266,8 @@ impl<A: Allocator + Copy, H: BuildHasher> Client<A, H> {
     /// The report that is to be taken next. It takes no memory.
     pub fn next_report(&mut self) -> Option<(CallId, Report<A>)>
         ensures step { Step self.old (NextReport (option_map shown_reported result)) self.new }
-        ensures led { (server : Endpoint) (szx w : ℕ) (t : List Call) → Led server szx w t self.old
-            → Led server szx w (NextReport (option_map shown_reported result) ∷ t) self.new }
+        ensures led { (server : Endpoint) (sizes : Sizes) (w : ℕ) (t : List Call) → Led server sizes w t self.old
+            → Led server sizes w (NextReport (option_map shown_reported result) ∷ t) self.new }
         // Each report that is taken leaves one less to be taken.
         ensures some { IfSome result (λ report. self.old.own.reports ≡ shown_reported report ∷ self.new.own.reports) }
         ensures none { IfNone result ((self.old.own.reports ≡ []) × (self.new ≡ self.old)) }

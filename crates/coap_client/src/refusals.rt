@@ -7,7 +7,7 @@ ghost use Rattle.coap_client.specs.RefusalNumbers.{call_refusal_number, cancel_r
 pub enum CallRefusal {
     /// 1: `MAX_WAITING_CALLS` operations wait.
     QueueFull,
-    /// 2: the body has over `MAX_BODY_LEN` bytes.
+    /// 2: the body is longer than the client's limit.
     BodyTooLarge,
     /// 3: the options of the longest message take over `MAX_OPTIONS_LEN` bytes.
     BadPath,

@@ -1,5 +1,6 @@
 ghost use Rattle.std.specs.Prelude.{◌≡◌, ◌↔◌, ℕ, List};
 ghost use Rattle.coap_types.specs.declared.endpoint.Endpoint.{Endpoint};
+ghost use Rattle.coap_block.specs.Sizes.{Sizes};
 ghost use Rattle.coap_client.specs.Law.{ClientLaw};
 ghost use Rattle.coap_client.specs.Led.{State, Led, state_left};
 ghost use Rattle.coap_client.specs.Trace.{Call};
@@ -9,14 +10,15 @@ ghost use Rattle.coap_client.specs.Follows.Rests.{ComesToRest, TicksEnd};
 /// How a client goes on, and comes to rest.
 pub fn client_rests_law()
     // It can go on: each further call has answers that stand in the law.
-    ensures goes { (server : Endpoint) (szx word : ℕ) (t : List Call) → ClientLaw server szx word t
-        → GoesOn server szx word t }
+    ensures goes { (server : Endpoint) (sizes : Sizes) (word : ℕ) (t : List Call) → ClientLaw server sizes word t
+        → GoesOn server sizes word t }
     // Calls that stand in the law lead to this state, and to no other.
-    ensures left { (server : Endpoint) (szx word : ℕ) (t : List Call) → ClientLaw server szx word t → (s : State)
-        → Led server szx word t s ↔ (s ≡ state_left server szx word t) }
+    ensures left { (server : Endpoint) (sizes : Sizes) (word : ℕ) (t : List Call) → ClientLaw server sizes word t
+        → (s : State)
+        → Led server sizes word t s ↔ (s ≡ state_left server sizes word t) }
     // At one moment its ticks end: at most as many do something as that state has due.
-    ensures ticks { (server : Endpoint) (szx word : ℕ) (t : List Call) → TicksEnd server szx word t }
+    ensures ticks { (server : Endpoint) (sizes : Sizes) (word : ℕ) (t : List Call) → TicksEnd server sizes word t }
     // .. and it comes to rest: so do what it has out and its reports.
-    ensures rests { (server : Endpoint) (szx word : ℕ) (t : List Call) → ClientLaw server szx word t
-        → ComesToRest server szx word t }
+    ensures rests { (server : Endpoint) (sizes : Sizes) (word : ℕ) (t : List Call) → ClientLaw server sizes word t
+        → ComesToRest server sizes word t }
 {}

@@ -1,5 +1,6 @@
 ghost use Rattle.std.specs.Prelude.{ℕ, List};
 ghost use Rattle.coap_types.specs.declared.endpoint.Endpoint.{Endpoint};
+ghost use Rattle.coap_block.specs.Sizes.{Sizes};
 ghost use Rattle.coap_client.specs.Law.{ClientLaw};
 ghost use Rattle.coap_client.specs.Trace.{Call};
 ghost use Rattle.coap_client.specs.Follows.Ended.{AreOver};
@@ -12,23 +13,24 @@ ghost use Rattle.coap_client.specs.Follows.Values.{ValuesAreWhole};
 /// What follows from the law of a client for the values of its observations.
 pub fn client_values_law()
     // What it sends for an observation asks for the path that is observed (RFC 7641, sections 2 and 3.6).
-    ensures of_observations { (server : Endpoint) (szx word : ℕ) (t : List Call) → ClientLaw server szx word t
-        → AreOfObservations szx t }
+    ensures of_observations { (server : Endpoint) (sizes : Sizes) (word : ℕ) (t : List Call)
+        → ClientLaw server sizes word t
+        → AreOfObservations sizes t }
     // Of an observation it takes the answer to its registration, and then each newer notification, under the token of
     // that (RFC 7641, sections 3.2 to 3.4).
-    ensures notified { (server : Endpoint) (szx word : ℕ) (t : List Call) → ClientLaw server szx word t
-        → AreTaken szx t }
+    ensures notified { (server : Endpoint) (sizes : Sizes) (word : ℕ) (t : List Call) → ClientLaw server sizes word t
+        → AreTaken sizes t }
     // What comes as a notification its message layer handed up in that very call, as it came from the server.
-    ensures noted { (server : Endpoint) (szx word : ℕ) (t : List Call) → ClientLaw server szx word t
-        → AreNoted server szx word t }
+    ensures noted { (server : Endpoint) (sizes : Sizes) (word : ℕ) (t : List Call) → ClientLaw server sizes word t
+        → AreNoted server sizes word t }
     // A value is whole by the newest notification and what was fetched for that, by requests that were sent since then,
     // under one ETag where there are several parts (RFC 7959, section 2.6).
-    ensures values { (server : Endpoint) (szx word : ℕ) (t : List Call) → ClientLaw server szx word t
-        → ValuesAreWhole szx t }
+    ensures values { (server : Endpoint) (sizes : Sizes) (word : ℕ) (t : List Call) → ClientLaw server sizes word t
+        → ValuesAreWhole sizes t }
     // Of two values the notification of the later one came later (RFC 7641, section 3.4).
-    ensures rising { (server : Endpoint) (szx word : ℕ) (t : List Call) → ClientLaw server szx word t
-        → ValuesRise szx t }
+    ensures rising { (server : Endpoint) (sizes : Sizes) (word : ℕ) (t : List Call) → ClientLaw server sizes word t
+        → ValuesRise sizes t }
     // None is reported of an observation that is over, or that is being cancelled (RFC 7641, section 3.6).
-    ensures ended { (server : Endpoint) (szx word : ℕ) (t : List Call) → ClientLaw server szx word t
-        → AreOver szx server word t }
+    ensures ended { (server : Endpoint) (sizes : Sizes) (word : ℕ) (t : List Call) → ClientLaw server sizes word t
+        → AreOver sizes server word t }
 {}

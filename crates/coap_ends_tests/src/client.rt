@@ -5,6 +5,7 @@ mod codes;
 mod downloads;
 pub(crate) mod fetches;
 mod flooding;
+mod limits;
 mod observations;
 mod refusals;
 mod uploads;

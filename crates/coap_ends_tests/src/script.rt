@@ -9,8 +9,8 @@
 //!
 //! | Step | What happens, or what has to be so |
 //! |---|---|
-//! | `new szx=6 word=0 changes=4194303` | the end begins anew, with its block size, its word, how many changes a window
-//! takes |
+//! | `new szx=6 word=0 changes=4194303 limit=65536` | the end begins anew, with its block size, its word, how many changes
+//! a window takes, its limit of bodies |
 //! | `feed 0 C 40010001` | a datagram arrives from there |
 //! | `tick 0` · `idle 0` | a tick does something · finds nothing due |
 //! | `out C 6045` · `out C nothing` | that goes out next, to there · nothing does |

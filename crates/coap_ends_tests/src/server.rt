@@ -4,6 +4,7 @@ mod deferring;
 mod ending;
 mod flooding;
 mod identifiers;
+mod limits;
 mod observing;
 pub(crate) mod replies;
 pub(crate) mod storing;

@@ -10,3 +10,4 @@ pub mod Deferring
 pub mod Short
 pub mod Calls
 pub mod Witness
+pub mod Resting

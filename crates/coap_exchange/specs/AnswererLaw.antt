@@ -23,18 +23,18 @@ AnswererLaw trace = Rows start after IsRight trace
 -- .. and what was asked of a layer that began with the word was answered by it, step by step: what these steps add
 -- stands in the law of the layer
 abbrev pub ResponseLaw : ℕ → List Call → Type 0
-ResponseLaw word trace = above.Law IsRight after lower Steps start (L.start word) trace
+ResponseLaw word trace = above.Law IsRight after lower Steps start (L.start (L.usual word)) trace
 
 -- the trace of that layer
 abbrev pub below_of : ℕ → List Call → List Entry
-below_of word trace = entries (L.start word) (lower_of trace)
+below_of word trace = entries (L.start (L.usual word)) (lower_of trace)
 
 -- what is kept: by the server's side itself, and by its layer
 abbrev pub State : Type 0
 State = above.State Own L.State
 
 abbrev pub fresh_state : ℕ → State
-fresh_state word = record { own = start; layer = L.start word }
+fresh_state word = record { own = start; layer = L.start (L.usual word) }
 
 -- one call
 abbrev pub Step : State → Call → State → Type 0
@@ -46,4 +46,4 @@ Exchanged old calls new = above.Chain IsRight after lower Steps old calls new
 
 -- these calls can leave it so
 abbrev pub Led : ℕ → List Call → State → Type 0
-Led word trace s = above.Led IsRight after lower Steps start (L.start word) trace s
+Led word trace s = above.Led IsRight after lower Steps start (L.start (L.usual word)) trace s

@@ -25,18 +25,18 @@ module _ (server : Endpoint) (word : ℕ) where
   -- .. and what was asked of a layer that began with the word was answered by it, step by step: what these steps add
   -- stands in the law of the layer
   abbrev pub ExchangeLaw : List Call → Type 0
-  ExchangeLaw trace = above.Law IsRight after lower Steps (start server word) (L.start word) trace
+  ExchangeLaw trace = above.Law IsRight after lower Steps (start server word) (L.start (L.usual word)) trace
 
   -- the trace of that layer
   abbrev pub below_of : List Call → List Entry
-  below_of trace = entries (L.start word) (lower_of trace)
+  below_of trace = entries (L.start (L.usual word)) (lower_of trace)
 
 -- what is kept: by the client's side itself, and by its layer
 abbrev pub State : Type 0
 State = above.State Own L.State
 
 abbrev pub fresh_state : Endpoint → ℕ → State
-fresh_state server word = record { own = start server word; layer = L.start word }
+fresh_state server word = record { own = start server word; layer = L.start (L.usual word) }
 
 -- one call
 abbrev pub Step : State → Call → State → Type 0
@@ -48,4 +48,4 @@ Exchanged old calls new = above.Chain IsRight after lower Steps old calls new
 
 -- these calls can leave it so
 abbrev pub Led : Endpoint → ℕ → List Call → State → Type 0
-Led server word trace s = above.Led IsRight after lower Steps (start server word) (L.start word) trace s
+Led server word trace s = above.Led IsRight after lower Steps (start server word) (L.start (L.usual word)) trace s

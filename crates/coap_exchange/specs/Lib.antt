@@ -8,6 +8,7 @@ pub mod AskerArrivals
 pub mod AskerSteps
 pub mod AskerLaw
 pub mod AskerFollows
+pub mod AskerOpen
 pub mod AskerDue
 pub mod AskerTells
 pub mod AskerResponses

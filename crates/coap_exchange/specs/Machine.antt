@@ -5,3 +5,4 @@ pub mod AnswererShown
 pub mod VerdictFits
 pub mod ExchangeMoves
 pub mod WhatIsDue
+pub mod Rests

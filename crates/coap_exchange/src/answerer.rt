@@ -1,9 +1,12 @@
 ghost use Rattle.std.specs.Prelude.{◌≡◌, ◌≢◌, ◌≤◌, ◌<◌, ◌^◌, ℕ, max, length, IfSome, Bool, true, false, None, Some, []};
+ghost use Rattle.std.specs.Prelude.{IfNone, List};
+ghost use Rattle.coap_types.specs.FirstMoment.{IsFirstMoment};
+ghost use Rattle.coap_exchange.specs.Machine.Rests.{AnswererRests, AnswererTurns, has_due};
 ghost use Rattle.std.specs.Prelude.{IsSome, is_some, Ok, IsOk, IfOk, OnOk, OnErr};
 ghost use Rattle.coap_types.specs.declared.endpoint.Endpoint.{Endpoint as EndpointSpec};
 ghost use Rattle.coap_types.specs.declared.message.Kind.TheVariants.{Con};
 ghost use Rattle.coap_types.specs.declared.token.TheConstants.{MAX_TOKEN_LEN as max_token_len};
-ghost use Rattle.coap_layer.specs.Machine.State.{answer_of, copies, made};
+ghost use Rattle.coap_layer.specs.Machine.State.{answer_of, copies, is_free, made};
 ghost use Rattle.coap_layer.specs.Trace as below;
 ghost use Rattle.coap_layer.specs.Machine.Ups.{IsQuiet};
 ghost use Rattle.coap_exchange.specs.declared.answerer.Asked.{Asked as AskedSpec};
@@ -13,7 +16,7 @@ ghost use Rattle.coap_exchange.specs.AnswererLaw.{Led, Step, fresh_state};
 ghost use Rattle.coap_exchange.specs.Machine.WhatIsDue.{takes_con, takes_response};
 ghost use Rattle.coap_exchange.specs.Machine.AnswererShown.{Leads, MayAnswer, MayNotify, MayRespond, IsAnswer};
 ghost use Rattle.coap_exchange.specs.Machine.AnswererShown.{IsAnswerWith};
-ghost use Rattle.coap_exchange.specs.AnswererTrace.{Incoming, Answers, Defers, Ticks, Responds, Ready, Notifies, Take};
+ghost use Rattle.coap_exchange.specs.AnswererTrace.{Call, Incoming, Answers, Defers, Ticks, Responds, Ready, Notifies, Take};
 
 use crate::deferrals::Deferrals;
 use crate::listed::{Listed, enlist, put_back, settle_down};
@@ -26,7 +29,7 @@ use crate::waiting::{
 };
 use coap_codec::View;
 use coap_layer::{Datagram, Layer, ack};
-use coap_types::{Code, Endpoint, Id, Kind, Moment, Opt, Token};
+use coap_types::{Code, Endpoint, Id, Kind, Moment, Opt, Token, earlier, latest};
 use std::alloc::{AllocError, Allocator};
 use std::hash::{BuildHasher, BuildHasherDefault, FoldHasher};
 use std::marker::Model;
@@ -179,7 +182,9 @@ impl<A: Allocator + Copy, S: BuildHasher> Answerer<A, S> {
 
     /// The last moment that counted.
     pub fn clock(&self) -> Moment
-        ensures { result.0 ≡ self.now.state.own.clock }
+        ensures own { result.0 ≡ self.now.state.own.clock }
+        // It is that of the layer.
+        ensures layer { result.0 ≡ self.now.state.layer.clock }
     {
         self.layer.clock()
     }
@@ -324,6 +329,35 @@ impl<A: Allocator + Copy, S: BuildHasher> Answerer<A, S> {
         self.answerable = false;
         self.room = self.room || room;
         Ok(due_of(tick, ready, room))
+    }
+
+    /// The first moment, from this one on, at which `tick` would do something, unless something is handed in before;
+    /// None where it never would. A moment before the last one counts as the last. Nothing changes: the moment doesn't
+    /// count. It takes no memory.
+    pub fn due(&self, now: Moment) -> Option<Moment>
+        ensures none { IfNone result ((later : ℕ) → now.0 ≤ later → later < 2 ^ 64
+            → AnswererRests self.now.state later) }
+        ensures some { IfSome result (λ at. (later : ℕ) → now.0 ≤ later → max self.now.state.own.clock later < at.0
+            → AnswererRests self.now.state later) }
+        ensures does { IfSome result (λ at. (word : ℕ) (t : List Call) → Led word t self.now.state
+            → AnswererTurns self.now.state at.0) }
+        ensures from { IfSome result (λ at. max self.now.state.own.clock now.0 ≤ at.0) }
+        // The same, of what is outstanding and of what is deferred.
+        ensures first { IsFirstMoment (has_due self.now.state) (max self.now.state.own.clock now.0) result }
+    {
+        let from = self.layer.clock().later(now);
+        let ready = self.deferred.ready_from(from, &self.separate);
+        let free = self.layer.free_from(from);
+        earlier(self.layer.due(from), latest(ready, free))
+    }
+
+    /// The first moment, from this one on, at which a Message ID is free, unless something is handed in before. A
+    /// moment before the last one counts as the last. Nothing changes. It takes no memory.
+    pub fn free_from(&self, now: Moment) -> Option<Moment>
+        ensures { IsFirstMoment (λ later. is_free later self.now.state.layer.upcoming self.now.state.layer.last_used)
+            (max self.now.state.own.clock now.0) result }
+    {
+        self.layer.free_from(now)
     }
 
     /// Sends the separate response to the deferred request which the last call, a `tick` at this

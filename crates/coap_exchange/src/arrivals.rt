@@ -80,7 +80,7 @@ pub(crate) fn verdict(server: Endpoint, held: &Held, from: Endpoint, up: &Up<'_>
         Up::Request { message, .. } => judge_request(message.kind()),
         Up::Acked(id) => of_request(is_of_request(server, held, from, *id), Verdict::Await),
         Up::Reset(id) => of_request(is_of_request(server, held, from, *id), Verdict::EndByReset),
-        Up::Dropped | Up::Replayed | Up::Rejected => Verdict::Ignore,
+        Up::Unmatched(_) | Up::Dropped | Up::Replayed | Up::Rejected => Verdict::Ignore,
     }
 }
 
@@ -90,7 +90,12 @@ pub(crate) fn id_in(up: &Up<'_>) -> Id
 {
     match up {
         Up::Response(message) | Up::Request { message, .. } => message.id(),
-        Up::Acked(_) | Up::Reset(_) | Up::Dropped | Up::Replayed | Up::Rejected => Id(0),
+        Up::Acked(_)
+        | Up::Reset(_)
+        | Up::Unmatched(_)
+        | Up::Dropped
+        | Up::Replayed
+        | Up::Rejected => Id(0),
     }
 }
 

@@ -1,5 +1,8 @@
 ghost use Rattle.std.specs.Prelude.{◌≡◌, ◌≢◌, ◌≤◌, ◌<◌, ◌^◌, length, IfSome, Bool, false, [], None, Some, Err, IsOk};
-ghost use Rattle.std.specs.Prelude.{IfOk, OnOk, OnErr, IsSome, max};
+ghost use Rattle.std.specs.Prelude.{IfOk, OnOk, OnErr, IsSome, IfNone, max, ℕ, List};
+ghost use Rattle.coap_types.specs.declared.endpoint.Endpoint.{Endpoint as EndpointSpec};
+ghost use Rattle.coap_types.specs.FirstMoment.{IsFirstMoment};
+ghost use Rattle.coap_exchange.specs.Machine.Rests.{AskerRests, AskerTurns, has_turn};
 ghost use Rattle.coap_types.specs.declared.token.TheConstants.{MAX_TOKEN_LEN as max_token_len};
 ghost use Rattle.coap_layer.specs.Machine.State.{answer_of, copies, made};
 ghost use Rattle.coap_layer.specs.Trace as below;
@@ -10,17 +13,17 @@ ghost use Rattle.coap_exchange.specs.AskerFollows.{message_told};
 ghost use Rattle.coap_exchange.specs.AskerLaw.{Led, Step, fresh_state};
 ghost use Rattle.coap_exchange.specs.AskerRequests.{opening_of};
 ghost use Rattle.coap_exchange.specs.Machine.AskerShown.{IsAskable, Leads};
-ghost use Rattle.coap_exchange.specs.AskerTrace.{Ask as Asks, Receive, Ticks, Keep, Release, Take};
+ghost use Rattle.coap_exchange.specs.AskerTrace.{Call, Ask as Asks, Receive, Ticks, Keep, Release, Take};
 
 use crate::arrivals::{
     act, id_in, send_refusal, spent_refusal, token_for, told, turn_of, unless_ended, verdict,
 };
-use crate::held::{Held, after_arrival};
+use crate::held::{Held, after_arrival, waited_from};
 use crate::matching::{Opening, judge_ask};
 use crate::token_source::is_spent;
 use coap_codec::View;
 use coap_layer::{Content, Datagram, Layer};
-use coap_types::{Endpoint, Id, Method, Moment, Opt, Token};
+use coap_types::{Endpoint, Id, Method, Moment, Opt, Token, earlier};
 use std::alloc::{AllocError, Allocator};
 use std::hash::{BuildHasher, BuildHasherDefault, FoldHasher};
 use std::marker::Model;
@@ -279,6 +282,24 @@ impl<A: Allocator + Copy, S: BuildHasher> Asker<A, S> {
         let running = self.held.running.take();
         self.held.running = unless_ended(&turn, running);
         Ok(turn)
+    }
+
+    /// The first moment, from this one on, at which `tick` would do something, unless something is handed in before;
+    /// None where it never would. A moment before the last one counts as the last. Nothing changes: the moment doesn't
+    /// count. It takes no memory.
+    pub fn due(&self, now: Moment) -> Option<Moment>
+        ensures none { IfNone result ((later : ℕ) → now.0 ≤ later → later < 2 ^ 64
+            → AskerRests self.now.state later) }
+        ensures some { IfSome result (λ at. (later : ℕ) → now.0 ≤ later → max self.now.state.own.clock later < at.0
+            → AskerRests self.now.state later) }
+        ensures does { IfSome result (λ at. (server : EndpointSpec) (word : ℕ) (t : List Call)
+            → Led server word t self.now.state → AskerTurns self.now.state at.0) }
+        ensures from { IfSome result (λ at. max self.now.state.own.clock now.0 ≤ at.0) }
+        // The same, of what is outstanding and of the wait.
+        ensures first { IsFirstMoment (has_turn self.now.state) (max self.now.state.own.clock now.0) result }
+    {
+        let from = self.layer.clock().later(now);
+        earlier(self.layer.due(from), waited_from(&self.held.running, from))
     }
 
     /// Keeps the token of an observation, so that its notifications are told (RFC 7641, section

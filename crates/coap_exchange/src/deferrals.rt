@@ -1,14 +1,15 @@
-ghost use Rattle.std.specs.Prelude.{◌≡◌, ◌≤◌, ◌<◌, [], length, remove, IfSome, IfNone};
+ghost use Rattle.std.specs.Prelude.{◌≡◌, ◌≤◌, ◌<◌, ◌^◌, [], length, remove, is_some, IfSome, IfNone};
 ghost use Rattle.std.specs.Option.{option_map};
 ghost use Rattle.coap_types.specs.declared.token.TheConstants.{MAX_TOKEN_LEN as max_token_len};
+ghost use Rattle.coap_types.specs.FirstMoment.{IsFirstMoment};
 ghost use Rattle.coap_exchange.specs.AnswererSteps.{max_deferred, deferred_with, first_ready, may_defer, without_ready};
 ghost use Rattle.coap_exchange.specs.Machine.Listed.{listed};
 
 use crate::answerer::Asked;
 use crate::listed::Listed;
-use crate::separate::{Deferred, Separate, is_ready};
+use crate::separate::{Deferred, Separate, is_ready, ready_from};
 use arrayvec::ArrayVec;
-use coap_types::Moment;
+use coap_types::{Moment, earlier};
 use std::marker::Model;
 
 /// So many requests are deferred at most (profile).
@@ -56,6 +57,21 @@ fn first_ready(requests: &[Deferred], at: Moment, separate: &[Listed<Separate>])
     None
 }
 
+// The first moment, from this one on, at which one of them is ready.
+fn one_ready_from(
+    requests: &[Deferred],
+    from: Moment,
+    separate: &[Listed<Separate>],
+) -> Option<Moment>
+    ensures { IsFirstMoment (λ now. is_some (first_ready now (listed separate.now) requests.now)) from.0 result }
+{
+    let mut first = None;
+    for request in requests {
+        first = earlier(first, ready_from(request, from, separate));
+    }
+    first
+}
+
 // Where the first that is ready stands.
 fn ready_place(requests: &[Deferred], at: Moment, separate: &[Listed<Separate>]) -> Option<usize>
     ensures within { IfSome result (λ i. i < length requests.now) }
@@ -96,6 +112,14 @@ impl Deferrals {
         ensures first { result ≡ option_map (λ d. d.asked) (first_ready at.0 (listed separate.now) self.now) }
     {
         first_ready(self.requests.as_slice(), at, separate)
+    }
+
+    /// The first moment, from this one on, at which one is ready.
+    pub(crate) fn ready_from(&self, from: Moment, separate: &[Listed<Separate>]) -> Option<Moment>
+        ensures first { IsFirstMoment (λ now. is_some (first_ready now (listed separate.now) self.now)) from.0 result }
+        ensures range { from.0 < 2 ^ 64 }
+    {
+        one_ready_from(self.requests.as_slice(), from, separate)
     }
 
     /// Takes out the first that is ready at this moment.

@@ -1,11 +1,12 @@
 ghost use Rattle.std.specs.Prelude.{◌≡◌, ◌<◌, ◌+◌, ◌-◌, ◌^◌, None, Some, [], false, if◌then◌else◌};
+ghost use Rattle.coap_types.specs.FirstMoment.{IsFirstMoment};
 ghost use Rattle.coap_exchange.specs.AskerArrivals.{has_token, has_id, is_cancel, running_after, acked_in, has_waited};
 
 use crate::asker::{Exchange, Turn};
 use crate::kept_tokens::KeptTokens;
 use crate::matching::Verdict;
 use coap_types::transmission::EXCHANGE_LIFETIME_MS;
-use coap_types::{Id, Moment, Token};
+use coap_types::{Id, Moment, Token, after};
 
 /// What a client's side keeps beside its layer.
 #[derive(Drop)]
@@ -142,5 +143,21 @@ pub(crate) fn has_waited(at: Moment, running: &Option<Exchange>) -> bool
             },
         ) => at.0.saturating_sub(acked.0) >= EXCHANGE_LIFETIME_MS,
         _ => false,
+    }
+}
+
+/// The first moment, from this one on, at which the wait for its separate response is over (RFC 7252, section 5.2.2).
+pub(crate) fn waited_from(running: &Option<Exchange>, from: Moment) -> Option<Moment>
+    ensures first { IsFirstMoment (λ now. has_waited now (acked_in running.now)) from.0 result }
+    ensures range { from.0 < 2 ^ 64 }
+{
+    match running {
+        Some(
+            Exchange {
+                acked: Some(acked),
+                ..
+            },
+        ) => after(*acked, EXCHANGE_LIFETIME_MS, from),
+        _ => None,
     }
 }

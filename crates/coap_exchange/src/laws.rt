@@ -1,11 +1,13 @@
 ghost use Rattle.std.specs.Prelude.{ℕ, List, [], ◌∷◌, ◌++◌};
 ghost use Rattle.coap_types.specs.declared.endpoint.Endpoint.{Endpoint};
+ghost use Rattle.coap_layer.specs.Machine.State.{usual};
 ghost use Rattle.coap_layer.specs.Rows.{LayerLaw};
 ghost use Rattle.coap_exchange.specs.AskerTrace.{Call};
 ghost use Rattle.coap_exchange.specs.AskerLaw.{State, Step, Exchanged, Led, ExchangeLaw, fresh_state, below_of};
 ghost use Rattle.coap_exchange.specs.AskerExact.{IsExact};
 ghost use Rattle.coap_exchange.specs.AskerFollows.{AreExchanges, AreTokens, EndInTime, FewKept, AreFromServer};
 ghost use Rattle.coap_exchange.specs.AskerDue.{EndWhenDue};
+ghost use Rattle.coap_exchange.specs.AskerOpen.{IsOutstanding};
 ghost use Rattle.coap_exchange.specs.AskerTells.{AreRefused, AreRejected};
 ghost use Rattle.coap_exchange.specs.AskerResponses.{AreMatched, AreToldAs};
 ghost use Rattle.coap_exchange.specs.AskerEmpties as empties;
@@ -36,7 +38,7 @@ pub fn asker_law()
         → ExchangeLaw server word t }
     // The calls of the layer beneath stand in its law (RFC 7252, section 4).
     ensures layer { (server : Endpoint) (word : ℕ) (t : List Call) → ExchangeLaw server word t
-        → LayerLaw word (below_of server word t) }
+        → LayerLaw (usual word) (below_of server word t) }
     // The law leaves each call one answer.
     ensures exact { (server : Endpoint) (word : ℕ) (past : List Call) → IsExact server word past }
     // Exchanges don't overlap, each ends at most once, and an answer has the token of the one that is open
@@ -52,6 +54,9 @@ pub fn asker_law()
     // .. and no later than at the first tick then (RFC 7252, sections 4.2 and 5.2.2).
     ensures when_due { (server : Endpoint) (word : ℕ) (t : List Call) → ExchangeLaw server word t
         → EndWhenDue server word t }
+    // Until it is acknowledged, the request of the exchange that runs is outstanding (RFC 7252, section 4.2).
+    ensures outstanding { (server : Endpoint) (word : ℕ) (t : List Call) → ExchangeLaw server word t
+        → IsOutstanding server word t }
     // The tokens that are kept, at most 16 (RFC 7641, section 3.2).
     ensures few_kept { (server : Endpoint) (word : ℕ) (t : List Call) → ExchangeLaw server word t
         → FewKept server word t }
@@ -84,7 +89,7 @@ pub fn answerer_law()
         → answerer.Exchanged old calls new → answerer.Led word (calls ++ t) new }
     ensures law { (word : ℕ) (t : List trace.Call) (s : answerer.State) → answerer.Led word t s → ResponseLaw word t }
     // The calls of the layer beneath stand in its law (RFC 7252, section 4).
-    ensures layer { (word : ℕ) (t : List trace.Call) → ResponseLaw word t → LayerLaw word (answerer.below_of word t) }
+    ensures layer { (word : ℕ) (t : List trace.Call) → ResponseLaw word t → LayerLaw (usual word) (answerer.below_of word t) }
     // The law leaves each call one answer.
     ensures exact { (word : ℕ) (past : List trace.Call) → exactly.IsExact word past }
     // A request that is handed up has at most one response (RFC 7252, section 5.2).

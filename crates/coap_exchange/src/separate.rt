@@ -1,12 +1,13 @@
 ghost use Rattle.std.specs.Prelude.{◌≡◌, ◌&&◌, not, map};
 ghost use Rattle.std.specs.Option.{option_map};
+ghost use Rattle.coap_types.specs.FirstMoment.{IsFirstMoment};
 ghost use Rattle.coap_exchange.specs.AnswererSteps.{ended_as, found, goes_to, is_ready, is_waited_for};
 ghost use Rattle.coap_exchange.specs.Machine.Listed.{listed};
 ghost use Rattle.coap_exchange.specs.Machine.Outstanding.{over};
 
 use crate::answerer::{Asked, Ended};
 use crate::listed::Listed;
-use coap_types::{Endpoint, Id, Kind, Moment, Token};
+use coap_types::{Endpoint, Id, Kind, Moment, Token, after};
 
 /// A request whose response is deferred (RFC 7252, section 5.2.2).
 #[derive(Drop)]
@@ -121,4 +122,19 @@ pub(crate) fn is_ready(deferred: &Deferred, at: Moment, separate: &[Listed<Separ
 {
     at.0.saturating_sub(deferred.at.0) >= deferred.delay
         && !is_waited_for(separate, deferred.asked.from)
+}
+
+/// The first moment, from this one on, at which it is ready, unless something is handed in before: none where its
+/// endpoint has a response that is not acknowledged.
+pub(crate) fn ready_from(
+    deferred: &Deferred,
+    from: Moment,
+    separate: &[Listed<Separate>],
+) -> Option<Moment>
+    ensures { IsFirstMoment (λ now. is_ready now (listed separate.now) deferred.now) from.0 result }
+{
+    if is_waited_for(separate, deferred.asked.from) {
+        return None;
+    }
+    after(deferred.at, deferred.delay, from)
 }

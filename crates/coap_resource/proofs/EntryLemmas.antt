@@ -4,11 +4,11 @@ use Rattle.std.proofs.Common.{sym, subst, arith, Option, Some, None, IfSome, is_
 use Rattle.std.specs.List.{filter}
 use Rattle.coap_resource.specs.declared.entry.Entry.{Entry}
 use Rattle.coap_types.specs.Path.{same_path}
-use Rattle.coap_types.specs.declared.limits.TheConstants.{MAX_BODY_LEN as max_body_len}
+use Rattle.coap_types.specs.declared.body_limit.TheConstants.{MAX_BODY_LIMIT as max_limit}
 use Rattle.coap_resource.specs.Content.{Held, Changes}
 use Rattle.coap_resource.specs.Rate.{Tally, counted}
-use Rattle.coap_resource.specs.Entries.{entry_of, held_entries, find, without_path, Unique, AreShort, Enters, Listed}
-use Rattle.coap_resource.specs.Entries.{content_of}
+use Rattle.coap_resource.specs.Entries.{entry_of, held_entries, find, without_path, Unique, HaveAtMost, AreShort}
+use Rattle.coap_resource.specs.Entries.{Enters, Listed, content_of}
 use Rattle.coap_types.proofs.Facts.Paths.{same_path-decides}
 
 pub entries_append : {A : Type 0} (xs ys : List (Entry A))
@@ -184,42 +184,66 @@ change_append old new now p version was held body more u es joined same tally =
     rw (← same, ← joined) (change_put old new now p
     (record { version = version; format = was.format; body = body }) u es tally)
 
-short_step : (b : Bool) (e : List (List ℕ) × Held) (es : List (List (List ℕ) × Held)) → length e.1.body ≤ max_body_len
-    → AreShort es → AreShort (if b then e ∷ es else es)
-short_step true e es first rest = (first, rest)
-short_step false e es first rest = rest
+short_step : (limit : ℕ) (b : Bool) (e : List (List ℕ) × Held) (es : List (List (List ℕ) × Held))
+    → length e.1.body ≤ limit
+    → HaveAtMost limit es → HaveAtMost limit (if b then e ∷ es else es)
+short_step limit true e es first rest = (first, rest)
+short_step limit false e es first rest = rest
+
+without : (limit : ℕ) (es : List (List (List ℕ) × Held)) (p : List (List ℕ)) → HaveAtMost limit es
+    → HaveAtMost limit (without_path es p)
+without limit [] p short = tt
+without limit (e ∷ es) p short = short_step limit (not (same_path e.0 p)) e (without_path es p) short.0
+    (without limit es p short.1)
 
 -- the entries that stay are short
-pub short_without : (es : List (List (List ℕ) × Held)) (p : List (List ℕ)) → AreShort es → AreShort (without_path es p)
-short_without [] p short = tt
-short_without (e ∷ es) p short = short_step (not (same_path e.0 p)) e (without_path es p) short.0
-    (short_without es p short.1)
+pub short_without : (limit : ℕ) (es : List (List (List ℕ) × Held)) (p : List (List ℕ)) → AreShort limit es
+    → AreShort limit (without_path es p)
+short_without limit es p short = record { bodies = without limit es p short.bodies; chosen = short.chosen }
 
-short_behind : (es : List (List (List ℕ) × Held)) (p : List (List ℕ)) (h : Held) → AreShort es
-    → length h.body ≤ max_body_len → AreShort (es ++ (p, h) ∷ [])
-short_behind [] p h short last = (last, tt)
-short_behind (e ∷ es) p h short last = (short.0, short_behind es p h short.1 last)
+short_behind : (limit : ℕ) (es : List (List (List ℕ) × Held)) (p : List (List ℕ)) (h : Held) → HaveAtMost limit es
+    → length h.body ≤ limit → HaveAtMost limit (es ++ (p, h) ∷ [])
+short_behind limit [] p h short last = (last, tt)
+short_behind limit (e ∷ es) p h short last = (short.0, short_behind limit es p h short.1 last)
 
-pub short_put : (es : List (List (List ℕ) × Held)) (p : List (List ℕ)) (h : Held) → AreShort es
-    → length h.body ≤ max_body_len → AreShort (replaced es p h)
-short_put es p h short last = short_behind (without_path es p) p h (short_without es p short) last
+pub short_put : (limit : ℕ) (es : List (List (List ℕ) × Held)) (p : List (List ℕ)) (h : Held) → AreShort limit es
+    → length h.body ≤ limit → AreShort limit (replaced es p h)
+short_put limit es p h short last = record {
+  bodies = short_behind limit (without_path es p) p h (without limit es p short.bodies) last;
+  chosen = short.chosen;
+}
 
-short_found : (b : Bool) (h : Held) (found : Option Held) → length h.body ≤ max_body_len
-    → IfSome found (λ k. length k.body ≤ max_body_len)
-    → IfSome (if b then Some h else found) (λ k. length k.body ≤ max_body_len)
-short_found true h found first rest = first
-short_found false h found first rest = rest
+short_found : (limit : ℕ) (b : Bool) (h : Held) (found : Option Held) → length h.body ≤ limit
+    → IfSome found (λ k. length k.body ≤ limit)
+    → IfSome (if b then Some h else found) (λ k. length k.body ≤ limit)
+short_found limit true h found first rest = first
+short_found limit false h found first rest = rest
+
+find_among : (limit : ℕ) (es : List (List (List ℕ) × Held)) (p : List (List ℕ)) → HaveAtMost limit es
+    → IfSome (find es p) (λ held. length held.body ≤ limit)
+find_among limit [] p short = tt
+find_among limit (e ∷ es) p short =
+    short_found limit (same_path e.0 p) e.1 (find es p) short.0 (find_among limit es p short.1)
 
 -- what is found is short
-pub short_find : (es : List (List (List ℕ) × Held)) (p : List (List ℕ)) → AreShort es
-    → IfSome (find es p) (λ held. length held.body ≤ max_body_len)
-short_find [] p short = tt
-short_find (e ∷ es) p short = short_found (same_path e.0 p) e.1 (find es p) short.0 (short_find es p short.1)
+pub short_find : (limit : ℕ) (es : List (List (List ℕ) × Held)) (p : List (List ℕ)) → AreShort limit es
+    → IfSome (find es p) (λ held. length held.body ≤ limit)
+short_find limit es p short = find_among limit es p short.bodies
+
+within_by : (limit : ℕ) (found : Option Held) → limit ≤ max_limit → IfSome found (λ held. length held.body ≤ limit)
+    → IfSome found (λ held. length held.body ≤ max_limit)
+within_by limit None chosen short = tt
+within_by limit (Some held) chosen short = omega (arith, short, chosen)
+
+-- .. and no longer than any limit
+pub within_find : (limit : ℕ) (es : List (List (List ℕ) × Held)) (p : List (List ℕ)) → AreShort limit es
+    → IfSome (find es p) (λ held. length held.body ≤ max_limit)
+within_find limit es p short = within_by limit (find es p) short.chosen (short_find limit es p short)
 
 -- a body that is joined to another
-pub short_joined : (body front more : List ℕ) → body ≡ front ++ more → length front + length more ≤ max_body_len
-    → length body ≤ max_body_len
-short_joined body front more is few = rw is (omega (arith, length-append front more))
+pub short_joined : (limit : ℕ) (body front more : List ℕ) → body ≡ front ++ more → length front + length more ≤ limit
+    → length body ≤ limit
+short_joined limit body front more is few = rw is (omega (arith, length-append front more))
 
 -- what enters is a change
 pub change_enters : (old new : Listed) (now : ℕ) (p : List (List ℕ)) (held : Option Held)

@@ -9,9 +9,8 @@ use Rattle.coap_types.specs.PathOrder.{path_order_ties}
 use Rattle.coap_types.proofs.Facts.Paths.{same_path-decides}
 use Rattle.coap_resource.specs.declared.representation.Representation.{Representation}
 use Rattle.coap_resource.specs.Content.{Held}
-use Rattle.coap_resource.specs.Entries.{AreShort, Enters, find, mapped_entries}
+use Rattle.coap_resource.specs.Entries.{AreShort, Enters, HaveAtMost, find, mapped_entries}
 use Rattle.coap_resource.specs.Shown.{held_of, shown}
-use Rattle.coap_types.specs.declared.limits.TheConstants.{MAX_BODY_LEN as max_body_len}
 use Rattle.std.specs.declared.cmp.Ordering.{Ordering}
 use Rattle.std.specs.declared.cmp.Ordering.TheVariants.{Less, Equal, Greater}
 use Rattle.std.specs.Ordering.{match_ordering}
@@ -54,34 +53,47 @@ some_shown None = refl
 some_shown (Some r) = refl
 
 -- the entries stay short where a body is put in ..
-short_placed : {A : Type 0} (o : Ordering) (e : List (List ℕ) × Representation A)
+short_placed : {A : Type 0} (limit : ℕ) (o : Ordering) (e : List (List ℕ) × Representation A)
     (es rest : List (List (List ℕ) × Representation A)) (p : List (List ℕ)) (r : Representation A)
-    → length r.body ≤ max_body_len → AreShort (mapped_entries (e ∷ es)) → AreShort (mapped_entries rest)
-    → AreShort (mapped_entries (match_ordering o ((p, r) ∷ e ∷ es) ((e.0, r) ∷ es) (e ∷ rest)))
-short_placed Less e es rest p r fits all ih = (fits, all)
-short_placed Equal e es rest p r fits all ih = (fits, all.1)
-short_placed Greater e es rest p r fits all ih = (all.0, ih)
+    → length r.body ≤ limit → HaveAtMost limit (mapped_entries (e ∷ es)) → HaveAtMost limit (mapped_entries rest)
+    → HaveAtMost limit (mapped_entries (match_ordering o ((p, r) ∷ e ∷ es) ((e.0, r) ∷ es) (e ∷ rest)))
+short_placed limit Less e es rest p r fits all ih = (fits, all)
+short_placed limit Equal e es rest p r fits all ih = (fits, all.1)
+short_placed limit Greater e es rest p r fits all ih = (all.0, ih)
 
-pub short_insert : {A : Type 0} (es : List (List (List ℕ) × Representation A)) (p : List (List ℕ))
+inserted : {A : Type 0} (limit : ℕ) (es : List (List (List ℕ) × Representation A)) (p : List (List ℕ))
     (r : Representation A)
-    → length r.body ≤ max_body_len → AreShort (mapped_entries es)
-    → AreShort (mapped_entries (insert_entry path_order es p r))
-short_insert [] p r fits all = (fits, tt)
-short_insert (e ∷ es) p r fits all =
-    short_placed (path_order p e.0) e es (insert_entry path_order es p r) p r fits all (short_insert es p r fits all.1)
+    → length r.body ≤ limit → HaveAtMost limit (mapped_entries es)
+    → HaveAtMost limit (mapped_entries (insert_entry path_order es p r))
+inserted limit [] p r fits all = (fits, tt)
+inserted limit (e ∷ es) p r fits all =
+    short_placed limit (path_order p e.0) e es (insert_entry path_order es p r) p r fits all
+    (inserted limit es p r fits all.1)
+
+pub short_insert : {A : Type 0} (limit : ℕ) (es : List (List (List ℕ) × Representation A)) (p : List (List ℕ))
+    (r : Representation A)
+    → length r.body ≤ limit → AreShort limit (mapped_entries es)
+    → AreShort limit (mapped_entries (insert_entry path_order es p r))
+short_insert limit es p r fits all = record { bodies = inserted limit es p r fits all.bodies; chosen = all.chosen }
 
 -- .. and where one is taken out
-short_left : {A : Type 0} (b : Bool) (e : List (List ℕ) × Representation A)
+short_left : {A : Type 0} (limit : ℕ) (b : Bool) (e : List (List ℕ) × Representation A)
     (es rest : List (List (List ℕ) × Representation A))
-    → AreShort (mapped_entries (e ∷ es)) → AreShort (mapped_entries rest)
-    → AreShort (mapped_entries (if b then es else e ∷ rest))
-short_left true e es rest all ih = all.1
-short_left false e es rest all ih = (all.0, ih)
+    → HaveAtMost limit (mapped_entries (e ∷ es)) → HaveAtMost limit (mapped_entries rest)
+    → HaveAtMost limit (mapped_entries (if b then es else e ∷ rest))
+short_left limit true e es rest all ih = all.1
+short_left limit false e es rest all ih = (all.0, ih)
 
-pub short_remove : {A : Type 0} (test : List (List ℕ) → Bool) (es : List (List (List ℕ) × Representation A))
-    → AreShort (mapped_entries es) → AreShort (mapped_entries (remove_entry test es))
-short_remove test [] all = tt
-short_remove test (e ∷ es) all = short_left (test e.0) e es (remove_entry test es) all (short_remove test es all.1)
+removed : {A : Type 0} (limit : ℕ) (test : List (List ℕ) → Bool) (es : List (List (List ℕ) × Representation A))
+    → HaveAtMost limit (mapped_entries es) → HaveAtMost limit (mapped_entries (remove_entry test es))
+removed limit test [] all = tt
+removed limit test (e ∷ es) all =
+    short_left limit (test e.0) e es (remove_entry test es) all (removed limit test es all.1)
+
+pub short_remove : {A : Type 0} (limit : ℕ) (test : List (List ℕ) → Bool)
+    (es : List (List (List ℕ) × Representation A))
+    → AreShort limit (mapped_entries es) → AreShort limit (mapped_entries (remove_entry test es))
+short_remove limit test es all = record { bodies = removed limit test es all.bodies; chosen = all.chosen }
 
 -- a map that is updated at a path enters that there
 pub enters : {A : Type 0} (old new : BTreeMap (List (List ℕ)) (Representation A)) (p : List (List ℕ))
@@ -89,8 +101,8 @@ pub enters : {A : Type 0} (old new : BTreeMap (List (List ℕ)) (Representation 
     → UpdatesBy path_order (path_order p) old new w
     → length new.entries + (if is_some (get_by (path_order p) old) then 1 else 0)
     ≡ length old.entries + (if is_some w then 1 else 0)
-    → (AreShort (mapped_entries old.entries) → IfSome (shown w) (λ h. length h.body ≤ max_body_len)
-    → AreShort (mapped_entries new.entries))
+    → ((limit : ℕ) → AreShort limit (mapped_entries old.entries) → IfSome (shown w) (λ h. length h.body ≤ limit)
+    → AreShort limit (mapped_entries new.entries))
     → Enters (mapped_entries old.entries) p (shown w) (mapped_entries new.entries)
 enters {A} old new p w up count short = record {
   there = found new.entries p ∙ ap (λ (r : Option (Representation A)). shown r) up.1;

@@ -3,6 +3,7 @@
 use Rattle.std.proofs.Common.{◌≡◌, ◌≢◌, ◌≤◌, ◌<◌, ℕ, Bool, true, false, ◌&&◌, ◌+◌, ◌==◌, ◌∙◌, max, ◌↔◌, List, [], ◌∷◌}
 use Rattle.std.proofs.Common.{refl, sym, ap, arith, Some, None, if◌then◌else◌, leb}
 use Rattle.std.proofs.lemmas.Grind.{common_steps}
+use Rattle.coap_resource.specs.Limits.{Limits}
 use Rattle.coap_resource.specs.Rate.{Tally, window, used, rate_refusal, waited, counted}
 use Rattle.coap_resource.specs.Content.{Content, nothing}
 use Rattle.coap_resource.specs.declared.refusal.StoreRefusal.TheVariants.{RateExceeded, VersionsSpent}
@@ -11,7 +12,7 @@ use Rattle.coap_resource.specs.RateLaw.{Goes, Leads, last, changes_between, chan
 -- what a tally says of the calls
 pub record Counts (limit : ℕ) (calls : List (ℕ × Bool)) (t : Tally) : Type 0 where
   pub clock : t.clock ≡ last calls
-  pub limited : t.limit ≡ limit
+  pub limited : t.limits.changes ≡ limit
   pub now : t.changes ≡ changes_in (window (last calls)) calls
   pub each : (w : ℕ) → changes_in w calls ≤ limit
   pub ahead : (w : ℕ) → window (last calls) < w → changes_in w calls ≡ 0
@@ -43,11 +44,11 @@ used_is limit past t at counts =
     (λ e. let ne = other_by (window (max (last past) at)) (window (last past)) e in
     sym (counts.ahead _ (later_window (last past) (max (last past) at) (omega arith) (λ same. ne (sym same))))))
 
-room : (t : Tally) (at : ℕ) → rate_refusal t at ≡ None → used t at < t.limit
+room : (t : Tally) (at : ℕ) → rate_refusal t at ≡ None → used t at < t.limits.changes
 room t at none = grind (arith, common_steps)
 
-start : (limit : ℕ) → Counts limit [] (nothing limit).tally
-start limit = record { clock = refl; limited = refl; now = refl; each = λ w. omega arith; ahead = λ w h. refl }
+start : (limits : Limits) → Counts limits.changes [] (nothing limits).tally
+start limits = record { clock = refl; limited = refl; now = refl; each = λ w. omega arith; ahead = λ w h. refl }
 
 waits : (limit : ℕ) (past : List (ℕ × Bool)) (t : Tally) (at : ℕ) → Counts limit past t
     → Counts limit ((at, false) ∷ past) (waited t at)
@@ -69,12 +70,12 @@ no_more b n none zero = rw none (omega arith)
 apart : (m n : ℕ) → m < n → (m == n) ≡ false
 apart m n h = search arith
 
-adds : (limit : ℕ) (past : List (ℕ × Bool)) (t : Tally) (at : ℕ) → used t at < t.limit → Counts limit past t
+adds : (limit : ℕ) (past : List (ℕ × Bool)) (t : Tally) (at : ℕ) → used t at < t.limits.changes → Counts limit past t
     → Counts limit ((at, true) ∷ past) (counted t at)
 adds limit past t at room counts =
     let m : ℕ = max (last past) at in
     let was : used t at ≡ changes_in (window m) past = used_is limit past t at counts in
-    let limited : t.limit ≡ limit = counts.limited in
+    let limited : t.limits.changes ≡ limit = counts.limited in
     record {
       clock = ap (λ c. max c at) counts.clock;
       limited = limited;
@@ -94,9 +95,11 @@ goes limit past true old new at counts step =
 goes limit past false old new at counts step =
     let tally = ap (λ (s : Content). s.tally) step in rw tally (waits limit past old.tally at counts)
 
-leads : (limit : ℕ) (calls : List (ℕ × Bool)) (s : Content) → Leads limit calls s → Counts limit calls s.tally
-leads limit [] s led = let tally = ap (λ (s : Content). s.tally) led in rw tally (start limit)
-leads limit (call ∷ past) s led = goes limit past call.1 led.0 s call.0 (leads limit past led.0 led.1.0) led.1.1
+leads : (limits : Limits) (calls : List (ℕ × Bool)) (s : Content) → Leads limits calls s
+    → Counts limits.changes calls s.tally
+leads limits [] s led = let tally = ap (λ (s : Content). s.tally) led in rw tally (start limits)
+leads limits (call ∷ past) s led =
+    goes limits.changes past call.1 led.0 s call.0 (leads limits past led.0 led.1.0) led.1.1
 
 covered : (a b c : Bool) → (a ≡ true → b ≡ false → c ≡ true)
     → (if a then 1 else 0) ≤ (if b then 1 else 0) + (if c then 1 else 0)
@@ -129,12 +132,12 @@ spread from [] = omega arith
 spread from (call ∷ past) = omega (arith, one call.1 from (last (call ∷ past)), spread from past)
 
 pub rate : RateLaw
-rate limit calls s led from =
-    let counts = leads limit calls s led in
+rate limits calls s led from =
+    let counts = leads limits calls s led in
     omega (arith, spread from calls, counts.each (window from), counts.each (window from + 1))
 
 pub count : CountLaw
-count limit calls s led now = used_is limit calls s.tally now (leads limit calls s led)
+count limits calls s led now = used_is limits.changes calls s.tally now (leads limits calls s led)
 
 full_by : (b c : Bool) → (if b then Some RateExceeded else if c then Some VersionsSpent else None) ≡ Some RateExceeded
     → b ≡ true
@@ -146,16 +149,16 @@ as_test : (m n : ℕ) → m ≤ n → leb m n ≡ true
 as_test m n h = search arith
 
 -- the window is full where so many changes were counted in it
-full : (t : Tally) (at : ℕ) → (rate_refusal t at ≡ Some RateExceeded) ↔ (t.limit ≤ used t at)
+full : (t : Tally) (at : ℕ) → (rate_refusal t at ≡ Some RateExceeded) ↔ (t.limits.changes ≤ used t at)
 full t at = (
-  λ h. at_most t.limit (used t at) (full_by (leb t.limit (used t at)) (t.version == 18446744073709551615) h),
-  λ h. let most = as_test t.limit (used t at) h in rw most refl,
+  λ h. at_most t.limits.changes (used t at) (full_by (leb t.limits.changes (used t at)) (t.version == 18446744073709551615) h),
+  λ h. let most = as_test t.limits.changes (used t at) h in rw most refl,
 )
 
 pub exceeded : ExceededLaw
-exceeded limit calls s led now =
-    let counts = leads limit calls s led in
-    let was = used_is limit calls s.tally now counts in
+exceeded limits calls s led now =
+    let counts = leads limits calls s led in
+    let was = used_is limits.changes calls s.tally now counts in
     let each = counts.each (window (max (last calls) now)) in
     let limited = counts.limited in
     let iff = full s.tally now in

@@ -4,8 +4,8 @@ use Rattle.std.specs.Prelude.{is_some, if◌then◌else◌}
 use Rattle.coap_resource.specs.declared.refusal.StoreRefusal.{StoreRefusal}
 use Rattle.coap_resource.specs.declared.refusal.StoreRefusal.TheVariants.{Memory, TooLarge, TooManyPaths, RateExceeded}
 use Rattle.coap_resource.specs.declared.refusal.StoreRefusal.TheVariants.{VersionsSpent}
-use Rattle.coap_types.specs.declared.limits.TheConstants.{MAX_BODY_LEN as max_body_len}
 use Rattle.coap_resource.specs.declared.store.TheConstants.{MAX_PATHS as max_paths}
+use Rattle.coap_resource.specs.Limits.{Limits}
 use Rattle.coap_resource.specs.Rate.{Tally, unused, rate_refusal, waited, counted}
 
 -- what a path holds: the number of the change that made it, the format, and the body
@@ -21,8 +21,8 @@ pub record Content : Type 0 where
   pub tally : Tally
 
 -- a store that was never changed
-abbrev pub nothing : ℕ → Content
-nothing limit = record { holds = λ _. None; paths = 0; tally = unused limit }
+abbrev pub nothing : Limits → Content
+nothing limits = record { holds = λ _. None; paths = 0; tally = unused limits }
 
 -- the same store when a moment has counted
 abbrev pub later : Content → ℕ → Content
@@ -40,7 +40,7 @@ refusal_number VersionsSpent = 5
 -- paths do
 abbrev pub put_refusal_by : Tally → ℕ → Bool → ℕ → ℕ → Option StoreRefusal
 put_refusal_by tally now there paths len =
-    if nat_lt max_body_len len then Some TooLarge
+    if nat_lt tally.limits.body len then Some TooLarge
     else if not there && nat_le max_paths paths then Some TooManyPaths
     else rate_refusal tally now
 
@@ -50,7 +50,8 @@ put_refusal s now path len = put_refusal_by s.tally now (is_some (s.holds path))
 
 -- why so many bytes can't be joined to a body of this length, in the order of the tests
 abbrev pub append_refusal_by : Tally → ℕ → ℕ → ℕ → Option StoreRefusal
-append_refusal_by tally now had len = if nat_lt max_body_len (had + len) then Some TooLarge else rate_refusal tally now
+append_refusal_by tally now had len =
+    if nat_lt tally.limits.body (had + len) then Some TooLarge else rate_refusal tally now
 
 -- why so many bytes can't be joined to what a path holds
 abbrev pub append_refusal : Content → ℕ → Held → ℕ → Option StoreRefusal

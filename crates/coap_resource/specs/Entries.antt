@@ -5,7 +5,7 @@ use Rattle.std.specs.List.{filter}
 use Rattle.coap_types.specs.Path.{same_path}
 use Rattle.coap_resource.specs.declared.entry.Entry.{Entry}
 use Rattle.coap_resource.specs.declared.representation.Representation.{Representation}
-use Rattle.coap_types.specs.declared.limits.TheConstants.{MAX_BODY_LEN as max_body_len}
+use Rattle.coap_types.specs.declared.body_limit.TheConstants.{MAX_BODY_LIMIT as max_limit}
 use Rattle.coap_resource.specs.Content.{Held, Content}
 use Rattle.coap_resource.specs.Rate.{Tally}
 use Rattle.coap_resource.specs.Shown.{held_of}
@@ -34,10 +34,15 @@ abbrev pub Unique : List (List (List ℕ) × Held) → Type 0
 Unique [] = Unit {0}
 Unique (e ∷ es) = (find es e.0 ≡ None) × Unique es
 
--- no body is longer than a store takes
-abbrev pub AreShort : List (List (List ℕ) × Held) → Type 0
-AreShort [] = Unit {0}
-AreShort (e ∷ es) = (length e.1.body ≤ max_body_len) × AreShort es
+-- no body has more bytes
+abbrev pub HaveAtMost : ℕ → List (List (List ℕ) × Held) → Type 0
+HaveAtMost limit [] = Unit {0}
+HaveAtMost limit (e ∷ es) = (length e.1.body ≤ limit) × HaveAtMost limit es
+
+-- no body is longer than a store takes, whose limit is one that can be chosen
+pub record AreShort (limit : ℕ) (es : List (List (List ℕ) × Held)) : Type 0 where
+  pub bodies : HaveAtMost limit es
+  pub chosen : limit ≤ max_limit
 
 -- a store that is a list of entries
 pub record Listed : Type 0 where
@@ -53,4 +58,4 @@ pub record Enters (old : List (List (List ℕ) × Held)) (path : List (List ℕ)
   pub there : find new path ≡ held
   pub others : (other : List (List ℕ)) → other ≢ path → find new other ≡ find old other
   pub paths : length new + (if is_some (find old path) then 1 else 0) ≡ length old + (if is_some held then 1 else 0)
-  pub short : AreShort old → IfSome held (λ h. length h.body ≤ max_body_len) → AreShort new
+  pub short : (limit : ℕ) → AreShort limit old → IfSome held (λ h. length h.body ≤ limit) → AreShort limit new

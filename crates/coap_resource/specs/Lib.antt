@@ -1,3 +1,4 @@
+pub mod Limits
 pub mod Rate
 pub mod Content
 pub mod Shown

@@ -3,6 +3,7 @@
 use Rattle.std.specs.Prelude.{ℕ, ◌+◌, ◌-◌, ◌^◌, ◌/◌, ◌==◌, max, nat_le, Option, Some, None, if◌then◌else◌}
 use Rattle.coap_resource.specs.declared.refusal.StoreRefusal.{StoreRefusal}
 use Rattle.coap_resource.specs.declared.refusal.StoreRefusal.TheVariants.{RateExceeded, VersionsSpent}
+use Rattle.coap_resource.specs.Limits.{Limits}
 use Rattle.coap_resource.specs.declared.tally.TheConstants.{WINDOW_MS as window_ms}
 
 -- the changes of a store, as numbers
@@ -11,14 +12,14 @@ pub record Tally : Type 0 where
   pub version : ℕ
   -- the last moment that counted, in ms
   pub clock : ℕ
-  -- how many a window takes
-  pub limit : ℕ
+  -- how many a window takes, and the longest body that is held
+  pub limits : Limits
   -- how many there were in the window of that moment
   pub changes : ℕ
 
 -- no change yet, and no moment
-abbrev pub unused : ℕ → Tally
-unused limit = record { version = 0; clock = 0; limit = limit; changes = 0 }
+abbrev pub unused : Limits → Tally
+unused limits = record { version = 0; clock = 0; limits = limits; changes = 0 }
 
 -- the window of a moment, by its number
 abbrev pub window : ℕ → ℕ
@@ -31,7 +32,7 @@ used t now = if window (max t.clock now) == window t.clock then t.changes else 0
 -- why there is no further change: the window is full, or the version is the greatest of 64 bits
 abbrev pub rate_refusal : Tally → ℕ → Option StoreRefusal
 rate_refusal t now =
-    if nat_le t.limit (used t now) then Some RateExceeded
+    if nat_le t.limits.changes (used t now) then Some RateExceeded
     else if t.version == 2 ^ 64 - 1 then Some VersionsSpent
     else None
 

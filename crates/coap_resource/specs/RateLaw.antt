@@ -2,6 +2,7 @@
 use Rattle.std.specs.Prelude.{◌≡◌, ◌≤◌, ◌↔◌, ℕ, Bool, true, false, ◌&&◌, ◌+◌, ◌*◌, ◌==◌, max, nat_le, List, [], ◌∷◌}
 use Rattle.std.specs.Prelude.{Option, Some, None, if◌then◌else◌}
 use Rattle.coap_resource.specs.declared.refusal.StoreRefusal.TheVariants.{RateExceeded}
+use Rattle.coap_resource.specs.Limits.{Limits}
 use Rattle.coap_resource.specs.declared.tally.TheConstants.{WINDOW_MS as window_ms}
 use Rattle.coap_resource.specs.Content.{Content, Held, Changes, nothing, later}
 use Rattle.coap_resource.specs.Rate.{rate_refusal, used, window}
@@ -13,9 +14,9 @@ Goes true old now new = (rate_refusal old.tally now ≡ None)
 Goes false old now new = new ≡ later old now
 
 -- calls, newest first, each with its moment and whether it changed something, that lead from a new store to this one
-abbrev pub Leads : ℕ → List (ℕ × Bool) → Content → Type 0
-Leads limit [] s = s ≡ nothing limit
-Leads limit (call ∷ past) s = (before : Content) × (Leads limit past before × Goes call.1 before call.0 s)
+abbrev pub Leads : Limits → List (ℕ × Bool) → Content → Type 0
+Leads limits [] s = s ≡ nothing limits
+Leads limits (call ∷ past) s = (before : Content) × (Leads limits past before × Goes call.1 before call.0 s)
 
 -- the last moment as moments count: one before the last counts as the last
 abbrev pub last : List (ℕ × Bool) → ℕ
@@ -31,8 +32,8 @@ changes_between from to (call ∷ past) =
 
 -- any 256 s hold at most twice the changes that a window takes
 abbrev pub RateLaw : Type 0
-RateLaw = (limit : ℕ) (calls : List (ℕ × Bool)) (s : Content) → Leads limit calls s → (from : ℕ)
-    → changes_between from (from + window_ms) calls ≤ 2 * limit
+RateLaw = (limits : Limits) (calls : List (ℕ × Bool)) (s : Content) → Leads limits calls s → (from : ℕ)
+    → changes_between from (from + window_ms) calls ≤ 2 * limits.changes
 
 -- how many changes counted in a window
 abbrev pub changes_in : ℕ → List (ℕ × Bool) → ℕ
@@ -41,11 +42,11 @@ changes_in w (call ∷ past) = (if call.1 && (window (last (call ∷ past)) == w
 
 -- the changes that a store has counted in the window of a moment are those among its calls
 abbrev pub CountLaw : Type 0
-CountLaw = (limit : ℕ) (calls : List (ℕ × Bool)) (s : Content) → Leads limit calls s → (now : ℕ)
+CountLaw = (limits : Limits) (calls : List (ℕ × Bool)) (s : Content) → Leads limits calls s → (now : ℕ)
     → used s.tally now ≡ changes_in (window (max (last calls) now)) calls
 
 -- a change is refused for its rate exactly where the window of its moment has all its changes among the calls, and so
 -- never early
 abbrev pub ExceededLaw : Type 0
-ExceededLaw = (limit : ℕ) (calls : List (ℕ × Bool)) (s : Content) → Leads limit calls s → (now : ℕ)
-    → (rate_refusal s.tally now ≡ Some RateExceeded) ↔ (changes_in (window (max (last calls) now)) calls ≡ limit)
+ExceededLaw = (limits : Limits) (calls : List (ℕ × Bool)) (s : Content) → Leads limits calls s → (now : ℕ)
+    → (rate_refusal s.tally now ≡ Some RateExceeded) ↔ (changes_in (window (max (last calls) now)) calls ≡ limits.changes)

@@ -7,7 +7,7 @@ use crate::representation::Representation;
 use crate::store::Store;
 use crate::tally::{MAX_CHANGES_PER_WINDOW, Tally};
 use bytes::Bytes;
-use coap_types::{Moment, Path, appended};
+use coap_types::{BodyLimit, Moment, Path, appended};
 use std::alloc::{Allocator, Global};
 use std::marker::Model;
 
@@ -25,21 +25,26 @@ impl<A: Allocator> Model for ListStore<A> {
 
     ghost view = { λ s. record { entries = held_entries s.entries.items; tally = s.tally } };
 
-    ghost invariant = { λ s. Unique (held_entries s.entries.items) × AreShort (held_entries s.entries.items) };
+    ghost invariant = { λ s. Unique (held_entries s.entries.items)
+        × AreShort s.tally.limits.body (held_entries s.entries.items) };
 }
 
 impl<A: Allocator + Copy> Store<A> for ListStore<A> {
     ghost content = { λ s. content_of s };
 
-    fn new(alloc: A, changes_per_window: u32) -> Option<Self> {
+    fn new_sized(alloc: A, changes_per_window: u32, limit: BodyLimit) -> Option<Self> {
         if changes_per_window < 1 || changes_per_window > MAX_CHANGES_PER_WINDOW {
             return None;
         }
-        let tally = Tally::new(changes_per_window);
+        let tally = Tally::new(changes_per_window, limit);
         Some(ListStore {
             entries: Vec::new(alloc),
             tally,
         })
+    }
+
+    fn limit(&self) -> BodyLimit {
+        self.tally.limit()
     }
 
     fn get(&self, path: &Path<A>) -> Option<&Representation<A>> {

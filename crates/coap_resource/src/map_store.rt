@@ -6,7 +6,7 @@ use crate::representation::Representation;
 use crate::store::Store;
 use crate::tally::{MAX_CHANGES_PER_WINDOW, Tally};
 use bytes::Bytes;
-use coap_types::{Moment, Path, appended};
+use coap_types::{BodyLimit, Moment, Path, appended};
 use std::alloc::{Allocator, Global};
 use std::collections::BTreeMap;
 use std::marker::Model;
@@ -26,22 +26,26 @@ impl<A: Allocator + Copy> Model for MapStore<A> {
 
     ghost view = { λ s. record { entries = mapped_entries s.map.entries; tally = s.tally } };
 
-    ghost invariant = { λ s. AreShort (mapped_entries s.map.entries) };
+    ghost invariant = { λ s. AreShort s.tally.limits.body (mapped_entries s.map.entries) };
 }
 
 impl<A: Allocator + Copy> Store<A> for MapStore<A> {
     ghost content = { λ s. content_of s };
 
-    fn new(alloc: A, changes_per_window: u32) -> Option<Self> {
+    fn new_sized(alloc: A, changes_per_window: u32, limit: BodyLimit) -> Option<Self> {
         if changes_per_window < 1 || changes_per_window > MAX_CHANGES_PER_WINDOW {
             return None;
         }
-        let tally = Tally::new(changes_per_window);
+        let tally = Tally::new(changes_per_window, limit);
         Some(MapStore {
             alloc,
             map: BTreeMap::new(alloc),
             tally,
         })
+    }
+
+    fn limit(&self) -> BodyLimit {
+        self.tally.limit()
     }
 
     fn get(&self, path: &Path<A>) -> Option<&Representation<A>> {

@@ -12,8 +12,8 @@ pub enum StoreRefusal {
     /// An allocation was refused.
     #[error("out of memory")]
     Memory,
-    /// The body would have over `MAX_BODY_LEN` bytes.
-    #[error("the body has over 65,536 bytes")]
+    /// The body would be longer than the store's limit.
+    #[error("the body is longer than the store's limit")]
     TooLarge,
     /// `MAX_PATHS` other paths hold something.
     #[error("256 other paths hold something")]

@@ -18,8 +18,7 @@ use crate::request_options::{
 use crate::response::{Response, bare};
 use crate::store::Store;
 use bytes::Bytes;
-use coap_types::limits::MAX_BODY_LEN;
-use coap_types::{Code, MAX_NUM, MAX_SZX, Method, Moment, Szx, Tag};
+use coap_types::{Code, MAX_BODY_LIMIT, MAX_NUM, MAX_SZX, Method, Moment, Szx, Tag};
 use std::alloc::{AllocError, Allocator};
 
 // The code of a response to what the store refuses.
@@ -75,7 +74,7 @@ fn own_format<A: Allocator>(held: &Representation<A>) -> Option<u16>
 // NUM, M and SZX of a block of a body, where the response has Block2.
 fn block_sent(wanted: &Wanted, len: usize) -> Option<(u32, bool, Szx)>
     requires place { wanted.now.offset ≤ len }
-    requires short { len ≤ MAX_BODY_LEN }
+    requires short { len ≤ MAX_BODY_LIMIT }
     ensures sent { result ≡ block2_of wanted.now.by_block wanted.now.offset wanted.now.szx len }
     ensures few { IfSome result (λ b. (b.0 ≤ MAX_NUM) × (b.2 ≤ MAX_SZX)) }
 {
@@ -95,7 +94,7 @@ fn content<A: Allocator + Copy>(
     wanted: Wanted,
 ) -> Result<Response<A>, AllocError>
     requires place { wanted.offset ≤ length held.now.body }
-    requires short { length held.now.body ≤ MAX_BODY_LEN }
+    requires short { length held.now.body ≤ MAX_BODY_LIMIT }
     ensures content { IfOk result
         (λ r. reply_of r ≡ content_reply (held_of held.now) wanted.by_block wanted.offset wanted.szx) }
     ensures fits { IfOk result (λ r. Fits (reply_of r)) }

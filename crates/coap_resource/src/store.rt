@@ -1,6 +1,7 @@
 ghost use Rattle.std.specs.Prelude.{◌≡◌, ◌≤◌, ◌↔◌, ◌+◌, ◌++◌, None, Some, IfOk, IfErr, IfSome, IsSome, length};
 ghost use Rattle.std.specs.Prelude.{option_copied};
 ghost use Rattle.coap_resource.specs.Content.{Changes, Content, Held, append_refusal, nothing, put_refusal, later};
+ghost use Rattle.coap_resource.specs.Limits.{usual_limits};
 ghost use Rattle.coap_resource.specs.Rate.{rate_refusal};
 ghost use Rattle.coap_resource.specs.declared.refusal.StoreRefusal.{StoreRefusal};
 ghost use Rattle.coap_resource.specs.declared.refusal.StoreRefusal.TheVariants.{Memory};
@@ -9,8 +10,7 @@ ghost use Rattle.coap_resource.specs.Shown.{shown};
 use crate::refusal::StoreRefusal;
 use crate::representation::Representation;
 use crate::tally::MAX_CHANGES_PER_WINDOW;
-use coap_types::limits::MAX_BODY_LEN;
-use coap_types::{Moment, Path};
+use coap_types::{BodyLimit, MAX_BODY_LIMIT, Moment, Path};
 use std::alloc::Allocator;
 
 /// The most paths that hold something (profile).
@@ -28,17 +28,34 @@ pub trait Store<A: Allocator + Copy>: Drop {
     ghost content: { Self → Content };
 
     /// A store that holds nothing, where a window of 256 s is to take 1 to `MAX_CHANGES_PER_WINDOW`
-    /// changes.
+    /// changes, and a body has at most `DEFAULT_BODY_LIMIT` bytes.
     fn new(alloc: A, changes_per_window: u32) -> Option<Self>
     where
         Self: Sized,
-        ensures empty { IfSome result (λ store. content store ≡ nothing changes_per_window) }
+        ensures empty { IfSome result (λ store. content store ≡ nothing (usual_limits changes_per_window)) }
+        ensures when { IsSome result ↔ ((1 ≤ changes_per_window) × (changes_per_window ≤ MAX_CHANGES_PER_WINDOW)) }
+    {
+        Self::new_sized(alloc, changes_per_window, BodyLimit::default())
+    }
+
+    /// The same where a body is to have at most that limit.
+    fn new_sized(alloc: A, changes_per_window: u32, limit: BodyLimit) -> Option<Self>
+    where
+        Self: Sized,
+        ensures empty { IfSome result
+            (λ store. content store ≡ nothing (record { changes = changes_per_window; body = limit })) }
         ensures when { IsSome result ↔ ((1 ≤ changes_per_window) × (changes_per_window ≤ MAX_CHANGES_PER_WINDOW)) };
 
-    /// What the path holds; its body has at most `MAX_BODY_LEN` bytes.
+    /// The longest body that it holds. No call changes it.
+    fn limit(&self) -> BodyLimit
+        ensures { result ≡ (content self.now).tally.limits.body };
+
+    /// What the path holds; its body is no longer than the store's limit.
     fn get(&self, path: &Path<A>) -> Option<&Representation<A>>
         ensures held { shown (option_copied result) ≡ (content self.now).holds path.now }
-        ensures short { IfSome ((content self.now).holds path.now) (λ held. length held.body ≤ MAX_BODY_LEN) };
+        ensures short { IfSome ((content self.now).holds path.now)
+            (λ held. length held.body ≤ (content self.now).tally.limits.body) }
+        ensures within { IfSome ((content self.now).holds path.now) (λ held. length held.body ≤ MAX_BODY_LIMIT) };
 
     /// The version of the last change, 0 before the first.
     fn version(&self) -> u64

@@ -4,8 +4,7 @@ ghost use Rattle.coap_resource.specs.Rate.{counted, rate_refusal, unused, used, 
 
 use crate::refusal::StoreRefusal;
 use crate::store::MAX_PATHS;
-use coap_types::Moment;
-use coap_types::limits::MAX_BODY_LEN;
+use coap_types::{BodyLimit, MAX_BODY_LIMIT, Moment};
 use std::marker::Model;
 
 /// How long a window is in which changes are counted, in milliseconds (profile: the 256 s within
@@ -27,7 +26,9 @@ pub(crate) struct Tally {
     /// The last moment that counted.
     pub(crate) clock: Moment,
     /// How many changes a window takes.
-    pub(crate) limit: u32,
+    pub(crate) per_window: u32,
+    /// The longest body that is held.
+    pub(crate) limit: BodyLimit,
     /// How many changes there were in the window of `clock`.
     pub(crate) changes: u32,
 }
@@ -37,12 +38,18 @@ impl Model for Tally {
 
     ghost Value = { Tally };
 
-    ghost view = { λ t. record { version = t.version; clock = t.clock.0; limit = t.limit; changes = t.changes } };
+    ghost view = { λ t. record {
+      version = t.version;
+      clock = t.clock.0;
+      limits = record { changes = t.per_window; body = t.limit };
+      changes = t.changes;
+    } };
 
     ghost inverse = { λ t. record {
       version = t.version;
       clock = record { 0 = t.clock };
-      limit = t.limit;
+      per_window = t.limits.changes;
+      limit = t.limits.body;
       changes = t.changes;
     } };
 }
@@ -56,15 +63,25 @@ fn window(moment: Moment) -> u64
 
 impl Tally {
     /// No change yet, and no moment.
-    pub(crate) fn new(changes_per_window: u32) -> Tally
-        ensures { result ≡ unused changes_per_window }
+    pub(crate) fn new(changes_per_window: u32, limit: BodyLimit) -> Tally
+        ensures tally { result ≡ unused (record { changes = changes_per_window; body = limit }) }
+        ensures within { limit ≤ MAX_BODY_LIMIT }
     {
+        let _most = limit.get();
         Tally {
             version: 0,
             clock: Moment(0),
-            limit: changes_per_window,
+            per_window: changes_per_window,
+            limit,
             changes: 0,
         }
+    }
+
+    /// The longest body that is held.
+    pub(crate) fn limit(&self) -> BodyLimit
+        ensures { result ≡ self.now.limits.body }
+    {
+        self.limit
     }
 
     // The last moment that counted, when this one has: one before the last counts as the last.
@@ -88,10 +105,10 @@ impl Tally {
     /// Why there can be no further change at this moment.
     pub(crate) fn refusal(&self, now: Moment) -> Option<StoreRefusal>
         ensures refusal { result ≡ rate_refusal self.now now.0 }
-        ensures room { result ≡ None → used self.now now.0 < self.now.limit }
+        ensures room { result ≡ None → used self.now now.0 < self.now.limits.changes }
         ensures next { result ≡ None → self.now.version < u64.MAX }
     {
-        if self.used(now) >= self.limit {
+        if self.used(now) >= self.per_window {
             return Some(StoreRefusal::RateExceeded);
         }
         if self.version == u64::MAX {
@@ -110,11 +127,11 @@ impl Tally {
     ) -> Option<StoreRefusal>
         ensures refusal { result ≡ put_refusal_by self.now now.0 there paths len }
         ensures rate { result ≡ None → rate_refusal self.now now.0 ≡ None }
-        ensures room { result ≡ None → used self.now now.0 < self.now.limit }
+        ensures room { result ≡ None → used self.now now.0 < self.now.limits.changes }
         ensures next { result ≡ None → self.now.version < u64.MAX }
-        ensures short { result ≡ None → len ≤ MAX_BODY_LEN }
+        ensures short { result ≡ None → len ≤ self.now.limits.body }
     {
-        if len > MAX_BODY_LEN {
+        if len > self.limit.get() {
             return Some(StoreRefusal::TooLarge);
         }
         if !there && paths >= MAX_PATHS {
@@ -127,11 +144,11 @@ impl Tally {
     pub(crate) fn append_refusal(&self, now: Moment, had: usize, len: usize) -> Option<StoreRefusal>
         ensures refusal { result ≡ append_refusal_by self.now now.0 had len }
         ensures rate { result ≡ None → rate_refusal self.now now.0 ≡ None }
-        ensures room { result ≡ None → used self.now now.0 < self.now.limit }
+        ensures room { result ≡ None → used self.now now.0 < self.now.limits.changes }
         ensures next { result ≡ None → self.now.version < u64.MAX }
-        ensures short { result ≡ None → had + len ≤ MAX_BODY_LEN }
+        ensures short { result ≡ None → had + len ≤ self.now.limits.body }
     {
-        if had.saturating_add(len) > MAX_BODY_LEN {
+        if had.saturating_add(len) > self.limit.get() {
             return Some(StoreRefusal::TooLarge);
         }
         self.refusal(now)
@@ -150,7 +167,7 @@ impl Tally {
 
     /// The tally after a further change at this moment.
     pub(crate) fn counted(self, now: Moment) -> Tally
-        requires room { used self now.0 < self.limit }
+        requires room { used self now.0 < self.limits.changes }
         requires next { self.version < u64.MAX }
         ensures { result ≡ counted self now.0 }
     {

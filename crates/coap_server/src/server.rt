@@ -24,6 +24,7 @@ ghost use Rattle.coap_layer.specs.Machine.State.{answer_of, copies, made};
 ghost use Rattle.coap_layer.specs.Machine.Ups.{IsQuiet};
 ghost use Rattle.coap_layer.specs.Trace as below;
 ghost use Rattle.coap_resource.specs.Content.{nothing, put_refusal};
+ghost use Rattle.coap_resource.specs.Limits.{Limits};
 ghost use Rattle.coap_resource.specs.Shown.{shown};
 ghost use Rattle.coap_resource.specs.declared.refusal.StoreRefusal.{StoreRefusal as StoreRefusalSpec};
 ghost use Rattle.coap_resource.specs.declared.refusal.StoreRefusal.TheVariants as store_refusals;
@@ -83,11 +84,11 @@ impl<S: Store<A>, A: Allocator + Copy> Server<S, A, BuildHasherDefault<FoldHashe
     /// A server to which nothing has happened. Its store holds nothing and was handed no moment;
     /// the word picks its first Message ID.
     pub fn new(alloc: A, store: S, szx: Szx, word: u64) -> Self
-        requires fresh { (limit : ℕ) × (S.content store ≡ nothing limit) }
-        ensures led { (limit : ℕ) → S.content store ≡ nothing limit
-            → Led limit szx word [] (state_of S.content result) }
-        ensures start { (limit : ℕ) → S.content store ≡ nothing limit → state_of S.content result
-            ≡ fresh_state limit szx word }
+        requires fresh { (limits : Limits) × (S.content store ≡ nothing limits) }
+        ensures led { (limits : Limits) → S.content store ≡ nothing limits
+            → Led limits szx word [] (state_of S.content result) }
+        ensures start { (limits : Limits) → S.content store ≡ nothing limits → state_of S.content result
+            ≡ fresh_state limits szx word }
     {
         Server::with_hasher(alloc, store, szx, word, BuildHasherDefault::new())
     }
@@ -96,12 +97,13 @@ impl<S: Store<A>, A: Allocator + Copy> Server<S, A, BuildHasherDefault<FoldHashe
 impl<S: Store<A>, A: Allocator + Copy, H: BuildHasher> Server<S, A, H> {
     /// The same, with a hasher for the messages that are remembered.
     pub fn with_hasher(alloc: A, store: S, szx: Szx, word: u64, hasher: H) -> Self
-        requires fresh { (limit : ℕ) × (S.content store ≡ nothing limit) }
-        ensures led { (limit : ℕ) → S.content store ≡ nothing limit
-            → Led limit szx word [] (state_of S.content result) }
-        ensures start { (limit : ℕ) → S.content store ≡ nothing limit → state_of S.content result
-            ≡ fresh_state limit szx word }
+        requires fresh { (limits : Limits) × (S.content store ≡ nothing limits) }
+        ensures led { (limits : Limits) → S.content store ≡ nothing limits
+            → Led limits szx word [] (state_of S.content result) }
+        ensures start { (limits : Limits) → S.content store ≡ nothing limits → state_of S.content result
+            ≡ fresh_state limits szx word }
     {
+        let uploads = Assembly::with_limit(alloc, szx, store.limit());
         Server {
             parts: Parts {
                 alloc,
@@ -109,7 +111,7 @@ impl<S: Store<A>, A: Allocator + Copy, H: BuildHasher> Server<S, A, H> {
                 clock: Moment(0),
                 exchanges: Answerer::with_hasher(alloc, word, hasher),
                 store,
-                uploads: Assembly::new(alloc, szx),
+                uploads,
                 observers: Observers::new(alloc),
                 delays: Vec::new(alloc),
                 waiting: Vec::new(alloc),
@@ -140,10 +142,11 @@ impl<S: Store<A>, A: Allocator + Copy, H: BuildHasher> Server<S, A, H> {
             × (sent : below.Answer)
             × Step (state_of S.content self.old) (Feeds now.0 from bytes.now word up came h sent)
             (state_of S.content self.new)) }
-        ensures led { (limit szx begin : ℕ) (t : List Call) → Led limit szx begin t (state_of S.content self.old)
+        ensures led { (limits : Limits) (szx begin : ℕ) (t : List Call)
+            → Led limits szx begin t (state_of S.content self.old)
             → OnOk result ((up : below.Answer) × (came : Option (AskedSpec × Message)) × (h : Handling)
             × (sent : below.Answer)
-            × Led limit szx begin (Feeds now.0 from bytes.now word up came h sent ∷ t) (state_of S.content self.new)) }
+            × Led limits szx begin (Feeds now.0 from bytes.now word up came h sent ∷ t) (state_of S.content self.new)) }
         ensures err { OnErr result (self.new ≡ self.old) }
         // Where the message layer sends nothing and hands nothing up, it takes no memory.
         ensures quiet { IsQuiet (made self.old.exchanges.layer (max self.old.clock now.0)
@@ -162,10 +165,11 @@ impl<S: Store<A>, A: Allocator + Copy, H: BuildHasher> Server<S, A, H> {
             × (h : Handling) × (id : ℕ)
             × Step (state_of S.content self.old) (Ticks now.0 word done room due passed h id did)
             (state_of S.content self.new)) }
-        ensures led { (limit szx begin : ℕ) (t : List Call) → Led limit szx begin t (state_of S.content self.old)
+        ensures led { (limits : Limits) (szx begin : ℕ) (t : List Call)
+            → Led limits szx begin t (state_of S.content self.old)
             → IfOk result (λ did. (done : below.Answer) × (room : Bool) × (due : Due) × (passed : ℕ) × (h : Handling)
             × (id : ℕ)
-            × Led limit szx begin (Ticks now.0 word done room due passed h id did ∷ t) (state_of S.content self.new)) }
+            × Led limits szx begin (Ticks now.0 word done room due passed h id did ∷ t) (state_of S.content self.new)) }
         // Each tick that does something leaves less to be done at its moment.
         ensures less { result ≡ Ok true
             → work (state_of S.content self.new) now.0 < work (state_of S.content self.old) now.0 }
@@ -179,7 +183,7 @@ impl<S: Store<A>, A: Allocator + Copy, H: BuildHasher> Server<S, A, H> {
         tick_parts(&mut self.parts, now, word)
     }
 
-    /// Puts a body of at most `MAX_BODY_LEN` bytes, of that Content-Format (RFC 7252, section 12.3), in
+    /// Puts a body no longer than the store's limit, of that Content-Format (RFC 7252, section 12.3), in
     /// place of what the path holds, and marks its observers; answers the version. After `Memory`
     /// nothing changed; after another refusal its moment has counted alone.
     pub fn set(
@@ -192,9 +196,10 @@ impl<S: Store<A>, A: Allocator + Copy, H: BuildHasher> Server<S, A, H> {
         ensures step { result ≢ Err store_refusals.Memory → Step (state_of S.content self.old)
             (Sets now.0 path.now format body.now result (state_of S.content self.new).own.store)
             (state_of S.content self.new) }
-        ensures led { (limit szx begin : ℕ) (t : List Call) → Led limit szx begin t (state_of S.content self.old)
+        ensures led { (limits : Limits) (szx begin : ℕ) (t : List Call)
+            → Led limits szx begin t (state_of S.content self.old)
             → result ≢ Err store_refusals.Memory
-            → Led limit szx begin (Sets now.0 path.now format body.now result
+            → Led limits szx begin (Sets now.0 path.now format body.now result
             (state_of S.content self.new).own.store ∷ t) (state_of S.content self.new) }
         ensures memory { result ≡ Err store_refusals.Memory → self.new ≡ self.old }
         // Where the store has a reason not to put it there at that moment, that is the answer, and never Memory.
@@ -210,8 +215,9 @@ impl<S: Store<A>, A: Allocator + Copy, H: BuildHasher> Server<S, A, H> {
     pub fn remove(&mut self, now: Moment, path: &Path<A>) -> Result<bool, StoreRefusal>
         ensures step { Step (state_of S.content self.old)
             (Removes now.0 path.now result (state_of S.content self.new).own.store) (state_of S.content self.new) }
-        ensures led { (limit szx begin : ℕ) (t : List Call) → Led limit szx begin t (state_of S.content self.old)
-            → Led limit szx begin (Removes now.0 path.now result (state_of S.content self.new).own.store ∷ t)
+        ensures led { (limits : Limits) (szx begin : ℕ) (t : List Call)
+            → Led limits szx begin t (state_of S.content self.old)
+            → Led limits szx begin (Removes now.0 path.now result (state_of S.content self.new).own.store ∷ t)
             (state_of S.content self.new) }
     {
         remove_parts(&mut self.parts, now, path)
@@ -223,9 +229,10 @@ impl<S: Store<A>, A: Allocator + Copy, H: BuildHasher> Server<S, A, H> {
     pub fn set_delay(&mut self, path: &Path<A>, ms: u64) -> Result<(), DelayRefusal>
         ensures step { result ≢ Err delay_refusals.Memory → Step (state_of S.content self.old)
             (Delays path.now ms (is_ok result)) (state_of S.content self.new) }
-        ensures led { (limit szx begin : ℕ) (t : List Call) → Led limit szx begin t (state_of S.content self.old)
+        ensures led { (limits : Limits) (szx begin : ℕ) (t : List Call)
+            → Led limits szx begin t (state_of S.content self.old)
             → result ≢ Err delay_refusals.Memory
-            → Led limit szx begin (Delays path.now ms (is_ok result) ∷ t) (state_of S.content self.new) }
+            → Led limits szx begin (Delays path.now ms (is_ok result) ∷ t) (state_of S.content self.new) }
         ensures memory { result ≡ Err delay_refusals.Memory → self.new ≡ self.old }
         ensures full { may_delay path.now (state_of S.content self.old).own.delays ≡ false → result
             ≡ Err delay_refusals.Full }
@@ -239,8 +246,9 @@ impl<S: Store<A>, A: Allocator + Copy, H: BuildHasher> Server<S, A, H> {
     pub fn get(&self, path: &Path<A>) -> Option<&Representation<A>>
         ensures step { Step (state_of S.content self.now) (Gets path.now (shown (option_copied result)))
             (state_of S.content self.now) }
-        ensures led { (limit szx begin : ℕ) (t : List Call) → Led limit szx begin t (state_of S.content self.now)
-            → Led limit szx begin (Gets path.now (shown (option_copied result)) ∷ t) (state_of S.content self.now) }
+        ensures led { (limits : Limits) (szx begin : ℕ) (t : List Call)
+            → Led limits szx begin t (state_of S.content self.now)
+            → Led limits szx begin (Gets path.now (shown (option_copied result)) ∷ t) (state_of S.content self.now) }
     {
         self.parts.store.get(path)
     }
@@ -250,8 +258,9 @@ impl<S: Store<A>, A: Allocator + Copy, H: BuildHasher> Server<S, A, H> {
     pub fn applied(&self) -> Option<&Applied<A>>
         ensures step { Step (state_of S.content self.now) (TellsApplied (applied_list (option_copied result)))
             (state_of S.content self.now) }
-        ensures led { (limit szx begin : ℕ) (t : List Call) → Led limit szx begin t (state_of S.content self.now)
-            → Led limit szx begin (TellsApplied (applied_list (option_copied result)) ∷ t)
+        ensures led { (limits : Limits) (szx begin : ℕ) (t : List Call)
+            → Led limits szx begin t (state_of S.content self.now)
+            → Led limits szx begin (TellsApplied (applied_list (option_copied result)) ∷ t)
             (state_of S.content self.now) }
     {
         self.parts.applied.as_ref()
@@ -260,8 +269,9 @@ impl<S: Store<A>, A: Allocator + Copy, H: BuildHasher> Server<S, A, H> {
     /// The datagram that is to be sent next. It takes no memory.
     pub fn next_out(&mut self) -> Option<Datagram<A>>
         ensures step { Step (state_of S.content self.old) (NextOut result) (state_of S.content self.new) }
-        ensures led { (limit szx begin : ℕ) (t : List Call) → Led limit szx begin t (state_of S.content self.old)
-            → Led limit szx begin (NextOut result ∷ t) (state_of S.content self.new) }
+        ensures led { (limits : Limits) (szx begin : ℕ) (t : List Call)
+            → Led limits szx begin t (state_of S.content self.old)
+            → Led limits szx begin (NextOut result ∷ t) (state_of S.content self.new) }
         ensures some { IfSome result (λ datagram. self.old.exchanges.layer.queue
             ≡ datagram ∷ self.new.exchanges.layer.queue) }
         ensures none { IfNone result ((self.old.exchanges.layer.queue ≡ [])

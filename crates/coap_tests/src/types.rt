@@ -5,8 +5,9 @@ mod recognising;
 use Occurrence::{Never, Once, Repeatable};
 use bytes::Bytes;
 use coap_types::{
-    Code, Endpoint, Id, Kind, Method, Moment, Occurrence, Opt, Request, Role, Rule, Szx, Tag, Tags,
-    Token, appended, option_number, rule, uint_bytes, uint_laws, uint_of,
+    BodyLimit, Code, DEFAULT_BODY_LIMIT, DEFAULT_REMEMBERED, Endpoint, Id, Kind, Method, Moment, Occurrence, Opt,
+    Remembered, Request, Role, Rule, Szx, Tag, Tags, Token, appended, option_number, rule, uint_bytes,
+    uint_laws, uint_of,
 };
 use paths::path_of;
 use std::alloc::{AllocError, AllocGlobal};
@@ -95,6 +96,36 @@ fn numbers_are_read_and_written_by_bytes(rt: HostRuntime) {
     assert_eq!(rt; uint_of(&[0, 0, 1, 2]), Some(258));
     assert_eq!(rt; uint_of(&[0, 0, 0, 0, 1]), None);
     uint_laws();
+}
+
+#[test]
+fn a_limit_of_bodies_is_1_to_1048576_bytes(rt: HostRuntime) {
+    for (most, is) in [
+        (0, None),
+        (1, Some(1)),
+        (1_048_576, Some(1_048_576)),
+        (1_048_577, None),
+        (usize::MAX, None),
+    ] {
+        assert_eq!(rt; BodyLimit::new(most).map(|limit| limit.get()), is);
+    }
+    assert_eq!(rt; DEFAULT_BODY_LIMIT, 65_536);
+    assert_eq!(rt; BodyLimit::default().get(), DEFAULT_BODY_LIMIT);
+}
+
+#[test]
+fn a_number_of_remembered_messages_is_1_to_1048576(rt: HostRuntime) {
+    for (most, is) in [
+        (0, None),
+        (1, Some(1)),
+        (1_048_576, Some(1_048_576)),
+        (1_048_577, None),
+        (u32::MAX, None),
+    ] {
+        assert_eq!(rt; Remembered::new(most).map(|number| number.get()), is);
+    }
+    assert_eq!(rt; DEFAULT_REMEMBERED, 4_096);
+    assert_eq!(rt; Remembered::default().get(), 4_096);
 }
 
 #[test]

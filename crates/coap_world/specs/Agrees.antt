@@ -46,25 +46,25 @@ module _ (config : Config) where
     -- each request that is handed up is served, by the table of the methods, and applied where its preconditions hold
     pub served_right : AllServed config all
     -- .. and none is served twice (RFC 7252, section 4.5)
-    pub served_once : ServedOnce config.limit config.server_szx (server_trace config all)
+    pub served_once : ServedOnce config.limits config.server_szx (server_trace config all)
     -- it is served or answered, or waits; one that waits is served when its delay has passed and it can be answered
-    pub attended : AllAttended config.limit config.server_szx (server_trace config all)
-    pub ready_served : ReadyAreServed config.limit config.server_szx (server_trace config all)
-    pub first_answered : FirstIsAnswered config.limit config.server_szx config.server_word (server_trace config all)
+    pub attended : AllAttended config.limits config.server_szx (server_trace config all)
+    pub ready_served : ReadyAreServed config.limits config.server_szx (server_trace config all)
+    pub first_answered : FirstIsAnswered config.limits config.server_szx config.server_word (server_trace config all)
     -- each answer and each notification that the client takes was made by the server before
     pub answered : AllAnswered config all
     pub noticed : AllNoticed config all
     -- a call and an observation are refused exactly where they have to be, and what waits starts in its order; the
     -- requests of a call follow each other
-    pub calls_taken : AllTaken config.client_szx (client_of all)
-    pub in_order : AreInOrder config.client_szx (client_of all)
+    pub calls_taken : AllTaken config.client_sizes (client_of all)
+    pub in_order : AreInOrder config.client_sizes (client_of all)
     -- each report is of a call or an observation; a response is reported by its code; a Reset, a failure and want of a
     -- response are reported, each where the exchange of a call, a registration or a cancel ends so
-    pub codes_reported : ReportsCodes config.client_szx (client_of all)
-    pub ends_reported : AllEnds config.client_szx (client_of all)
+    pub codes_reported : ReportsCodes config.client_sizes (client_of all)
+    pub ends_reported : AllEnds config.client_sizes (client_of all)
     -- a number is given once, and has at most one last report, behind which nothing is sent for it; all reports are
     -- taken
     pub one_number : NumbersOnce (client_of all)
-    pub one_report : ReportedOnce server_end config.client_szx config.client_word (client_of all)
-    pub none_after : NoneAfter server_end config.client_szx config.client_word (client_of all)
+    pub one_report : ReportedOnce server_end config.client_sizes config.client_word (client_of all)
+    pub none_after : NoneAfter server_end config.client_sizes config.client_word (client_of all)
     pub all_given : AllGiven config all

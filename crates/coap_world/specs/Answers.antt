@@ -34,7 +34,7 @@ pub record IsResponse (m : Message) (to : Endpoint) (token : List ℕ) (r : E.Re
 
 module _ (config : Config) (m : Message) (past : List S.Call) (c : S.Call) where
   abbrev own : S.Own
-  own = own_of config.limit config.server_szx past
+  own = own_of config.limits config.server_szx past
 
   -- the reply of the store to a request that is served here; 2.31 to a block that is taken here; the refusal of a
   -- request that is handed up here; the notification to an observer that is sent here, of what its path holds here
@@ -46,11 +46,11 @@ module _ (config : Config) (m : Message) (past : List S.Call) (c : S.Call) where
         → IsResponse m x.asked.from x.asked.token (continuing size
         (record { num = x.part.num; more = true; szx = x.part.szx })) → IsAnswer
     refuses :
-        (a : Asked) (v : Verdict) (code : ℕ) → Comes config.limit config.server_szx config.server_word past c a v
+        (a : Asked) (v : Verdict) (code : ℕ) → Comes config.limits config.server_szx config.server_word past c a v
         → hands c ≡ Some a → serving own c ≡ None → refusal_in own c ≡ Some code
         → IsResponse m a.from a.token (bare code) → IsAnswer
     notifies :
-        (o : Observer) (reply : Reply) → notice_in c ≡ Some (o, reply) → WasMade config.limit config.server_szx past o
+        (o : Observer) (reply : Reply) → notice_in c ≡ Some (o, reply) → WasMade config.limits config.server_szx past o
         → NoticeOf o.szx (own.store.holds o.path) (notification own.store o reply)
         → IsResponse m o.to o.token (notification own.store o reply) → IsAnswer
 

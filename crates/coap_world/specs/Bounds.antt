@@ -1,8 +1,7 @@
 -- How many exchanges a call makes at most in a legal run, and how long a body is that is held (RFC 7959, sections 2.4
 -- and 2.5; the bounds are a profile).
-use Rattle.std.specs.Prelude.{◌≡◌, ◌≤◌, ℕ, ◌+◌, ◌*◌, Some, List, ◌∷◌, length}
+use Rattle.std.specs.Prelude.{◌≡◌, ◌≤◌, ℕ, ◌+◌, ◌*◌, max, Some, List, ◌∷◌, length}
 use Rattle.coap_types.specs.Past.{Always}
-use Rattle.coap_types.specs.declared.limits.TheConstants.{MAX_BODY_LEN as max_body}
 use Rattle.coap_types.specs.declared.request.Method.{Method}
 use Rattle.coap_types.specs.declared.request.Method.TheVariants.{Get, Post, Put, Delete}
 use Rattle.coap_block.specs.declared.fetch_judging.TheConstants.{MAX_RESTARTS as max_restarts}
@@ -14,22 +13,23 @@ use Rattle.coap_world.specs.Events.{Config}
 use Rattle.coap_world.specs.Record.{Entry, client_of}
 use Rattle.coap_world.specs.Words.{last_at}
 
--- A GET asks for all blocks of the longest body at most, and anew at most MAX_RESTARTS times: 4 passes of 4,096 blocks.
--- A body that is longer than a block of the client's size is sent in at most 4,096 blocks. Each other call asks once.
-abbrev pub most_exchanges : ℕ → Request → Method → ℕ
-most_exchanges szx r Get = (max_restarts + 1) * max_blocks
-most_exchanges szx r Post = most_requests szx r Post
-most_exchanges szx r Put = most_requests szx r Put
-most_exchanges szx r Delete = 1
+-- A GET asks for all blocks of the longest body at most, and anew at most MAX_RESTARTS times: that is as long as the
+-- larger of both limits, since a client whose limit is smaller asks for one part too many. A body that is longer than a
+-- block of the client's size is sent in as many blocks as its limit has. Each other call asks once.
+abbrev pub most_exchanges : Config → Request → Method → ℕ
+most_exchanges config r Get = (max_restarts + 1) * max_blocks (max config.client_sizes.limit config.limits.body)
+most_exchanges config r Post = most_requests config.client_sizes r Post
+most_exchanges config r Put = most_requests config.client_sizes r Put
+most_exchanges config r Delete = 1
 
 module _ (config : Config) where
   -- No call makes more exchanges: so many requests are sent for it, each with a token of its own.
   abbrev pub AreBounded : List Entry → Type 0
   AreBounded all =
-      (x : Taken) → WasTaken x (client_of all) → requests config.client_szx x.number
-      (client_of all) ≤ most_exchanges config.client_szx x.request x.request.method
+      (x : Taken) → WasTaken x (client_of all) → requests config.client_sizes x.number
+      (client_of all) ≤ most_exchanges config x.request x.request.method
 
-  -- No path holds a body that is longer than MAX_BODY_LEN.
+  -- No path holds a body that is longer than the server's limit.
   abbrev pub AreShort : List Entry → Type 0
   AreShort all = Always (λ past e. (path : List (List ℕ)) (held : Held) → last_at config path (e ∷ past) ≡ Some held
-      → length held.body ≤ max_body) all
+      → length held.body ≤ config.limits.body) all

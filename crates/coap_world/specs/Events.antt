@@ -2,6 +2,8 @@
 -- 7641; RFC 7959).
 use Rattle.std.specs.Prelude.{ℕ, List, [], ◌∷◌, Option}
 use Rattle.coap_types.specs.declared.endpoint.Endpoint.{Endpoint}
+use Rattle.coap_block.specs.Sizes.{Sizes}
+use Rattle.coap_resource.specs.Limits.{Limits}
 use Rattle.coap_client.specs.Trace.{Request}
 use Rattle.coap_server.specs.Trace.{Delay}
 
@@ -15,13 +17,14 @@ client_end = record { ip = localhost; port = 40001 }
 abbrev pub server_end : Endpoint
 server_end = record { ip = localhost; port = 5683 }
 
--- with which words, and which sizes of blocks, the ends begin; how many changes a window takes; the delays of paths
+-- with which words, sizes of blocks and limits of bodies the ends begin; how many changes a window takes; the delays of
+-- paths
 pub record Config : Type 0 where
   pub client_word : ℕ
-  pub client_szx : ℕ
+  pub client_sizes : Sizes
   pub server_word : ℕ
   pub server_szx : ℕ
-  pub limit : ℕ
+  pub limits : Limits
   pub delays : List Delay
 
 -- A call of the client, an observation, its cancel, and its end without a message; a local change of the server, and a

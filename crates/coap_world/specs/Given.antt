@@ -8,5 +8,5 @@ use Rattle.coap_world.specs.Record.{Entry, client_of}
 module _ (config : Config) where
   -- None waits: what is taken of the client's reports is what it reported, in order, each once.
   pub record AllGiven (all : List Entry) : Type 0 where
-    pub none_left : (own_of config.client_szx (client_of all)).reports ≡ []
-    pub given_all : given (client_of all) ≡ made config.client_szx (client_of all)
+    pub none_left : (own_of config.client_sizes (client_of all)).reports ≡ []
+    pub given_all : given (client_of all) ≡ made config.client_sizes (client_of all)

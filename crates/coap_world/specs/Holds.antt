@@ -21,7 +21,7 @@ module _ (config : Config) where
   -- this change is made here
   abbrev pub Changes : Change → List Entry → Entry → Type 0
   Changes x past (OfClient c) = ⊥
-  Changes x past (OfServer c) = change (own_of config.limit config.server_szx (server_trace config past)) c ≡ Some x
+  Changes x past (OfServer c) = change (own_of config.limits config.server_szx (server_trace config past)) c ≡ Some x
 
   -- The server begins with nothing. After each entry each path holds the last of its changes, and the versions of the
   -- changes are 1, 2, 3 and so on. What a change says, its path holds after it: a representation under its version, or

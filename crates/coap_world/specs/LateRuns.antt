@@ -4,6 +4,7 @@ use Rattle.std.specs.Prelude.{◌≡◌, ℕ, None, List, [], ◌∷◌, ◌++�
 use Rattle.coap_types.specs.Past.{Sometime}
 use Rattle.coap_types.specs.declared.message.TheConstants.Code.{CONTINUE}
 use Rattle.coap_types.specs.declared.request.Method.TheVariants.{Put}
+use Rattle.coap_block.specs.Sizes.{Sizes, usual_sizes}
 use Rattle.coap_client.specs.Trace.{Request, Timeout, Done, Reported}
 use Rattle.coap_common.specs.SuccessCodes.{created}
 use Rattle.coap_world.specs.Events.{client_end, Config, Calls, TickClient, Deliver, Event}
@@ -21,8 +22,11 @@ module _ {config : Config} {events : List Event} {given : List Given} (run : Run
   ChangesOnly times = changes_in config (entries_of run.turns) ≡ times
 
 -- blocks of 16 bytes
+abbrev pub sizes_16 : Sizes
+sizes_16 = usual_sizes 0
+
 abbrev pub by_16 : Config
-by_16 = record config { client_szx = 0 }
+by_16 = record config { client_sizes = sizes_16 }
 
 -- the token of a request
 abbrev pub key : ℕ → List ℕ

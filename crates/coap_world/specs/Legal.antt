@@ -1,6 +1,7 @@
 -- Which events are legal, in the record of their run: no datagram comes more than 100,000 ms after it was given out,
 -- and what comes from an end's address was given out by that end.
 use Rattle.std.specs.Prelude.{◌≡◌, ◌≢◌, ◌⊎◌, ◌≤◌, ◌<◌, ℕ, ◌+◌, ◌^◌, [], ◌∷◌, length, IfSome, List, All}
+use Rattle.coap_types.specs.declared.body_limit.TheConstants.{MAX_BODY_LIMIT as max_limit}
 use Rattle.coap_types.specs.declared.endpoint.Endpoint.{Endpoint}
 use Rattle.coap_types.specs.declared.transmission.TheConstants.{MAX_LATENCY_MS as max_latency}
 use Rattle.coap_types.specs.Bytes.{AreBytes}
@@ -11,8 +12,8 @@ use Rattle.coap_client.specs.Trace.{Request}
 use Rattle.coap_server.specs.declared.limits.TheConstants.{MAX_DELAYS as max_delays}
 use Rattle.coap_server.specs.Trace.{Delay}
 use Rattle.coap_resource.specs.declared.tally.TheConstants.{MAX_CHANGES_PER_WINDOW as max_changes}
-use Rattle.coap_world.specs.Record.{Given, Turn, IsNumber}
-use Rattle.coap_world.specs.Events.{client_end, server_end, Config, What, Calls, Observes, Cancels, Forgets, Sets}
+use Rattle.coap_world.specs.Record.{Given, Turn, IsNumber, Entry, RecordOf, entries_of}
+use Rattle.coap_world.specs.Events.{client_end, server_end, Config, Event, What, Calls, Observes, Cancels, Forgets, Sets}
 use Rattle.coap_world.specs.Events.{Removes, Deliver, StrangerToClient, StrangerToServer}
 
 -- a datagram is delivered at most MAX_LATENCY after it was given out
@@ -70,7 +71,11 @@ pub record IsLegal (past : List Turn) (turn : Turn) : Type 0 where
 abbrev pub AllLegal : List Turn → Type 0
 AllLegal turns = Always IsLegal turns
 
--- the words and sizes with which the ends begin, how many changes a window takes, and at most 16 delays (profile)
+-- the words, sizes and limits with which the ends begin, how many changes a window takes, and at most 16 delays (profile)
+
+-- a limit that can be chosen
+abbrev pub IsLimit : ℕ → Type 0
+IsLimit limit = (1 ≤ limit) × (limit ≤ max_limit)
 
 pub record IsDelay (d : Delay) : Type 0 where
   pub path : IsPath d.path
@@ -78,11 +83,13 @@ pub record IsDelay (d : Delay) : Type 0 where
 
 pub record IsConfig (config : Config) : Type 0 where
   pub client_word : config.client_word < 2 ^ 64
-  pub client_szx : config.client_szx ≤ 6
+  pub client_szx : config.client_sizes.szx ≤ 6
+  pub client_limit : IsLimit config.client_sizes.limit
   pub server_word : config.server_word < 2 ^ 64
   pub server_szx : config.server_szx ≤ 6
-  pub some : 1 ≤ config.limit
-  pub limit : config.limit ≤ max_changes
+  pub some : 1 ≤ config.limits.changes
+  pub limit : config.limits.changes ≤ max_changes
+  pub server_limit : IsLimit config.limits.body
   pub delays : All IsDelay config.delays
   pub few : length config.delays ≤ max_delays
 
@@ -90,3 +97,12 @@ pub record IsConfig (config : Config) : Type 0 where
 pub record Legal (config : Config) (turns : List Turn) : Type 0 where
   pub range : IsConfig config
   pub events : AllLegal turns
+
+-- it holds of each legal run
+abbrev pub OfLegalRuns : (Config → List Turn → Type 0) → Type 0
+OfLegalRuns Holds = (config : Config) (events : List Event) (turns : List Turn) → RecordOf config events turns
+    → Legal config turns → Holds config turns
+
+-- .. of the calls that the two ends have in it
+abbrev pub InLegalRuns : (Config → List Entry → Type 0) → Type 0
+InLegalRuns Holds = OfLegalRuns (λ config turns. Holds config (entries_of turns))

@@ -4,6 +4,8 @@ use Rattle.std.specs.Prelude.{◌≡◌, ◌≤◌, ℕ, false, Option, Some, No
 use Rattle.coap_types.specs.Past.{all_of}
 use Rattle.coap_types.specs.declared.endpoint.Endpoint.{Endpoint}
 use Rattle.coap_types.specs.declared.request.Method.TheVariants.{Get, Post}
+use Rattle.coap_block.specs.Sizes.{Sizes, usual_sizes}
+use Rattle.coap_resource.specs.Limits.{Limits, usual_limits}
 use Rattle.coap_resource.specs.declared.tally.TheConstants.{MAX_CHANGES_PER_WINDOW as max_changes}
 use Rattle.coap_client.specs.Trace.{Request, Report, Body, Timeout, Reported}
 use Rattle.coap_client.specs.Follows.Gives as C
@@ -15,14 +17,22 @@ use Rattle.coap_world.specs.LegalEvents.{event, comes_at}
 use Rattle.coap_world.specs.Record.{Given, Turn, given_in, RecordOf, entries_of, client_of}
 use Rattle.coap_world.specs.Words.{holds_at}
 
--- words 0, blocks of 1,024 bytes, as many changes a window as there may be
+-- blocks of 1,024 bytes, bodies of at most 65,536, and as many changes a window as there may be
+
+abbrev pub sizes : Sizes
+sizes = usual_sizes 6
+
+abbrev pub limits : Limits
+limits = usual_limits max_changes
+
+-- with words 0
 abbrev pub with_delays : List Delay → Config
 with_delays delays = record {
   client_word = 0;
-  client_szx = 6;
+  client_sizes = sizes;
   server_word = 0;
   server_szx = 6;
-  limit = max_changes;
+  limits = limits;
   delays = delays;
 }
 

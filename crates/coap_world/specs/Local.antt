@@ -18,7 +18,7 @@ module _ (config : Config) where
     pub none : changes_in config (e ∷ past) ≡ changes_in config past
 
   abbrev own : List Entry → S.Own
-  own past = own_of config.limit config.server_szx (server_trace config past)
+  own past = own_of config.limits config.server_szx (server_trace config past)
 
   -- A version: the store has no reason to refuse, it is the next one, and the path holds just this under it. A refusal:
   -- the store gives that reason, and nothing is changed.

@@ -18,23 +18,23 @@ use Rattle.coap_world.specs.Words.{ServesAt, holds_at}
 
 module _ (config : Config) where
   abbrev own : List Entry → Own
-  own past = own_of config.limit config.server_szx (server_trace config past)
+  own past = own_of config.limits config.server_szx (server_trace config past)
 
   -- here the request is handed up, or the last block of its body, and this is what is asked of the store
   abbrev pub BroughtAt : Asked → Question → List Entry → Entry → Type 0
   BroughtAt a q past (OfClient c) = ⊥
-  BroughtAt a q past (OfServer c) = Brings config.limit config.server_szx config.server_word
+  BroughtAt a q past (OfServer c) = Brings config.limits config.server_szx config.server_word
       (server_trace config past) c a q
 
   -- A request that is handed up and asks whole is served here, unless it has to wait: then it waits.
   abbrev pub MethodsAt : List Entry → Entry → Type 0
   MethodsAt past (OfClient c) = Unit {0}
-  MethodsAt past (OfServer c) = MethodsHere config.limit config.server_szx (server_trace config past) c
+  MethodsAt past (OfServer c) = MethodsHere config.limits config.server_szx (server_trace config past) c
 
   -- So is one whose last block is taken here: it asks with the whole body of its blocks.
   abbrev pub UploadsAt : List Entry → Entry → Type 0
   UploadsAt past (OfClient c) = Unit {0}
-  UploadsAt past (OfServer c) = UploadsHere config.limit config.server_szx (server_trace config past) c
+  UploadsAt past (OfServer c) = UploadsHere config.limits config.server_szx (server_trace config past) c
 
   pub record ServesRight (past : List Entry) (e : Entry) : Type 0 where
     -- What is served came in a datagram, here or before, and is what that asks, with the whole body of its blocks.

@@ -22,18 +22,18 @@ WasCalled number r past = WasTaken (record { number = number; request = r }) (cl
 module _ (config : Config) where
   -- this is reported here
   abbrev pub ReportsAt : Reported → List Entry → Entry → Type 0
-  ReportsAt r past (OfClient c) = reports (C.own_of config.client_szx (client_of past)) c ≡ Some r
+  ReportsAt r past (OfClient c) = reports (C.own_of config.client_sizes (client_of past)) c ≡ Some r
   ReportsAt r past (OfServer c) = ⊥
 
   -- the client sent a request of this call under this token
   abbrev pub SentFor : ℕ → List ℕ → List Entry → Type 0
-  SentFor number token all = (x : Sending) × WasSent config.client_szx x (client_of all)
+  SentFor number token all = (x : Sending) × WasSent config.client_sizes x (client_of all)
       × (call_of x.operation ≡ Some number) × (x.token ≡ token)
 
   -- the server serves this request here
   abbrev pub ServesAt : Serving → List Entry → Entry → Type 0
   ServesAt x past (OfClient c) = ⊥
-  ServesAt x past (OfServer c) = serving (own_of config.limit config.server_szx (server_trace config past)) c ≡ Some x
+  ServesAt x past (OfServer c) = serving (own_of config.limits config.server_szx (server_trace config past)) c ≡ Some x
 
   -- A request from the client's address, which is applied here, belongs to the call for which the client sent its
   -- token.
@@ -46,11 +46,11 @@ module _ (config : Config) where
 
   -- what the server holds at a path after these entries
   abbrev pub holds_at : List (List ℕ) → List Entry → Option Held
-  holds_at path all = (own_of config.limit config.server_szx (server_trace config all)).store.holds path
+  holds_at path all = (own_of config.limits config.server_szx (server_trace config all)).store.holds path
 
   -- the last of its changes of that path, and how many changes there were
   abbrev pub last_at : List (List ℕ) → List Entry → Option Held
-  last_at path all = held_at config.limit config.server_szx path (server_trace config all)
+  last_at path all = held_at config.limits config.server_szx path (server_trace config all)
 
   abbrev pub changes_in : List Entry → ℕ
-  changes_in all = changes config.limit config.server_szx (server_trace config all)
+  changes_in all = changes config.limits config.server_szx (server_trace config all)

@@ -1,6 +1,7 @@
 ghost use Rattle.std.specs.Prelude.{◌≡◌, List};
 ghost use Rattle.coap_types.specs.declared.transmission.TheConstants.{MAX_LATENCY_MS as max_latency};
 ghost use Rattle.coap_layer.specs.Channel.{ChannelLaw, near_of, far_of};
+ghost use Rattle.coap_layer.specs.Machine.State.{usual};
 ghost use Rattle.coap_client.specs.Law as clients;
 ghost use Rattle.coap_server.specs.Law as servers;
 ghost use Rattle.coap_world.specs.Applied.{AppliedWhole, AtMostOnce, EachBelongs};
@@ -10,12 +11,12 @@ ghost use Rattle.coap_world.specs.Bounds.{AreBounded, AreShort};
 ghost use Rattle.coap_world.specs.CameFrom.{CamesFrom};
 ghost use Rattle.coap_world.specs.Delivery.{AllFair};
 ghost use Rattle.coap_world.specs.Done.{NeverFailed, OnceDone};
-ghost use Rattle.coap_world.specs.Events.{client_end, server_end, Config, Event};
+ghost use Rattle.coap_world.specs.Events.{client_end, server_end, Config};
 ghost use Rattle.coap_world.specs.Given.{AllGiven};
 ghost use Rattle.coap_world.specs.Held.{EachHeld, EachValid, EachValue};
 ghost use Rattle.coap_world.specs.Holds.{HoldsChanges, ChangesOwned};
 ghost use Rattle.coap_world.specs.Hops.{hops_of, across, TakenAtOnce};
-ghost use Rattle.coap_world.specs.Legal.{Legal};
+ghost use Rattle.coap_world.specs.Legal.{InLegalRuns, OfLegalRuns};
 ghost use Rattle.coap_world.specs.LegalEvents.{NoneRuns, NotAfter, never_given, NoneFrom, CallsMay, ObservesMay};
 ghost use Rattle.coap_world.specs.LegalEvents.{EndsMay, SetsMay, RemovesMay, TicksMay, StrangersMay, DeliveriesMay};
 ghost use Rattle.coap_world.specs.LegalEvents.{NoneFalls, NoneOver, NoneLonger, NoneBeyond};
@@ -23,88 +24,72 @@ ghost use Rattle.coap_world.specs.LegalRuns.{MayComeTill};
 ghost use Rattle.coap_world.specs.Local.{LocalRight};
 ghost use Rattle.coap_world.specs.NoFault.{NoFault};
 ghost use Rattle.coap_world.specs.Noticed.{AllNoticed};
-ghost use Rattle.coap_world.specs.Record.{Turn, RecordOf, entries_of, client_of, server_trace};
+ghost use Rattle.coap_world.specs.Record.{Turn, entries_of, client_of, server_trace};
 ghost use Rattle.coap_world.specs.Rising.{HeldAreNamed, ValuesRise};
 ghost use Rattle.coap_world.specs.Serves.{AllServed};
 
 /// What comes from an end's address was given out by that end, for the one that it comes to, at most 100,000 ms before.
 pub fn delivery_law()
-    ensures fair { (config : Config) (events : List Event) (turns : List Turn) → RecordOf config events turns
-        → Legal config turns → AllFair turns }
+    ensures fair { OfLegalRuns (λ config turns. AllFair turns) }
 {}
 
 /// What the message layers of the two ends do in a run, in one order (RFC 7252, section 4).
 pub fn hops_law()
     // The near hops are the entries of the client's layer, the far ones of the server's.
     ensures near { (config : Config) (turns : List Turn) → near_of (hops_of config turns)
-        ≡ clients.layer_of server_end config.client_szx config.client_word (client_of (entries_of turns)) }
+        ≡ clients.layer_of server_end config.client_sizes config.client_word (client_of (entries_of turns)) }
     ensures far { (config : Config) (turns : List Turn) → far_of (hops_of config turns)
-        ≡ servers.layer_of config.limit config.server_szx config.server_word (server_trace config (entries_of turns)) }
+        ≡ servers.layer_of config.limits config.server_szx config.server_word (server_trace config (entries_of turns)) }
     // In a legal run they stand in the law of two layers and the datagrams between them.
-    ensures channel { (config : Config) (events : List Event) (turns : List Turn) → RecordOf config events turns
-        → Legal config turns → ChannelLaw config.client_word config.server_word client_end server_end
-        (hops_of config turns) }
-    ensures back { (config : Config) (events : List Event) (turns : List Turn) → RecordOf config events turns
-        → Legal config turns → ChannelLaw config.server_word config.client_word server_end client_end
-        (across (hops_of config turns)) }
+    ensures channel { OfLegalRuns (λ config turns. ChannelLaw (usual config.client_word) (usual config.server_word)
+        client_end server_end (hops_of config turns)) }
+    ensures back { OfLegalRuns (λ config turns. ChannelLaw (usual config.server_word) (usual config.client_word)
+        server_end client_end (across (hops_of config turns))) }
     // What an end gives out in a turn was sent by its layer in that turn, at its moment.
-    ensures at_once { (config : Config) (events : List Event) (turns : List Turn) → RecordOf config events turns
-        → Legal config turns → TakenAtOnce (hops_of config turns) turns }
+    ensures at_once { OfLegalRuns (λ config turns. TakenAtOnce (hops_of config turns) turns) }
 {}
 
 /// What the server's changes are, whatever the events are.
 pub fn changes_law()
     // Each path holds its last change, which says what it holds, and the versions are 1, 2, 3 and so on (RFC 7252,
     // section 5.10.6).
-    ensures holds { (config : Config) (events : List Event) (turns : List Turn) → RecordOf config events turns
-        → Legal config turns → HoldsChanges config (entries_of turns) }
+    ensures holds { InLegalRuns HoldsChanges }
     // A local change does what it answers: it puts, or removes, by one change, where the store has no reason to refuse,
     // or nothing changes.
-    ensures local { (config : Config) (events : List Event) (turns : List Turn) → RecordOf config events turns
-        → Legal config turns → LocalRight config (entries_of turns) }
+    ensures local { InLegalRuns LocalRight }
     // Each change is a local one, or that of the request to its path that is applied there (RFC 7252, section 5.8).
-    ensures owned { (config : Config) (events : List Event) (turns : List Turn) → RecordOf config events turns
-        → Legal config turns → ChangesOwned config (entries_of turns) }
+    ensures owned { InLegalRuns ChangesOwned }
     // No path holds a body that is longer than 65,536 bytes (profile).
-    ensures short { (config : Config) (events : List Event) (turns : List Turn) → RecordOf config events turns
-        → Legal config turns → AreShort config (entries_of turns) }
+    ensures short { InLegalRuns AreShort }
 {}
 
 /// Whose requests the server hands up in a legal run.
 pub fn requests_law()
     // What comes from the client's address is a request that the client sent (RFC 7252, sections 4.2 and 5.2).
-    ensures came { (config : Config) (events : List Event) (turns : List Turn) → RecordOf config events turns
-        → Legal config turns → CamesFrom config (entries_of turns) }
+    ensures came { InLegalRuns CamesFrom }
     // What is served is what its datagram asks, by the table of the methods, and applied only where its preconditions
     // hold; and each request that asks whole, or whose last block makes a body whole, is served or waits (RFC 7252,
     // sections 5.2.2, 5.8 and 5.10.8; RFC 7959, section 2.5).
-    ensures served { (config : Config) (events : List Event) (turns : List Turn) → RecordOf config events turns
-        → Legal config turns → AllServed config (entries_of turns) }
+    ensures served { InLegalRuns AllServed }
     // What is applied for the client's address belongs to a call (RFC 7252, section 5.3.1).
-    ensures belongs { (config : Config) (events : List Event) (turns : List Turn) → RecordOf config events turns
-        → Legal config turns → EachBelongs config (entries_of turns) }
+    ensures belongs { InLegalRuns EachBelongs }
     // What is applied for a call has its method, path and preconditions, and its format, and does to that path what the
     // call asks, with all of its body, whether that came in one message or in blocks (RFC 7252, sections 5.8 and
     // 5.10.8; RFC 7959, section 2.5).
-    ensures whole { (config : Config) (events : List Event) (turns : List Turn) → RecordOf config events turns
-        → Legal config turns → AppliedWhole config (entries_of turns) }
+    ensures whole { InLegalRuns AppliedWhole }
     // For each call at most one request is applied (RFC 7252, section 4.5; RFC 7959, section 2.5).
-    ensures once { (config : Config) (events : List Event) (turns : List Turn) → RecordOf config events turns
-        → Legal config turns → AtMostOnce config (entries_of turns) }
+    ensures once { InLegalRuns AtMostOnce }
 {}
 
 /// Whose responses the client takes in a legal run, and what is taken of its reports.
 pub fn answers_law()
     // Each answer was made by the server before, for the client, under that token (RFC 7252, section 5.3.2; RFC 7641,
     // section 3.2).
-    ensures answered { (config : Config) (events : List Event) (turns : List Turn) → RecordOf config events turns
-        → Legal config turns → AllAnswered config (entries_of turns) }
+    ensures answered { InLegalRuns AllAnswered }
     // .. and so was each notification (RFC 7641, section 3.2).
-    ensures noticed { (config : Config) (events : List Event) (turns : List Turn) → RecordOf config events turns
-        → Legal config turns → AllNoticed config (entries_of turns) }
+    ensures noticed { InLegalRuns AllNoticed }
     // Its reports are all taken, in order, each once.
-    ensures given { (config : Config) (events : List Event) (turns : List Turn) → RecordOf config events turns
-        → Legal config turns → AllGiven config (entries_of turns) }
+    ensures given { InLegalRuns AllGiven }
 {}
 
 /// Which events are legal.
@@ -138,95 +123,74 @@ pub fn legal_law()
 pub fn reports_law()
     // A body was held by the server at that path, under the version of its ETag, between the call and the report (RFC
     // 7252, sections 5.8.1 and 5.10.6; RFC 7959, section 2.4).
-    ensures held { (config : Config) (events : List Event) (turns : List Turn) → RecordOf config events turns
-        → Legal config turns → EachHeld config (entries_of turns) }
+    ensures held { InLegalRuns EachHeld }
     // .. so was what is valid still, by an ETag of the call (RFC 7252, sections 5.9.1.3 and 5.10.6.2) ..
-    ensures valid { (config : Config) (events : List Event) (turns : List Turn) → RecordOf config events turns
-        → Legal config turns → EachValid config (entries_of turns) }
+    ensures valid { InLegalRuns EachValid }
     // .. and a value of an observation, between the observation's start and the report (RFC 7641, sections 3.2 and 4.4;
     // RFC 7959, section 2.6).
-    ensures value { (config : Config) (events : List Event) (turns : List Turn) → RecordOf config events turns
-        → Legal config turns → EachValue config (entries_of turns) }
+    ensures value { InLegalRuns EachValue }
     // Where success is reported, a request of the call was applied between call and report (RFC 7252, section 5.8).
-    ensures done { (config : Config) (events : List Event) (turns : List Turn) → RecordOf config events turns
-        → Legal config turns → OnceDone config (entries_of turns) }
+    ensures done { InLegalRuns OnceDone }
     // Where Failed is reported, none is applied, before or after (RFC 7252, section 5.9).
-    ensures failed { (config : Config) (events : List Event) (turns : List Turn) → RecordOf config events turns
-        → Legal config turns → NeverFailed config (entries_of turns) }
+    ensures failed { InLegalRuns NeverFailed }
 {}
 
 /// What is promised of the values of an observation in a legal run.
 pub fn observations_law()
     // Of two values of one observation the later one has the later version (RFC 7641, sections 1.3 and 3.4).
-    ensures rising { (config : Config) (events : List Event) (turns : List Turn) → RecordOf config events turns
-        → Legal config turns → ValuesRise config (entries_of turns) }
+    ensures rising { InLegalRuns ValuesRise }
     // The versions that are held have 64 bits, and each is named by its entity-tag (RFC 7252, section 5.10.6).
-    ensures named { (config : Config) (events : List Event) (turns : List Turn) → RecordOf config events turns
-        → Legal config turns → HeldAreNamed config (entries_of turns) }
+    ensures named { InLegalRuns HeldAreNamed }
 {}
 
 /// The first claim of the promise: what is reported was held.
 pub fn held_law()
     // Each body that is reported was held by the server at the call's path, under the version of its ETag, between the
     // call and the report (RFC 7252, sections 5.8.1 and 5.10.6; RFC 7959, section 2.4).
-    ensures bodies { (config : Config) (events : List Event) (turns : List Turn) → RecordOf config events turns
-        → Legal config turns → EachHeld config (entries_of turns) }
+    ensures bodies { InLegalRuns EachHeld }
     // .. so was each representation that is reported as valid, by an ETag of the call (RFC 7252, sections 5.9.1.3 and
     // 5.10.6.2) ..
-    ensures valid { (config : Config) (events : List Event) (turns : List Turn) → RecordOf config events turns
-        → Legal config turns → EachValid config (entries_of turns) }
+    ensures valid { InLegalRuns EachValid }
     // .. and each value of an observation, since that was taken (RFC 7641, sections 3.2 and 4.4; RFC 7959, section
     // 2.6).
-    ensures values { (config : Config) (events : List Event) (turns : List Turn) → RecordOf config events turns
-        → Legal config turns → EachValue config (entries_of turns) }
+    ensures values { InLegalRuns EachValue }
 {}
 
 /// The second: what is asked is applied whole, at most once, exactly once where success is reported and never where
 /// Failed is reported.
 pub fn applied_law()
     // What is applied for the client's address belongs to a call (RFC 7252, section 5.3.1), ..
-    ensures belongs { (config : Config) (events : List Event) (turns : List Turn) → RecordOf config events turns
-        → Legal config turns → EachBelongs config (entries_of turns) }
+    ensures belongs { InLegalRuns EachBelongs }
     // .. and does to the call's path what that asks, with all of its body, where the call's preconditions hold (RFC
     // 7252, sections 5.8 and 5.10.8; RFC 7959, section 2.5).
-    ensures whole { (config : Config) (events : List Event) (turns : List Turn) → RecordOf config events turns
-        → Legal config turns → AppliedWhole config (entries_of turns) }
+    ensures whole { InLegalRuns AppliedWhole }
     // For each call at most one request is applied (RFC 7252, section 4.5), ..
-    ensures once { (config : Config) (events : List Event) (turns : List Turn) → RecordOf config events turns
-        → Legal config turns → AtMostOnce config (entries_of turns) }
+    ensures once { InLegalRuns AtMostOnce }
     // .. one, between call and report, where Done is reported (RFC 7252, section 5.8), ..
-    ensures done { (config : Config) (events : List Event) (turns : List Turn) → RecordOf config events turns
-        → Legal config turns → OnceDone config (entries_of turns) }
+    ensures done { InLegalRuns OnceDone }
     // .. and none, before or after, where Failed is (RFC 7252, section 5.9).
-    ensures failed { (config : Config) (events : List Event) (turns : List Turn) → RecordOf config events turns
-        → Legal config turns → NeverFailed config (entries_of turns) }
+    ensures failed { InLegalRuns NeverFailed }
     // What the server holds are its changes, by their versions (RFC 7252, section 5.10.6), each of which is a local
     // one, or that of the one request to its path that is applied there (section 5.8).
-    ensures holds { (config : Config) (events : List Event) (turns : List Turn) → RecordOf config events turns
-        → Legal config turns → HoldsChanges config (entries_of turns) }
-    ensures owned { (config : Config) (events : List Event) (turns : List Turn) → RecordOf config events turns
-        → Legal config turns → ChangesOwned config (entries_of turns) }
+    ensures holds { InLegalRuns HoldsChanges }
+    ensures owned { InLegalRuns ChangesOwned }
 {}
 
 /// The third: the values of an observation rise.
 pub fn rising_law()
     // Of two values of one observation the later one has the later version (RFC 7641, sections 1.3 and 3.4); ..
-    ensures rising { (config : Config) (events : List Event) (turns : List Turn) → RecordOf config events turns
-        → Legal config turns → ValuesRise config (entries_of turns) }
+    ensures rising { InLegalRuns ValuesRise }
     // .. a version is named by its ETag (RFC 7252, section 5.10.6), ..
-    ensures named { (config : Config) (events : List Event) (turns : List Turn) → RecordOf config events turns
-        → Legal config turns → HeldAreNamed config (entries_of turns) }
+    ensures named { InLegalRuns HeldAreNamed }
     // .. and each value was held under its version (RFC 7641, section 4.4).
-    ensures values { (config : Config) (events : List Event) (turns : List Turn) → RecordOf config events turns
-        → Legal config turns → EachValue config (entries_of turns) }
+    ensures values { InLegalRuns EachValue }
 {}
 
 /// The fourth: no datagram makes either end fault.
 pub fn no_fault_law()
     // At each position of a record, each event that may happen there has a turn in which nothing is refused, and with
     // which the record goes on; and of an input that is refused memory no call is left, or of ticks those before it.
-    ensures no_fault { (config : Config) (events : List Event) (turns : List Turn) → RecordOf config events turns
-        → Legal config turns → NoFault config turns }
+    ensures no_fault { OfLegalRuns NoFault }
 {}
 
 /// What a client and a server come to together, however the datagrams between them are lost, repeated and delayed:
@@ -235,13 +199,10 @@ pub fn agreement()
     // Each body, value and valid representation that is reported was held at its path between call and report; each
     // request body is applied whole, at most once, exactly once where success is reported and never where Failed is
     // reported (RFC 7252, sections 4.2, 4.5, 5.3.2, 5.8 and 5.9; RFC 7641; RFC 7959).
-    ensures agrees { (config : Config) (events : List Event) (turns : List Turn) → RecordOf config events turns
-        → Legal config turns → Agrees config (entries_of turns) }
+    ensures agrees { InLegalRuns Agrees }
     // A GET makes at most 16,384 exchanges, in 4 passes over the 4,096 blocks of the longest body, an upload at most
     // 4,096, and each other call one (RFC 7959, sections 2.4 and 2.5; profile).
-    ensures bounded { (config : Config) (events : List Event) (turns : List Turn) → RecordOf config events turns
-        → Legal config turns → AreBounded config (entries_of turns) }
+    ensures bounded { InLegalRuns AreBounded }
     // Whatever may come has a turn, with which the record goes on; and an input that is refused memory is lost.
-    ensures no_fault { (config : Config) (events : List Event) (turns : List Turn) → RecordOf config events turns
-        → Legal config turns → NoFault config turns }
+    ensures no_fault { OfLegalRuns NoFault }
 {}

@@ -23,9 +23,11 @@ const DENSE: u64 = 62;
 /// The same, once two are remembered.
 const SPARSE: u64 = 130_000;
 
-/// How many bytes a body has that goes in blocks, and how many exchanges it takes.
+/// How many bytes a body has that goes in blocks, and a long one.
 const BODY_LEN: usize = 65_536;
-const BLOCKS: u32 = 64;
+const LONG_BODY_LEN: usize = 1_048_576;
+/// How many bytes of it an exchange carries.
+const BLOCK_LEN: usize = 1_024;
 
 /// What the ends are asked for.
 #[derive(Clone, Copy)]
@@ -34,14 +36,14 @@ enum Work {
     Gets(u32, u64),
     /// Of the last of 256 paths.
     GetsOfMany(Store),
-    /// The PUT of a body in blocks.
-    Put,
+    /// The PUT of a body of so many bytes, in blocks.
+    Put(usize),
     /// Its GET.
-    Get,
+    Get(usize),
 }
 
-fn body() -> Vec<u8> {
-    (0..BODY_LEN).map(|i| (i * 7) as u8).collect()
+fn body(len: usize) -> Vec<u8> {
+    (0..len).map(|i| (i * 7) as u8).collect()
 }
 
 impl Work {
@@ -49,8 +51,8 @@ impl Work {
         match self {
             Work::Gets(before, step) => proved::gets(before, REQUESTS, step),
             Work::GetsOfMany(store) => proved::gets_of_many(store, REQUESTS),
-            Work::Put => proved::bodies(&body())[0],
-            Work::Get => proved::bodies(&body())[1],
+            Work::Put(len) => proved::bodies(&body(len))[0],
+            Work::Get(len) => proved::bodies(&body(len))[1],
         }
     }
 
@@ -58,15 +60,15 @@ impl Work {
         match self {
             Work::Gets(before, step) => plain::gets(before, REQUESTS, step),
             Work::GetsOfMany(_) => plain::gets_of_many(REQUESTS),
-            Work::Put => plain::bodies(&body())[0],
-            Work::Get => plain::bodies(&body())[1],
+            Work::Put(len) => plain::bodies(&body(len))[0],
+            Work::Get(len) => plain::bodies(&body(len))[1],
         }
     }
 
     fn exchanges(self) -> u32 {
         match self {
             Work::Gets(..) | Work::GetsOfMany(_) => REQUESTS,
-            Work::Put | Work::Get => BLOCKS,
+            Work::Put(len) | Work::Get(len) => (len / BLOCK_LEN) as u32,
         }
     }
 }
@@ -107,8 +109,10 @@ fn rows() -> Vec<Row> {
     vec![
         Row::new("GET, 0 to 64 remembered", Work::Gets(0, 0)),
         Row::new("GET, 4,000 to 4,064 remembered", Work::Gets(4_000, 0)),
-        Row::new("PUT of 65,536 bytes, a block", Work::Put),
-        Row::new("GET of 65,536 bytes, a block", Work::Get),
+        Row::new("PUT of 65,536 bytes, a block", Work::Put(BODY_LEN)),
+        Row::new("GET of 65,536 bytes, a block", Work::Get(BODY_LEN)),
+        Row::new("PUT of 1,048,576 bytes, a block", Work::Put(LONG_BODY_LEN)),
+        Row::new("GET of 1,048,576 bytes, a block", Work::Get(LONG_BODY_LEN)),
         Row::new("GET, 256 paths in a list", Work::GetsOfMany(Store::List)),
         Row::new("GET, 256 paths in a map", Work::GetsOfMany(Store::Map)),
         Row::new("GET, 2 remembered, one forgotten", Work::Gets(10, SPARSE)),
@@ -138,5 +142,6 @@ fn both_answer_alike() {
     let full = proved::gets(4_200, 0, 0).sum;
     assert_eq!(full, 4_096 * 21);
     assert_eq!(full, plain::gets(4_200, 0, 0).sum);
-    assert_eq!(proved::bodies(&body())[0].sum, 128);
+    assert_eq!(proved::bodies(&body(BODY_LEN))[0].sum, 128);
+    assert_eq!(proved::bodies(&body(LONG_BODY_LEN))[0].sum, 2_048);
 }

@@ -11,7 +11,7 @@ const LIFETIME: u64 = 247_000;
 const MAX_REMEMBERED: usize = 4_096;
 /// The size exponent of the server's blocks.
 const SZX: u8 = 6;
-const MAX_BODY: usize = 65_536;
+const MAX_BODY: usize = 1_048_576;
 const MAX_SEGMENTS: usize = 16;
 
 type Key = (Endpoint, u16);

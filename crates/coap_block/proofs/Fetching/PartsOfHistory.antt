@@ -5,16 +5,16 @@ use Rattle.coap_types.specs.declared.block.Block.{Block}
 use Rattle.coap_block.specs.declared.fetch_verdict.Verdict.{Verdict}
 use Rattle.coap_block.specs.declared.fetch_verdict.Verdict.TheVariants.{Refuse, Again, Done, Ask}
 use Rattle.coap_block.specs.declared.fetch_step.FetchRefusal.TheVariants.{BadBlock, TooLarge}
-use Rattle.coap_types.specs.Piece.{max_body_len}
+use Rattle.coap_block.specs.Sizes.{Sizes}
 use Rattle.coap_block.specs.Whole.{Part}
-use Rattle.coap_block.specs.FetchStep.{FetchState, start, verdict, after}
+use Rattle.coap_block.specs.FetchStep.{FetchState, start, sizes_of, verdict, after}
 use Rattle.coap_block.specs.Gathered.{Gathered}
 use Rattle.coap_block.specs.FetchTrace.{Made, Took, state_after, parts_by, parts_since, PartsAreGathered}
 use Rattle.coap_block.specs.FetchTrace.{WholeByHistory}
 use Rattle.coap_block.proofs.Fetching.WholeByParts.{gathered_by_part, whole_by_parts}
 
-at_start : (szx restarts : ℕ) → Gathered [] (start szx restarts)
-at_start szx restarts = record { bytes = refl; chained = tt; full = tt; awaits = refl }
+at_start : (sizes : Sizes) (restarts : ℕ) → Gathered [] (start sizes restarts)
+at_start sizes restarts = record { bytes = refl; chained = tt; full = tt; awaits = refl }
 
 pub none_asks : (there big : Bool) (num szx : ℕ)
     → (if there then Refuse BadBlock else if big then Refuse TooLarge else Done) ≡ Ask num szx → ⊥
@@ -27,14 +27,14 @@ step : (v : Verdict) (parts : List Part) (s : FetchState) (block : Option Block)
     → Gathered parts s → verdict s block tag (length payload) ≡ v
     → Gathered (parts_by v block tag payload parts) (after s tag payload v)
 step (Refuse why) parts s block tag payload g h = g
-step Again parts s block tag payload g h = at_start s.szx (s.restarts + 1)
-step Done parts s block tag payload g h = at_start s.szx 0
+step Again parts s block tag payload g h = at_start (sizes_of s) (s.restarts + 1)
+step Done parts s block tag payload g h = at_start (sizes_of s) 0
 step (Ask num szx) parts s None tag payload g h =
-    absurd (none_asks (is_some s.asked) (nat_lt max_body_len (length payload)) num szx h)
+    absurd (none_asks (is_some s.asked) (nat_lt s.limit (length payload)) num szx h)
 step (Ask num szx) parts s (Some b) tag payload g h = gathered_by_part parts s b tag payload num szx g h
 
 pub parts_are_gathered : PartsAreGathered
-parts_are_gathered (Made szx) = at_start szx 0
+parts_are_gathered (Made sizes) = at_start sizes 0
 parts_are_gathered (Took earlier block tag payload) =
     step (verdict (state_after earlier) block tag (length payload)) (parts_since earlier)
     (state_after earlier) block tag payload

@@ -10,7 +10,7 @@ use Rattle.std.proofs.Math.Seq.{drop-append_seam, take-append_seam}
 use Rattle.coap_types.specs.declared.block.Block.{Block}
 use Rattle.coap_block.specs.declared.fetch_verdict.Verdict.TheVariants.{Refuse, Again, Done, Ask}
 use Rattle.coap_block.specs.declared.fetch_step.FetchRefusal.TheVariants.{BadBlock, NoTag, TooLarge, Changed}
-use Rattle.coap_types.specs.Piece.{size_of, offset_of, Begins, Piece, max_body_len}
+use Rattle.coap_types.specs.Piece.{size_of, offset_of, Begins, Piece}
 use Rattle.coap_block.specs.Whole.{Part, Each, joined, IsPieceOf, HasTag, Chained, OneTag, Whole, Blocks}
 use Rattle.coap_block.specs.FetchStep.{FetchState, fits, is_sized, same_tag, differs, verdict, next_num, next_szx}
 use Rattle.coap_block.specs.Gathered.{part, IsFull, Awaits, Gathered, GatheredByPart, WholeByParts}
@@ -206,7 +206,7 @@ whole_by_blocks : (parts : List Part) (s : FetchState) (b : Block) (tag : Option
     → Whole (Blocks (parts ++ part b tag payload ∷ [])) (s.gathered ++ payload)
 whole_by_blocks parts s b tag payload g h =
     let says = done_says (fits s.asked b.num b.szx && is_sized b.more b.num b.szx (length payload))
-    (nat_lt max_body_len (offset_of b.num b.szx + length payload)) ((b.more || nat_lt 0 b.num) && not (is_some tag))
+    (nat_lt s.limit (offset_of b.num b.szx + length payload)) ((b.more || nat_lt 0 b.num) && not (is_some tag))
     (differs s tag) (nat_le max_restarts s.restarts) b.more (next_num s b) (next_szx s b) h in
     let fit = and_left (fits s.asked b.num b.szx) (is_sized b.more b.num b.szx (length payload)) says.0 in
     let sized = and_right (fits s.asked b.num b.szx) (is_sized b.more b.num b.szx (length payload)) says.0 in
@@ -232,7 +232,7 @@ none_is_start (Some asked) tag parts big w h = absurd cc
 
 pub whole_by_parts : WholeByParts
 whole_by_parts parts s None tag payload g h =
-    let none = none_is_start s.asked s.tag parts (nat_lt max_body_len (length payload)) g.awaits h in
+    let none = none_is_start s.asked s.tag parts (nat_lt s.limit (length payload)) g.awaits h in
     sym (ap (λ (x : List ℕ). x ++ payload) (g.bytes ∙ ap joined none))
 whole_by_parts parts s (Some b) tag payload g h = whole_by_blocks parts s b tag payload g h
 
@@ -245,7 +245,7 @@ tag_there false over None m h = absurd cc
 pub gathered_by_part : GatheredByPart
 gathered_by_part parts s b tag payload num szx g h =
     let says = ask_says (fits s.asked b.num b.szx && is_sized b.more b.num b.szx (length payload))
-    (nat_lt max_body_len (offset_of b.num b.szx + length payload)) ((b.more || nat_lt 0 b.num) && not (is_some tag))
+    (nat_lt s.limit (offset_of b.num b.szx + length payload)) ((b.more || nat_lt 0 b.num) && not (is_some tag))
     (differs s tag) (nat_le max_restarts s.restarts) b.more (next_num s b) (next_szx s b) num szx h in
     let fit = and_left (fits s.asked b.num b.szx) (is_sized b.more b.num b.szx (length payload)) says.0 in
     let sized = and_right (fits s.asked b.num b.szx) (is_sized b.more b.num b.szx (length payload)) says.0 in

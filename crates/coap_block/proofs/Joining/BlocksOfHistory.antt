@@ -8,7 +8,7 @@ use Rattle.coap_block.specs.declared.block_verdict.BlockVerdict.TheVariants.{Ref
 use Rattle.coap_block.specs.declared.assembly_step.AssemblyRefusal.TheVariants.{BadRequest, EntityIncomplete}
 use Rattle.coap_block.specs.declared.assembly_step.AssemblyRefusal.TheVariants.{EntityTooLarge, Unavailable}
 use Rattle.coap_block.specs.declared.assembly_judging.TheConstants.{MAX_PARTIALS as max_partials}
-use Rattle.coap_types.specs.Piece.{size_of, offset_of, max_body_len}
+use Rattle.coap_types.specs.Piece.{size_of, offset_of}
 use Rattle.coap_block.specs.Whole.{Part}
 use Rattle.coap_block.specs.Gathered.{part}
 use Rattle.coap_block.specs.AssemblyState.{Key, PartialBody, AssemblyState, same_key, partial_of, without_key, put}
@@ -57,46 +57,46 @@ last_len : (more : Bool) (szx len : ℕ) → more ≡ false → fills more szx l
 last_len true szx len m h = absurd cc
 last_len false szx len m h = grind (arith, nat_tests)
 
-not_over : (n : ℕ) → nat_lt max_body_len n ≡ false → n ≤ max_body_len
-not_over n h = grind (arith, nat_tests)
+not_over : (limit n : ℕ) → nat_lt limit n ≡ false → n ≤ limit
+not_over limit n h = grind (arith, nat_tests)
 
 -- what the key had before, and what it has with the block
-joined_by : (z : Bool) (parts : List Part) (o : Option PartialBody) (b : Block) (payload : List ℕ) (key : Key) (t : ℕ)
+joined_by : (limit : ℕ) (z : Bool) (parts : List Part) (o : Option PartialBody) (b : Block) (payload : List ℕ) (key : Key) (t : ℕ)
     → (b.num == 0) ≡ z
     → (z || ends_at (reached_of o) (offset_of b.num b.szx)) ≡ true
-    → ((q : PartialBody) → o ≡ Some q → JoinedFrom parts q)
-    → b.more ≡ true → length payload ≡ size_of b.szx → offset_of b.num b.szx + length payload ≤ max_body_len
-    → JoinedFrom (if z then part b None payload ∷ [] else parts ++ part b None payload ∷ [])
+    → ((q : PartialBody) → o ≡ Some q → JoinedFrom limit parts q)
+    → b.more ≡ true → length payload ≡ size_of b.szx → offset_of b.num b.szx + length payload ≤ limit
+    → JoinedFrom limit (if z then part b None payload ∷ [] else parts ++ part b None payload ∷ [])
     (record { key = key; bytes = (if z then [] else bytes_of o) ++ payload; last = t })
-joined_by true parts o b payload key t is at before more full short =
-    join_first b payload key t (same_number b.num 0 is) more full short
-joined_by false parts (Some q) b payload key t is at before more full short =
-    join_next parts q b payload key t (before q refl)
+joined_by limit true parts o b payload key t is at before more full short =
+    join_first limit b payload key t (same_number b.num 0 is) more full short
+joined_by limit false parts (Some q) b payload key t is at before more full short =
+    join_next limit parts q b payload key t (before q refl)
     (same_number (length q.bytes) (offset_of b.num b.szx) at) more full short
-joined_by false parts None b payload key t is at before more full short = absurd cc
+joined_by limit false parts None b payload key t is at before more full short = absurd cc
 
-whole_by : (z : Bool) (parts : List Part) (o : Option PartialBody) (b : Block) (payload : List ℕ) → (b.num == 0) ≡ z
+whole_by : (limit : ℕ) (z : Bool) (parts : List Part) (o : Option PartialBody) (b : Block) (payload : List ℕ) → (b.num == 0) ≡ z
     → (z || ends_at (reached_of o) (offset_of b.num b.szx)) ≡ true
-    → ((q : PartialBody) → o ≡ Some q → JoinedFrom parts q)
-    → b.more ≡ false → length payload ≤ size_of b.szx → offset_of b.num b.szx + length payload ≤ max_body_len
-    → IsWholeBody (if z then part b None payload ∷ [] else parts ++ part b None payload ∷ [])
+    → ((q : PartialBody) → o ≡ Some q → JoinedFrom limit parts q)
+    → b.more ≡ false → length payload ≤ size_of b.szx → offset_of b.num b.szx + length payload ≤ limit
+    → IsWholeBody limit (if z then part b None payload ∷ [] else parts ++ part b None payload ∷ [])
     ((if z then [] else bytes_of o) ++ payload)
-whole_by true parts o b payload is at before last fits short =
-    whole_first b payload (same_number b.num 0 is) last fits short
-whole_by false parts (Some q) b payload is at before last fits short =
-    whole_next parts q b payload (before q refl)
+whole_by limit true parts o b payload is at before last fits short =
+    whole_first limit b payload (same_number b.num 0 is) last fits short
+whole_by limit false parts (Some q) b payload is at before last fits short =
+    whole_next limit parts q b payload (before q refl)
     (same_number (length q.bytes) (offset_of b.num b.szx) at) last fits short
-whole_by false parts None b payload is at before last fits short = absurd cc
+whole_by limit false parts None b payload is at before last fits short = absurd cc
 
 -- what holds of an assembly's state
 pub record Holds (parts : Key → List Part) (s : AssemblyState) : Type 0 where
   pub distinct : AreDistinct s.partials
   pub few : length s.partials ≤ max_partials
-  pub joined : (key : Key) (p : PartialBody) → partial_of key s.partials ≡ Some p → JoinedFrom (parts key) p
+  pub joined : (key : Key) (p : PartialBody) → partial_of key s.partials ≡ Some p → JoinedFrom s.limit (parts key) p
 
 -- and of the partial bodies that are there at a moment
 still_joined : (parts : Key → List Part) (s : AssemblyState) (now : ℕ) (key : Key) → Holds parts s → (q : PartialBody)
-    → partial_of key (there_at s now) ≡ Some q → JoinedFrom (parts key) q
+    → partial_of key (there_at s now) ≡ Some q → JoinedFrom s.limit (parts key) q
 still_joined parts s now key h q e = h.joined key q (was_there key (moment_at s now) q s.partials h.distinct e)
 
 abbrev pub new_of : AssemblyState → ℕ → Key → Block → List ℕ → PartialBody
@@ -156,7 +156,7 @@ module _ (s : AssemblyState) (now : ℕ) (key : Key) (b : Block) (payload : List
   few_by (Join szx) e =
       let says = join_says (fills b.more b.szx (length payload))
       (goes_on (reached_of (partial_of key (there_at s now))) b.num b.szx)
-      (nat_lt max_body_len (offset_of b.num b.szx + length payload))
+      (nat_lt s.limit (offset_of b.num b.szx + length payload))
       (b.more && (b.num == 0) && nat_le max_partials (length (without_key key (there_at s now)))) b.more
       (answered_szx s.szx b) szx e in
       few_put (b.num == 0) (new_of s now key b payload) (partial_of key (there_at s now)) b
@@ -171,7 +171,7 @@ module _ (parts : Key → List Part) (s : AssemblyState) (now : ℕ) (key : Key)
     (h : Holds parts s) where
   joined_after : (v : BlockVerdict) → verdict_at s now key b (length payload) ≡ v → (p : PartialBody)
       → partial_of key (partials_by v (new_of s now key b payload) (there_at s now)) ≡ Some p
-      → JoinedFrom (blocks_by v b payload (parts key)) p
+      → JoinedFrom s.limit (blocks_by v b payload (parts key)) p
   joined_after (Refuse BadRequest) e p f = still_joined parts s now key h p f
   joined_after (Refuse EntityIncomplete) e p f = still_joined parts s now key h p f
   joined_after (Refuse EntityTooLarge) e p f =
@@ -180,38 +180,38 @@ module _ (parts : Key → List Part) (s : AssemblyState) (now : ℕ) (key : Key)
   joined_after (Join szx) e p f =
       let says = join_says (fills b.more b.szx (length payload))
       (goes_on (reached_of (partial_of key (there_at s now))) b.num b.szx)
-      (nat_lt max_body_len (offset_of b.num b.szx + length payload))
+      (nat_lt s.limit (offset_of b.num b.szx + length payload))
       (b.more && (b.num == 0) && nat_le max_partials (length (without_key key (there_at s now)))) b.more
       (answered_szx s.szx b) szx e in
       let there = put_there (new_of s now key b payload) (there_at s now) in
       let same : new_of s now key b payload ≡ p = cc in
-      subst (λ (x : PartialBody). JoinedFrom (behind (parts key) b payload) x) same
-      (joined_by (b.num == 0) (parts key) (partial_of key (there_at s now)) b payload key (moment_at s now) refl says.1
+      subst (λ (x : PartialBody). JoinedFrom s.limit (behind (parts key) b payload) x) same
+      (joined_by s.limit (b.num == 0) (parts key) (partial_of key (there_at s now)) b payload key (moment_at s now) refl says.1
       (still_joined parts s now key h) says.4
-      (full_len b.more b.szx (length payload) says.4 says.0) (not_over (offset_of b.num b.szx + length payload) says.2))
+      (full_len b.more b.szx (length payload) says.4 says.0) (not_over s.limit (offset_of b.num b.szx + length payload) says.2))
   joined_after Done e p f =
       let none = out_none key (there_at s now) (distinct_there (moment_at s now) s.partials h.distinct) in absurd cc
 
   whole_after : verdict_at s now key b (length payload) ≡ Done
-      → IsWholeBody (behind (parts key) b payload) (with_block s now key b payload)
+      → IsWholeBody s.limit (behind (parts key) b payload) (with_block s now key b payload)
   whole_after e =
       let says = done_says (fills b.more b.szx (length payload))
       (goes_on (reached_of (partial_of key (there_at s now))) b.num b.szx)
-      (nat_lt max_body_len (offset_of b.num b.szx + length payload))
+      (nat_lt s.limit (offset_of b.num b.szx + length payload))
       (b.more && (b.num == 0) && nat_le max_partials (length (without_key key (there_at s now)))) b.more
       (answered_szx s.szx b) e in
-      whole_by (b.num == 0) (parts key) (partial_of key (there_at s now)) b payload refl says.1
+      whole_by s.limit (b.num == 0) (parts key) (partial_of key (there_at s now)) b payload refl says.1
       (still_joined parts s now key h) says.3
-      (last_len b.more b.szx (length payload) says.3 says.0) (not_over (offset_of b.num b.szx + length payload) says.2)
+      (last_len b.more b.szx (length payload) says.3 says.0) (not_over s.limit (offset_of b.num b.szx + length payload) says.2)
 
   joined_of : (c : Bool) (other : Key) → same_key key other ≡ c → (p : PartialBody)
       → partial_of other (after_block s now key b payload).partials ≡ Some p
-      → JoinedFrom (if c then blocks_by (verdict_at s now key b (length payload)) b payload (parts other) else
+      → JoinedFrom s.limit (if c then blocks_by (verdict_at s now key b (length payload)) b payload (parts other) else
       parts other) p
   joined_of true other is p f =
       let same = (same_key-decides key other).0 is in
       subst (λ (k : Key). partial_of k (after_block s now key b payload).partials ≡ Some p
-      → JoinedFrom (blocks_by (verdict_at s now key b (length payload)) b payload (parts k)) p) same
+      → JoinedFrom s.limit (blocks_by (verdict_at s now key b (length payload)) b payload (parts k)) p) same
       (joined_after (verdict_at s now key b (length payload)) refl p) f
   joined_of false other is p f =
       let ne : other ≢ key = λ e. let t : same_key key other
@@ -219,7 +219,7 @@ module _ (parts : Key → List Part) (s : AssemblyState) (now : ℕ) (key : Key)
       still_joined parts s now other h p (sym (others_stay s now key other b payload ne) ∙ f)
 
 pub holds : (t : AssemblyTrace) → Holds (λ key. blocks_since key t) (state_after t)
-holds (Made szx) = record { distinct = tt; few = omega arith; joined = λ key p e. absurd cc }
+holds (Made sizes) = record { distinct = tt; few = omega arith; joined = λ key p e. absurd cc }
 holds (Arrived earlier now k b payload) =
     let h = holds earlier in
     let parts : Key → List Part = λ key. blocks_since key earlier in
@@ -246,7 +246,7 @@ whole_by_blocks t s now key b payload led h =
     let done : verdict_at (state_after t) now key b (length payload)
     ≡ Done = subst (λ (x : AssemblyState). verdict_at x now key b (length payload) ≡ Done) led h in
     let whole = whole_after (λ k. blocks_since k t) (state_after t) now key b payload (holds t) done in
-    subst (λ (x : AssemblyState). IsWholeBody (blocks_since key (Arrived t now key b payload))
+    subst (λ (x : AssemblyState). IsWholeBody x.limit (blocks_since key (Arrived t now key b payload))
     (with_block x now key b payload)) (sym led) (rw (self, done) whole)
 
 pub none_left : NoneLeft

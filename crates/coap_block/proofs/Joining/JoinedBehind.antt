@@ -3,7 +3,7 @@ use Rattle.std.proofs.Common.{◌≡◌, ◌≢◌, inl, inr, ◌∙◌, ℕ, tr
 use Rattle.std.proofs.Common.{refl, ap, sym, subst, arith, append-nil, append_assoc, length-append}
 use Rattle.std.proofs.Math.Seq.{drop-append_seam, take-append_seam}
 use Rattle.coap_types.specs.declared.block.Block.{Block}
-use Rattle.coap_types.specs.Piece.{size_of, offset_of, max_body_len}
+use Rattle.coap_types.specs.Piece.{size_of, offset_of}
 use Rattle.coap_block.specs.Whole.{Part, Each, joined, Chained, InOrder, ShowsMore, WholeAtServer}
 use Rattle.coap_block.specs.Gathered.{part, IsFull}
 use Rattle.coap_block.specs.AssemblyState.{Key, PartialBody}
@@ -15,11 +15,11 @@ use Rattle.coap_block.proofs.Fetching.WholeByParts.{pieces_whole}
 offset_zero : (num szx : ℕ) → num ≡ 0 → offset_of num szx ≡ 0
 offset_zero num szx e = subst (λ (n : ℕ). offset_of n szx ≡ 0) (sym e) (omega arith)
 
-pub join_first : (b : Block) (payload : List ℕ) (key : Key) (t : ℕ) → b.num ≡ 0 → b.more ≡ true
+pub join_first : (limit : ℕ) (b : Block) (payload : List ℕ) (key : Key) (t : ℕ) → b.num ≡ 0 → b.more ≡ true
     → length payload ≡ size_of b.szx
-    → offset_of b.num b.szx + length payload ≤ max_body_len
-    → JoinedFrom (part b None payload ∷ []) (record { key = key; bytes = [] ++ payload; last = t })
-join_first b payload key t zero_num more full short = record {
+    → offset_of b.num b.szx + length payload ≤ limit
+    → JoinedFrom limit (part b None payload ∷ []) (record { key = key; bytes = [] ++ payload; last = t })
+join_first limit b payload key t zero_num more full short = record {
   bytes = sym (append-nil payload);
   some = λ e. absurd cc;
   chained = (offset_zero b.num b.szx zero_num, tt);
@@ -27,12 +27,12 @@ join_first b payload key t zero_num more full short = record {
   short = omega (arith, short);
 }
 
-pub join_next : (parts : List Part) (p : PartialBody) (b : Block) (payload : List ℕ) (key : Key) (t : ℕ)
-    → JoinedFrom parts p
+pub join_next : (limit : ℕ) (parts : List Part) (p : PartialBody) (b : Block) (payload : List ℕ) (key : Key) (t : ℕ)
+    → JoinedFrom limit parts p
     → length p.bytes ≡ offset_of b.num b.szx → b.more ≡ true → length payload ≡ size_of b.szx
-    → offset_of b.num b.szx + length payload ≤ max_body_len
-    → JoinedFrom (parts ++ part b None payload ∷ []) (record { key = key; bytes = p.bytes ++ payload; last = t })
-join_next parts p b payload key t j at more full short =
+    → offset_of b.num b.szx + length payload ≤ limit
+    → JoinedFrom limit (parts ++ part b None payload ∷ []) (record { key = key; bytes = p.bytes ++ payload; last = t })
+join_next limit parts p b payload key t j at more full short =
     let n = ap length j.bytes in
     record {
       bytes = ap (λ (x : List ℕ). x ++ payload) j.bytes ∙ sym (joined_behind parts (part b None payload));
@@ -42,9 +42,9 @@ join_next parts p b payload key t j at more full short =
       short = omega (arith, short, at, length-append p.bytes payload);
     }
 
-pub whole_first : (b : Block) (payload : List ℕ) → b.num ≡ 0 → b.more ≡ false → length payload ≤ size_of b.szx
-    → offset_of b.num b.szx + length payload ≤ max_body_len → IsWholeBody (part b None payload ∷ []) ([] ++ payload)
-whole_first b payload zero_num last fits short = record {
+pub whole_first : (limit : ℕ) (b : Block) (payload : List ℕ) → b.num ≡ 0 → b.more ≡ false → length payload ≤ size_of b.szx
+    → offset_of b.num b.szx + length payload ≤ limit → IsWholeBody limit (part b None payload ∷ []) ([] ++ payload)
+whole_first limit b payload zero_num last fits short = record {
   whole = inl (record {
     pieces = pieces_whole [] (part b None payload) tt (offset_zero b.num b.szx zero_num, tt) last fits (inr zero_num);
     chained = (offset_zero b.num b.szx zero_num, tt);
@@ -109,11 +109,11 @@ whole_of parts l body is some full before chained at last fits (x ∷ xs) there 
       ends = ends_behind parts l last;
     }))
 
-pub whole_next : (parts : List Part) (p : PartialBody) (b : Block) (payload : List ℕ) → JoinedFrom parts p
+pub whole_next : (limit : ℕ) (parts : List Part) (p : PartialBody) (b : Block) (payload : List ℕ) → JoinedFrom limit parts p
     → length p.bytes ≡ offset_of b.num b.szx → b.more ≡ false → length payload ≤ size_of b.szx
-    → offset_of b.num b.szx + length payload ≤ max_body_len
-    → IsWholeBody (parts ++ part b None payload ∷ []) (p.bytes ++ payload)
-whole_next parts p b payload j at last fits short =
+    → offset_of b.num b.szx + length payload ≤ limit
+    → IsWholeBody limit (parts ++ part b None payload ∷ []) (p.bytes ++ payload)
+whole_next limit parts p b payload j at last fits short =
     let n = ap length j.bytes in
     record {
       whole = whole_of parts (part b None payload) p.bytes j.bytes j.some j.full j.chained

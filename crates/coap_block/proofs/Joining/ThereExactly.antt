@@ -10,7 +10,7 @@ use Rattle.coap_block.specs.declared.assembly_step.AssemblyRefusal.TheVariants.{
 use Rattle.coap_block.specs.declared.assembly_step.AssemblyRefusal.TheVariants.{EntityTooLarge, Unavailable}
 use Rattle.coap_block.specs.declared.partial.TheConstants.{PARTIAL_LIFETIME_MS as partial_lifetime}
 use Rattle.coap_block.specs.declared.assembly_judging.TheConstants.{MAX_PARTIALS as max_partials}
-use Rattle.coap_types.specs.Piece.{offset_of, max_body_len}
+use Rattle.coap_types.specs.Piece.{offset_of}
 use Rattle.coap_block.specs.AssemblyState.{Key, PartialBody, AssemblyState, same_key, is_live, forgotten, partial_of}
 use Rattle.coap_block.specs.AssemblyState.{without_key, reached_of}
 use Rattle.coap_block.specs.AssemblyStep.{fills, ends_at, goes_on, answered_szx, verdict_at, there_at, moment_at}
@@ -95,7 +95,7 @@ module _ (s : AssemblyState) (now : ℕ) (key : Key) (b : Block) (payload : List
   after_taken (Join szx) e =
       let says = join_says (fills b.more b.szx (length payload))
       (goes_on (reached_of (partial_of key (there_at s now))) b.num b.szx)
-      (nat_lt max_body_len (offset_of b.num b.szx + length payload))
+      (nat_lt s.limit (offset_of b.num b.szx + length payload))
       (b.more && (b.num == 0) && nat_le max_partials (length (without_key key (there_at s now)))) b.more
       (answered_szx s.szx b) szx e in
       ap last_of (put_there (new_of s now key b payload) (there_at s now))
@@ -135,7 +135,7 @@ after_any false s now key other b payload last d same was =
 
 at_clock : (t : AssemblyTrace) (key : Key) → last_of (partial_of key (state_after t).partials)
     ≡ if_recent (state_after t).clock (last_taken key t)
-at_clock (Made szx) key = refl
+at_clock (Made sizes) key = refl
 at_clock (Arrived earlier now k b payload) key =
     let d = (holds earlier).distinct in
     after_any (same_key k key) (state_after earlier) now k key b payload (last_taken key earlier) d refl
@@ -177,6 +177,6 @@ pub joins_where_more : JoinsWhereMore
 joins_where_more t now key b len szx h =
     let s = state_after t in
     (join_says (fills b.more b.szx len) (goes_on (reached_of (partial_of key (there_at s now))) b.num b.szx)
-    (nat_lt max_body_len (offset_of b.num b.szx + len))
+    (nat_lt s.limit (offset_of b.num b.szx + len))
     (b.more && (b.num == 0) && nat_le max_partials (length (without_key key (there_at s now)))) b.more
     (answered_szx s.szx b) szx h).4

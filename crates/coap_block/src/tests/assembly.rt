@@ -7,7 +7,7 @@ use std::alloc::AllocError;
 use std::process::Abort;
 use turns::{
     BAD_REQUEST, FIRST, INCOMPLETE, OTHER, Row, Says, TOO_LARGE, Turn, UNAVAILABLE, Who,
-    assembly_of, fill, key_of, play_turns,
+    assembly_of, assembly_within, fill, key_of, play_turns, play_turns_of,
 };
 
 #[test]
@@ -112,15 +112,17 @@ fn a_body_over_the_bound_is_dropped(rt: HostRuntime) -> Result<(), AllocError> {
     play_turns(&rt, 6, 1_024, &turns)
 }
 
-// The last block is empty: 65,536 bytes.
-fn ends_in_full<R: Abort>(
+// Block 64 of 1,024 bytes is the last one: the body has so many bytes.
+fn ends_behind_full<R: Abort>(
     rt: &R,
     server: &mut Assembly,
     key: &UploadKey,
+    payload: &[u8],
+    len: usize,
 ) -> Result<(), AllocError> {
     let last = Block::read(&[0x04, 0x06]).expect(rt, "no SZX 7");
-    match server.take(Moment(0), key, last, &[])? {
-        Took::Whole(whole) => assert_eq!(rt; whole.len(), 65_536),
+    match server.take(Moment(0), key, last, payload)? {
+        Took::Whole(whole) => assert_eq!(rt; whole.len(), len),
         _ => assert!(rt; false, "not whole"),
     }
     Ok(())
@@ -132,7 +134,30 @@ fn a_body_of_the_bound_is_whole(rt: HostRuntime) -> Result<(), AllocError> {
     let key = key_of(&rt, FIRST);
     let mut server = assembly_of(&rt, 6);
     fill(&rt, &mut server, &key, &bytes)?;
-    ends_in_full(&rt, &mut server, &key)
+    ends_behind_full(&rt, &mut server, &key, &[], 65_536)
+}
+
+#[test]
+fn a_limit_may_be_greater_than_the_usual_one(rt: HostRuntime) -> Result<(), AllocError> {
+    let bytes = body_of(rt.alloc(), 1_024)?;
+    let key = key_of(&rt, FIRST);
+    let mut server = assembly_within(&rt, 6, 66_560);
+    fill(&rt, &mut server, &key, &bytes)?;
+    ends_behind_full(&rt, &mut server, &key, &bytes, 66_560)
+}
+
+#[test]
+fn a_body_over_a_limit_that_was_chosen_is_dropped(rt: HostRuntime) -> Result<(), AllocError> {
+    let rows: [Row<'_>; 6] = [
+        (0, &[0x0a], (0, 64), Says::More(0x0a)),
+        (0, &[0x12], (64, 101), TOO_LARGE),
+        (0, &[0x12], (64, 100), INCOMPLETE),
+        (0, &[0x03], (0, 101), TOO_LARGE),
+        (0, &[0x0a], (0, 64), Says::More(0x0a)),
+        (0, &[0x12], (64, 100), Says::Whole(0, 100)),
+    ];
+    let server = assembly_within(&rt, 2, 100);
+    play_turns_of(&rt, server, 101, &[Turn::Blocks(FIRST, &rows)])
 }
 
 const PORT_0: Who<'static> = (0, b"t", Method::Put);

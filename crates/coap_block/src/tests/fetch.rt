@@ -2,7 +2,7 @@ ghost use Rattle.std.specs.Prelude.{IsSome, OnOk};
 
 use super::{body_of, part};
 use crate::{Block, Fetch, FetchRefusal, Step};
-use coap_types::{Szx, Tag};
+use coap_types::{BodyLimit, Szx, Tag};
 use std::alloc::{AllocError, AllocGlobal};
 use std::process::Abort;
 
@@ -30,6 +30,11 @@ type Row<'a> = (&'a [u8], u8, (usize, usize), Says);
 
 fn fetch_of<R: Abort + AllocGlobal>(rt: &R, szx: u8) -> Fetch {
     Fetch::new(rt.alloc(), Szx::new(szx).expect(rt, "at most 6"))
+}
+
+fn fetch_within<R: Abort + AllocGlobal>(rt: &R, szx: u8, limit: usize) -> Fetch {
+    let limit = BodyLimit::new(limit).expect(rt, "in range");
+    Fetch::with_limit(rt.alloc(), Szx::new(szx).expect(rt, "at most 6"), limit)
 }
 
 fn tag_of(version: u8) -> Option<Tag> {
@@ -237,6 +242,34 @@ fn a_body_without_block2_is_whole(rt: HostRuntime) -> Result<(), AllocError> {
         (0, Says::Whole(0, 0)),
     ] {
         let step = fetch.accept(None, tag_of(1), part(&bytes, 0, len))?;
+        check(&rt, &step, &bytes, says);
+    }
+    Ok(())
+}
+
+#[test]
+fn a_body_is_no_longer_than_the_limit(rt: HostRuntime) -> Result<(), AllocError> {
+    let bytes = body_of(rt.alloc(), 101)?;
+    let rows: [Row<'_>; 4] = [
+        (&[0x0a], 1, (0, 64), Says::Next(0x12)),
+        (&[0x12], 1, (64, 101), TOO_LARGE),
+        // The refusal changes nothing.
+        (&[0x12], 1, (64, 100), Says::Whole(0, 100)),
+        (&[0x03], 1, (0, 101), TOO_LARGE),
+    ];
+    play(&rt, &mut fetch_within(&rt, 2, 100), &bytes, &rows)
+}
+
+#[test]
+fn a_limit_may_be_greater_than_the_usual_one(rt: HostRuntime) -> Result<(), AllocError> {
+    let bytes = body_of(rt.alloc(), 65_537)?;
+    for (limit, says) in [
+        (1, TOO_LARGE),
+        (65_536, TOO_LARGE),
+        (65_537, Says::Whole(0, 65_537)),
+        (1_048_576, Says::Whole(0, 65_537)),
+    ] {
+        let step = fetch_within(&rt, 6, limit).accept(None, tag_of(1), &bytes)?;
         check(&rt, &step, &bytes, says);
     }
     Ok(())

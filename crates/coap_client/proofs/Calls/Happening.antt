@@ -200,9 +200,9 @@ not_registered x number path s own m word a told is none own_is =
     let no = no_notification (is_notification a) (sequence_in a) (sym none ∙ is) in
     subst (λ b. Happens x (cond b (record {
       own =
-          record s { running = None; observations = s.observations ++ begun number path s.szx m a ∷ [] };
+          record s { running = None; observations = s.observations ++ begun number path s.sizes m a ∷ [] };
       report =
-          first_value number s.szx a;
+          first_value number s.sizes a;
       deed = Keeps a.token;
     }) e) m word None (left own x)) (sym no)
     (rests_happens x e m word own refl own_is)
@@ -213,9 +213,9 @@ pub was_registered : (x y : X.State) (number : ℕ) (path : List (List ℕ)) (s 
     → X.Step x (E.Keep a.token kept) y
     → own ≡ reporting (record {
       own = record s
-          { running = None; observations = s.observations ++ begun number path s.szx m a ∷ [] };
+          { running = None; observations = s.observations ++ begun number path s.sizes m a ∷ [] };
       report =
-          first_value number s.szx a;
+          first_value number s.sizes a;
       deed = Keeps a.token;
     })
     → Happens x (registered number path s m a) m word None (left own y)
@@ -224,9 +224,9 @@ was_registered x y number path s own m word a told k kept is some step own_is =
       own = record s {
         running = None;
         observations =
-            s.observations ++ begun number path s.szx m a ∷ [];
+            s.observations ++ begun number path s.sizes m a ∷ [];
       };
-      report = first_value number s.szx a;
+      report = first_value number s.sizes a;
       deed =
           Keeps a.token;
     } in
@@ -268,14 +268,14 @@ pub begun_own : (number : ℕ) (path : List (List ℕ)) (s first second own : Ow
     → second ≡ record first {
       running = None;
       observations =
-          first.observations ++ begun number path first.szx m a ∷ [];
+          first.observations ++ begun number path first.sizes m a ∷ [];
     }
-    → own ≡ reporting (record { own = second; report = report; deed = Rests }) → report ≡ first_value number s.szx a
+    → own ≡ reporting (record { own = second; report = report; deed = Rests }) → report ≡ first_value number s.sizes a
     → own ≡ reporting (record {
       own = record s
-          { running = None; observations = s.observations ++ begun number path s.szx m a ∷ [] };
+          { running = None; observations = s.observations ++ begun number path s.sizes m a ∷ [] };
       report =
-          first_value number s.szx a;
+          first_value number s.sizes a;
       deed = Keeps a.token;
     })
 begun_own number path s first second own m a report same live own_is report_is =
@@ -283,14 +283,14 @@ begun_own number path s first second own m a report same live own_is report_is =
     ∙ (ap (λ (o : Own). reporting (record { own = o; report = report; deed = Rests })) live
     ∙ (ap (λ (o : Own). reporting (record {
       own =
-          record o { running = None; observations = o.observations ++ begun number path o.szx m a ∷ [] };
+          record o { running = None; observations = o.observations ++ begun number path o.sizes m a ∷ [] };
       report =
           report;
       deed = Rests;
     })) same
     ∙ ap (λ r. reporting (record {
       own = record s
-          { running = None; observations = s.observations ++ begun number path s.szx m a ∷ [] };
+          { running = None; observations = s.observations ++ begun number path s.sizes m a ∷ [] };
       report = r;
       deed =
           Rests;

@@ -162,8 +162,8 @@ as_queued s own queue running os report is h =
 pub renewed_own : (number : ℕ) (w : Mark) (m : Message) (s first : Own) (running : Option Operation)
     (seen set : List Observation) (r : Option Notified) (report : Option Reported) (own : Own) → first ≡ s
     → running ≡ dropped number first.running
-    → seen ≡ setting number (watching w) first.observations → set ≡ with_rest number r seen → r ≡ first_rest s.szx m
-    → report ≡ first_value number s.szx m
+    → seen ≡ setting number (watching w) first.observations → set ≡ with_rest number r seen → r ≡ first_rest s.sizes m
+    → report ≡ first_value number s.sizes m
     → own ≡ reporting (record {
       own = record first { running = running; observations = set };
       report = report;
@@ -171,7 +171,7 @@ pub renewed_own : (number : ℕ) (w : Mark) (m : Message) (s first : Own) (runni
           Rests;
     }) → own ≡ renewing number w m s
 renewed_own number w m s first running seen set r report own same run watch rest r_is report_is own_is =
-    let os : set ≡ setting number (λ p. record p { watch = w; rest = first_rest s.szx m }) first.observations =
+    let os : set ≡ setting number (λ p. record p { watch = w; rest = first_rest s.sizes m }) first.observations =
     rest ∙ (ap (with_rest number r) watch ∙ (both_set number w r first.observations
     ∙ ap (λ q. setting number (λ p. record p { watch = w; rest = q }) first.observations) r_is)) in
     own_is
@@ -190,7 +190,7 @@ renewed_own number w m s first running seen set r report own same run watch rest
       own = record first {
         running = dropped number first.running;
         observations =
-            setting number (λ p. record p { watch = w; rest = first_rest s.szx m }) first.observations;
+            setting number (λ p. record p { watch = w; rest = first_rest s.sizes m }) first.observations;
       };
       report = q;
       deed =
@@ -201,10 +201,10 @@ renewed_own number w m s first running seen set r report own same run watch rest
           record o {
             running = dropped number o.running;
             observations =
-                setting number (λ p. record p { watch = w; rest = first_rest s.szx m }) o.observations;
+                setting number (λ p. record p { watch = w; rest = first_rest s.sizes m }) o.observations;
           };
       report =
-          first_value number s.szx m;
+          first_value number s.sizes m;
       deed = Rests;
     })) same)))
 

@@ -17,8 +17,9 @@ use Rattle.coap_common.proofs.Facts.FirstOut.{only_live}
 -- datagrams
 
 live : (s : State) → WasLed s → OnlyLive s.layer.layer
-live s (server, szx, word, t, led) =
-    only_live word _ s.layer.layer (led_exchanged server word [] (lower_of szx t) (X.fresh_state server word) s.layer
+live s (server, sizes, word, t, led) =
+    only_live (S.usual word) _ s.layer.layer (led_exchanged server word [] (lower_of sizes t)
+    (X.fresh_state server word) s.layer
     (led_start server word) led.layer).layer
 
 module _ (old new : State) where

@@ -4,6 +4,7 @@ use Rattle.std.proofs.Common.{◌∷◌, ◌++◌, Result, Ok, Err, map, sym, ap
 use Rattle.std.specs.Prelude.{filter, ◌==◌}
 use Rattle.coap_codec.specs.Message.{Message}
 use Rattle.coap_types.specs.declared.endpoint.Endpoint.{Endpoint}
+use Rattle.coap_block.specs.Sizes.{Sizes}
 use Rattle.coap_block.specs.declared.fetch_verdict.Verdict.{Verdict}
 use Rattle.coap_block.specs.declared.fetch_verdict.Verdict.TheVariants as verdict
 use Rattle.coap_observe.specs.Newer.{Watched as Mark, arrived, is_newer}
@@ -106,7 +107,7 @@ registered_fresh : (t number : ℕ) (path : List (List ℕ)) (s : Own) (m : Mess
     → Seen t (registered number path s t m).own
 registered_fresh t number path s m f = if_own (is_notification m) _ _ (λ o. Seen t o) (
   f.0,
-  added t s.observations (begun number path s.szx t m) f.1
+  added t s.observations (begun number path s.sizes t m) f.1
       (arrived_at (record { clock = 0; mark = None }) (sequence_in m) t true),
 ) f
 
@@ -182,36 +183,39 @@ closed_fresh t u e Rests token f = f
 closed_fresh t u e (Keeps k) token f = f
 closed_fresh t u e (Releases k) token f = f
 
-own_fresh : (szx : ℕ) (t : List Call) → Fresh (own_of szx t).clock (own_of szx t).observations
-own_fresh szx [] = tt
-own_fresh szx (Calls now r (Ok number) ∷ t) = later _ _ (own_of szx t).observations (omega arith) (own_fresh szx t)
-own_fresh szx (Calls now r (Err why) ∷ t) = later _ _ (own_of szx t).observations (omega arith) (own_fresh szx t)
-own_fresh szx (Observes now path (Ok number) ∷ t) =
-    later _ _ (own_of szx t).observations (omega arith) (own_fresh szx t)
-own_fresh szx (Observes now path (Err why) ∷ t) = later _ _ (own_of szx t).observations (omega arith) (own_fresh szx t)
-own_fresh szx (Cancels now number None ∷ t) = later _ _ (own_of szx t).observations (omega arith) (own_fresh szx t)
-own_fresh szx (Cancels now number (Some why) ∷ t) =
-    later _ _ (own_of szx t).observations (omega arith) (own_fresh szx t)
-own_fresh szx (Forgets number kept true ∷ t) =
-    filtered _ (λ o. not (o.number == number)) (own_of szx t).observations (own_fresh szx t)
-own_fresh szx (Forgets number kept false ∷ t) = own_fresh szx t
-own_fresh szx (Feeds now from bytes word up settled event sent token kept ∷ t) =
-    let s : Own = own_of szx t in
+own_fresh : (sizes : Sizes) (t : List Call) → Fresh (own_of sizes t).clock (own_of sizes t).observations
+own_fresh sizes [] = tt
+own_fresh sizes (Calls now r (Ok number) ∷ t) = later _ _ (own_of sizes t).observations (omega arith)
+    (own_fresh sizes t)
+own_fresh sizes (Calls now r (Err why) ∷ t) = later _ _ (own_of sizes t).observations (omega arith) (own_fresh sizes t)
+own_fresh sizes (Observes now path (Ok number) ∷ t) =
+    later _ _ (own_of sizes t).observations (omega arith) (own_fresh sizes t)
+own_fresh sizes (Observes now path (Err why) ∷ t) = later _ _ (own_of sizes t).observations (omega arith)
+    (own_fresh sizes t)
+own_fresh sizes (Cancels now number None ∷ t) = later _ _ (own_of sizes t).observations (omega arith)
+    (own_fresh sizes t)
+own_fresh sizes (Cancels now number (Some why) ∷ t) =
+    later _ _ (own_of sizes t).observations (omega arith) (own_fresh sizes t)
+own_fresh sizes (Forgets number kept true ∷ t) =
+    filtered _ (λ o. not (o.number == number)) (own_of sizes t).observations (own_fresh sizes t)
+own_fresh sizes (Forgets number kept false ∷ t) = own_fresh sizes t
+own_fresh sizes (Feeds now from bytes word up settled event sent token kept ∷ t) =
+    let s : Own = own_of sizes t in
     let m : ℕ = max s.clock now in
     let e = happened (at now s) m event in
     let z = closed_fresh m m e e.deed token (happened_fresh m (at now s) event
-    (refl, later s.clock m s.observations (omega arith) (own_fresh szx t))) in
+    (refl, later s.clock m s.observations (omega arith) (own_fresh sizes t))) in
     subst (λ k. Fresh k (closed m e e.deed token).own.observations) (sym z.0) z.1
-own_fresh szx (Ticks now word below w sent token kept answer ∷ t) =
-    let s : Own = own_of szx t in
+own_fresh sizes (Ticks now word below w sent token kept answer ∷ t) =
+    let s : Own = own_of sizes t in
     let m : ℕ = max s.clock now in
     let e = passes (at now s) m w in
     let z = closed_fresh m m e e.deed token (passes_fresh m (at now s) w
-    (refl, later s.clock m s.observations (omega arith) (own_fresh szx t))) in
+    (refl, later s.clock m s.observations (omega arith) (own_fresh sizes t))) in
     subst (λ k. Fresh k (closed m e e.deed token).own.observations) (sym z.0) z.1
-own_fresh szx (NextOut answer ∷ t) = own_fresh szx t
-own_fresh szx (NextReport answer ∷ t) = own_fresh szx t
-own_fresh szx (Asked answer ∷ t) = own_fresh szx t
+own_fresh sizes (NextOut answer ∷ t) = own_fresh sizes t
+own_fresh sizes (NextReport answer ∷ t) = own_fresh sizes t
+own_fresh sizes (Asked answer ∷ t) = own_fresh sizes t
 
 -- what was led to
 
@@ -235,9 +239,10 @@ apart s led n =
 pub led_step : (old new : State) (c : Call) → WasLed old → Step old c new → WasLed new
 led_step old new c led step = (led.0, led.1, led.2, c ∷ led.3, led_client led.0 led.1 led.2 led.3 c old new led.4 step)
 
-pub led_new : (server : Endpoint) (szx word : ℕ) (s : Own) (x : X.State) → s ≡ start szx → x ≡ X.fresh_state server word
-    → Led server szx word [] (left s x)
-led_new server szx word s x own_is layer_is = record { rows = tt; own_is = own_is; layer = layer_is }
+pub led_new : (server : Endpoint) (sizes : Sizes) (word : ℕ) (s : Own) (x : X.State) → s ≡ start sizes
+    → x ≡ X.fresh_state server word
+    → Led server sizes word [] (left s x)
+led_new server sizes word s x own_is layer_is = record { rows = tt; own_is = own_is; layer = layer_is }
 
 pub taken_out : (s : Own) (x y : X.State) (answer : Option L.Packet) → X.Step x (E.Take answer) y
     → Step (left s x) (NextOut answer) (left s y)

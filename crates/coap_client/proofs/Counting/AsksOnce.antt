@@ -2,6 +2,7 @@
 use Rattle.std.proofs.Common.{◌≡◌, ◌⊎◌, inl, inr, ℕ, max, true, Option, Some, None, List, [], ◌∷◌, ap, sym, subst, ◌∙◌}
 use Rattle.std.proofs.Common.{arith}
 use Rattle.coap_types.specs.declared.endpoint.Endpoint.{Endpoint}
+use Rattle.coap_block.specs.Sizes.{Sizes}
 use Rattle.coap_exchange.specs.declared.asker.Event.{Event}
 use Rattle.coap_client.specs.Trace.{Call, Calls, Observes, Cancels, Forgets, Feeds, Ticks, NextOut}
 use Rattle.coap_client.specs.Trace.{NextReport, Asked}
@@ -70,33 +71,34 @@ the_cancel (Registering k path) n is = absurd (cc is)
 the_cancel (Fetching k) n is = absurd (cc is)
 the_cancel Dropped n is = absurd (cc is)
 
-module _ (szx : ℕ) where
+module _ (sizes : Sizes) where
   abbrev Waits : List Call → Sending → Type 0
   Waits t y = (n : ℕ) (path : List (List ℕ)) → y.operation ≡ Registering n path
-      → (queue : List Operation) × ((own_of szx t).queue ≡ Registering n path ∷ queue)
+      → (queue : List Operation) × ((own_of sizes t).queue ≡ Registering n path ∷ queue)
 
-  waits_by : (t : List Call) (c : Call) (y : Sending) (k : Turned szx t c) → sends (own_of szx t) c ≡ Some y → Waits t y
+  waits_by : (t : List Call) (c : Call) (y : Sending) (k : Turned sizes t c) → sends (own_of sizes t) c ≡ Some y
+      → Waits t y
   waits_by t c y k h n path op_is = by k.closes
     where
       e : Effect
-      e = left_by (at k.now (own_of szx t)) (max (own_of szx t).clock k.now) k.told k.move
+      e = left_by (at k.now (own_of sizes t)) (max (own_of sizes t).clock k.now) k.told k.move
 
-      by : Closing (max (own_of szx t).clock k.now) e k.token
-          → (queue : List Operation) × ((own_of szx t).queue ≡ Registering n path ∷ queue)
+      by : Closing (max (own_of sizes t).clock k.now) e k.token
+          → (queue : List Operation) × ((own_of sizes t).queue ≡ Registering n path ∷ queue)
       by (quiet q none own_same report_same) = let z : Some y ≡ None = sym h ∙ (k.sends_is ∙ none) in absurd (cc z)
       by (is_refused op why asks given none all) = let z : Some y ≡ None = sym h ∙ (k.sends_is ∙ none) in absurd (cc z)
       by (goes_out op key asks given sends_it own_same report_same) =
           let same : sending_of e op key ≡ y = (let z : Some (sending_of e op key) ≡ Some y = sym sends_it
           ∙ (sym k.sends_is ∙ h) in cc z) in
           let is : op ≡ Registering n path = ap (λ (z : Sending). z.operation) same ∙ op_is in
-          first_waits (at k.now (own_of szx t)) (max (own_of szx t).clock k.now) k.told k.move n path
+          first_waits (at k.now (own_of sizes t)) (max (own_of sizes t).clock k.now) k.told k.move n path
           (asks ∙ ap Asks is)
 
-  waits : (t : List Call) (c : Call) (y : Sending) → sends (own_of szx t) c ≡ Some y → Waits t y
+  waits : (t : List Call) (c : Call) (y : Sending) → sends (own_of sizes t) c ≡ Some y → Waits t y
   waits t (Feeds now from bytes w up settled event sent token was) y h =
-      waits_by t _ y (fed_turned szx t now from bytes w up settled event sent token was) h
+      waits_by t _ y (fed_turned sizes t now from bytes w up settled event sent token was) h
   waits t (Ticks now w below turn sent token was answer) y h =
-      waits_by t _ y (ticked_turned szx t now w below turn sent token was answer) h
+      waits_by t _ y (ticked_turned sizes t now w below turn sent token was answer) h
   waits t (Calls now r answer) y h = absurd (cc h)
   waits t (Observes now path answer) y h = absurd (cc h)
   waits t (Cancels now n answer) y h = absurd (cc h)
@@ -106,25 +108,31 @@ module _ (szx : ℕ) where
   waits t (Asked answer) y h = absurd (cc h)
 
   -- what waits was not sent
-  registered_once : (t : List Call) (c : Call) → ClientRows szx t → (x y : Sending) → sends (own_of szx t) c ≡ Some y
-      → WasSent szx x t → BothDo registers x y → ⊥
+  registered_once : (t : List Call) (c : Call) → ClientRows sizes t → (x y : Sending)
+      → sends (own_of sizes t) c ≡ Some y
+      → WasSent sizes x t → BothDo registers x y → ⊥
   registered_once t c rows x y is was h =
       let a = the_registration x.operation h.0 h.1 in
       let b = the_registration y.operation h.0 h.2 in
       let q = waits t c y is h.0 b.0 b.1 in
-      let z : Turns szx t = turns szx t rows in
-      let w : Rises z.low (Registering h.0 b.0 ∷ q.0) (own_of szx t).taken =
-      subst (λ ops. Rises z.low ops (own_of szx t).taken) q.1 z.waits in
+      let z : Turns sizes t = turns sizes t rows in
+      let w : Rises z.low (Registering h.0 b.0 ∷ q.0) (own_of sizes t).taken =
+      subst (λ ops. Rises z.low ops (own_of sizes t).taken) q.1 z.waits in
       let low = w.0 in
       let less = z.sent x h.0 was (ap turn_of a.1) in
       omega (arith, low, less)
 
-pub ask_once : (server : Endpoint) (szx word : ℕ) (t : List Call) → ClientLaw server szx word t → AskOnce szx t
-ask_once server szx word [] law = tt
-ask_once server szx word (c ∷ t) law = (here, ask_once server szx word t (client_back server szx word (c ∷ []) t law))
+pub ask_once : (server : Endpoint) (sizes : Sizes) (word : ℕ) (t : List Call) → ClientLaw server sizes word t
+    → AskOnce sizes t
+ask_once server sizes word [] law = tt
+ask_once server sizes word (c ∷ t) law = (
+  here,
+  ask_once server sizes word t
+      (client_back server sizes word (c ∷ []) t law),
+)
   where
-    here : (x y : Sending) → sends (own_of szx t) c ≡ Some y → WasSent szx x t
+    here : (x y : Sending) → sends (own_of sizes t) c ≡ Some y → WasSent sizes x t
         → (BothDo registers x y ⊎ BothDo cancels x y) → ⊥
-    here x y is was (inl h) = registered_once szx t c law.rows.1 x y is was h
-    here x y is was (inr h) = one_cancel szx server word t c law y x h.0 is (the_cancel y.operation h.0 h.2) was
+    here x y is was (inl h) = registered_once sizes t c law.rows.1 x y is was h
+    here x y is was (inr h) = one_cancel sizes server word t c law y x h.0 is (the_cancel y.operation h.0 h.2) was
         (the_cancel x.operation h.0 h.1)

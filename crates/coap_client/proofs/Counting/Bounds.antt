@@ -7,12 +7,12 @@ use Rattle.coap_types.specs.Past.{Ever}
 use Rattle.coap_types.proofs.Facts.Traces.{Ever_map}
 use Rattle.coap_types.specs.declared.block.Block.{Block}
 use Rattle.coap_types.specs.declared.endpoint.Endpoint.{Endpoint}
-use Rattle.coap_types.specs.declared.limits.TheConstants.{MAX_BODY_LEN as max_body}
 use Rattle.coap_types.specs.declared.option_number.TheConstants.{BLOCK1 as block1}
 use Rattle.coap_types.specs.declared.request.Method.{Method}
 use Rattle.coap_types.specs.declared.request.Method.TheVariants.{Get, Post, Put, Delete}
 use Rattle.coap_types.specs.Piece.{size_of}
 use Rattle.coap_codec.specs.Message.{Message}
+use Rattle.coap_block.specs.Sizes.{Sizes}
 use Rattle.coap_block.specs.declared.fetch_verdict.Verdict.{Verdict}
 use Rattle.coap_block.specs.declared.fetch_verdict.Verdict.TheVariants as verdict
 use Rattle.coap_block.specs.FetchStep.{FetchState}
@@ -54,7 +54,8 @@ use Rattle.coap_client.proofs.Reporting.Bodies.{waits_closed}
 use Rattle.coap_client.proofs.Queueing.InTurn.{Rises, Turns, turns}
 use Rattle.coap_client.proofs.Places.Numbers.{numbers_once}
 use Rattle.coap_client.proofs.Queueing.OneByOne.{sent_now}
-use Rattle.coap_client.specs.Follows.Bounds.{most_requests, one_of, one_sent, requests, AreBounded}
+use Rattle.coap_client.specs.Follows.Bounds.{max_blocks, most_requests, one_of, one_sent, requests, AreBounded}
+use Rattle.coap_client.proofs.Counting.Blocks.{one_block}
 use Rattle.coap_client.proofs.Turning.AllWaiting.{all_to, all_more}
 use Rattle.coap_client.proofs.Uploading.TransferSteps.{lt_not, FetchWithin, fetch_begins, fetch_more, fetch_anew}
 use Rattle.coap_client.proofs.Uploading.TransferSteps.{fetch_bound, UploadWithin, upload_more, upload_bound}
@@ -67,146 +68,152 @@ IsUploading Post = Unit {0}
 IsUploading Put = Unit {0}
 IsUploading Delete = ⊥
 
-abbrev pub Within : ℕ → Request → Transfer → ℕ → Type 0
-Within szx q (Fetches f) n = (q.method ≡ Get) × FetchWithin f n
-Within szx q (Uploads u) n = IsUploading q.method × UploadWithin szx q.body u n
-Within szx q Single n = n ≤ 1
+abbrev pub Within : Sizes → Request → Transfer → ℕ → Type 0
+Within sizes q (Fetches f) n = (q.method ≡ Get) × FetchWithin sizes.limit f n
+Within sizes q (Uploads u) n = IsUploading q.method × UploadWithin sizes q.body u n
+Within sizes q Single n = n ≤ 1
 
-begins_within : (szx : ℕ) (q : Request) (m : Method) (n : ℕ) → q.method ≡ m → n ≤ 1
-    → Within szx q (transfer_of szx q m) n
-begins_within szx q Get n is one = (is, fetch_begins szx n one)
-begins_within szx q Post n is one = (subst IsUploading (sym is) tt, inl (refl, one))
-begins_within szx q Put n is one = (subst IsUploading (sym is) tt, inl (refl, one))
-begins_within szx q Delete n is one = one
+begins_within : (sizes : Sizes) (q : Request) (m : Method) (n : ℕ) → q.method ≡ m → n ≤ 1
+    → Within sizes q (transfer_of sizes q m) n
+begins_within sizes q Get n is one = (is, fetch_begins sizes n one)
+begins_within sizes q Post n is one = (subst IsUploading (sym is) tt, inl (refl, one))
+begins_within sizes q Put n is one = (subst IsUploading (sym is) tt, inl (refl, one))
+begins_within sizes q Delete n is one = one
 
-module _ (szx : ℕ) (q r : Request) (m : Message) (next : Transfer) (n : ℕ) where
-  fetch_within : (f : FetchState) → answer r (Fetches f) m ≡ calls.Asks next → Within szx q (Fetches f) n
-      → Within szx q next (1 + n)
+module _ (sizes : Sizes) (q r : Request) (m : Message) (next : Transfer) (n : ℕ) where
+  fetch_within : (f : FetchState) → answer r (Fetches f) m ≡ calls.Asks next → Within sizes q (Fetches f) n
+      → Within sizes q next (1 + n)
   fetch_within f h w = by (m.code == content) ((m.code == valid) && has_tags r.etags) h
     where
-      by_verdict : (v : Verdict) → part f m ≡ v → calls.fetched f m v ≡ calls.Asks next → Within szx q next (1 + n)
+      by_verdict : (v : Verdict) → part f m ≡ v → calls.fetched f m v ≡ calls.Asks next → Within sizes q next (1 + n)
       by_verdict (verdict.Refuse why) is h = absurd (cc h)
       by_verdict verdict.Done is h = absurd (cc h)
       by_verdict verdict.Again is h = let e : Fetches (F.after f (tag_in m) m.payload verdict.Again)
-          ≡ next = cc h in subst (λ t. Within szx q t (1 + n)) e (w.0, fetch_anew f m n is w.1)
+          ≡ next = cc h in subst (λ t. Within sizes q t (1 + n)) e (w.0, fetch_anew sizes.limit f m n is w.1)
       by_verdict (verdict.Ask num size) is h =
           let e : Fetches (F.after f (tag_in m) m.payload (verdict.Ask num size))
-          ≡ next = cc h in subst (λ t. Within szx q t (1 + n)) e (w.0, fetch_more f m n num size is w.1)
+          ≡ next = cc h in subst (λ t. Within sizes q t (1 + n)) e (w.0, fetch_more sizes.limit f m n num size is w.1)
 
       by : (c d : Bool) → cond c (calls.fetched f m (part f m))
           (cond d (calls.Ends true (Valid (tag_in m))) (calls.Ends true (Failed m.code))) ≡ calls.Asks next
-          → Within szx q next (1 + n)
+          → Within sizes q next (1 + n)
       by true d h = by_verdict (part f m) refl h
       by false true h = absurd (cc h)
       by false false h = absurd (cc h)
 
-  upload_within : (u : UploadState) → answer r (Uploads u) m ≡ calls.Asks next → Within szx q (Uploads u) n
-      → Within szx q next (1 + n)
+  upload_within : (u : UploadState) → answer r (Uploads u) m ≡ calls.Asks next → Within sizes q (Uploads u) n
+      → Within sizes q next (1 + n)
   upload_within u h w = by ((m.code == continue) && is_longer u) refl (more_follows u && calls.is_below_errors m.code) h
     where
       step : is_longer u ≡ true → (b : Block) (c : Bool) → continues u b ≡ c
           → cond c (calls.Asks (Uploads (moved u b))) (calls.Ends false BadBlock) ≡ calls.Asks next
-          → Within szx q next (1 + n)
+          → Within sizes q next (1 + n)
       step long b true may h = let e : Uploads (moved u b)
-          ≡ next = cc h in subst (λ t. Within szx q t (1 + n)) e (w.0, upload_more szx q.body u b n may long w.1)
+          ≡ next = cc h in subst (λ t. Within sizes q t (1 + n)) e (w.0, upload_more sizes q.body u b n may long w.1)
       step long b false may h = absurd (cc h)
 
       by_block : is_longer u ≡ true → (o : Option Block) → calls.continued u o ≡ calls.Asks next
-          → Within szx q next (1 + n)
+          → Within sizes q next (1 + n)
       by_block long None h = absurd (cc h)
       by_block long (Some b) h = step long b (continues u b) refl h
 
       by : (b : Bool) → ((m.code == continue) && is_longer u) ≡ b → (p : Bool)
           → cond b (calls.continued u (block_at block1 m))
           (cond p (calls.Ends true BadBlock) (calls.Ends true (done r.method m.code))) ≡ calls.Asks next
-          → Within szx q next (1 + n)
+          → Within sizes q next (1 + n)
       by true is p h = by_block (and_parts (m.code == continue) (is_longer u) is).1 (block_at block1 m) h
       by false is true h = absurd (cc h)
       by false is false h = absurd (cc h)
 
-  next_within : (old : Transfer) → answer r old m ≡ calls.Asks next → Within szx q old n → Within szx q next (1 + n)
+  next_within : (old : Transfer) → answer r old m ≡ calls.Asks next → Within sizes q old n → Within sizes q next (1 + n)
   next_within (Fetches f) h w = fetch_within f h w
   next_within (Uploads u) h w = upload_within u h w
   next_within Single h w = absurd (cc h)
 
-within_bound : (szx : ℕ) (q : Request) (tr : Transfer) (n : ℕ) → length q.body ≤ 65536 → Within szx q tr n
-    → n ≤ most_requests szx q q.method
-within_bound szx q (Fetches f) n small w = subst (λ m. n ≤ most_requests szx q m) (sym w.0) (fetch_bound f n w.1)
-within_bound szx q (Uploads u) n small w = by q.method w.0
+within_bound : (sizes : Sizes) (q : Request) (tr : Transfer) (n : ℕ) → length q.body ≤ sizes.limit → Within sizes q tr n
+    → n ≤ most_requests sizes q q.method
+within_bound sizes q (Fetches f) n small w = subst (λ m. n ≤ most_requests sizes q m) (sym w.0)
+    (fetch_bound sizes.limit f n w.1)
+within_bound sizes q (Uploads u) n small w = by q.method w.0
   where
-    by : (m : Method) → IsUploading m → n ≤ most_requests szx q m
+    by : (m : Method) → IsUploading m → n ≤ most_requests sizes q m
     by Get h = absurd h
-    by Post h = upload_bound szx q.body u n small w.1
-    by Put h = upload_bound szx q.body u n small w.1
+    by Post h = upload_bound sizes q.body u n small w.1
+    by Put h = upload_bound sizes q.body u n small w.1
     by Delete h = absurd h
-within_bound szx q Single n small w = by q.method
+within_bound sizes q Single n small w = by q.method
   where
-    one : (b : Bool) → n ≤ cond b 4096 1
-    one true = omega (arith, w)
+    some : 1 ≤ max_blocks sizes.limit
+    some = one_block sizes.limit
+
+    one : (b : Bool) → n ≤ cond b (max_blocks sizes.limit) 1
+    one true = omega (arith, w, some)
     one false = w
 
-    by : (m : Method) → n ≤ most_requests szx q m
+    by : (m : Method) → n ≤ most_requests sizes q m
     by Get = omega (arith, w)
-    by Post = one (nat_lt (size_of szx) (length q.body))
-    by Put = one (nat_lt (size_of szx) (length q.body))
+    by Post = one (nat_lt (size_of sizes.szx) (length q.body))
+    by Put = one (nat_lt (size_of sizes.szx) (length q.body))
     by Delete = w
 
--- the client's block size stays
+-- the client's sizes stay
 
-szx_held : (s : Own) (c : Bool) (report : Option Reported)
-    → (ends report (cond c (record s { hold = Some s.sent }) s)).own.szx ≡ s.szx
-szx_held s true report = refl
-szx_held s false report = refl
+sizes_held : (s : Own) (c : Bool) (report : Option Reported)
+    → (ends report (cond c (record s { hold = Some s.sent }) s)).own.sizes ≡ s.sizes
+sizes_held s true report = refl
+sizes_held s false report = refl
 
-szx_failed : (u : Transfer → Bool) (report : Report) (s : Own) (running : Option Operation)
-    → (failed u report s running).own.szx ≡ s.szx
-szx_failed u report s None = refl
-szx_failed u report s (Some (Calling k r t)) = szx_held s (u t && is_upload t) (of k report)
-szx_failed u report s (Some (Registering k path)) = refl
-szx_failed u report s (Some (Fetching k)) = refl
-szx_failed u report s (Some (Cancelling k)) = refl
-szx_failed u report s (Some Dropped) = refl
+sizes_failed : (u : Transfer → Bool) (report : Report) (s : Own) (running : Option Operation)
+    → (failed u report s running).own.sizes ≡ s.sizes
+sizes_failed u report s None = refl
+sizes_failed u report s (Some (Calling k r t)) = sizes_held s (u t && is_upload t) (of k report)
+sizes_failed u report s (Some (Registering k path)) = refl
+sizes_failed u report s (Some (Fetching k)) = refl
+sizes_failed u report s (Some (Cancelling k)) = refl
+sizes_failed u report s (Some Dropped) = refl
 
-szx_moves : (s : Own) (now : ℕ) (told : Option Event) (mo : Move s now told) → (left_by s now told mo).own.szx ≡ s.szx
-szx_moves s now told (mv.rests un) = refl
-szx_moves s now told (mv.copies q) = refl
-szx_moves s now told (mv.starts_next op queue none rest first q) = refl
-szx_moves s now told (mv.fetches k none rest q) = refl
-szx_moves s now told (mv.goes_on k r tr next a hears runs asks) = refl
-szx_moves s now told (mv.is_done k r tr final rep a hears runs ends_so) =
-    szx_held s (not final && is_upload tr) (of k rep)
-szx_moves s now told (mv.registers k path a hears runs note) = refl
-szx_moves s now told (mv.refuses k path a hears runs note) = refl
-szx_moves s now told (mv.fetches_on k n a num size hears runs rest code asks) = refl
-szx_moves s now told (mv.fetched k n a hears runs rest code done_so) = refl
-szx_moves s now told (mv.gives_up k a hears runs) = refl
-szx_moves s now told (mv.fetched_none k a hears runs) = refl
-szx_moves s now told (mv.cancels k a hears runs) = refl
-szx_moves s now told (mv.is_dropped a hears runs) = refl
-szx_moves s now told (mv.fails e un) = szx_failed (λ t. true) (lapse e) s s.running
-szx_moves s now told (mv.is_ended o a notes found note) = refl
-szx_moves s now told (mv.renews o a notes found note newer) = refl
-szx_moves s now told (mv.passes_by o a notes found note newer) = refl
+sizes_moves : (s : Own) (now : ℕ) (told : Option Event) (mo : Move s now told)
+    → (left_by s now told mo).own.sizes ≡ s.sizes
+sizes_moves s now told (mv.rests un) = refl
+sizes_moves s now told (mv.copies q) = refl
+sizes_moves s now told (mv.starts_next op queue none rest first q) = refl
+sizes_moves s now told (mv.fetches k none rest q) = refl
+sizes_moves s now told (mv.goes_on k r tr next a hears runs asks) = refl
+sizes_moves s now told (mv.is_done k r tr final rep a hears runs ends_so) =
+    sizes_held s (not final && is_upload tr) (of k rep)
+sizes_moves s now told (mv.registers k path a hears runs note) = refl
+sizes_moves s now told (mv.refuses k path a hears runs note) = refl
+sizes_moves s now told (mv.fetches_on k n a num size hears runs rest code asks) = refl
+sizes_moves s now told (mv.fetched k n a hears runs rest code done_so) = refl
+sizes_moves s now told (mv.gives_up k a hears runs) = refl
+sizes_moves s now told (mv.fetched_none k a hears runs) = refl
+sizes_moves s now told (mv.cancels k a hears runs) = refl
+sizes_moves s now told (mv.is_dropped a hears runs) = refl
+sizes_moves s now told (mv.fails e un) = sizes_failed (λ t. true) (lapse e) s s.running
+sizes_moves s now told (mv.is_ended o a notes found note) = refl
+sizes_moves s now told (mv.renews o a notes found note newer) = refl
+sizes_moves s now told (mv.passes_by o a notes found note newer) = refl
 
-szx_closed : (now : ℕ) (e : Effect) (token : Result (List ℕ) AskRefusal) → Closing now e token
-    → (closed now e e.deed token).own.szx ≡ e.own.szx
-szx_closed now e token (quiet q none own_same report_same) = ap (λ (o : Own). o.szx) own_same
-szx_closed now e token (goes_out op key asks given sends_it own_same report_same) = ap (λ (o : Own). o.szx) own_same
-szx_closed now e token (is_refused op why asks given none all) = ap (λ (c : Effect). c.own.szx) all
-    ∙ szx_failed has_sent NoIds e.own (Some op)
+sizes_closed : (now : ℕ) (e : Effect) (token : Result (List ℕ) AskRefusal) → Closing now e token
+    → (closed now e e.deed token).own.sizes ≡ e.own.sizes
+sizes_closed now e token (quiet q none own_same report_same) = ap (λ (o : Own). o.sizes) own_same
+sizes_closed now e token (goes_out op key asks given sends_it own_same report_same) = ap (λ (o : Own). o.sizes) own_same
+sizes_closed now e token (is_refused op why asks given none all) = ap (λ (c : Effect). c.own.sizes) all
+    ∙ sizes_failed has_sent NoIds e.own (Some op)
 
-szx_turned : (szx : ℕ) (t : List Call) (c : Call) → Turned szx t c → (own_of szx (c ∷ t)).szx ≡ (own_of szx t).szx
-szx_turned szx t c k =
-    let m : ℕ = max (own_of szx t).clock k.now in
-    let s : Own = at k.now (own_of szx t) in
-    ap (λ (o : Own). o.szx) k.own_is ∙ (szx_closed m (left_by s m k.told k.move) k.token k.closes
-    ∙ szx_moves s m k.told k.move)
+sizes_turned : (sizes : Sizes) (t : List Call) (c : Call) → Turned sizes t c
+    → (own_of sizes (c ∷ t)).sizes ≡ (own_of sizes t).sizes
+sizes_turned sizes t c k =
+    let m : ℕ = max (own_of sizes t).clock k.now in
+    let s : Own = at k.now (own_of sizes t) in
+    ap (λ (o : Own). o.sizes) k.own_is ∙ (sizes_closed m (left_by s m k.told k.move) k.token k.closes
+    ∙ sizes_moves s m k.told k.move)
 
-szx_same : (szx : ℕ) (t : List Call) → (own_of szx t).szx ≡ szx
-szx_same szx [] = refl
-szx_same szx (c ∷ t) = by c ∙ szx_same szx t
+sizes_same : (sizes : Sizes) (t : List Call) → (own_of sizes t).sizes ≡ sizes
+sizes_same sizes [] = refl
+sizes_same sizes (c ∷ t) = by c ∙ sizes_same sizes t
   where
-    by : (c : Call) → (own_of szx (c ∷ t)).szx ≡ (own_of szx t).szx
+    by : (c : Call) → (own_of sizes (c ∷ t)).sizes ≡ (own_of sizes t).sizes
     by (Calls now r (Ok n)) = refl
     by (Calls now r (Err why)) = refl
     by (Observes now path (Ok n)) = refl
@@ -216,9 +223,9 @@ szx_same szx (c ∷ t) = by c ∙ szx_same szx t
     by (Forgets k was true) = refl
     by (Forgets k was false) = refl
     by (Feeds now from bytes w up settled event sent token was) =
-        szx_turned szx t _ (fed_turned szx t now from bytes w up settled event sent token was)
+        sizes_turned sizes t _ (fed_turned sizes t now from bytes w up settled event sent token was)
     by (Ticks now w below turn sent token was answer) =
-        szx_turned szx t _ (ticked_turned szx t now w below turn sent token was answer)
+        sizes_turned sizes t _ (ticked_turned sizes t now w below turn sent token was answer)
     by (NextOut answer) = refl
     by (NextReport answer) = refl
     by (Asked answer) = refl
@@ -228,29 +235,29 @@ szx_same szx (c ∷ t) = by c ∙ szx_same szx t
 abbrev pub taken : ℕ → Request → Taken
 taken k q = record { number = k; request = q }
 
-abbrev Waits : ℕ → List Call → Operation → Type 0
-Waits szx t (Calling k r tr) = (q : Request) × WasTaken (taken k q) t × (length q.body ≤ 65536)
-    × (tr ≡ transfer_of szx q q.method)
-Waits szx t op = Unit {0}
+abbrev Waits : Sizes → List Call → Operation → Type 0
+Waits sizes t (Calling k r tr) = (q : Request) × WasTaken (taken k q) t × (length q.body ≤ sizes.limit)
+    × (tr ≡ transfer_of sizes q q.method)
+Waits sizes t op = Unit {0}
 
-waits_later : (szx : ℕ) (t : List Call) (c : Call) (op : Operation) → Waits szx t op → Waits szx (c ∷ t) op
-waits_later szx t c (Calling k r tr) h = (h.0, inr h.1, h.2, h.3)
-waits_later szx t c (Registering k path) h = tt
-waits_later szx t c (Fetching k) h = tt
-waits_later szx t c (Cancelling k) h = tt
-waits_later szx t c Dropped h = tt
+waits_later : (sizes : Sizes) (t : List Call) (c : Call) (op : Operation) → Waits sizes t op → Waits sizes (c ∷ t) op
+waits_later sizes t c (Calling k r tr) h = (h.0, inr h.1, h.2, h.3)
+waits_later sizes t c (Registering k path) h = tt
+waits_later sizes t c (Fetching k) h = tt
+waits_later sizes t c (Cancelling k) h = tt
+waits_later sizes t c Dropped h = tt
 
 -- a call that is taken has a body that can be joined
-body_small : (s : Own) (r : Request) (n : ℕ) → Ok n ≡ call_answer s r → length r.body ≤ 65536
-body_small s r n is = by (is_full s) (nat_lt max_body (length r.body))
+body_small : (s : Own) (r : Request) (n : ℕ) → Ok n ≡ call_answer s r → length r.body ≤ s.sizes.limit
+body_small s r n is = by (is_full s) (nat_lt s.sizes.limit (length r.body))
     (are_long (block_option_number r.method) (options_of r)) refl is
   where
-    by : (a b c : Bool) → nat_lt max_body (length r.body) ≡ b
+    by : (a b c : Bool) → nat_lt s.sizes.limit (length r.body) ≡ b
         → Ok n ≡ cond a (Err QueueFull) (cond b (Err BodyTooLarge) (cond c (Err BadPath) (taken_by s)))
-        → length r.body ≤ 65536
+        → length r.body ≤ s.sizes.limit
     by true b c small e = absurd (cc e)
     by false true c small e = absurd (cc e)
-    by false false c small e = lt_not max_body (length r.body) small
+    by false false c small e = lt_not s.sizes.limit (length r.body) small
 
 call_turns : (op : Operation) (k : ℕ) → call_of op ≡ Some k → turn_of op ≡ Some k
 call_turns (Calling n r t) k is = is
@@ -297,130 +304,135 @@ sent_or_not k (Some x) = by (call_of x.operation) refl
         go true e = inr (x, refl, is ∙ ap (λ i. Some i) (same_number n k e))
         go false e = inl refl
 
-module _ (szx : ℕ) where
-  none_sent : (k : ℕ) (t : List Call) → ((x : Sending) → WasSent szx x t → call_of x.operation ≡ Some k → ⊥)
-      → requests szx k t ≡ 0
+module _ (sizes : Sizes) where
+  none_sent : (k : ℕ) (t : List Call) → ((x : Sending) → WasSent sizes x t → call_of x.operation ≡ Some k → ⊥)
+      → requests sizes k t ≡ 0
   none_sent k [] f = refl
   none_sent k (c ∷ t) f =
-      elim (sent_or_not k (sends (own_of szx t) c)) [
+      elim (sent_or_not k (sends (own_of sizes t) c)) [
         | inl e ↦ (let ih = none_sent k t (λ x was. f x (inr was)) in omega (arith, e, ih))
         | inr h ↦ absurd (f h.0 (inl h.1) h.2)
       ]
 
-  waits_step : (t : List Call) (c : Call) → IsRight (own_of szx t) c → AllOf (Waits szx (c ∷ t)) (own_of szx t).queue
-      → AllOf (Waits szx (c ∷ t)) (own_of szx (c ∷ t)).queue
+  waits_step : (t : List Call) (c : Call) → IsRight (own_of sizes t) c
+      → AllOf (Waits sizes (c ∷ t)) (own_of sizes t).queue
+      → AllOf (Waits sizes (c ∷ t)) (own_of sizes (c ∷ t)).queue
   waits_step t (Calls now r (Ok n)) right h =
-      all_more (Waits szx (Calls now r (Ok n) ∷ t)) (own_of szx t).queue (calling (own_of szx t).szx n r) h
-      (r, inl refl, body_small (own_of szx t) r n right, ap (λ i. transfer_of i r r.method) (szx_same szx t))
+      all_more (Waits sizes (Calls now r (Ok n) ∷ t)) (own_of sizes t).queue (calling (own_of sizes t).sizes n r) h (
+        r,
+        inl refl,
+        subst (λ (z : Sizes). length r.body ≤ z.limit) (sizes_same sizes t) (body_small (own_of sizes t) r n right),
+        ap (λ i. transfer_of i r r.method) (sizes_same sizes t),
+      )
   waits_step t (Calls now r (Err why)) right h = h
   waits_step t (Observes now path (Ok n)) right h =
-      all_more (Waits szx (Observes now path (Ok n) ∷ t)) (own_of szx t).queue (Registering n path) h tt
+      all_more (Waits sizes (Observes now path (Ok n) ∷ t)) (own_of sizes t).queue (Registering n path) h tt
   waits_step t (Observes now path (Err why)) right h = h
-  waits_step t (Cancels now k None) right h = all_more (Waits szx (Cancels now k None ∷ t)) (own_of szx t).queue
+  waits_step t (Cancels now k None) right h = all_more (Waits sizes (Cancels now k None ∷ t)) (own_of sizes t).queue
       (Cancelling k) h tt
   waits_step t (Cancels now k (Some why)) right h = h
-  waits_step t (Forgets k was true) right h = all_uncancelled k (Waits szx (Forgets k was true ∷ t))
-      (own_of szx t).queue h
+  waits_step t (Forgets k was true) right h = all_uncancelled k (Waits sizes (Forgets k was true ∷ t))
+      (own_of sizes t).queue h
   waits_step t (Forgets k was false) right h = h
   waits_step t (NextOut answer) right h = h
   waits_step t (NextReport answer) right h = h
   waits_step t (Asked answer) right h = h
   waits_step t (Feeds now from bytes w up settled event sent token was) right h =
-      let s : Own = own_of szx t in
+      let s : Own = own_of sizes t in
       let m : ℕ = max s.clock now in
       let e : Effect = happened (at now s) m event in
-      let P : Operation → Type 0 = Waits szx (Feeds now from bytes w up settled event sent token was ∷ t) in
+      let P : Operation → Type 0 = Waits sizes (Feeds now from bytes w up settled event sent token was ∷ t) in
       waits_closed P m e token ((happened_runs (at now s) m event).waits P h) (closing m e token)
   waits_step t (Ticks now w below turn sent token was answer) right h =
-      let s : Own = own_of szx t in
+      let s : Own = own_of sizes t in
       let m : ℕ = max s.clock now in
       let e : Effect = passes (at now s) m turn in
-      let P : Operation → Type 0 = Waits szx (Ticks now w below turn sent token was answer ∷ t) in
+      let P : Operation → Type 0 = Waits sizes (Ticks now w below turn sent token was answer ∷ t) in
       waits_closed P m e token ((passes_runs (at now s) m turn).waits P h) (closing m e token)
 
-  all_wait : (t : List Call) → ClientRows szx t → AllOf (Waits szx t) (own_of szx t).queue
+  all_wait : (t : List Call) → ClientRows sizes t → AllOf (Waits sizes t) (own_of sizes t).queue
   all_wait [] rows = tt
   all_wait (c ∷ t) rows = waits_step t c rows.0
-      (all_to (Waits szx t) (Waits szx (c ∷ t)) (waits_later szx t c) (own_of szx t).queue (all_wait t rows.1))
+      (all_to (Waits sizes t) (Waits sizes (c ∷ t)) (waits_later sizes t c) (own_of sizes t).queue (all_wait t rows.1))
 
   -- the call that runs sent so many
   pub record Runs (t : List Call) (k : ℕ) (tr : Transfer) : Type 0 where
     pub request : Request
     pub taken_it : WasTaken (taken k request) t
-    pub small : length request.body ≤ 65536
-    pub within : Within szx request tr (requests szx k t)
+    pub small : length request.body ≤ sizes.limit
+    pub within : Within sizes request tr (requests sizes k t)
 
-  pub started : (t : List Call) → ClientRows szx t → (k : ℕ) (r : Request) (tr : Transfer) (queue : List Operation)
-      → (own_of szx t).queue ≡ Calling k r tr ∷ queue → requests szx k t ≡ 0
+  pub started : (t : List Call) → ClientRows sizes t → (k : ℕ) (r : Request) (tr : Transfer) (queue : List Operation)
+      → (own_of sizes t).queue ≡ Calling k r tr ∷ queue → requests sizes k t ≡ 0
   started t rows k r tr queue is =
-      let h : Turns szx t = turns szx t rows in
-      let w : Rises h.low (Calling k r tr ∷ queue) (own_of szx t).taken =
-      subst (λ ops. Rises h.low ops (own_of szx t).taken) is h.waits in
+      let h : Turns sizes t = turns sizes t rows in
+      let w : Rises h.low (Calling k r tr ∷ queue) (own_of sizes t).taken =
+      subst (λ ops. Rises h.low ops (own_of sizes t).taken) is h.waits in
       let low = w.0 in
       none_sent k t (λ x was of_it. (let less = h.sent x k was (call_turns x.operation k of_it) in absurd
       (omega (arith, less, low))))
 
-  runs_here : (t : List Call) (c : Call) → ClientRows szx t → (k : ℕ) (r : Request) (tr : Transfer)
-      → Origin szx t c k r tr → ((old : Transfer) → (own_of szx t).running ≡ Some (Calling k r old) → Runs t k old)
+  runs_here : (t : List Call) (c : Call) → ClientRows sizes t → (k : ℕ) (r : Request) (tr : Transfer)
+      → Origin sizes t c k r tr → ((old : Transfer) → (own_of sizes t).running ≡ Some (Calling k r old) → Runs t k old)
       → Runs (c ∷ t) k tr
   runs_here t c rows k r tr (kept runs none) ih =
       let h = ih tr runs in
-      let same : requests szx k (c ∷ t) ≡ requests szx k t = (let e = ap (one_sent k) none in omega (arith, e)) in
+      let same : requests sizes k (c ∷ t) ≡ requests sizes k t = (let e = ap (one_sent k) none in omega (arith, e)) in
       record {
         request = h.request;
         taken_it = inr h.taken_it;
         small = h.small;
-        within = subst (Within szx h.request tr) (sym same) h.within;
+        within = subst (Within sizes h.request tr) (sym same) h.within;
       }
   runs_here t c rows k r tr (follows old m x runs heard asks sends_it op_is) ih =
       let h = ih old runs in
-      let one : one_sent k (sends (own_of szx t) c) ≡ 1 = ap (one_sent k) sends_it
+      let one : one_sent k (sends (own_of sizes t) c) ≡ 1 = ap (one_sent k) sends_it
       ∙ (ap (λ op. one_of k (call_of op)) op_is ∙ ap (λ b. cond b 1 0) (number_self k)) in
-      let more : requests szx k (c ∷ t) ≡ 1 + requests szx k t = omega (arith, one) in
+      let more : requests sizes k (c ∷ t) ≡ 1 + requests sizes k t = omega (arith, one) in
       record {
         request = h.request;
         taken_it = inr h.taken_it;
         small = h.small;
-        within = subst (Within szx h.request tr) (sym more)
-            (next_within szx h.request r m tr (requests szx k t) old asks h.within);
+        within = subst (Within sizes h.request tr) (sym more)
+            (next_within sizes h.request r m tr (requests sizes k t) old asks h.within);
       }
   runs_here t c rows k r tr (begins queue is) ih =
-      let all : AllOf (Waits szx t) (Calling k r tr ∷ queue) = subst (AllOf (Waits szx t)) is (all_wait t rows) in
+      let all : AllOf (Waits sizes t) (Calling k r tr ∷ queue) = subst (AllOf (Waits sizes t)) is (all_wait t rows) in
       let g = all.0 in
       let none = started t rows k r tr queue is in
-      let one = at_most_one k (sends (own_of szx t) c) in
+      let one = at_most_one k (sends (own_of sizes t) c) in
       record {
         request = g.0;
         taken_it = inr g.1;
         small = g.2;
-        within = subst (λ z. Within szx g.0 z (requests szx k (c ∷ t))) (sym g.3)
-            (begins_within szx g.0 g.0.method (requests szx k (c ∷ t)) refl (omega (arith, none, one)));
+        within = subst (λ z. Within sizes g.0 z (requests sizes k (c ∷ t))) (sym g.3)
+            (begins_within sizes g.0 g.0.method (requests sizes k (c ∷ t)) refl (omega (arith, none, one)));
       }
 
-  pub runs_within : (t : List Call) → ClientRows szx t → (k : ℕ) (r : Request) (tr : Transfer)
-      → (own_of szx t).running ≡ Some (Calling k r tr) → Runs t k tr
+  pub runs_within : (t : List Call) → ClientRows sizes t → (k : ℕ) (r : Request) (tr : Transfer)
+      → (own_of sizes t).running ≡ Some (Calling k r tr) → Runs t k tr
   runs_within [] rows k r tr is = absurd (cc is)
-  runs_within (c ∷ t) rows k r tr is = runs_here t c rows.1 k r tr (origin szx t c k r tr is)
+  runs_within (c ∷ t) rows k r tr is = runs_here t c rows.1 k r tr (origin sizes t c k r tr is)
       (λ old runs. runs_within t rows.1 k r old runs)
 
   -- so each call sent none, or so many
   abbrev Bounded : ℕ → List Call → Type 0
-  Bounded k t = (requests szx k t ≡ 0) ⊎ ((q : Request) × WasTaken (taken k q) t
-      × (requests szx k t ≤ most_requests szx q q.method))
+  Bounded k t = (requests sizes k t ≡ 0) ⊎ ((q : Request) × WasTaken (taken k q) t
+      × (requests sizes k t ≤ most_requests sizes q q.method))
 
-  bounded : (t : List Call) → ClientRows szx t → (k : ℕ) → Bounded k t
+  bounded : (t : List Call) → ClientRows sizes t → (k : ℕ) → Bounded k t
   bounded [] rows k = inl refl
-  bounded (c ∷ t) rows k = by (sent_or_not k (sends (own_of szx t) c)) (bounded t rows.1 k)
+  bounded (c ∷ t) rows k = by (sent_or_not k (sends (own_of sizes t) c)) (bounded t rows.1 k)
     where
-      by : (one_sent k (sends (own_of szx t) c) ≡ 0)
-          ⊎ ((x : Sending) × (sends (own_of szx t) c ≡ Some x) × (call_of x.operation ≡ Some k)) → Bounded k t
+      by : (one_sent k (sends (own_of sizes t) c) ≡ 0)
+          ⊎ ((x : Sending) × (sends (own_of sizes t) c ≡ Some x) × (call_of x.operation ≡ Some k)) → Bounded k t
           → Bounded k (c ∷ t)
       by (inl none) (inl zero) = inl (omega (arith, none, zero))
       by (inl none) (inr h) = inr (h.0, inr h.1, (let least = h.2 in omega (arith, none, least)))
       by (inr h) ih =
           let op = the_call h.0.operation k h.2 in
-          let g = runs_within (c ∷ t) rows k op.0 op.1 ((sent_now szx t c h.0 h.1).runs ∙ ap (λ o. Some o) op.2) in
-          inr (g.request, g.taken_it, within_bound szx g.request op.1 (requests szx k (c ∷ t)) g.small g.within)
+          let g = runs_within (c ∷ t) rows k op.0 op.1 ((sent_now sizes t c h.0 h.1).runs ∙ ap (λ o. Some o) op.2) in
+          inr (g.request, g.taken_it, within_bound sizes g.request op.1 (requests sizes k (c ∷ t)) g.small g.within)
 
 -- a number is given to one request
 
@@ -452,12 +464,13 @@ one_request k a b (c ∷ t) once (inl h) (inr i) = absurd (once.0 k (gives_numbe
 one_request k a b (c ∷ t) once (inr h) (inl i) = absurd (once.0 k (gives_number k b c i) (given_before k a t h))
 one_request k a b (c ∷ t) once (inr h) (inr i) = one_request k a b t once.1 h i
 
-pub are_bounded : (server : Endpoint) (szx word : ℕ) (t : List Call) → ClientLaw server szx word t → AreBounded szx t
-are_bounded server szx word t law x was = by (bounded szx t law.rows x.number)
+pub are_bounded : (server : Endpoint) (sizes : Sizes) (word : ℕ) (t : List Call) → ClientLaw server sizes word t
+    → AreBounded sizes t
+are_bounded server sizes word t law x was = by (bounded sizes t law.rows x.number)
   where
-    by : Bounded szx x.number t → requests szx x.number t ≤ most_requests szx x.request x.request.method
+    by : Bounded sizes x.number t → requests sizes x.number t ≤ most_requests sizes x.request x.request.method
     by (inl none) = omega (arith, none)
     by (inr h) =
         let same : h.0 ≡ x.request = one_request x.number h.0 x.request t
-        (numbers_once server szx word t law.rows law.exchanges.rows) h.1 was in
-        subst (λ (q : Request). requests szx x.number t ≤ most_requests szx q q.method) same h.2
+        (numbers_once server sizes word t law.rows law.exchanges.rows) h.1 was in
+        subst (λ (q : Request). requests sizes x.number t ≤ most_requests sizes q q.method) same h.2

@@ -6,6 +6,7 @@ use Rattle.coap_types.specs.declared.endpoint.Endpoint.{Endpoint}
 use Rattle.coap_layer.specs.Machine.State as S
 use Rattle.coap_layer.specs.Machine.Steps.{Steps}
 use Rattle.coap_layer.specs.Trace as L
+use Rattle.coap_block.specs.Sizes.{Sizes}
 use Rattle.coap_exchange.specs.declared.asker.AskRefusal.{AskRefusal}
 use Rattle.coap_exchange.specs.declared.asker.Event.{Event}
 use Rattle.coap_exchange.specs.declared.asker.Turn.{Turn}
@@ -31,7 +32,7 @@ module _ (server : Endpoint) (word : ℕ) where
 
   one_back : (c : A.Call) (calls : List A.Call) → Law (c ∷ calls) → Law calls
   one_back c calls law =
-      let k = steps_split (S.start word) law.left (P.lower (E.own_of server word calls) c)
+      let k = steps_split (S.start (S.usual word)) law.left (P.lower (E.own_of server word calls) c)
       (E.lower_of server word calls) law.layer in
       record { rows = law.rows.1; left = k.0; layer = k.1 }
 
@@ -66,7 +67,7 @@ module _ (server : Endpoint) (word : ℕ) where
   moved cs xs ys s rows law = record {
     rows = rows_moved cs xs ys s rows law.rows;
     left = law.left;
-    layer = subst (λ l. Steps (S.start word) l law.left) (sym (same_behind cs xs ys s).beneath) law.layer;
+    layer = subst (λ l. Steps (S.start (S.usual word)) l law.left) (sym (same_behind cs xs ys s).beneath) law.layer;
   }
 
   -- what is asked for a deed, and what becomes of it
@@ -146,18 +147,18 @@ module _ (server : Endpoint) (word : ℕ) where
               ∙ ap (λ l. deeds d.deed d.own now w gone key left ++ (l ++ i ∷ [])) one);
         }
 
-module _ (server : Endpoint) (szx word : ℕ) (past : List Call) where
+module _ (server : Endpoint) (sizes : Sizes) (word : ℕ) (past : List Call) where
   abbrev own : Own
-  own = own_of szx past
+  own = own_of sizes past
 
   abbrev calls : List A.Call
-  calls = lower_of szx past
+  calls = lower_of sizes past
 
   abbrev Stands : Call → Type 0
-  Stands c = ClientLaw server szx word (c ∷ past)
+  Stands c = ClientLaw server sizes word (c ∷ past)
 
   abbrev Alike : Call → Call → Type 0
-  Alike c d = LeaveAlike server szx word past c d
+  Alike c d = LeaveAlike server sizes word past c d
 
   forgotten_alike : (number : ℕ) (kept left answer : Bool) → Stands (Forgets number kept answer)
       → Stands (Forgets number left answer) → Alike (Forgets number kept answer) (Forgets number left answer)
@@ -306,7 +307,7 @@ module _ (server : Endpoint) (szx word : ℕ) (past : List Call) where
             (Ticks now w x turn gone key left another)) e.0 r),
       )
 
-  pub is_exact : IsExact server szx word past
+  pub is_exact : IsExact server sizes word past
   is_exact = record {
     calls = λ now r answer another p q. p.rows.0 ∙ sym q.rows.0;
     observes = λ now path answer another p q. p.rows.0 ∙ sym q.rows.0;

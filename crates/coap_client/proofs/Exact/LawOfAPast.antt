@@ -12,4 +12,4 @@ use Rattle.coap_layer.proofs.Facts.StepsOfLayer.{steps_split}
 pub exchange_back : (to : Endpoint) (word : ℕ) (calls t : List A_trace.Call) → ExchangeLaw to word (calls ++ t)
     → ExchangeLaw to word t
 exchange_back to word calls t law = law_back A.IsRight A.after A.lower Steps (A_trace.start to word)
-    (S.start word) steps_split calls t law
+    (S.start (S.usual word)) steps_split calls t law

@@ -4,7 +4,9 @@ use Rattle.std.proofs.Common.{◌≡◌, ℕ, max, true, false, Some, None, List
 use Rattle.coap_types.specs.Past.{Always}
 use Rattle.coap_types.specs.declared.endpoint.Endpoint.{Endpoint}
 use Rattle.coap_layer.specs.Channel.{RepliesSo}
+use Rattle.coap_layer.specs.Machine.State.{usual}
 use Rattle.coap_layer.specs.Rows.{LayerLaw}
+use Rattle.coap_block.specs.Sizes.{Sizes}
 use Rattle.coap_client.specs.Follows.Sendings.{NoNons}
 use Rattle.coap_client.specs.Follows.Adds.{call_asks, all_asked, call_adds}
 use Rattle.coap_client.specs.Follows.Answered.{NoneAfter, ReportedOnce}
@@ -46,85 +48,85 @@ use Rattle.coap_client.proofs.Uploading.Pieces as blocks
 use Rattle.coap_client.proofs.Sending.Tokens as token
 use Rattle.coap_client.proofs.Reporting.Valid.{valid_of_tags}
 
-module _ (server : Endpoint) (szx word : ℕ) where
-  pub back : (calls t : List Call) → ClientLaw server szx word (calls ++ t) → ClientLaw server szx word t
-  back calls t law = client_back server szx word calls t law
+module _ (server : Endpoint) (sizes : Sizes) (word : ℕ) where
+  pub back : (calls t : List Call) → ClientLaw server sizes word (calls ++ t) → ClientLaw server sizes word t
+  back calls t law = client_back server sizes word calls t law
 
   -- whatever the calls are
-  pub nons : (t : List Call) → NoNons (layer_of server szx word t)
-  nons t = no_nons server word (lower_of szx t)
+  pub nons : (t : List Call) → NoNons (layer_of server sizes word t)
+  nons t = no_nons server word (lower_of sizes t)
 
   -- what a call asks of the layer, and adds there, stands in front
   pub asked_next : (past : List Call) (c : Call)
-      → all_asked server szx word (c ∷ past) ≡ call_asks server szx word past c ++ all_asked server szx word past
-  asked_next past c = begun.adds_front server szx word past c
+      → all_asked server sizes word (c ∷ past) ≡ call_asks server sizes word past c ++ all_asked server sizes word past
+  asked_next past c = begun.adds_front server sizes word past c
 
   pub layer_next : (past : List Call) (c : Call)
-      → layer_of server szx word (c ∷ past) ≡ call_adds server szx word past c ++ layer_of server szx word past
-  layer_next past c = begun.layer_next server szx word past c
+      → layer_of server sizes word (c ∷ past) ≡ call_adds server sizes word past c ++ layer_of server sizes word past
+  layer_next past c = begun.layer_next server sizes word past c
 
-  module _ (t : List Call) (law : ClientLaw server szx word t) where
-    pub layer : LayerLaw word (layer_of server szx word t)
-    layer = client_layer server szx word t law
+  module _ (t : List Call) (law : ClientLaw server sizes word t) where
+    pub layer : LayerLaw (usual word) (layer_of server sizes word t)
+    layer = client_layer server sizes word t law
 
-    pub replies : Always RepliesSo (layer_of server szx word t)
-    replies = replies_so server word (lower_of szx t) law.exchanges.rows law.exchanges.left law.exchanges.layer
+    pub replies : Always RepliesSo (layer_of server sizes word t)
+    replies = replies_so server word (lower_of sizes t) law.exchanges.rows law.exchanges.left law.exchanges.layer
 
-    pub begins : ConsAreRequests server szx word t
-    begins = begun.cons_are_requests server szx word t law
+    pub begins : ConsAreRequests server sizes word t
+    begins = begun.cons_are_requests server sizes word t law
 
-    pub begins_now : BeginAtOnce server szx word t
-    begins_now = begun.begin_at_once server szx word t law
+    pub begins_now : BeginAtOnce server sizes word t
+    begins_now = begun.begin_at_once server sizes word t law
 
-    pub one_con : OneConOrCancel server szx word t
-    one_con = cons.one_con server szx word t law
+    pub one_con : OneConOrCancel server sizes word t
+    one_con = cons.one_con server sizes word t law
 
-    pub tokens : OneOfToken szx t
-    tokens = token.one_of_token szx server word t law
+    pub tokens : OneOfToken sizes t
+    tokens = token.one_of_token sizes server word t law
 
-    pub order : AreInOrder szx t
-    order = one_by_one.are_in_order szx server word t law
+    pub order : AreInOrder sizes t
+    order = one_by_one.are_in_order sizes server word t law
 
-    pub one_last : OneLast szx t
-    one_last = one_by_one.one_last szx server word t law
+    pub one_last : OneLast sizes t
+    one_last = one_by_one.one_last sizes server word t law
 
-    pub handed_up : AreHandedUp server szx word t
-    handed_up = are_handed_up server szx word t law
+    pub handed_up : AreHandedUp server sizes word t
+    handed_up = are_handed_up server sizes word t law
 
     pub from_server : AreFromServer server t
-    from_server = are_from_server server szx word t law
+    from_server = are_from_server server sizes word t law
 
-    pub pieces : SendsPieces szx t
-    pieces = blocks.sends_pieces szx server word t law
+    pub pieces : SendsPieces sizes t
+    pieces = blocks.sends_pieces sizes server word t law
 
-    pub continued : AreContinued szx t
-    continued = are_continued server szx word t law
+    pub continued : AreContinued sizes t
+    continued = are_continued server sizes word t law
 
     pub numbers : NumbersOnce t
-    numbers = numbers_once server szx word t law.rows law.exchanges.rows
+    numbers = numbers_once server sizes word t law.rows law.exchanges.rows
 
-    pub once : ReportedOnce server szx word t
-    once = once_of.reported_once server szx word t law
+    pub once : ReportedOnce server sizes word t
+    once = once_of.reported_once server sizes word t law
 
-    pub none_after : NoneAfter server szx word t
-    none_after = blocks.none_after szx server word t law
+    pub none_after : NoneAfter server sizes word t
+    none_after = blocks.none_after sizes server word t law
 
-    pub bodies : BodiesAreWhole szx t
-    bodies = bodies_are_whole server szx word t law
+    pub bodies : BodiesAreWhole sizes t
+    bodies = bodies_are_whole server sizes word t law
 
-    pub valid : ValidOfTags szx t
-    valid = valid_of_tags server szx word t law
+    pub valid : ValidOfTags sizes t
+    valid = valid_of_tags server sizes word t law
 
 -- whatever the calls are
-pub of_calls : (szx : ℕ) (t : List Call) → AreOfCalls szx t
-of_calls szx t = are_of_calls szx t
+pub of_calls : (sizes : Sizes) (t : List Call) → AreOfCalls sizes t
+of_calls sizes t = are_of_calls sizes t
 
-pub others : (szx : ℕ) (t : List Call) → OthersAreGets szx t
-others szx t = others_are_gets szx t
+pub others : (sizes : Sizes) (t : List Call) → OthersAreGets sizes t
+others sizes t = others_are_gets sizes t
 
 -- the reports that were made and not given wait
-pub waits : (szx : ℕ) (t : List Call) → ClientRows szx t → GivesInOrder szx t
-waits szx t rows = gives.waits szx t rows
+pub waits : (sizes : Sizes) (t : List Call) → ClientRows sizes t → GivesInOrder sizes t
+waits sizes t rows = gives.waits sizes t rows
 
 -- The moment of a call counts.
 pub clock_is : (s : Own) (c : Call) → (after s c).clock ≡ moment_of s c

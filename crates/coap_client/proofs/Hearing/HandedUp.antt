@@ -9,6 +9,7 @@ use Rattle.coap_codec.specs.Message.{Message}
 use Rattle.coap_layer.specs.Trace as L
 use Rattle.coap_layer.specs.Machine.Steps as G
 use Rattle.coap_layer.specs.Machine.Steps.{entries}
+use Rattle.coap_block.specs.Sizes.{Sizes}
 use Rattle.coap_exchange.specs.declared.asker.Event.TheVariants as event
 use Rattle.coap_exchange.specs.declared.matching.Verdict.{Verdict}
 use Rattle.coap_exchange.specs.declared.matching.Verdict.TheVariants.{Ignore, Reject, Acknowledge, Await, EndByReset}
@@ -94,22 +95,23 @@ module _ (server : Endpoint) (word : ℕ) (m : Message) where
       (P.lower (W.own_of server word (later ++ past)) c) (asked_by_client server word past later)
       (arrives later past law.1 h)
 
-handed_up_here : (server : Endpoint) (szx word : ℕ) (t : List Call) (c : Call) → ClientLaw server szx word (c ∷ t)
-    → (m : Message) → hears c ≡ Some m → Ever (Hears server m) (call_adds server szx word t c)
-handed_up_here server szx word t c law m is =
-    let k = steps_here server szx word t c law in
-    let asks = call_asks server szx word t c in
-    let there = arrives server word m (lower (own_of szx t) c) (lower_of szx t) law.exchanges.rows
-    (heard_beneath (own_of szx t) c m is) in
+handed_up_here : (server : Endpoint) (sizes : Sizes) (word : ℕ) (t : List Call) (c : Call)
+    → ClientLaw server sizes word (c ∷ t)
+    → (m : Message) → hears c ≡ Some m → Ever (Hears server m) (call_adds server sizes word t c)
+handed_up_here server sizes word t c law m is =
+    let k = steps_here server sizes word t c law in
+    let asks = call_asks server sizes word t c in
+    let there = arrives server word m (lower (own_of sizes t) c) (lower_of sizes t) law.exchanges.rows
+    (heard_beneath (own_of sizes t) c m is) in
     Ever_map (λ (e : L.Entry). Comes server m e.call e.answer) (Hears server m)
-    (λ e z. record { bytes = z.0; call = z.1; answer = z.2 }) (call_adds server szx word t c)
+    (λ e z. record { bytes = z.0; call = z.1; answer = z.2 }) (call_adds server sizes word t c)
     (subst (Ever (λ (e : L.Entry). Comes server m e.call e.answer)) (sym k.3)
     (entry_of (Comes server m) k.0 k.1 asks k.2 there))
 
-pub are_handed_up : (server : Endpoint) (szx word : ℕ) (t : List Call) → ClientLaw server szx word t
-    → AreHandedUp server szx word t
-are_handed_up server szx word [] law = tt
-are_handed_up server szx word (c ∷ t) law = (
-  handed_up_here server szx word t c law,
-  are_handed_up server szx word t (client_back server szx word (c ∷ []) t law),
+pub are_handed_up : (server : Endpoint) (sizes : Sizes) (word : ℕ) (t : List Call) → ClientLaw server sizes word t
+    → AreHandedUp server sizes word t
+are_handed_up server sizes word [] law = tt
+are_handed_up server sizes word (c ∷ t) law = (
+  handed_up_here server sizes word t c law,
+  are_handed_up server sizes word t (client_back server sizes word (c ∷ []) t law),
 )

@@ -4,6 +4,7 @@ use Rattle.std.proofs.Common.{refl, ap, sym, subst, ◌∙◌, Ok, Err}
 use Rattle.coap_types.specs.Past.{Ever, Since}
 use Rattle.coap_types.proofs.Facts.Traces.{Ever_back, Ever_map}
 use Rattle.coap_types.specs.declared.endpoint.Endpoint.{Endpoint}
+use Rattle.coap_block.specs.Sizes.{Sizes}
 use Rattle.coap_exchange.specs.declared.asker.Event.TheVariants as event_of
 use Rattle.coap_exchange.specs.AskerTrace as E
 use Rattle.coap_exchange.specs.AskerFollows as F
@@ -129,19 +130,19 @@ open_before s (NextOut answer) ys m h law = absurd (cc h)
 open_before s (NextReport answer) ys m h law = absurd (cc h)
 open_before s (Asked answer) ys m h law = absurd (cc h)
 
-module _ (szx : ℕ) where
+module _ (sizes : Sizes) where
   -- what was heard with a token answers a request that was sent with it
-  pub heard_of_sent : (t : List Call) (token : List ℕ) → AnswersLast szx t → Ever (HearsBy token) t
-      → (z : Sending) × WasSent szx z t × (z.token ≡ token)
+  pub heard_of_sent : (t : List Call) (token : List ℕ) → AnswersLast sizes t → Ever (HearsBy token) t
+      → (z : Sending) × WasSent sizes z t × (z.token ≡ token)
   heard_of_sent [] token answers h = absurd h
   heard_of_sent (c ∷ t) token answers (inl h) = let a =
-      answers.0 h.0 h.1 in (a.sending, inr (last_was_sent szx t a.sending a.last), a.token ∙ h.2)
+      answers.0 h.0 h.1 in (a.sending, inr (last_was_sent sizes t a.sending a.last), a.token ∙ h.2)
   heard_of_sent (c ∷ t) token answers (inr h) = let k = heard_of_sent t token answers.1 h in (k.0, inr k.1, k.2)
 
   -- a request with this token was sent to register
   record IsRegistered (t : List Call) (token : List ℕ) : Type 0 where
     sending : Sending
-    sent : WasSent szx sending t
+    sent : WasSent sizes sending t
     token_is : sending.token ≡ token
     number : ℕ
     path : List (List ℕ)
@@ -158,17 +159,18 @@ module _ (szx : ℕ) where
   }
 
   -- An exchange is open whose token an answer had: it is that of a cancel.
-  open_again : (t : List Call) (token : List ℕ) → OwnTokens szx t → AnswersLast szx t → F.Open token (lower_of szx t)
+  open_again : (t : List Call) (token : List ℕ) → OwnTokens sizes t → AnswersLast sizes t
+      → F.Open token (lower_of sizes t)
       → Ever (HearsBy token) t → IsRegistered t token
   open_again [] token own answers h heard = absurd heard
   open_again (c ∷ t) token own answers h heard =
-      by (since_split (F.Begins token) (λ b. F.ends b ≡ false) (lower (own_of szx t) c) (lower_of szx t) h) heard
+      by (since_split (F.Begins token) (λ b. F.ends b ≡ false) (lower (own_of sizes t) c) (lower_of sizes t) h) heard
       (open_again t token own.1 answers.1)
     where
-      new : Ever (F.Begins token) (lower (own_of szx t) c) → IsRegistered (c ∷ t) token
+      new : Ever (F.Begins token) (lower (own_of sizes t) c) → IsRegistered (c ∷ t) token
       new b =
-          let f = first_of token (lower (own_of szx t) c) b in
-          let x = sent_if_asked (own_of szx t) c f.0 token f.1 in
+          let f = first_of token (lower (own_of sizes t) c) b in
+          let x = sent_if_asked (own_of sizes t) c f.0 token f.1 in
           let z = before heard in
           let d = own.0 x.sending z.0 x.sends_it z.1 (z.2 ∙ sym x.token_is) in
           record {
@@ -180,33 +182,40 @@ module _ (szx : ℕ) where
             operation = d.registers;
           }
         where
-          before : Ever (HearsBy token) (c ∷ t) → (z : Sending) × WasSent szx z t × (z.token ≡ token)
-          before (inl k) = let a = answers.0 k.0 k.1 in (a.sending, last_was_sent szx t a.sending a.last, a.token ∙ k.2)
+          before : Ever (HearsBy token) (c ∷ t) → (z : Sending) × WasSent sizes z t × (z.token ≡ token)
+          before (inl k) = let a = answers.0 k.0 k.1 in (
+            a.sending,
+            last_was_sent sizes t a.sending a.last,
+            a.token
+                ∙ k.2,
+          )
           before (inr k) = heard_of_sent t token answers.1 k
 
-      by : Ever (F.Begins token) (lower (own_of szx t) c)
-          ⊎ ((Ever (λ e. (F.ends e ≡ false) → ⊥) (lower (own_of szx t) c) → ⊥) × F.Open token (lower_of szx t))
+      by : Ever (F.Begins token) (lower (own_of sizes t) c)
+          ⊎ ((Ever (λ e. (F.ends e ≡ false) → ⊥) (lower (own_of sizes t) c) → ⊥) × F.Open token (lower_of sizes t))
           → Ever (HearsBy token) (c ∷ t)
-          → (F.Open token (lower_of szx t) → Ever (HearsBy token) t → IsRegistered t token) → IsRegistered (c ∷ t) token
+          → (F.Open token (lower_of sizes t) → Ever (HearsBy token) t → IsRegistered t token)
+          → IsRegistered (c ∷ t) token
       by (inl b) heard ih = new b
       by (inr k) (inr before) ih = is_later t c token (ih k.1 before)
       by (inr k) (inl now) ih =
           absurd (k.0 (Ever_map (λ b. F.answered b ≡ Some now.0) (λ e. (F.ends e ≡ false) → ⊥)
-          (λ e is f. (let z = ends_it e now.0 is in cc (z, f))) (lower (own_of szx t) c)
-          (heard_beneath (own_of szx t) c now.0 now.1)))
+          (λ e is f. (let z = ends_it e now.0 is in cc (z, f))) (lower (own_of sizes t) c)
+          (heard_beneath (own_of sizes t) c now.0 now.1)))
 
-once_here : (server : Endpoint) (szx word : ℕ) (t : List Call) (c : Call) → ClientLaw server szx word (c ∷ t)
-    → (x : Sending) (k : ℕ) → WasSent szx x t → call_of x.operation ≡ Some k → HearsBy x.token c
+once_here : (server : Endpoint) (sizes : Sizes) (word : ℕ) (t : List Call) (c : Call)
+    → ClientLaw server sizes word (c ∷ t)
+    → (x : Sending) (k : ℕ) → WasSent sizes x t → call_of x.operation ≡ Some k → HearsBy x.token c
     → Ever (HearsBy x.token) t → ⊥
-once_here server szx word t c law x k was is now before =
-    let past = client_back server szx word (c ∷ []) t law in
-    let exchanges = are_exchanges server word (lower_of szx (c ∷ t)) law.exchanges.rows in
-    let open_now : F.Open x.token (lower_of szx t) =
-    subst (λ z. F.Open z (lower_of szx t)) now.2
-    (open_before (own_of szx t) c (lower_of szx t) now.0 now.1 exchanges) in
-    let z = open_again szx t x.token (own_tokens szx server word t past)
-    (answers_last szx server word t past) open_now before in
-    elim (one_of_token szx server word t past x z.sending was z.sent (sym z.token_is)) [
+once_here server sizes word t c law x k was is now before =
+    let past = client_back server sizes word (c ∷ []) t law in
+    let exchanges = are_exchanges server word (lower_of sizes (c ∷ t)) law.exchanges.rows in
+    let open_now : F.Open x.token (lower_of sizes t) =
+    subst (λ z. F.Open z (lower_of sizes t)) now.2
+    (open_before (own_of sizes t) c (lower_of sizes t) now.0 now.1 exchanges) in
+    let z = open_again sizes t x.token (own_tokens sizes server word t past)
+    (answers_last sizes server word t past) open_now before in
+    elim (one_of_token sizes server word t past x z.sending was z.sent (sym z.token_is)) [
       | inl e ↦ (let w : call_of x.operation ≡ None = ap (λ (y : Sending). call_of y.operation) e
           ∙ ap call_of z.operation in cc (w, is))
       | inr r ↦ elim r [
@@ -215,9 +224,10 @@ once_here server szx word t c law x k was is now before =
       ]
     ]
 
-pub heard_once : (server : Endpoint) (szx word : ℕ) (t : List Call) → ClientLaw server szx word t → HeardOnce szx t
-heard_once server szx word [] law = tt
-heard_once server szx word (c ∷ t) law = (
-  once_here server szx word t c law,
-  heard_once server szx word t (client_back server szx word (c ∷ []) t law),
+pub heard_once : (server : Endpoint) (sizes : Sizes) (word : ℕ) (t : List Call) → ClientLaw server sizes word t
+    → HeardOnce sizes t
+heard_once server sizes word [] law = tt
+heard_once server sizes word (c ∷ t) law = (
+  once_here server sizes word t c law,
+  heard_once server sizes word t (client_back server sizes word (c ∷ []) t law),
 )

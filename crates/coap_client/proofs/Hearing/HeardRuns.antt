@@ -5,6 +5,7 @@ use Rattle.std.proofs.Common.{Result}
 use Rattle.coap_types.specs.declared.endpoint.Endpoint.{Endpoint}
 use Rattle.coap_codec.specs.Message.{Message}
 use Rattle.coap_layer.specs.Trace as L
+use Rattle.coap_block.specs.Sizes.{Sizes}
 use Rattle.coap_exchange.specs.declared.asker.AskRefusal.{AskRefusal}
 use Rattle.coap_exchange.specs.declared.asker.Event.{Event}
 use Rattle.coap_exchange.specs.declared.asker.Event.TheVariants as event_of
@@ -35,49 +36,49 @@ use Rattle.coap_client.proofs.Sending.Tokens.{last_was_sent, one_of_token}
 use Rattle.coap_client.proofs.Turning.ExchangeCame.{Came, came}
 use Rattle.coap_client.proofs.Turning.Leading.{client_back}
 
-module _ (szx : ℕ) (server : Endpoint) (word : ℕ) where
+module _ (sizes : Sizes) (server : Endpoint) (word : ℕ) where
   -- it has the token of the exchange that runs
   abbrev HasExchange : List Call → Message → Type 0
-  HasExchange t m = (x : Exchange) × ((beneath server szx word t).running ≡ Some x) × (m.token ≡ x.token)
+  HasExchange t m = (x : Exchange) × ((beneath server sizes word t).running ≡ Some x) × (m.token ≡ x.token)
 
   -- what a datagram tells
   pub fed_came :
       (t : List Call) (now : ℕ) (from : Endpoint) (bytes : List ℕ) (w : ℕ) (up : L.Answer) (settled : Bool)
       (event : Option Event) (sent : L.Answer) (token : Result (List ℕ) AskRefusal) (kept : Bool)
-      → X.AskerLaw server word (lower_of szx (Feeds now from bytes w up settled event sent token kept ∷ t))
-      → Came (beneath server szx word t).running
-      (running_after (max (own_of szx t).clock now) (verdict_on (beneath server szx word t) from up)
-      (beneath server szx word t).running) event
+      → X.AskerLaw server word (lower_of sizes (Feeds now from bytes w up settled event sent token kept ∷ t))
+      → Came (beneath server sizes word t).running
+      (running_after (max (own_of sizes t).clock now) (verdict_on (beneath server sizes word t) from up)
+      (beneath server sizes word t).running) event
   fed_came t now from bytes w up settled event sent token kept law =
-      let moment : ℕ = max (own_of szx t).clock now in
-      let e : Effect = happened (at now (own_of szx t)) moment event in
+      let moment : ℕ = max (own_of sizes t).clock now in
+      let e : Effect = happened (at now (own_of sizes t)) moment event in
       let k : Effect = close moment e token in
       let later : List E.Call = deeds k.deed k.own moment w sent token kept in
       let first : List E.Call = deeds e.deed e.own moment w sent token kept in
       let input : E.Call = E.Receive moment from bytes up settled event in
-      let right = done_right (beneath server szx word t) later first input
-      (law_front server word (later ++ (first ++ input ∷ [])) (lower_of szx t) law) in
-      came (beneath server szx word t) from moment up event right.0
+      let right = done_right (beneath server sizes word t) later first input
+      (law_front server word (later ++ (first ++ input ∷ [])) (lower_of sizes t) law) in
+      came (beneath server sizes word t) from moment up event right.0
 
   -- .. and what a tick does
   pub ticked_turn :
       (t : List Call) (now w : ℕ) (below : L.Answer) (turn : Turn) (sent : L.Answer)
       (token : Result (List ℕ) AskRefusal) (kept did : Bool)
-      → X.AskerLaw server word (lower_of szx (Ticks now w below turn sent token kept did ∷ t))
-      → turn ≡ turn_of (beneath server szx word t)
-      (max (beneath server szx word t).clock (max (own_of szx t).clock now)) below
+      → X.AskerLaw server word (lower_of sizes (Ticks now w below turn sent token kept did ∷ t))
+      → turn ≡ turn_of (beneath server sizes word t)
+      (max (beneath server sizes word t).clock (max (own_of sizes t).clock now)) below
   ticked_turn t now w below turn sent token kept did law =
-      let moment : ℕ = max (own_of szx t).clock now in
-      let e : Effect = passes (at now (own_of szx t)) moment turn in
+      let moment : ℕ = max (own_of sizes t).clock now in
+      let e : Effect = passes (at now (own_of sizes t)) moment turn in
       let k : Effect = close moment e token in
       let later : List E.Call = deeds k.deed k.own moment w sent token kept in
       let first : List E.Call = deeds e.deed e.own moment w sent token kept in
       let input : E.Call = E.Ticks moment below turn in
-      let right = done_right (beneath server szx word t) later first input
-      (law_front server word (later ++ (first ++ input ∷ [])) (lower_of szx t) law) in
+      let right = done_right (beneath server sizes word t) later first input
+      (law_front server word (later ++ (first ++ input ∷ [])) (lower_of sizes t) law) in
       right.0
 
-  heard_exchange : (t : List Call) (c : Call) → X.AskerLaw server word (lower_of szx (c ∷ t)) → (m : Message)
+  heard_exchange : (t : List Call) (c : Call) → X.AskerLaw server word (lower_of sizes (c ∷ t)) → (m : Message)
       → hears c ≡ Some m → HasExchange t m
   heard_exchange t (Feeds now from bytes w up settled (Some (event_of.Answer a)) sent token kept) law m h =
       let g = fed_came t now from bytes w up settled (Some (event_of.Answer a)) sent token kept law in
@@ -101,18 +102,18 @@ module _ (szx : ℕ) (server : Endpoint) (word : ℕ) where
 
   pub record HeardRuns (t : List Call) (m : Message) : Type 0 where
     pub operation : Operation
-    pub runs : (own_of szx t).running ≡ Some operation
+    pub runs : (own_of sizes t).running ≡ Some operation
     pub sending : Sending
-    pub last : last_sent szx t ≡ Some sending
+    pub last : last_sent sizes t ≡ Some sending
     pub is_for : IsSentFor operation sending
     pub token : sending.token ≡ m.token
 
-  pub heard_runs : (t : List Call) (c : Call) → ClientLaw server szx word (c ∷ t) → (m : Message) → hears c ≡ Some m
+  pub heard_runs : (t : List Call) (c : Call) → ClientLaw server sizes word (c ∷ t) → (m : Message) → hears c ≡ Some m
       → HeardRuns t m
   heard_runs t c law m h =
-      let past = client_back server szx word (c ∷ []) t law in
+      let past = client_back server sizes word (c ∷ []) t law in
       let x = heard_exchange t c law.exchanges.rows m h in
-      let z = sent_for szx server word t past.rows past.exchanges.rows x.0 x.1 in
+      let z = sent_for sizes server word t past.rows past.exchanges.rows x.0 x.1 in
       record {
         operation = z.operation;
         runs = z.runs;
@@ -132,9 +133,9 @@ module _ (szx : ℕ) (server : Endpoint) (word : ℕ) where
     taken : WasTaken (as_taken k request) t
     transfer : Transfer
     operation : x.operation ≡ Calling k (record request { body = [] }) transfer
-    carries : CarriesBody szx request.method request.body transfer
+    carries : CarriesBody sizes request.method request.body transfer
 
-  of_taken : (t : List Call) → AreOfCalls szx t → (x : Sending) (k : ℕ) → WasSent szx x t
+  of_taken : (t : List Call) → AreOfCalls sizes t → (x : Sending) (k : ℕ) → WasSent sizes x t
       → call_of x.operation ≡ Some k → OfTaken t x k
   of_taken [] law x k h of = absurd h
   of_taken (c ∷ t) law x k (inl h) of = let g = law.0 x k h of in record
@@ -146,14 +147,14 @@ module _ (szx : ℕ) (server : Endpoint) (word : ℕ) where
   pub record RunsCall (t : List Call) (x : Taken) (z : Sending) : Type 0 where
     pub transfer : Transfer
     pub sent : z.operation ≡ Calling x.number (record x.request { body = [] }) transfer
-    pub runs : (own_of szx t).running ≡ Some (Calling x.number (record x.request { body = [] }) transfer)
-    pub carries : CarriesBody szx x.request.method x.request.body transfer
+    pub runs : (own_of sizes t).running ≡ Some (Calling x.number (record x.request { body = [] }) transfer)
+    pub carries : CarriesBody sizes x.request.method x.request.body transfer
 
   -- the request that a heard answer is for was sent last
-  pub sent_last : (t : List Call) → ClientLaw server szx word t → (x z : Sending) (k : ℕ) → WasSent szx x t
-      → call_of x.operation ≡ Some k → last_sent szx t ≡ Some z → x.token ≡ z.token → x ≡ z
+  pub sent_last : (t : List Call) → ClientLaw server sizes word t → (x z : Sending) (k : ℕ) → WasSent sizes x t
+      → call_of x.operation ≡ Some k → last_sent sizes t ≡ Some z → x.token ≡ z.token → x ≡ z
   sent_last t law x z k was is last same =
-      elim (one_of_token szx server word t law x z was (last_was_sent szx t z last) same) [
+      elim (one_of_token sizes server word t law x z was (last_was_sent sizes t z last) same) [
         | inl e ↦ e
         | inr r ↦ elim r [
           | inl d ↦ (let w : call_of x.operation ≡ None = ap call_of d.registers in absurd (cc (w, is)))
@@ -161,16 +162,16 @@ module _ (szx : ℕ) (server : Endpoint) (word : ℕ) where
         ]
       ]
 
-  pub runs_call : (t : List Call) (c : Call) → ClientLaw server szx word (c ∷ t) → (x : Taken) → WasTaken x t
-      → (m : Message) → (h : HeardFor szx x.number m t c) → RunsCall t x h.sending
+  pub runs_call : (t : List Call) (c : Call) → ClientLaw server sizes word (c ∷ t) → (x : Taken) → WasTaken x t
+      → (m : Message) → (h : HeardFor sizes x.number m t c) → RunsCall t x h.sending
   runs_call t c law x was m h =
-      let past = client_back server szx word (c ∷ []) t law in
+      let past = client_back server sizes word (c ∷ []) t law in
       let z = heard_runs t c law m h.heard in
-      let g = of_taken t (are_of_calls szx t) h.sending x.number h.sent h.of_call in
+      let g = of_taken t (are_of_calls sizes t) h.sending x.number h.sent h.of_call in
       let same : h.sending ≡ z.sending = sent_last t past h.sending z.sending x.number h.sent h.of_call z.last
       (h.token ∙ sym z.token) in
       let request_is : g.request ≡ x.request =
-      one_request x.number g.request x.request t (numbers_once server szx word t past.rows past.exchanges.rows)
+      one_request x.number g.request x.request t (numbers_once server sizes word t past.rows past.exchanges.rows)
       g.taken was in
       let op : h.sending.operation ≡ Calling x.number (record x.request { body = [] }) g.transfer =
       g.operation ∙ ap (λ (r : Request). Calling x.number (record r { body = [] }) g.transfer) request_is in
@@ -179,5 +180,5 @@ module _ (szx : ℕ) (server : Endpoint) (word : ℕ) where
         sent = op;
         runs = z.runs ∙ ap (λ o. Some o) (sent_call z.operation z.sending x.number
             (record x.request { body = [] }) g.transfer z.is_for (ap (λ (y : Sending). y.operation) (sym same) ∙ op));
-        carries = subst (λ (r : Request). CarriesBody szx r.method r.body g.transfer) request_is g.carries;
+        carries = subst (λ (r : Request). CarriesBody sizes r.method r.body g.transfer) request_is g.carries;
       }

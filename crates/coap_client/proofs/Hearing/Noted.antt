@@ -9,6 +9,7 @@ use Rattle.coap_types.proofs.Facts.Endpoints.{same_endpoint_is}
 use Rattle.coap_codec.specs.Message.{Message}
 use Rattle.coap_layer.specs.Trace as L
 use Rattle.coap_layer.specs.Machine.Steps as G
+use Rattle.coap_block.specs.Sizes.{Sizes}
 use Rattle.coap_exchange.specs.declared.asker.Event.TheVariants as event
 use Rattle.coap_exchange.specs.declared.matching.Verdict.{Verdict}
 use Rattle.coap_exchange.specs.declared.matching.Verdict.TheVariants.{Ignore, Reject, Acknowledge, Await, EndByReset}
@@ -126,22 +127,23 @@ noted_beneath s (NextOut answer) m h = absurd (cc h)
 noted_beneath s (NextReport answer) m h = absurd (cc h)
 noted_beneath s (Asked answer) m h = absurd (cc h)
 
-noted_here : (server : Endpoint) (szx word : ℕ) (t : List Call) (c : Call) → ClientLaw server szx word (c ∷ t)
-    → (m : Message) → notes c ≡ Some m → Ever (Hears server m) (call_adds server szx word t c)
-noted_here server szx word t c law m is =
-    let k = steps_here server szx word t c law in
-    let asks = call_asks server szx word t c in
-    let there = arrives server word m (lower (own_of szx t) c) (lower_of szx t) law.exchanges.rows
-    (noted_beneath (own_of szx t) c m is) in
+noted_here : (server : Endpoint) (sizes : Sizes) (word : ℕ) (t : List Call) (c : Call)
+    → ClientLaw server sizes word (c ∷ t)
+    → (m : Message) → notes c ≡ Some m → Ever (Hears server m) (call_adds server sizes word t c)
+noted_here server sizes word t c law m is =
+    let k = steps_here server sizes word t c law in
+    let asks = call_asks server sizes word t c in
+    let there = arrives server word m (lower (own_of sizes t) c) (lower_of sizes t) law.exchanges.rows
+    (noted_beneath (own_of sizes t) c m is) in
     Ever_map (λ (e : L.Entry). Comes server m e.call e.answer) (Hears server m)
-    (λ e z. record { bytes = z.0; call = z.1; answer = z.2 }) (call_adds server szx word t c)
+    (λ e z. record { bytes = z.0; call = z.1; answer = z.2 }) (call_adds server sizes word t c)
     (subst (Ever (λ (e : L.Entry). Comes server m e.call e.answer)) (sym k.3)
     (entry_of (Comes server m) k.0 k.1 asks k.2 there))
 
-pub are_noted : (server : Endpoint) (szx word : ℕ) (t : List Call) → ClientLaw server szx word t
-    → AreNoted server szx word t
-are_noted server szx word [] law = tt
-are_noted server szx word (c ∷ t) law = (
-  noted_here server szx word t c law,
-  are_noted server szx word t (client_back server szx word (c ∷ []) t law),
+pub are_noted : (server : Endpoint) (sizes : Sizes) (word : ℕ) (t : List Call) → ClientLaw server sizes word t
+    → AreNoted server sizes word t
+are_noted server sizes word [] law = tt
+are_noted server sizes word (c ∷ t) law = (
+  noted_here server sizes word t c law,
+  are_noted server sizes word t (client_back server sizes word (c ∷ []) t law),
 )

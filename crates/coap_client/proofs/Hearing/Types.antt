@@ -6,6 +6,7 @@ use Rattle.coap_types.specs.declared.message.Kind.{Kind}
 use Rattle.coap_types.specs.declared.message.Kind.TheVariants.{Con, Non, Ack, Rst}
 use Rattle.coap_codec.specs.Message.{Message}
 use Rattle.coap_layer.specs.Trace as L
+use Rattle.coap_block.specs.Sizes.{Sizes}
 use Rattle.coap_exchange.specs.declared.asker.Event.{Event}
 use Rattle.coap_exchange.specs.declared.asker.Event.TheVariants as event
 use Rattle.coap_exchange.specs.declared.matching.Known.{Known}
@@ -145,27 +146,27 @@ deeper : (server : Endpoint) (word : ℕ) (first later : List E.Call) (past : Li
 deeper server word [] later past law = law
 deeper server word (d ∷ first) later past law = deeper server word first later past law.1
 
-module _ (server : Endpoint) (szx word : ℕ) (t : List Call) where
+module _ (server : Endpoint) (sizes : Sizes) (word : ℕ) (t : List Call) where
   -- what arrived had its row
   told_here : (now : ℕ) (from : Endpoint) (bytes : List ℕ) (w : ℕ) (up : L.Answer) (settled : Bool) (e : Option Event)
       (sent : L.Answer) (token : _) (was : Bool)
-      → ClientLaw server szx word (Feeds now from bytes w up settled e sent token was ∷ t)
-      → e ≡ told (verdict_on (W.own_of server word (lower_of szx t)) from up) up
+      → ClientLaw server sizes word (Feeds now from bytes w up settled e sent token was ∷ t)
+      → e ≡ told (verdict_on (W.own_of server word (lower_of sizes t)) from up) up
   told_here now from bytes w up settled e sent token was law =
-      let s : Own = own_of szx t in
+      let s : Own = own_of sizes t in
       let z : ℕ = max s.clock now in
       let f : Effect = happened (at now s) z e in
       let k = close z f token in
       let arrival : E.Call = E.Receive z from bytes up settled e in
-      last_row server word (deeds f.deed f.own z w sent token was) arrival (lower_of szx t)
+      last_row server word (deeds f.deed f.own z w sent token was) arrival (lower_of sizes t)
       (deeper server word (deeds k.deed k.own z w sent token was)
-      (deeds f.deed f.own z w sent token was ++ arrival ∷ []) (lower_of szx t) law.exchanges.rows)
+      (deeds f.deed f.own z w sent token was ++ arrival ∷ []) (lower_of sizes t) law.exchanges.rows)
 
-  of_type : (c : Call) → ClientLaw server szx word (c ∷ t) → IsOfType c
+  of_type : (c : Call) → ClientLaw server sizes word (c ∷ t) → IsOfType c
   of_type (Feeds now from bytes w up settled (Some (event.Notice a)) sent token was) law =
       record {
         noted = λ m h. (let same : a ≡ m = cc h in
-            subst Noted same (noted_so (W.own_of server word (lower_of szx t)) from up a
+            subst Noted same (noted_so (W.own_of server word (lower_of sizes t)) from up a
             (sym (told_here now from bytes w up settled (Some (event.Notice a)) sent token was law))));
         heard = λ m h. absurd (cc h);
       }
@@ -173,7 +174,7 @@ module _ (server : Endpoint) (szx word : ℕ) (t : List Call) where
       record {
         noted = λ m h. absurd (cc h);
         heard = λ m h. (let same : a ≡ m = cc h in
-            subst Heard same (heard_so (W.own_of server word (lower_of szx t)) from up a
+            subst Heard same (heard_so (W.own_of server word (lower_of sizes t)) from up a
             (sym (told_here now from bytes w up settled (Some (event.Answer a)) sent token was law))));
       }
   of_type (Feeds now from bytes w up settled (Some event.Reset) sent token was) law =
@@ -194,9 +195,10 @@ module _ (server : Endpoint) (szx word : ℕ) (t : List Call) where
   of_type (NextReport answer) law = record { noted = λ m h. absurd (cc h); heard = λ m h. absurd (cc h) }
   of_type (Asked answer) law = record { noted = λ m h. absurd (cc h); heard = λ m h. absurd (cc h) }
 
-pub are_of_types : (server : Endpoint) (szx word : ℕ) (t : List Call) → ClientLaw server szx word t → AreOfTypes t
-are_of_types server szx word [] law = tt
-are_of_types server szx word (c ∷ t) law = (
-  of_type server szx word t c law,
-  are_of_types server szx word t (client_back server szx word (c ∷ []) t law),
+pub are_of_types : (server : Endpoint) (sizes : Sizes) (word : ℕ) (t : List Call) → ClientLaw server sizes word t
+    → AreOfTypes t
+are_of_types server sizes word [] law = tt
+are_of_types server sizes word (c ∷ t) law = (
+  of_type server sizes word t c law,
+  are_of_types server sizes word t (client_back server sizes word (c ∷ []) t law),
 )

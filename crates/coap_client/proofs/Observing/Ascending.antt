@@ -4,6 +4,7 @@ use Rattle.std.proofs.Common.{[]}
 use Rattle.std.proofs.Common.{◌∷◌, ◌++◌, map, refl, ap, sym, subst, ◌∙◌, Result, Ok, Err, arith}
 use Rattle.std.specs.Prelude.{◌==◌, filter}
 use Rattle.coap_types.specs.declared.endpoint.Endpoint.{Endpoint}
+use Rattle.coap_block.specs.Sizes.{Sizes}
 use Rattle.coap_block.specs.declared.fetch_verdict.Verdict.TheVariants as verdict
 use Rattle.coap_exchange.specs.declared.asker.AskRefusal.{AskRefusal}
 use Rattle.coap_exchange.specs.declared.asker.Event.{Event}
@@ -121,7 +122,7 @@ module _ (s : Own) (now : ℕ) (told : Option Event) (h : Ascends s.observations
   ascends_moves (mv.is_done k r tr final rep a hears runs ends_so) = ascends_held s (not final && is_upload tr)
       (of k rep) h
   ascends_moves (mv.registers k path a hears runs note) =
-      ascends_more s.observations (begun k path s.szx now a) h (new k path runs)
+      ascends_more s.observations (begun k path s.sizes now a) h (new k path runs)
   ascends_moves (mv.refuses k path a hears runs note) = h
   ascends_moves (mv.fetches_on k n a num size hears runs rest code asks) =
       ascends_changed k (λ o. record o { rest = rest_left n.sequence n.fetch a (verdict.Ask num size) })
@@ -138,7 +139,7 @@ module _ (s : Own) (now : ℕ) (told : Option Event) (h : Ascends s.observations
   ascends_moves (mv.renews o a notes found note newer) =
       ascends_changed o.number (λ p. record p {
         watch = arrived p.watch (sequence_in a) now true;
-        rest = first_rest s.szx a;
+        rest = first_rest s.sizes a;
       }) (λ p. refl) s.observations h
   ascends_moves (mv.passes_by o a notes found note newer) =
       ascends_changed o.number (λ p. record p { watch = arrived p.watch (sequence_in a) now false })
@@ -153,7 +154,7 @@ module _ (s : Own) (now : ℕ) (told : Option Event) (h : Ascends s.observations
   ascends_closed e token z (is_refused op why asks given none all) =
       subst (λ (c : Effect). Ascends c.own.observations) (sym all) (ascends_failed e.own has_sent NoIds (Some op) z)
 
-module _ (szx : ℕ) (server : Endpoint) (word : ℕ) where
+module _ (sizes : Sizes) (server : Endpoint) (word : ℕ) where
   -- those that are live were registered before
 
   apart : (k n : ℕ) (o : Observation) (os : List Observation) → o.number ≡ n
@@ -164,8 +165,8 @@ module _ (szx : ℕ) (server : Endpoint) (word : ℕ) where
       omega (arith, here, one, none)
 
   below_low : (t : List Call) (low k : ℕ)
-      → ((n : ℕ) (path : List (List ℕ)) (token : List ℕ) → Registered szx t n path token → n + 1 ≤ low)
-      → low ≡ k + 1 → (os : List Observation) → AllLive (Registered szx t) os → in_observations k os ≡ 0
+      → ((n : ℕ) (path : List (List ℕ)) (token : List ℕ) → Registered sizes t n path token → n + 1 ≤ low)
+      → low ≡ k + 1 → (os : List Observation) → AllLive (Registered sizes t) os → in_observations k os ≡ 0
       → AreBelow k os
   below_low t low k lower is [] h none = tt
   below_low t low k lower is (o ∷ os) h none =
@@ -174,47 +175,47 @@ module _ (szx : ℕ) (server : Endpoint) (word : ℕ) where
       let rest : in_observations k os ≡ 0 = omega (arith, none) in
       (omega (arith, a, is, differ), below_low t low k lower is os h.1 rest)
 
-  new_above : (t : List Call) → ClientLaw server szx word t → (k : ℕ) (path : List (List ℕ))
-      → (own_of szx t).running ≡ Some (Registering k path) → AreBelow k (own_of szx t).observations
+  new_above : (t : List Call) → ClientLaw server sizes word t → (k : ℕ) (path : List (List ℕ))
+      → (own_of sizes t).running ≡ Some (Registering k path) → AreBelow k (own_of sizes t).observations
   new_above t law k path runs =
-      let z = turns szx t law.rows in
-      let at_most = most server szx word t law k in
-      let here : in_running k (own_of szx t).running ≡ hit k k = ap (in_running k) runs in
+      let z = turns sizes t law.rows in
+      let at_most = most server sizes word t law k in
+      let here : in_running k (own_of sizes t).running ≡ hit k k = ap (in_running k) runs in
       let one = hit_self k in
-      let none : in_observations k (own_of szx t).observations ≡ 0 = omega (arith, at_most, here, one) in
+      let none : in_observations k (own_of sizes t).observations ≡ 0 = omega (arith, at_most, here, one) in
       below_low t z.low k (λ n p token g. z.sent g.sending n g.sent (ap turn_of g.operation))
-      (z.running (Registering k path) k runs refl) (own_of szx t).observations (live szx server word t law) none
+      (z.running (Registering k path) k runs refl) (own_of sizes t).observations (live sizes server word t law) none
 
-  ascends_turned : (t : List Call) (c : Call) → ClientLaw server szx word t → (k : Turned szx t c)
-      → Ascends (own_of szx t).observations → Ascends (own_of szx (c ∷ t)).observations
+  ascends_turned : (t : List Call) (c : Call) → ClientLaw server sizes word t → (k : Turned sizes t c)
+      → Ascends (own_of sizes t).observations → Ascends (own_of sizes (c ∷ t)).observations
   ascends_turned t c law k h =
-      let m : ℕ = max (own_of szx t).clock k.now in
-      let s : Own = at k.now (own_of szx t) in
+      let m : ℕ = max (own_of sizes t).clock k.now in
+      let s : Own = at k.now (own_of sizes t) in
       let e : Effect = left_by s m k.told k.move in
       let new = new_above t law in
       subst (λ (o : Own). Ascends o.observations) (sym k.own_is)
       (ascends_closed s m k.told h new e k.token (ascends_moves s m k.told h new k.move) k.closes)
 
-  pub ascends : (t : List Call) → ClientLaw server szx word t → Ascends (own_of szx t).observations
+  pub ascends : (t : List Call) → ClientLaw server sizes word t → Ascends (own_of sizes t).observations
   ascends [] law = tt
-  ascends (c ∷ t) law = let past = client_back server szx word (c ∷ []) t law in by c past (ascends t past)
+  ascends (c ∷ t) law = let past = client_back server sizes word (c ∷ []) t law in by c past (ascends t past)
     where
-      by : (c : Call) → ClientLaw server szx word t → Ascends (own_of szx t).observations
-          → Ascends (own_of szx (c ∷ t)).observations
+      by : (c : Call) → ClientLaw server sizes word t → Ascends (own_of sizes t).observations
+          → Ascends (own_of sizes (c ∷ t)).observations
       by (Calls now r (Ok n)) past h = h
       by (Calls now r (Err why)) past h = h
       by (Observes now path (Ok n)) past h = h
       by (Observes now path (Err why)) past h = h
       by (Cancels now k None) past h = h
       by (Cancels now k (Some why)) past h = h
-      by (Forgets k kept true) past h = ascends_filter (λ o. not (o.number == k)) (own_of szx t).observations h
+      by (Forgets k kept true) past h = ascends_filter (λ o. not (o.number == k)) (own_of sizes t).observations h
       by (Forgets k kept false) past h = h
       by (NextOut answer) past h = h
       by (NextReport answer) past h = h
       by (Asked answer) past h = h
       by (Feeds now from bytes w up settled event sent token kept) past h =
           ascends_turned t (Feeds now from bytes w up settled event sent token kept) past
-          (fed_turned szx t now from bytes w up settled event sent token kept) h
+          (fed_turned sizes t now from bytes w up settled event sent token kept) h
       by (Ticks now w below turn sent token kept answer) past h =
           ascends_turned t (Ticks now w below turn sent token kept answer) past
-          (ticked_turned szx t now w below turn sent token kept answer) h
+          (ticked_turned sizes t now w below turn sent token kept answer) h

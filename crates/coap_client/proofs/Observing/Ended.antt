@@ -3,6 +3,7 @@ use Rattle.std.proofs.Common.{◌≡◌, ◌≤◌, inl, inr, ℕ, max, Bool, tr
 use Rattle.std.proofs.Common.{List, ◌∷◌, ◌++◌, [], refl, ap, sym, subst, ◌∙◌, drop, Ok, Err, arith}
 use Rattle.std.specs.Prelude.{◌==◌, filter, slice_get, option_to_list}
 use Rattle.coap_types.specs.declared.endpoint.Endpoint.{Endpoint}
+use Rattle.coap_block.specs.Sizes.{Sizes}
 use Rattle.coap_exchange.specs.declared.asker.Event.TheVariants as event_of
 use Rattle.coap_exchange.specs.AskerTrace as E
 use Rattle.coap_client.specs.Trace.{Value, Reported, Call, Calls, Observes, Cancels, Forgets, Feeds}
@@ -73,7 +74,7 @@ none_first : (k : ℕ) (rs : List Reported) (r : Reported) → NoneOf k rs → S
 none_first k [] r h is n = cc is
 none_first k (x ∷ rs) r h is n = let e : r ≡ x = cc is in h.0 (sym (ap (λ (y : Reported). y.number) e) ∙ n)
 
-module _ (szx : ℕ) where
+module _ (sizes : Sizes) where
   -- what was forgotten is gone
   forgets_one : (k : ℕ) (c : Call) → forgotten c ≡ Some k → forgotten_by k c ≡ 1
   forgets_one k (Forgets n was true) h = let e : n ≡ k = cc h in ap (λ i. hit i k) e ∙ hit_self k
@@ -87,38 +88,38 @@ module _ (szx : ℕ) where
   forgets_one k (NextReport answer) h = absurd (cc h)
   forgets_one k (Asked answer) h = absurd (cc h)
 
-  forgotten_gone : (k : ℕ) (t : List Call) → WasForgotten k t → 1 ≤ gone szx k t
+  forgotten_gone : (k : ℕ) (t : List Call) → WasForgotten k t → 1 ≤ gone sizes k t
   forgotten_gone k [] h = absurd h
   forgotten_gone k (c ∷ t) (inl h) = let a = forgets_one k c h in omega (arith, a)
   forgotten_gone k (c ∷ t) (inr h) = let a = forgotten_gone k t h in omega (arith, a)
 
   module _ (server : Endpoint) (word : ℕ) where
-    under : (t : List Call) (c : Call) → ClientLaw server szx word (c ∷ t) → Known server szx word t
-    under t c law = known server szx word t law.rows.1
-        (law_back server word (lower (own_of szx t) c) (lower_of szx t) law.exchanges.rows)
+    under : (t : List Call) (c : Call) → ClientLaw server sizes word (c ∷ t) → Known server sizes word t
+    under t c law = known server sizes word t law.rows.1
+        (law_back server word (lower (own_of sizes t) c) (lower_of sizes t) law.exchanges.rows)
 
     -- nothing is reported of what is gone
-    none_of_gone : (t : List Call) (c : Call) → ClientLaw server szx word (c ∷ t) → (r : Reported)
-        → 1 ≤ gone szx r.number t → reports (own_of szx t) c ≡ Some r → ⊥
+    none_of_gone : (t : List Call) (c : Call) → ClientLaw server sizes word (c ∷ t) → (r : Reported)
+        → 1 ≤ gone sizes r.number t → reports (own_of sizes t) c ≡ Some r → ⊥
     none_of_gone t c law r over is =
         let k = under t c law in
-        both_one (places r.number (own_of szx t)) (gone szx r.number t) _ (k.one r.number)
-        (from_place server szx word t c k law.exchanges.rows r is) over
+        both_one (places r.number (own_of sizes t)) (gone sizes r.number t) _ (k.one r.number)
+        (from_place server sizes word t c k law.exchanges.rows r is) over
 
-    none_forgotten : (t : List Call) (c : Call) → ClientLaw server szx word (c ∷ t) → (r : Reported)
-        → WasForgotten r.number t → reports (own_of szx t) c ≡ Some r → ⊥
+    none_forgotten : (t : List Call) (c : Call) → ClientLaw server sizes word (c ∷ t) → (r : Reported)
+        → WasForgotten r.number t → reports (own_of sizes t) c ≡ Some r → ⊥
     none_forgotten t c law r h is = none_of_gone t c law r (forgotten_gone r.number t h) is
 
     -- nothing of it waits to be given
-    none_waits : (t : List Call) → ClientLaw server szx word t → (k : ℕ) → WasForgotten k t
-        → NoneOf k (own_of szx t).reports
+    none_waits : (t : List Call) → ClientLaw server sizes word t → (k : ℕ) → WasForgotten k t
+        → NoneOf k (own_of sizes t).reports
     none_waits [] law k h = absurd h
     none_waits (c ∷ t) law k (inl h) = by c h
       where
-        by : (b : Call) → forgotten b ≡ Some k → NoneOf k (own_of szx (b ∷ t)).reports
+        by : (b : Call) → forgotten b ≡ Some k → NoneOf k (own_of sizes (b ∷ t)).reports
         by (Forgets n was true) h = let e : n ≡ k =
-            cc h in subst (λ i. NoneOf k (own_of szx (Forgets i was true ∷ t)).reports) (sym e)
-            (none_left k (own_of szx t).reports)
+            cc h in subst (λ i. NoneOf k (own_of sizes (Forgets i was true ∷ t)).reports) (sym e)
+            (none_left k (own_of sizes t).reports)
         by (Forgets n was false) h = absurd (cc h)
         by (Calls now r answer) h = absurd (cc h)
         by (Observes now path answer) h = absurd (cc h)
@@ -129,64 +130,64 @@ module _ (szx : ℕ) where
         by (NextReport answer) h = absurd (cc h)
         by (Asked answer) h = absurd (cc h)
     none_waits (c ∷ t) law k (inr h) = by c (λ r is n. none_forgotten t c law r
-        (subst (λ i. WasForgotten i t) (sym n) h) is) (none_waits t (client_back server szx word (c ∷ []) t law) k h)
+        (subst (λ i. WasForgotten i t) (sym n) h) is) (none_waits t (client_back server sizes word (c ∷ []) t law) k h)
       where
-        by : (b : Call) → ((r : Reported) → reports (own_of szx t) b ≡ Some r → r.number ≡ k → ⊥)
-            → NoneOf k (own_of szx t).reports → NoneOf k (own_of szx (b ∷ t)).reports
+        by : (b : Call) → ((r : Reported) → reports (own_of sizes t) b ≡ Some r → r.number ≡ k → ⊥)
+            → NoneOf k (own_of sizes t).reports → NoneOf k (own_of sizes (b ∷ t)).reports
         by (Calls now r (Ok n)) f ih = ih
         by (Calls now r (Err why)) f ih = ih
         by (Observes now path (Ok n)) f ih = ih
         by (Observes now path (Err why)) f ih = ih
         by (Cancels now n None) f ih = ih
         by (Cancels now n (Some why)) f ih = ih
-        by (Forgets n was true) f ih = none_filtered n k (own_of szx t).reports ih
+        by (Forgets n was true) f ih = none_filtered n k (own_of sizes t).reports ih
         by (Forgets n was false) f ih = ih
         by (NextOut answer) f ih = ih
-        by (NextReport answer) f ih = none_behind k (own_of szx t).reports ih
+        by (NextReport answer) f ih = none_behind k (own_of sizes t).reports ih
         by (Asked answer) f ih = ih
         by (Feeds now from bytes w up settled event sent token was) f ih =
-            let s : Own = own_of szx t in
+            let s : Own = own_of sizes t in
             let m : ℕ = max s.clock now in
             let e : Effect = happened (at now s) m event in
             let z = steadied (at now s) m e token e.deed refl (happened_steady (at now s) m event) in
             none_more k (close m e token).own.reports (close m e token).report (subst (NoneOf k) (sym z.reports) ih) f
         by (Ticks now w below turn sent token was answer) f ih =
-            let s : Own = own_of szx t in
+            let s : Own = own_of sizes t in
             let m : ℕ = max s.clock now in
             let e : Effect = passes (at now s) m turn in
             let z = steadied (at now s) m e token e.deed refl (passes_steady (at now s) m turn) in
             none_more k (close m e token).own.reports (close m e token).report (subst (NoneOf k) (sym z.reports) ih) f
 
-    none_given : (t : List Call) (c : Call) → ClientLaw server szx word (c ∷ t) → (r : Reported)
+    none_given : (t : List Call) (c : Call) → ClientLaw server sizes word (c ∷ t) → (r : Reported)
         → WasForgotten r.number t → c ≡ NextReport (Some r) → ⊥
     none_given t c law r h is =
-        let right = subst (λ b. ClientLaw server szx word (b ∷ t)) is law in
-        none_first r.number (own_of szx t).reports r
-        (none_waits t (client_back server szx word (c ∷ []) t law) r.number h) right.rows.0 refl
+        let right = subst (λ b. ClientLaw server sizes word (b ∷ t)) is law in
+        none_first r.number (own_of sizes t).reports r
+        (none_waits t (client_back server sizes word (c ∷ []) t law) r.number h) right.rows.0 refl
 
     -- no notification of an observation is taken while its cancel runs: it would have the token of that
-    none_noted : (t : List Call) (c : Call) → ClientLaw server szx word (c ∷ t) → (k : ℕ) (n : Newly)
-        → (own_of szx t).running ≡ Some (Cancelling k) → notifies (own_of szx t) c ≡ Some n → n.number ≡ k → ⊥
+    none_noted : (t : List Call) (c : Call) → ClientLaw server sizes word (c ∷ t) → (k : ℕ) (n : Newly)
+        → (own_of sizes t).running ≡ Some (Cancelling k) → notifies (own_of sizes t) c ≡ Some n → n.number ≡ k → ⊥
     none_noted t (Feeds now from bytes w up settled (Some (event_of.Answer m)) sent token was) law k n runs is number =
-        let r = registers_as (own_of szx t).running (max (own_of szx t).clock now) m n is in let a : Some
+        let r = registers_as (own_of sizes t).running (max (own_of sizes t).clock now) m n is in let a : Some
         (Registering r.number r.path) ≡ Some (Cancelling k) = sym r.runs ∙ runs in cc a
     none_noted t (Feeds now from bytes w up settled (Some (event_of.Notice m)) sent token was) law k n runs is number =
         let c : Call = Feeds now from bytes w up settled (Some (event_of.Notice m)) sent token was in
-        let s : Own = own_of szx t in
+        let s : Own = own_of sizes t in
         let z : ℕ = max s.clock now in
         let e : Effect = happened (at now s) z (Some (event_of.Notice m)) in
         let input : E.Call = E.Receive z from bytes up settled (Some (event_of.Notice m)) in
         let later : List E.Call = deeds (close z e token).deed (close z e token).own z w sent token was in
         let first : List E.Call = deeds e.deed e.own z w sent token was in
-        let right = done_right (beneath server szx word t) later first input
-        (law_front server word (later ++ (first ++ input ∷ [])) (lower_of szx t) law.exchanges.rows) in
-        let apart = (came (beneath server szx word t) from z up (Some (event_of.Notice m)) right.0).0 in
+        let right = done_right (beneath server sizes word t) later first input
+        (law_front server word (later ++ (first ++ input ∷ [])) (lower_of sizes t) law.exchanges.rows) in
+        let apart = (came (beneath server sizes word t) from z up (Some (event_of.Notice m)) right.0).0 in
         let known_so = under t c law in
         let r = renews_as (observation_with m.token s.observations) z m n is in
         let same : k ≡ r.observation.number = sym number ∙ ap (λ (x : Newly). x.number) r.is in
         let a : (k == r.observation.number) ≡ false =
-        apart_of s (beneath server szx word t).running
-        (sound_of server szx word t known_so) known_so.linked z m apart r.observation r.found k runs in
+        apart_of s (beneath server sizes word t).running
+        (sound_of server sizes word t known_so) known_so.linked z m apart r.observation r.found k runs in
         let b : (k == r.observation.number) ≡ true = ap (λ i. k == i) (sym same) ∙ number_self k in
         cc (a, b)
     none_noted t (Feeds now from bytes w up settled (Some event_of.Reset) sent token was) law k n runs is number = cc is
@@ -208,24 +209,24 @@ module _ (szx : ℕ) where
     came_one k None h = absurd (cc h)
     came_one k (Some n) h = (n, refl, same_number n.number k h)
 
-    none_cancelled : (t : List Call) (c : Call) → ClientLaw server szx word (c ∷ t) → (k : ℕ) → WasCancelled szx k t
-        → ShowsValue szx k t c → ⊥
-    none_cancelled t c law k h shows = elim (cancel_runs szx server word t h.sending k h.sent h.cancels) [
-      | inl runs ↦ elim (shows_first szx server word t c law k shows) [
-        | inl e ↦ (let n = came_one k (notifies (own_of szx t) c) e in none_noted t c law k n.0 runs n.1 n.2)
+    none_cancelled : (t : List Call) (c : Call) → ClientLaw server sizes word (c ∷ t) → (k : ℕ) → WasCancelled sizes k t
+        → ShowsValue sizes k t c → ⊥
+    none_cancelled t c law k h shows = elim (cancel_runs sizes server word t h.sending k h.sent h.cancels) [
+      | inl runs ↦ elim (shows_first sizes server word t c law k shows) [
+        | inl e ↦ (let n = came_one k (notifies (own_of sizes t) c) e in none_noted t c law k n.0 runs n.1 n.2)
         | inr z ↦ (let a : Some (Fetching k) ≡ Some (Cancelling k) = sym z.2 ∙ runs in cc a)
       ]
-      | inr over ↦ (let v = value_in (reports (own_of szx t) c) k shows in none_of_gone t c law
+      | inr over ↦ (let v = value_in (reports (own_of sizes t) c) k shows in none_of_gone t c law
           (record { number = k; report = Value v.0 v.1 v.2 v.3 }) over v.4)
     ]
 
-    none_ended : (t : List Call) (c : Call) → ClientLaw server szx word (c ∷ t) → (k : ℕ)
-        → HasReport server szx word k t → ShowsValue szx k t c → ⊥
+    none_ended : (t : List Call) (c : Call) → ClientLaw server sizes word (c ∷ t) → (k : ℕ)
+        → HasReport server sizes word k t → ShowsValue sizes k t c → ⊥
     none_ended t c law k h shows = let v = value_in
-        (reports (own_of szx t) c) k shows in (reported_once server szx word (c ∷ t) law).0
+        (reports (own_of sizes t) c) k shows in (reported_once server sizes word (c ∷ t) law).0
         (record { number = k; report = Value v.0 v.1 v.2 v.3 }) v.4 h
 
-    pub are_over : (t : List Call) → ClientLaw server szx word t → AreOver szx server word t
+    pub are_over : (t : List Call) → ClientLaw server sizes word t → AreOver sizes server word t
     are_over [] law = tt
     are_over (c ∷ t) law = (
       record {
@@ -234,5 +235,5 @@ module _ (szx : ℕ) where
         forgotten = none_forgotten t c law;
         none_given = none_given t c law;
       },
-      are_over t (client_back server szx word (c ∷ []) t law),
+      are_over t (client_back server sizes word (c ∷ []) t law),
     )

@@ -2,6 +2,7 @@
 use Rattle.std.proofs.Common.{◌≡◌, ◌⊎◌, inl, inr, ℕ, max, Bool, true, false, cond, Option, Some, None, List, ◌∷◌, []}
 use Rattle.std.proofs.Common.{refl, ap, sym, ◌∙◌, Ok, Err}
 use Rattle.std.specs.Prelude.{◌==◌}
+use Rattle.coap_block.specs.Sizes.{Sizes}
 use Rattle.coap_exchange.specs.declared.asker.Event.{Event}
 use Rattle.coap_observe.specs.Newer.{is_newer}
 use Rattle.coap_client.specs.Trace.{Report, NoIds, Call, Calls, Observes, Cancels, Forgets, Feeds}
@@ -120,17 +121,17 @@ module _ (s : Own) (now : ℕ) (told : Option Event) (k : ℕ) where
     ran = inl h;
   }
 
-module _ (szx : ℕ) where
+module _ (sizes : Sizes) where
   abbrev Since : List Call → ℕ → Type 0
-  Since t k = (x : Sending) → Runs (own_of szx t).running k → last_sent szx t ≡ Some x → SentSince szx k x t
+  Since t k = (x : Sending) → Runs (own_of sizes t).running k → last_sent sizes t ≡ Some x → SentSince sizes k x t
 
   -- a datagram, and a tick
-  module _ (t : List Call) (c : Call) (z : Turned szx t c) (k : ℕ) where
+  module _ (t : List Call) (c : Call) (z : Turned sizes t c) (k : ℕ) where
     abbrev s : Own
-    s = at z.now (own_of szx t)
+    s = at z.now (own_of sizes t)
 
     abbrev m : ℕ
-    m = max (own_of szx t).clock z.now
+    m = max (own_of sizes t).clock z.now
 
     abbrev e : Effect
     e = left_by s m z.told z.move
@@ -138,25 +139,25 @@ module _ (szx : ℕ) where
     abbrev then : Effect
     then = closed m e e.deed z.token
 
-    sent_last : (o : Option Sending) → sends (own_of szx t) c ≡ o
-        → last_sent szx (c ∷ t) ≡ elim o [ Some y ↦ Some y | None ↦ last_sent szx t ]
-    sent_last o is = ap (λ y. elim y [ Some x ↦ Some x | None ↦ last_sent szx t ]) is
+    sent_last : (o : Option Sending) → sends (own_of sizes t) c ≡ o
+        → last_sent sizes (c ∷ t) ≡ elim o [ Some y ↦ Some y | None ↦ last_sent sizes t ]
+    sent_last o is = ap (λ y. elim y [ Some x ↦ Some x | None ↦ last_sent sizes t ]) is
 
-    apart_so : Runs e.own.running k → is_newly_of k (notifies (own_of szx t) c) ≡ false
+    apart_so : Runs e.own.running k → is_newly_of k (notifies (own_of sizes t) c) ≡ false
     apart_so h = ap (is_newly_of k) z.notifies_is ∙ (moves_on s m z.told k z.move h).apart
 
     by_closing : Closing m e z.token → Since t k → Runs then.own.running k → (x : Sending)
-        → last_sent szx (c ∷ t) ≡ Some x → SentSince szx k x (c ∷ t)
+        → last_sent sizes (c ∷ t) ≡ Some x → SentSince sizes k x (c ∷ t)
     by_closing (quiet q none own_same report_same) ih runs x last =
         let h : Runs e.own.running k = ap (λ (o : Own). o.running) (sym own_same) ∙ runs in
-        let before : last_sent szx t ≡ Some x = sym (sent_last None (z.sends_is ∙ none)) ∙ last in (
+        let before : last_sent sizes t ≡ Some x = sym (sent_last None (z.sends_is ∙ none)) ∙ last in (
           apart_so h,
           inr (elim (moves_on s m z.told k z.move h).ran
               [ inl ran ↦ ih x ran before | inr asks ↦ absurd (q (Fetching k) asks) ]),
         )
     by_closing (goes_out op key asks given sends_it own_same report_same) ih runs x last =
         let h : Runs e.own.running k = ap (λ (o : Own). o.running) (sym own_same) ∙ runs in
-        let sent : sends (own_of szx t) c ≡ Some (sending_of e op key) = z.sends_is ∙ sends_it in
+        let sent : sends (own_of sizes t) c ≡ Some (sending_of e op key) = z.sends_is ∙ sends_it in
         (apart_so h, inl (sent ∙ (sym (sent_last (Some (sending_of e op key)) sent) ∙ last)))
     by_closing (is_refused op why asks given none all) ih runs x last =
         no_fetch then.own.running k (ap (λ (f : Effect). f.own.running) all ∙ failed_some has_sent NoIds e.own op) runs
@@ -165,16 +166,16 @@ module _ (szx : ℕ) where
     turned_since ih x runs last = by_closing z.closes ih (ap (λ (o : Own). o.running) (sym z.own_is) ∙ runs) x last
 
   forgotten_since : (t : List Call) (n k : ℕ) (was : Bool) → Since t k → Since (Forgets n was true ∷ t) k
-  forgotten_since t n k was ih x runs last = (refl, inr (ih x (kept_fetch (own_of szx t).running n k runs).ran last))
+  forgotten_since t n k was ih x runs last = (refl, inr (ih x (kept_fetch (own_of sizes t).running n k runs).ran last))
 
   since : (t : List Call) (k : ℕ) → Since t k
   since [] k x runs last = absurd (cc runs)
   since (Feeds now from bytes w up settled event sent token kept ∷ t) k x runs last =
       turned_since t (Feeds now from bytes w up settled event sent token kept)
-      (fed_turned szx t now from bytes w up settled event sent token kept) k (since t k) x runs last
+      (fed_turned sizes t now from bytes w up settled event sent token kept) k (since t k) x runs last
   since (Ticks now w below turn sent token kept answer ∷ t) k x runs last =
       turned_since t (Ticks now w below turn sent token kept answer)
-      (ticked_turned szx t now w below turn sent token kept answer) k (since t k) x runs last
+      (ticked_turned sizes t now w below turn sent token kept answer) k (since t k) x runs last
   since (Calls now r (Ok n) ∷ t) k x runs last = (refl, inr (since t k x runs last))
   since (Calls now r (Err why) ∷ t) k x runs last = (refl, inr (since t k x runs last))
   since (Observes now path (Ok n) ∷ t) k x runs last = (refl, inr (since t k x runs last))
@@ -187,6 +188,6 @@ module _ (szx : ℕ) where
   since (NextReport answer ∷ t) k x runs last = (refl, inr (since t k x runs last))
   since (Asked answer ∷ t) k x runs last = (refl, inr (since t k x runs last))
 
-  pub fetch_since : (t : List Call) (k : ℕ) (x : Sending) → (own_of szx t).running ≡ Some (Fetching k)
-      → last_sent szx t ≡ Some x → SentSince szx k x t
+  pub fetch_since : (t : List Call) (k : ℕ) (x : Sending) → (own_of sizes t).running ≡ Some (Fetching k)
+      → last_sent sizes t ≡ Some x → SentSince sizes k x t
   fetch_since t k x runs last = since t k x runs last

@@ -4,6 +4,7 @@ use Rattle.std.proofs.Common.{◌++◌, [], map, refl, ap, sym, subst, ◌∙◌
 use Rattle.std.specs.Prelude.{◌==◌, filter}
 use Rattle.coap_types.specs.declared.endpoint.Endpoint.{Endpoint}
 use Rattle.coap_codec.specs.Message.{Message}
+use Rattle.coap_block.specs.Sizes.{Sizes}
 use Rattle.coap_exchange.specs.declared.asker.AskRefusal.{AskRefusal}
 use Rattle.coap_exchange.specs.declared.asker.Event.{Event}
 use Rattle.coap_exchange.specs.declared.asker.Event.TheVariants as event_of
@@ -149,9 +150,9 @@ module _ (last : ℕ → Option Mark) (now : ℕ) where
       by false apart = h.0 ∙ sym (others_keep last k (newly_of k m) refl o.number apart)
       by true same = let one : hit o.number k ≡ 1 = ap (λ b. cond b 1 0) same in absurd (omega (arith, none, one))
 
-  new_mark : (k : ℕ) (path : List (List ℕ)) (size : ℕ) (m : Message)
-      → NowLast k m (begun k path size now m).number (begun k path size now m).watch.mark
-  new_mark k path size m = sym (this_takes last k (newly_of k m) refl k (number_self k))
+  new_mark : (k : ℕ) (path : List (List ℕ)) (sizes : Sizes) (m : Message)
+      → NowLast k m (begun k path sizes now m).number (begun k path sizes now m).watch.mark
+  new_mark k path sizes m = sym (this_takes last k (newly_of k m) refl k (number_self k))
 
 -- what is taken in each move
 module _ (s : Own) (now : ℕ) where
@@ -199,9 +200,9 @@ module _ (s : Own) (now : ℕ) (told : Option Event) (last : ℕ → Option Mark
       let q = ap (in_running k) runs in
       let one = hit_self k in
       let none : in_observations k s.observations ≡ 0 = omega (arith, p, q, one) in
-      something k a is (s.observations ++ begun k path s.szx now a ∷ [])
-      (marked_more (NowLast last now k a) s.observations (begun k path s.szx now a)
-      (other_marks last now k a s.observations none h) (new_mark last now k path s.szx a))
+      something k a is (s.observations ++ begun k path s.sizes now a ∷ [])
+      (marked_more (NowLast last now k a) s.observations (begun k path s.sizes now a)
+      (other_marks last now k a s.observations none h) (new_mark last now k path s.sizes a))
   marks_by (mv.refuses k path a hears_it runs note) =
       nothing (ap (taken_by s now) hears_it ∙ (ap (λ r. registers r now a) runs
       ∙ ap (λ b. cond b (newly k now a) None) note)) s.observations h
@@ -233,7 +234,7 @@ module _ (s : Own) (now : ℕ) (told : Option Event) (last : ℕ → Option Mark
       ∙ (ap (λ z. renews z now a) found ∙ (ap (λ b. cond b
       (cond (is_newer o.watch.mark (sequence_in a) now) (newly o.number now a) None) None) note
       ∙ ap (λ b. cond b (newly o.number now a) None) newer)))
-      _ (renewed_marks last now o.number a (first_rest s.szx a) s.observations h)
+      _ (renewed_marks last now o.number a (first_rest s.sizes a) s.observations h)
   marks_by (mv.passes_by o a notes found note newer) =
       marked_changed Now o.number (λ p. record p { watch = arrived p.watch (sequence_in a) now false })
       (λ p z. z) s.observations
@@ -276,58 +277,59 @@ renew_newer (Some p) now m n is = by (is_notification m) (is_newer p.watch.mark 
               ((newer_is_decided p.watch.mark (sequence_in m) now).0 e),
         )
 
-module _ (server : Endpoint) (szx word : ℕ) where
+module _ (server : Endpoint) (sizes : Sizes) (word : ℕ) where
   abbrev lasts : List Call → ℕ → Option Mark
-  lasts t n = last_mark szx n t
+  lasts t n = last_mark sizes n t
 
   abbrev Marked : List Call → Type 0
-  Marked t = AllMarked (IsLast (lasts t)) (own_of szx t).observations
+  Marked t = AllMarked (IsLast (lasts t)) (own_of sizes t).observations
 
-  most : (t : List Call) → ClientLaw server szx word t → (n : ℕ) → places n (own_of szx t) ≤ 1
-  most t law = (sound_of server szx word t (known server szx word t law.rows law.exchanges.rows)).at_most
+  most : (t : List Call) → ClientLaw server sizes word t → (n : ℕ) → places n (own_of sizes t) ≤ 1
+  most t law = (sound_of server sizes word t (known server sizes word t law.rows law.exchanges.rows)).at_most
 
-  marked_turned : (t : List Call) (c : Call) → Turned szx t c → ((n : ℕ) → places n (own_of szx t) ≤ 1) → Marked t
+  marked_turned : (t : List Call) (c : Call) → Turned sizes t c → ((n : ℕ) → places n (own_of sizes t) ≤ 1) → Marked t
       → Marked (c ∷ t)
   marked_turned t c k at_most h =
-      let m : ℕ = max (own_of szx t).clock k.now in
-      let s : Own = at k.now (own_of szx t) in
+      let m : ℕ = max (own_of sizes t).clock k.now in
+      let s : Own = at k.now (own_of sizes t) in
       let e : Effect = left_by s m k.told k.move in
       let P : ℕ → Option Mark → Type 0 = IsLast (λ n. mark_if n (taken_by s m k.told) (lasts t n)) in
       let now_marked = marked_closed P m e k.token (marks_by s m k.told (lasts t) h at_most k.move) k.closes in
       marked_to P (IsLast (lasts (c ∷ t))) (λ n mark is. is ∙ ap (λ z. mark_if n z (lasts t n)) (sym k.notifies_is))
-      (own_of szx (c ∷ t)).observations (subst (λ (o : Own). AllMarked P o.observations) (sym k.own_is) now_marked)
+      (own_of sizes (c ∷ t)).observations (subst (λ (o : Own). AllMarked P o.observations) (sym k.own_is) now_marked)
 
-  marked_step : (t : List Call) (c : Call) → ((n : ℕ) → places n (own_of szx t) ≤ 1) → Marked t → Marked (c ∷ t)
+  marked_step : (t : List Call) (c : Call) → ((n : ℕ) → places n (own_of sizes t) ≤ 1) → Marked t → Marked (c ∷ t)
   marked_step t (Calls now r (Ok n)) at_most h = h
   marked_step t (Calls now r (Err why)) at_most h = h
   marked_step t (Observes now path (Ok n)) at_most h = h
   marked_step t (Observes now path (Err why)) at_most h = h
   marked_step t (Cancels now k None) at_most h = h
   marked_step t (Cancels now k (Some why)) at_most h = h
-  marked_step t (Forgets k was true) at_most h = marked_without (IsLast (lasts t)) k (own_of szx t).observations h
+  marked_step t (Forgets k was true) at_most h = marked_without (IsLast (lasts t)) k (own_of sizes t).observations h
   marked_step t (Forgets k was false) at_most h = h
   marked_step t (NextOut answer) at_most h = h
   marked_step t (NextReport answer) at_most h = h
   marked_step t (Asked answer) at_most h = h
   marked_step t (Feeds now from bytes w up settled event sent token was) at_most h =
       marked_turned t (Feeds now from bytes w up settled event sent token was)
-      (fed_turned szx t now from bytes w up settled event sent token was) at_most h
+      (fed_turned sizes t now from bytes w up settled event sent token was) at_most h
   marked_step t (Ticks now w below turn sent token was answer) at_most h =
       marked_turned t (Ticks now w below turn sent token was answer)
-      (ticked_turned szx t now w below turn sent token was answer) at_most h
+      (ticked_turned sizes t now w below turn sent token was answer) at_most h
 
-  pub marked : (t : List Call) → ClientLaw server szx word t → Marked t
+  pub marked : (t : List Call) → ClientLaw server sizes word t → Marked t
   marked [] law = tt
-  marked (c ∷ t) law = let past = client_back server szx word (c ∷ []) t law in marked_step t c (most t past)
+  marked (c ∷ t) law = let past = client_back server sizes word (c ∷ []) t law in marked_step t c (most t past)
       (marked t past)
 
-  newer_here : (t : List Call) (c : Call) → Marked t → (n : Newly) → hears c ≡ None → notifies (own_of szx t) c ≡ Some n
-      → IsNewer (last_mark szx n.number t) n.mark.number n.mark.at
+  newer_here : (t : List Call) (c : Call) → Marked t → (n : Newly) → hears c ≡ None
+      → notifies (own_of sizes t) c ≡ Some n
+      → IsNewer (last_mark sizes n.number t) n.mark.number n.mark.at
   newer_here t (Feeds now from bytes w up settled (Some (event_of.Notice m)) sent token was) h n none is =
-      let s : Own = own_of szx t in
+      let s : Own = own_of sizes t in
       let k = renew_newer (observation_with m.token s.observations) (max s.clock now) m n is in
       let mark_is : k.0.watch.mark ≡ lasts t k.0.number = found_mark (lasts t) s.observations h m k.0 k.1 in
-      subst (λ z. IsNewer z n.mark.number n.mark.at) (mark_is ∙ ap (λ i. last_mark szx i t) (sym k.2)) k.3
+      subst (λ z. IsNewer z n.mark.number n.mark.at) (mark_is ∙ ap (λ i. last_mark sizes i t) (sym k.2)) k.3
   newer_here t (Feeds now from bytes w up settled (Some (event_of.Answer m)) sent token was) h n none is =
       absurd (cc none)
   newer_here t (Feeds now from bytes w up settled (Some event_of.Reset) sent token was) h n none is = absurd (cc is)
@@ -344,7 +346,7 @@ module _ (server : Endpoint) (szx word : ℕ) where
   newer_here t (NextReport answer) h n none is = absurd (cc is)
   newer_here t (Asked answer) h n none is = absurd (cc is)
 
-  pub are_newer : (t : List Call) → ClientLaw server szx word t → AreNewer szx t
+  pub are_newer : (t : List Call) → ClientLaw server sizes word t → AreNewer sizes t
   are_newer [] law = tt
-  are_newer (c ∷ t) law = let past = client_back server szx word
+  are_newer (c ∷ t) law = let past = client_back server sizes word
       (c ∷ []) t law in (newer_here t c (marked t past), are_newer t past)

@@ -5,6 +5,7 @@ use Rattle.std.proofs.Common.{Some, None, List, ◌∷◌, ◌++◌, [], map, re
 use Rattle.std.specs.Prelude.{◌==◌, nat_lt}
 use Rattle.coap_types.specs.declared.endpoint.Endpoint.{Endpoint}
 use Rattle.coap_codec.specs.Message.{Message}
+use Rattle.coap_block.specs.Sizes.{Sizes}
 use Rattle.coap_exchange.specs.declared.asker.Event.TheVariants as event_of
 use Rattle.coap_exchange.specs.Tokens.{same_token}
 use Rattle.coap_observe.specs.Newer.{IsNewer, is_newer, arrived}
@@ -89,8 +90,8 @@ renews_as (Some o) now m n h = by (is_notification m) refl (is_newer o.watch.mar
 
 abbrev pub registered_to : Own → ℕ → Message → ℕ → List (List ℕ) → Effect
 registered_to s now m k path = record {
-  own = record s { running = None; observations = s.observations ++ begun k path s.szx now m ∷ [] };
-  report = first_value k s.szx m;
+  own = record s { running = None; observations = s.observations ++ begun k path s.sizes now m ∷ [] };
+  report = first_value k s.sizes m;
   deed = Keeps m.token;
 }
 
@@ -135,60 +136,60 @@ pub at_most_one : (b : Bool) → cond b 1 0 ≤ 1
 at_most_one true = omega arith
 at_most_one false = omega arith
 
-module _ (szx : ℕ) where
+module _ (sizes : Sizes) where
   -- the newest, where none comes and where one does
 
-  pub newest_kept : (t : List Call) (c : Call) (k : ℕ) → is_newly_of k (notifies (own_of szx t) c) ≡ false
-      → newest szx k (c ∷ t) ≡ newest szx k t
-  newest_kept t c k h = ap (λ b. newest_if (notifies (own_of szx t) c) b (newest szx k t)) h
+  pub newest_kept : (t : List Call) (c : Call) (k : ℕ) → is_newly_of k (notifies (own_of sizes t) c) ≡ false
+      → newest sizes k (c ∷ t) ≡ newest sizes k t
+  newest_kept t c k h = ap (λ b. newest_if (notifies (own_of sizes t) c) b (newest sizes k t)) h
 
-  pub newest_now : (t : List Call) (c : Call) (k : ℕ) (n : Newly) → notifies (own_of szx t) c ≡ Some n → n.number ≡ k
-      → newest szx k (c ∷ t) ≡ Some n
-  newest_now t c k n is number = ap (λ b. newest_if (notifies (own_of szx t) c) b (newest szx k t))
+  pub newest_now : (t : List Call) (c : Call) (k : ℕ) (n : Newly) → notifies (own_of sizes t) c ≡ Some n → n.number ≡ k
+      → newest sizes k (c ∷ t) ≡ Some n
+  newest_now t c k n is number = ap (λ b. newest_if (notifies (own_of sizes t) c) b (newest sizes k t))
       (ap (is_newly_of k) is ∙ (ap (λ i. i == k) number ∙ number_self k)) ∙ is
 
   -- .. by which of both
-  pub came_now : (t : List Call) (c : Call) (k : ℕ) (n : Newly) → is_newly_of k (notifies (own_of szx t) c) ≡ true
-      → newest szx k (c ∷ t) ≡ Some n → (notifies (own_of szx t) c ≡ Some n) × (n.number ≡ k)
+  pub came_now : (t : List Call) (c : Call) (k : ℕ) (n : Newly) → is_newly_of k (notifies (own_of sizes t) c) ≡ true
+      → newest sizes k (c ∷ t) ≡ Some n → (notifies (own_of sizes t) c ≡ Some n) × (n.number ≡ k)
   came_now t c k n e h =
-      let is : notifies (own_of szx t) c ≡ Some n =
-      sym (ap (λ b. newest_if (notifies (own_of szx t) c) b (newest szx k t)) e) ∙ h in
+      let is : notifies (own_of sizes t) c ≡ Some n =
+      sym (ap (λ b. newest_if (notifies (own_of sizes t) c) b (newest sizes k t)) e) ∙ h in
       (is, same_number n.number k (sym (ap (is_newly_of k) is) ∙ e))
 
   -- an observation of which a notification came is live
-  live_now : (t : List Call) (c : Call) (n : Newly) → notifies (own_of szx t) c ≡ Some n
-      → 1 ≤ in_observations n.number (own_of szx (c ∷ t)).observations
+  live_now : (t : List Call) (c : Call) (n : Newly) → notifies (own_of sizes t) c ≡ Some n
+      → 1 ≤ in_observations n.number (own_of sizes (c ∷ t)).observations
   live_now t (Feeds now from bytes w up settled (Some (event_of.Answer m)) sent token was) n is =
-      let s : Own = at now (own_of szx t) in
-      let z : ℕ = max (own_of szx t).clock now in
-      let r = registers_as (own_of szx t).running z m n is in
+      let s : Own = at now (own_of sizes t) in
+      let z : ℕ = max (own_of sizes t).clock now in
+      let r = registers_as (own_of sizes t).running z m n is in
       let c : Call = Feeds now from bytes w up settled (Some (event_of.Answer m)) sent token was in
-      let new : Observation = begun r.number r.path s.szx z m in
-      let left : (own_of szx (c ∷ t)).observations ≡ s.observations
+      let new : Observation = begun r.number r.path s.sizes z m in
+      let left : (own_of sizes (c ∷ t)).observations ≡ s.observations
       ++ new ∷ [] = ap (λ (x : Effect). (closed z x x.deed token).own.observations)
       (registered_effect s z m r.number r.path r.runs r.note) in
       let a = ap (in_observations r.number) left in
       let b = in_observations_append r.number s.observations (new ∷ []) in
       let d = hit_self r.number in
-      subst (λ i. 1 ≤ in_observations i (own_of szx (c ∷ t)).observations) (sym (ap (λ (x : Newly). x.number) r.is))
+      subst (λ i. 1 ≤ in_observations i (own_of sizes (c ∷ t)).observations) (sym (ap (λ (x : Newly). x.number) r.is))
       (omega (arith, a, b, d))
   live_now t (Feeds now from bytes w up settled (Some (event_of.Notice m)) sent token was) n is =
-      let s : Own = at now (own_of szx t) in
-      let z : ℕ = max (own_of szx t).clock now in
+      let s : Own = at now (own_of sizes t) in
+      let z : ℕ = max (own_of sizes t).clock now in
       let r = renews_as (observation_with m.token s.observations) z m n is in
       let o = r.observation in
       let c : Call = Feeds now from bytes w up settled (Some (event_of.Notice m)) sent token was in
       let f : Observation → Observation = λ p. cond (p.number == o.number)
-      (record p { watch = arrived p.watch (sequence_in m) z true; rest = first_rest s.szx m }) p in
-      let left : (own_of szx (c ∷ t)).observations
+      (record p { watch = arrived p.watch (sequence_in m) z true; rest = first_rest s.sizes m }) p in
+      let left : (own_of sizes (c ∷ t)).observations
       ≡ map f s.observations = ap (λ (x : Effect). (closed z x x.deed token).own.observations)
       (renewed_effect s z m o r.found r.note r.newer) in
       let a = ap (in_observations o.number) left in
       let b = in_map o.number f (λ p. number_if (p.number == o.number) p
-      (record p { watch = arrived p.watch (sequence_in m) z true; rest = first_rest s.szx m }) refl) s.observations
+      (record p { watch = arrived p.watch (sequence_in m) z true; rest = first_rest s.sizes m }) refl) s.observations
       in
       let d = (found_by_token m.token s.observations o r.found).1 in
-      subst (λ i. 1 ≤ in_observations i (own_of szx (c ∷ t)).observations) (sym (ap (λ (x : Newly). x.number) r.is))
+      subst (λ i. 1 ≤ in_observations i (own_of sizes (c ∷ t)).observations) (sym (ap (λ (x : Newly). x.number) r.is))
       (omega (arith, a, b, d))
   live_now t (Feeds now from bytes w up settled (Some event_of.Reset) sent token was) n is = absurd (cc is)
   live_now t (Feeds now from bytes w up settled (Some event_of.Timeout) sent token was) n is = absurd (cc is)
@@ -204,107 +205,109 @@ module _ (szx : ℕ) where
   live_now t (Asked answer) n is = absurd (cc is)
 
   -- .. or it is over
-  live_or_gone : (t : List Call) (k : ℕ) (n : Newly) → newest szx k t ≡ Some n
-      → 1 ≤ in_observations k (own_of szx t).observations + gone szx k t
+  live_or_gone : (t : List Call) (k : ℕ) (n : Newly) → newest sizes k t ≡ Some n
+      → 1 ≤ in_observations k (own_of sizes t).observations + gone sizes k t
   live_or_gone [] k n h = absurd (cc h)
-  live_or_gone (c ∷ t) k n h = by (is_newly_of k (notifies (own_of szx t) c)) refl (live_or_gone t k n)
+  live_or_gone (c ∷ t) k n h = by (is_newly_of k (notifies (own_of sizes t) c)) refl (live_or_gone t k n)
     where
-      by : (b : Bool) → is_newly_of k (notifies (own_of szx t) c) ≡ b
-          → (newest szx k t ≡ Some n → 1 ≤ in_observations k (own_of szx t).observations + gone szx k t)
-          → 1 ≤ in_observations k (own_of szx (c ∷ t)).observations + gone szx k (c ∷ t)
+      by : (b : Bool) → is_newly_of k (notifies (own_of sizes t) c) ≡ b
+          → (newest sizes k t ≡ Some n → 1 ≤ in_observations k (own_of sizes t).observations + gone sizes k t)
+          → 1 ≤ in_observations k (own_of sizes (c ∷ t)).observations + gone sizes k (c ∷ t)
       by true e ih = let z = came_now t c k n e h in let a =
-          subst (λ i. 1 ≤ in_observations i (own_of szx (c ∷ t)).observations) z.1 (live_now t c n z.0) in omega
+          subst (λ i. 1 ≤ in_observations i (own_of sizes (c ∷ t)).observations) z.1 (live_now t c n z.0) in omega
           (arith, a)
-      by false e ih = elim (one_of_two (in_observations k (own_of szx t).observations) (gone szx k t)
+      by false e ih = elim (one_of_two (in_observations k (own_of sizes t).observations) (gone sizes k t)
           (ih (sym (newest_kept t c k e) ∙ h))) [
-            | inl there ↦ (let a = stays_live szx t c k there in omega (arith, a))
+            | inl there ↦ (let a = stays_live sizes t c k there in omega (arith, a))
             | inr over ↦ omega (arith, over)
           ]
 
-module _ (server : Endpoint) (szx word : ℕ) where
-  pub most : (t : List Call) → ClientLaw server szx word t → (n : ℕ) → places n (own_of szx t) ≤ 1
-  most t law = (sound_of server szx word t (known server szx word t law.rows law.exchanges.rows)).at_most
+module _ (server : Endpoint) (sizes : Sizes) (word : ℕ) where
+  pub most : (t : List Call) → ClientLaw server sizes word t → (n : ℕ) → places n (own_of sizes t) ≤ 1
+  most t law = (sound_of server sizes word t (known server sizes word t law.rows law.exchanges.rows)).at_most
 
   -- the mark of a live observation is that of its newest notification
   pub record HasNewest (t : List Call) (x : Observation) : Type 0 where
     pub newly : Newly
-    pub is : newest szx x.number t ≡ Some newly
+    pub is : newest sizes x.number t ≡ Some newly
     pub mark : x.watch.mark ≡ Some newly.mark
 
   newest_later : (t : List Call) (c : Call) (o x : Observation) → Same o x
-      → is_newly_of x.number (notifies (own_of szx t) c) ≡ false → HasNewest t o → HasNewest (c ∷ t) x
+      → is_newly_of x.number (notifies (own_of sizes t) c) ≡ false → HasNewest t o → HasNewest (c ∷ t) x
   newest_later t c o x same apart h = record {
     newly = h.newly;
-    is = newest_kept szx t c x.number apart ∙ (ap (λ i. newest szx i t) same.number ∙ h.is);
+    is = newest_kept sizes t c x.number apart ∙ (ap (λ i. newest sizes i t) same.number ∙ h.is);
     mark = same.mark ∙ h.mark;
   }
 
-  pub has_newest : (t : List Call) → ClientLaw server szx word t → (x : Observation) → In x (own_of szx t).observations
+  pub has_newest : (t : List Call) → ClientLaw server sizes word t → (x : Observation)
+      → In x (own_of sizes t).observations
       → HasNewest t x
   has_newest [] law x h = absurd h
-  has_newest (c ∷ t) law x h = let past = client_back server szx word (c ∷ []) t law in by
-      (source szx t c (most t past) x h) (has_newest t past)
+  has_newest (c ∷ t) law x h = let past = client_back server sizes word (c ∷ []) t law in by
+      (source sizes t c (most t past) x h) (has_newest t past)
     where
-      by : Source (own_of szx t).observations (own_of szx t).running (notifies (own_of szx t) c) (hears c)
-          (Rattle.coap_client.specs.Follows.Rising.value_reported (reports (own_of szx t) c)) x
-          → ((o : Observation) → In o (own_of szx t).observations → HasNewest t o) → HasNewest (c ∷ t) x
+      by : Source (own_of sizes t).sizes (own_of sizes t).observations (own_of sizes t).running
+          (notifies (own_of sizes t) c) (hears c) (Rattle.coap_client.specs.Follows.Rising.value_reported
+          (reports (own_of sizes t) c)) x
+          → ((o : Observation) → In o (own_of sizes t).observations → HasNewest t o) → HasNewest (c ∷ t) x
       by (kept o there same rest apart none) ih = newest_later t c o x same apart (ih o there)
       by (rests o there same rest apart) ih = newest_later t c o x same apart (ih o there)
       by (goes_on o n m num size there same runs rest is code asks left apart none) ih =
           newest_later t c o x same apart (ih o there)
       by (comes n is number mark rest) ih = record
-          { newly = n; is = newest_now szx t c x.number n is number; mark = mark }
+          { newly = n; is = newest_now sizes t c x.number n is number; mark = mark }
 
   -- a registration that runs had no notification before
-  none_before : (t : List Call) → ClientLaw server szx word t → (k : ℕ) (path : List (List ℕ))
-      → (own_of szx t).running ≡ Some (Registering k path) → newest szx k t ≡ None
-  none_before t law k path runs = by (newest szx k t) refl
+  none_before : (t : List Call) → ClientLaw server sizes word t → (k : ℕ) (path : List (List ℕ))
+      → (own_of sizes t).running ≡ Some (Registering k path) → newest sizes k t ≡ None
+  none_before t law k path runs = by (newest sizes k t) refl
     where
-      by : (o : Option Newly) → newest szx k t ≡ o → o ≡ None
+      by : (o : Option Newly) → newest sizes k t ≡ o → o ≡ None
       by None e = refl
       by (Some n) e =
-          let a = live_or_gone szx t k n e in
-          let b = (known server szx word t law.rows law.exchanges.rows).one k in
-          let d = at_most_one (nat_lt k (own_of szx t).taken) in
+          let a = live_or_gone sizes t k n e in
+          let b = (known server sizes word t law.rows law.exchanges.rows).one k in
+          let d = at_most_one (nat_lt k (own_of sizes t).taken) in
           let f = ap (in_running k) runs in
           let g = hit_self k in
           absurd (omega (arith, a, b, d, f, g))
 
   -- its answer has the token under which it was sent
-  registration_sent : (t : List Call) (c : Call) → ClientLaw server szx word (c ∷ t)
+  registration_sent : (t : List Call) (c : Call) → ClientLaw server sizes word (c ∷ t)
       → (m : Message) (k : ℕ) (path : List (List ℕ)) → hears c ≡ Some m
-      → (own_of szx t).running ≡ Some (Registering k path) → WasRegistered szx k m.token t
+      → (own_of sizes t).running ≡ Some (Registering k path) → WasRegistered sizes k m.token t
   registration_sent t c law m k path heard runs =
-      let past = law_back server word (lower (own_of szx t) c) (lower_of szx t) law.exchanges.rows in
-      let tracked : Tracked szx t (Registering k path) (beneath server szx word t).running =
-      subst (λ o. IfTracked szx t o (beneath server szx word t).running) runs
-      (all_sends szx server word t law.rows.1 past).tracked in
-      let a : Answers szx t c m = (answers_last szx server word (c ∷ t) law).0 m heard in
+      let past = law_back server word (lower (own_of sizes t) c) (lower_of sizes t) law.exchanges.rows in
+      let tracked : Tracked sizes t (Registering k path) (beneath server sizes word t).running =
+      subst (λ o. IfTracked sizes t o (beneath server sizes word t).running) runs
+      (all_sends sizes server word t law.rows.1 past).tracked in
+      let a : Answers sizes t c m = (answers_last sizes server word (c ∷ t) law).0 m heard in
       let same : a.sending ≡ tracked.sending = (let z : Some a.sending ≡ Some tracked.sending = sym a.last
       ∙ tracked.last in cc z) in
       record {
         path = path;
         sending = a.sending;
-        sent = last_was_sent szx t a.sending a.last;
+        sent = last_was_sent sizes t a.sending a.last;
         registers = elim tracked.same [ inl d ↦ absurd (cc d) | inr e ↦ ap (λ (z : Sending). z.operation) same ∙ e ];
         token_is = a.token;
       }
 
-  live_token : (t : List Call) → ClientLaw server szx word t → (o : Observation) → In o (own_of szx t).observations
-      → WasRegistered szx o.number o.token t
+  live_token : (t : List Call) → ClientLaw server sizes word t → (o : Observation) → In o (own_of sizes t).observations
+      → WasRegistered sizes o.number o.token t
   live_token t law o there =
-      let r : Registered szx t o.number o.path o.token =
-      live_in (Registered szx t) (own_of szx t).observations o (live szx server word t law) there in
+      let r : Registered sizes t o.number o.path o.token =
+      live_in (Registered sizes t) (own_of sizes t).observations o (live sizes server word t law) there in
       record { path = o.path; sending = r.sending; sent = r.sent; registers = r.operation; token_is = r.token_is }
 
-  taken_here : (t : List Call) (c : Call) → ClientLaw server szx word (c ∷ t) → (n : Newly)
-      → notifies (own_of szx t) c ≡ Some n → IsTaken szx n t c
+  taken_here : (t : List Call) (c : Call) → ClientLaw server sizes word (c ∷ t) → (n : Newly)
+      → notifies (own_of sizes t) c ≡ Some n → IsTaken sizes n t c
   taken_here t (Feeds now from bytes w up settled (Some (event_of.Answer m)) sent token was) law n is =
       let c : Call = Feeds now from bytes w up settled (Some (event_of.Answer m)) sent token was in
-      let past = client_back server szx word (c ∷ []) t law in
-      let z : ℕ = max (own_of szx t).clock now in
-      let r = registers_as (own_of szx t).running z m n is in
-      subst (λ x. IsTaken szx x t c) (sym r.is) (record {
+      let past = client_back server sizes word (c ∷ []) t law in
+      let z : ℕ = max (own_of sizes t).clock now in
+      let r = registers_as (own_of sizes t).running z m n is in
+      subst (λ x. IsTaken sizes x t c) (sym r.is) (record {
         notification = r.note;
         sequence = refl;
         registered = registration_sent t c law m r.number r.path refl r.runs;
@@ -312,17 +315,17 @@ module _ (server : Endpoint) (szx word : ℕ) where
       })
   taken_here t (Feeds now from bytes w up settled (Some (event_of.Notice m)) sent token was) law n is =
       let c : Call = Feeds now from bytes w up settled (Some (event_of.Notice m)) sent token was in
-      let past = client_back server szx word (c ∷ []) t law in
-      let z : ℕ = max (own_of szx t).clock now in
-      let os : List Observation = (own_of szx t).observations in
+      let past = client_back server sizes word (c ∷ []) t law in
+      let z : ℕ = max (own_of sizes t).clock now in
+      let os : List Observation = (own_of sizes t).observations in
       let r = renews_as (observation_with m.token os) z m n is in
       let o = r.observation in
       let there = in_found m.token os o r.found in
       let b = has_newest t past o there in
-      subst (λ x. IsTaken szx x t c) (sym r.is) (record {
+      subst (λ x. IsTaken sizes x t c) (sym r.is) (record {
         notification = r.note;
         sequence = refl;
-        registered = subst (λ key. WasRegistered szx o.number key t) (sym (found_by_token m.token os o r.found).0)
+        registered = subst (λ key. WasRegistered sizes o.number key t) (sym (found_by_token m.token os o r.found).0)
             (live_token t past o there);
         comes = inr (record {
           noted = refl;
@@ -345,6 +348,6 @@ module _ (server : Endpoint) (szx word : ℕ) where
   taken_here t (NextReport answer) law n is = absurd (cc is)
   taken_here t (Asked answer) law n is = absurd (cc is)
 
-  pub are_taken : (t : List Call) → ClientLaw server szx word t → AreTaken szx t
+  pub are_taken : (t : List Call) → ClientLaw server sizes word t → AreTaken sizes t
   are_taken [] law = tt
-  are_taken (c ∷ t) law = (taken_here t c law, are_taken t (client_back server szx word (c ∷ []) t law))
+  are_taken (c ∷ t) law = (taken_here t c law, are_taken t (client_back server sizes word (c ∷ []) t law))

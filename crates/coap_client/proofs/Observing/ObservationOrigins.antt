@@ -5,6 +5,7 @@ use Rattle.std.specs.Prelude.{◌==◌, filter}
 use Rattle.coap_types.specs.Past.{Ever}
 use Rattle.coap_types.proofs.Facts.Traces.{Ever_append}
 use Rattle.coap_codec.specs.Message.{Message}
+use Rattle.coap_block.specs.Sizes.{Sizes}
 use Rattle.coap_block.specs.declared.fetch_verdict.Verdict.{Verdict}
 use Rattle.coap_block.specs.declared.fetch_verdict.Verdict.TheVariants as verdict
 use Rattle.coap_block.specs.FetchStep.{FetchState}
@@ -88,54 +89,58 @@ same_self o x e = record {
 }
 
 -- by what was there, what ran, what is taken as newer, what is heard, and of which observation a value is reported
-pub data Source (before : List Observation) (running : Option Operation) (new : Option Newly) (heard : Option Message)
+pub data Source (sizes : Sizes) (before : List Observation) (running : Option Operation) (new : Option Newly)
+    (heard : Option Message)
     (shown : Option ℕ) (x : Observation) : Type 0 where
   -- nothing of it came
   kept : (o : Observation) → In o before → Same o x → x.rest ≡ o.rest → is_newly_of x.number new ≡ false
-      → (shown ≡ Some x.number → ⊥) → Source before running new heard shown x
+      → (shown ≡ Some x.number → ⊥) → Source sizes before running new heard shown x
   -- nothing of it is to be fetched any more
   rests : (o : Observation) → In o before → Same o x → x.rest ≡ None → is_newly_of x.number new ≡ false
-      → Source before running new heard shown x
+      → Source sizes before running new heard shown x
   -- a part of it was fetched, and more is to be
   goes_on :
       (o : Observation) (n : Notified) (m : Message) (num size : ℕ) → In o before → Same o x
       → running ≡ Some (Fetching x.number) → rest_of x.number before ≡ Some n → heard ≡ Some m → m.code ≡ content
       → part n.fetch m ≡ verdict.Ask num size
       → x.rest ≡ rest_left n.sequence n.fetch m (verdict.Ask num size) → is_newly_of x.number new ≡ false
-      → (shown ≡ Some x.number → ⊥) → Source before running new heard shown x
+      → (shown ≡ Some x.number → ⊥) → Source sizes before running new heard shown x
   -- a notification of it came
   comes :
       (n : Newly) → new ≡ Some n → n.number ≡ x.number → x.watch.mark ≡ Some n.mark
-      → ((r : Notified) → x.rest ≡ Some r → (size : ℕ) × (first_rest size n.message ≡ Some r)
-      × (shown ≡ Some x.number → ⊥)) → Source before running new heard shown x
+      → ((r : Notified) → x.rest ≡ Some r → (first_rest sizes n.message ≡ Some r)
+      × (shown ≡ Some x.number → ⊥)) → Source sizes before running new heard shown x
 
 no_value : (n : ℕ) → None ≡ Some n → ⊥
 no_value n h = cc h
 
 -- where no value is reported
-silent : (before : List Observation) (running : Option Operation) (new : Option Newly) (heard : Option Message)
-    (shown : Option ℕ) (x : Observation) → Source before running new heard shown x
-    → Source before running new heard None x
-silent before running new heard shown x (kept o there same rest apart none) =
+silent : (sizes : Sizes) (before : List Observation) (running : Option Operation) (new : Option Newly)
+    (heard : Option Message)
+    (shown : Option ℕ) (x : Observation) → Source sizes before running new heard shown x
+    → Source sizes before running new heard None x
+silent sizes before running new heard shown x (kept o there same rest apart none) =
     kept o there same rest apart (no_value x.number)
-silent before running new heard shown x (rests o there same rest apart) = rests o there same rest apart
-silent before running new heard shown x (goes_on o n m num size there same runs rest is code asks left apart none) =
+silent sizes before running new heard shown x (rests o there same rest apart) = rests o there same rest apart
+silent sizes before running new heard shown x
+    (goes_on o n m num size there same runs rest is code asks left apart none) =
     goes_on o n m num size there same runs rest is code asks left apart (no_value x.number)
-silent before running new heard shown x (comes n is number mark rest) =
-    comes n is number mark (λ r e. (let k = rest r e in (k.0, k.1, no_value x.number)))
+silent sizes before running new heard shown x (comes n is number mark rest) =
+    comes n is number mark (λ r e. (let k = rest r e in (k.0, no_value x.number)))
 
 -- .. and nothing is to be fetched
-without_rest : (before : List Observation) (running : Option Operation) (new : Option Newly) (heard : Option Message)
-    (shown : Option ℕ) (x : Observation) → Source before running new heard shown x
-    → Source before running new heard None (record x { rest = None })
-without_rest before running new heard shown x (kept o there same rest apart none) =
+without_rest : (sizes : Sizes) (before : List Observation) (running : Option Operation) (new : Option Newly)
+    (heard : Option Message)
+    (shown : Option ℕ) (x : Observation) → Source sizes before running new heard shown x
+    → Source sizes before running new heard None (record x { rest = None })
+without_rest sizes before running new heard shown x (kept o there same rest apart none) =
     rests o there (record { number = same.number; mark = same.mark }) refl apart
-without_rest before running new heard shown x (rests o there same rest apart) =
+without_rest sizes before running new heard shown x (rests o there same rest apart) =
     rests o there (record { number = same.number; mark = same.mark }) refl apart
-without_rest before running new heard shown x
+without_rest sizes before running new heard shown x
     (goes_on o n m num size there same runs rest is code asks left apart none) =
     rests o there (record { number = same.number; mark = same.mark }) refl apart
-without_rest before running new heard shown x (comes n is number mark rest) =
+without_rest sizes before running new heard shown x (comes n is number mark rest) =
     comes n is number mark (λ r e. absurd (cc e))
 
 -- a failure leaves those that are there, or one without what is to be fetched
@@ -203,18 +208,18 @@ rest_asks sequence f m (verdict.Ask num size) r h = record {
 }
 
 -- a notification that leaves more to be fetched gives no value
-first_silent : (k size : ℕ) (m : Message) (r : Notified) (n : ℕ) → first_rest size m ≡ Some r
-    → value_reported (first_value k size m) ≡ Some n → ⊥
-first_silent k size m r n h shown =
-    let a = rest_asks (sequence_in m) (F.start size 0) m (part (F.start size 0) m) r h in
-    let e : None ≡ Some n = sym (ap (λ v. value_reported (value k (sequence_in m) (F.start size 0) m v)) a.asks)
+first_silent : (k : ℕ) (sizes : Sizes) (m : Message) (r : Notified) (n : ℕ) → first_rest sizes m ≡ Some r
+    → value_reported (first_value k sizes m) ≡ Some n → ⊥
+first_silent k sizes m r n h shown =
+    let a = rest_asks (sequence_in m) (F.start sizes 0) m (part (F.start sizes 0) m) r h in
+    let e : None ≡ Some n = sym (ap (λ v. value_reported (value k (sequence_in m) (F.start sizes 0) m v)) a.asks)
     ∙ shown in
     cc e
 
 -- each move
 module _ (s : Own) (now : ℕ) (told : Option Event) (at_most : (n : ℕ) → places n s ≤ 1) where
   abbrev By : Option ℕ → Observation → Type 0
-  By shown x = Source s.observations s.running (taken_by s now told) (heard_in told) shown x
+  By shown x = Source s.sizes s.observations s.running (taken_by s now told) (heard_in told) shown x
 
   quietly : taken_by s now told ≡ None → (n : ℕ) → is_newly_of n (taken_by s now told) ≡ false
   quietly none n = ap (is_newly_of n) none
@@ -245,19 +250,19 @@ module _ (s : Own) (now : ℕ) (told : Option Event) (at_most : (n : ℕ) → pl
 
   -- a notification of one, the others stay
   others_by : (k : ℕ) (m : Message) → taken_by s now told ≡ newly k now m → (x : Observation) → In x s.observations
-      → (k == x.number) ≡ false → By (value_reported (first_value k s.szx m)) x
+      → (k == x.number) ≡ false → By (value_reported (first_value k s.sizes m)) x
   others_by k m is x h apart =
       kept x h (same_self x x refl) refl (ap (is_newly_of x.number) is ∙ apart)
-      (λ z. (let e = value_number k (sequence_in m) (F.start s.szx 0) m
-      (part (F.start s.szx 0) m) x.number z in let f : (k == x.number) ≡ true = ap (λ i. k == i) (sym e)
+      (λ z. (let e = value_number k (sequence_in m) (F.start s.sizes 0) m
+      (part (F.start s.sizes 0) m) x.number z in let f : (k == x.number) ≡ true = ap (λ i. k == i) (sym e)
       ∙ number_self k in cc (apart, f)))
 
   comes_by : (k : ℕ) (m : Message) → taken_by s now told ≡ newly k now m → (x : Observation) → k ≡ x.number
-      → x.watch.mark ≡ Some (record { number = sequence_in m; at = now }) → x.rest ≡ first_rest s.szx m
-      → By (value_reported (first_value k s.szx m)) x
+      → x.watch.mark ≡ Some (record { number = sequence_in m; at = now }) → x.rest ≡ first_rest s.sizes m
+      → By (value_reported (first_value k s.sizes m)) x
   comes_by k m is x number mark rest =
       comes (record { number = k; mark = record { number = sequence_in m; at = now }; message = m }) is number mark
-      (λ r e. (let f : first_rest s.szx m ≡ Some r = sym rest ∙ e in (s.szx, f, first_silent k s.szx m r x.number f)))
+      (λ r e. (let f : first_rest s.sizes m ≡ Some r = sym rest ∙ e in (f, first_silent k s.sizes m r x.number f)))
 
   source_by : (mo : Move s now told) (x : Observation) → In x (left_by s now told mo).own.observations
       → By (value_reported (left_by s now told mo).report) x
@@ -278,10 +283,11 @@ module _ (s : Own) (now : ℕ) (told : Option Event) (at_most : (n : ℕ) → pl
       let q = ap (in_running k) runs in
       let one = hit_self k in
       let none : in_observations k s.observations ≡ 0 = omega (arith, p, q, one) in
-      by is none (Ever_append (λ o. o ≡ x) s.observations (begun k path s.szx now a ∷ []) h)
+      by is none (Ever_append (λ o. o ≡ x) s.observations (begun k path s.sizes now a ∷ []) h)
     where
       by : taken_by s now told ≡ newly k now a → in_observations k s.observations ≡ 0
-          → In x s.observations ⊎ In x (begun k path s.szx now a ∷ []) → By (value_reported (first_value k s.szx a)) x
+          → In x s.observations ⊎ In x (begun k path s.sizes now a ∷ [])
+          → By (value_reported (first_value k s.sizes a)) x
       by is none (inl there) = others_by k a is x there (other (k == x.number) refl)
         where
           other : (b : Bool) → (k == x.number) ≡ b → b ≡ false
@@ -361,7 +367,7 @@ module _ (s : Own) (now : ℕ) (told : Option Event) (at_most : (n : ℕ) → pl
       ∙ ap (λ b. cond b (newly o.number now a) None) newer)) in
       let i = in_changed o.number (λ p. record p {
         watch = arrived p.watch (sequence_in a) now true;
-        rest = first_rest s.szx a;
+        rest = first_rest s.sizes a;
       }) s.observations x h in
       let p = i.0 in
       elim i.2 [
@@ -400,7 +406,7 @@ module _ (s : Own) (now : ℕ) (told : Option Event) (at_most : (n : ℕ) → pl
       subst (λ r. By (value_reported r) x) (sym report_same) (f x (subst (λ (o : Own). In x o.observations) own_same h))
   closed_by e token f (goes_out op key asks given sends_it own_same report_same) x h =
       subst (λ r. By (value_reported r) x) (sym report_same)
-      (silent s.observations s.running (taken_by s now told) (heard_in told) (value_reported e.report) x
+      (silent s.sizes s.observations s.running (taken_by s now told) (heard_in told) (value_reported e.report) x
       (f x (subst (λ (o : Own). In x o.observations) own_same h)))
   closed_by e token f (is_refused op why asks given none all) x h =
       let a = in_failed has_sent NoIds e.own (Some op) x (subst (λ (c : Effect). In x c.own.observations) all h) in
@@ -410,42 +416,43 @@ module _ (s : Own) (now : ℕ) (told : Option Event) (at_most : (n : ℕ) → pl
       let o = a.0 in
       subst (λ i. By i x) (sym v) (elim a.2 [
         | inl same ↦ subst (λ y. By None y) (sym same)
-            (silent s.observations s.running (taken_by s now told) (heard_in told) (value_reported e.report) o
+            (silent s.sizes s.observations s.running (taken_by s now told) (heard_in told) (value_reported e.report) o
             (f o a.1))
         | inr same ↦ subst (λ y. By None y) (sym same)
-            (without_rest s.observations s.running (taken_by s now told) (heard_in told) (value_reported e.report) o
+            (without_rest s.sizes s.observations s.running (taken_by s now told) (heard_in told)
+            (value_reported e.report) o
             (f o a.1))
       ])
 
-module _ (szx : ℕ) where
+module _ (sizes : Sizes) where
   abbrev pub SourceOf : List Call → Call → Observation → Type 0
-  SourceOf t c x = Source (own_of szx t).observations (own_of szx t).running (notifies (own_of szx t) c) (hears c)
-      (value_reported (reports (own_of szx t) c)) x
+  SourceOf t c x = Source (own_of sizes t).sizes (own_of sizes t).observations (own_of sizes t).running
+      (notifies (own_of sizes t) c) (hears c) (value_reported (reports (own_of sizes t) c)) x
 
-  source_turned : (t : List Call) (c : Call) → Turned szx t c → ((n : ℕ) → places n (own_of szx t) ≤ 1)
-      → (x : Observation) → In x (own_of szx (c ∷ t)).observations → SourceOf t c x
+  source_turned : (t : List Call) (c : Call) → Turned sizes t c → ((n : ℕ) → places n (own_of sizes t) ≤ 1)
+      → (x : Observation) → In x (own_of sizes (c ∷ t)).observations → SourceOf t c x
   source_turned t c k at_most x h =
-      let m : ℕ = max (own_of szx t).clock k.now in
-      let s : Own = at k.now (own_of szx t) in
+      let m : ℕ = max (own_of sizes t).clock k.now in
+      let s : Own = at k.now (own_of sizes t) in
       let e : Effect = left_by s m k.told k.move in
       let z = closed_by s m k.told at_most e k.token (source_by s m k.told at_most k.move) k.closes x
       (subst (λ (o : Own). In x o.observations) k.own_is h) in
-      subst (λ r. Source s.observations s.running (notifies (own_of szx t) c) (hears c) (value_reported r) x)
+      subst (λ r. Source s.sizes s.observations s.running (notifies (own_of sizes t) c) (hears c) (value_reported r) x)
       (sym k.reports_is)
-      (subst (λ a. Source s.observations s.running (notifies (own_of szx t) c) a
+      (subst (λ a. Source s.sizes s.observations s.running (notifies (own_of sizes t) c) a
       (value_reported (closed m e e.deed k.token).report) x) (sym k.hears_is)
-      (subst (λ n. Source s.observations s.running n (heard_in k.told)
+      (subst (λ n. Source s.sizes s.observations s.running n (heard_in k.told)
       (value_reported (closed m e e.deed k.token).report) x) (sym k.notifies_is) z))
 
-  pub source : (t : List Call) (c : Call) → ((n : ℕ) → places n (own_of szx t) ≤ 1) → (x : Observation)
-      → In x (own_of szx (c ∷ t)).observations → SourceOf t c x
+  pub source : (t : List Call) (c : Call) → ((n : ℕ) → places n (own_of sizes t) ≤ 1) → (x : Observation)
+      → In x (own_of sizes (c ∷ t)).observations → SourceOf t c x
   source t (Calls now r (Ok n)) at_most x h = kept x h (same_self x x refl) refl refl (no_value x.number)
   source t (Calls now r (Err why)) at_most x h = kept x h (same_self x x refl) refl refl (no_value x.number)
   source t (Observes now path (Ok n)) at_most x h = kept x h (same_self x x refl) refl refl (no_value x.number)
   source t (Observes now path (Err why)) at_most x h = kept x h (same_self x x refl) refl refl (no_value x.number)
   source t (Cancels now k None) at_most x h = kept x h (same_self x x refl) refl refl (no_value x.number)
   source t (Cancels now k (Some why)) at_most x h = kept x h (same_self x x refl) refl refl (no_value x.number)
-  source t (Forgets k was true) at_most x h = kept x (in_without k (own_of szx t).observations x h)
+  source t (Forgets k was true) at_most x h = kept x (in_without k (own_of sizes t).observations x h)
       (same_self x x refl) refl refl (no_value x.number)
   source t (Forgets k was false) at_most x h = kept x h (same_self x x refl) refl refl (no_value x.number)
   source t (NextOut answer) at_most x h = kept x h (same_self x x refl) refl refl (no_value x.number)
@@ -453,7 +460,7 @@ module _ (szx : ℕ) where
   source t (Asked answer) at_most x h = kept x h (same_self x x refl) refl refl (no_value x.number)
   source t (Feeds now from bytes w up settled event sent token was) at_most x h =
       source_turned t (Feeds now from bytes w up settled event sent token was)
-      (fed_turned szx t now from bytes w up settled event sent token was) at_most x h
+      (fed_turned sizes t now from bytes w up settled event sent token was) at_most x h
   source t (Ticks now w below turn sent token was answer) at_most x h =
       source_turned t (Ticks now w below turn sent token was answer)
-      (ticked_turned szx t now w below turn sent token was answer) at_most x h
+      (ticked_turned sizes t now w below turn sent token was answer) at_most x h

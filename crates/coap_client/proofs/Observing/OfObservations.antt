@@ -9,6 +9,7 @@ use Rattle.coap_types.specs.declared.endpoint.Endpoint.{Endpoint}
 use Rattle.coap_types.specs.CoapOption.{option}
 use Rattle.coap_types.specs.Uint.{uint}
 use Rattle.coap_types.specs.declared.option_number.TheConstants.{OBSERVE as observe}
+use Rattle.coap_block.specs.Sizes.{Sizes}
 use Rattle.coap_block.specs.declared.fetch_progress.Asked.{Asked as Block}
 use Rattle.coap_block.specs.declared.fetch_verdict.Verdict.TheVariants as verdict
 use Rattle.coap_block.specs.Gathered.{Awaits}
@@ -192,24 +193,25 @@ cancel_token word (b ∷ calls) law r token given has (inl h) =
     cc e
 cancel_token word (b ∷ calls) law r token given has (inr h) = cancel_token word calls law.1 r token given has h
 
-module _ (szx : ℕ) where
-  all_taken : (t : List Call) → AllOf (IsTaken t) (own_of szx t).queue
-  all_taken = all_wait szx IsTaken taken_later (λ t now r n. tt) (λ t now path n. inl refl) (λ t now n. tt)
+module _ (sizes : Sizes) where
+  all_taken : (t : List Call) → AllOf (IsTaken t) (own_of sizes t).queue
+  all_taken = all_wait sizes IsTaken taken_later (λ t now r n. tt) (λ t now path n. inl refl) (λ t now n. tt)
 
   -- what is sent, as which message
   pub record SentAs (t : List Call) (x : Sending) : Type 0 where
     pub now : ℕ
     pub effect : Effect
     pub request : x.request ≡ message_of effect.own.observations x.operation
-    pub source : AskSource (at now (own_of szx t)) effect x.operation
+    pub source : AskSource (at now (own_of sizes t)) effect x.operation
 
-  sent_turned : (t : List Call) (c : Call) (x : Sending) → Turned szx t c → sends (own_of szx t) c ≡ Some x → SentAs t x
+  sent_turned : (t : List Call) (c : Call) (x : Sending) → Turned sizes t c → sends (own_of sizes t) c ≡ Some x
+      → SentAs t x
   sent_turned t c x z h = by z.closes
     where
       e : Effect
-      e = left_by (at z.now (own_of szx t)) (max (own_of szx t).clock z.now) z.told z.move
+      e = left_by (at z.now (own_of sizes t)) (max (own_of sizes t).clock z.now) z.told z.move
 
-      by : Closing (max (own_of szx t).clock z.now) e z.token → SentAs t x
+      by : Closing (max (own_of sizes t).clock z.now) e z.token → SentAs t x
       by (quiet q none own_same report_same) = let k : Some x ≡ None = sym h ∙ (z.sends_is ∙ none) in absurd (cc k)
       by (is_refused op why asks given none all) = let k : Some x ≡ None = sym h ∙ (z.sends_is ∙ none) in absurd (cc k)
       by (goes_out op key asks given sends_it own_same report_same) =
@@ -220,17 +222,17 @@ module _ (szx : ℕ) where
             now = z.now;
             effect = e;
             request = sym (ap (λ (y : Sending). y.request) same) ∙ ap (message_of e.own.observations) op_is;
-            source = subst (AskSource (at z.now (own_of szx t)) e) op_is
-                (ask_source (at z.now (own_of szx t)) (max (own_of szx t).clock z.now) z.told z.move op asks);
+            source = subst (AskSource (at z.now (own_of sizes t)) e) op_is
+                (ask_source (at z.now (own_of sizes t)) (max (own_of sizes t).clock z.now) z.told z.move op asks);
           }
 
-  pub sent_as : (t : List Call) (c : Call) (x : Sending) → sends (own_of szx t) c ≡ Some x → SentAs t x
+  pub sent_as : (t : List Call) (c : Call) (x : Sending) → sends (own_of sizes t) c ≡ Some x → SentAs t x
   sent_as t (Feeds now from bytes w up settled event sent token was) x h =
       sent_turned t (Feeds now from bytes w up settled event sent token was) x
-      (fed_turned szx t now from bytes w up settled event sent token was) h
+      (fed_turned sizes t now from bytes w up settled event sent token was) h
   sent_as t (Ticks now w below turn sent token was answer) x h =
       sent_turned t (Ticks now w below turn sent token was answer) x
-      (ticked_turned szx t now w below turn sent token was answer) h
+      (ticked_turned sizes t now w below turn sent token was answer) h
   sent_as t (Calls now r answer) x h = absurd (cc h)
   sent_as t (Observes now path answer) x h = absurd (cc h)
   sent_as t (Cancels now k answer) x h = absurd (cc h)
@@ -244,14 +246,15 @@ module _ (szx : ℕ) where
       → x.operation ≡ Registering k path → WasObserved (record { number = k; path = path }) t
   registers_taken t x k path s op = by s.source
     where
-      by : AskSource (at s.now (own_of szx t)) s.effect x.operation → WasObserved (record { number = k; path = path }) t
+      by : AskSource (at s.now (own_of sizes t)) s.effect x.operation
+          → WasObserved (record { number = k; path = path }) t
       by (of_queue queue first left) = let h : AllOf (IsTaken t) (x.operation ∷ queue) =
           subst (AllOf (IsTaken t)) first (all_taken t) in subst (IsTaken t) op h.0
       by (of_call j r tr is) = let e : Registering k path ≡ Calling j r tr = sym op ∙ is in absurd (cc e)
       by (of_fetch j is rest left) = let e : Registering k path ≡ Fetching j = sym op ∙ is in absurd (cc e)
       by (of_part j n new b is rest asks left) = let e : Registering k path ≡ Fetching j = sym op ∙ is in absurd (cc e)
 
-  pub sent_taken : (t : List Call) (x : Sending) (k : ℕ) (path : List (List ℕ)) → WasSent szx x t
+  pub sent_taken : (t : List Call) (x : Sending) (k : ℕ) (path : List (List ℕ)) → WasSent sizes x t
       → x.operation ≡ Registering k path → WasObserved (record { number = k; path = path }) t
   sent_taken [] x k path h op = absurd h
   sent_taken (c ∷ t) x k path (inl h) op = inr (registers_taken t x k path (sent_as t c x h) op)
@@ -269,29 +272,32 @@ module _ (szx : ℕ) where
 
   module _ (server : Endpoint) (word : ℕ) where
     -- of one that is live
-    of_live : (t : List Call) → ClientLaw server szx word t → (p : Observation) → In p (own_of szx t).observations
-        → Registered szx t p.number p.path p.token
-    of_live t law p there = live_in (Registered szx t) (own_of szx t).observations p (live szx server word t law) there
+    of_live : (t : List Call) → ClientLaw server sizes word t → (p : Observation) → In p (own_of sizes t).observations
+        → Registered sizes t p.number p.path p.token
+    of_live t law p there = live_in (Registered sizes t) (own_of sizes t).observations p
+        (live sizes server word t law) there
 
-    one_of_number : (t : List Call) → ClientLaw server szx word t → (p : Observation) → In p (own_of szx t).observations
-        → observation_of p.number (own_of szx t).observations ≡ Some p
-    one_of_number t law p there = let a = most server szx word t law p.number in of_number
-        (own_of szx t).observations p there (omega (arith, a))
+    one_of_number : (t : List Call) → ClientLaw server sizes word t → (p : Observation)
+        → In p (own_of sizes t).observations
+        → observation_of p.number (own_of sizes t).observations ≡ Some p
+    one_of_number t law p there = let a = most server sizes word t law p.number in of_number
+        (own_of sizes t).observations p there (omega (arith, a))
 
-    path_taken : (t : List Call) → ClientLaw server szx word t → (p : Observation) → In p (own_of szx t).observations
+    path_taken : (t : List Call) → ClientLaw server sizes word t → (p : Observation)
+        → In p (own_of sizes t).observations
         → WasObserved (record { number = p.number; path = p.path }) t
     path_taken t law p there = let r = of_live t law p there in sent_taken t r.sending p.number p.path r.sent
         r.operation
 
     -- a fetch asks for the block that its observation waits for
-    fetch_asks : (t : List Call) → ClientLaw server szx word t → (x : Sending) (k : ℕ)
+    fetch_asks : (t : List Call) → ClientLaw server sizes word t → (x : Sending) (k : ℕ)
         → (os : List Observation) (p q : Observation) (b : Block) → x.operation ≡ Fetching k
-        → x.request ≡ message_of os x.operation → In p (own_of szx t).observations → p.number ≡ k
-        → observation_of k os ≡ Some q → q.path ≡ p.path → block_of q.rest ≡ Some b → IsOfObservation szx k x t
+        → x.request ≡ message_of os x.operation → In p (own_of sizes t).observations → p.number ≡ k
+        → observation_of k os ≡ Some q → q.path ≡ p.path → block_of q.rest ≡ Some b → IsOfObservation sizes k x t
     fetch_asks t law x k os p q b op request there number found same asks = record {
       path = p.path;
       taken = subst (λ i. WasObserved (record { number = i; path = p.path }) t) number (path_taken t law p there);
-      asks = subst (λ o. AsksFor szx o p.path x t) (sym op) (
+      asks = subst (λ o. AsksFor sizes o p.path x t) (sym op) (
         b,
         request ∙ (ap (message_of os) op ∙ (ap
             (λ path. get None (path_options path ++ block2_option (fetch_of k os))) (path_is k os q found ∙ same)
@@ -301,31 +307,31 @@ module _ (szx : ℕ) where
 
     -- each operation
     registration_here : (t : List Call) (x : Sending) (k : ℕ) (path : List (List ℕ)) → (s : SentAs t x)
-        → x.operation ≡ Registering k path → IsOfObservation szx k x t
+        → x.operation ≡ Registering k path → IsOfObservation sizes k x t
     registration_here t x k path s op = record {
       path = path;
       taken = registers_taken t x k path s op;
-      asks = subst (λ o. AsksFor szx o path x t) (sym op)
+      asks = subst (λ o. AsksFor sizes o path x t) (sym op)
           (refl, s.request ∙ ap (message_of s.effect.own.observations) op);
     }
 
-    fetch_here : (t : List Call) → ClientLaw server szx word t → (x : Sending) (k : ℕ) → (s : SentAs t x)
-        → x.operation ≡ Fetching k → IsOfObservation szx k x t
+    fetch_here : (t : List Call) → ClientLaw server sizes word t → (x : Sending) (k : ℕ) → (s : SentAs t x)
+        → x.operation ≡ Fetching k → IsOfObservation sizes k x t
     fetch_here t law x k s op = by s.source
       where
         os : List Observation
-        os = (own_of szx t).observations
+        os = (own_of sizes t).observations
 
-        by : AskSource (at s.now (own_of szx t)) s.effect x.operation → IsOfObservation szx k x t
+        by : AskSource (at s.now (own_of sizes t)) s.effect x.operation → IsOfObservation sizes k x t
         by (of_call j r tr is) = let e : Fetching k ≡ Calling j r tr = sym op ∙ is in absurd (cc e)
         by (of_queue queue first left) =
-            let waits = (known server szx word t law.rows law.exchanges.rows).waits in
+            let waits = (known server sizes word t law.rows law.exchanges.rows).waits in
             let h : AllWait os (Fetching k ∷ queue) = subst (AllWait os) (first ∙ ap (λ o. o ∷ queue) op) waits in
             absurd h.0
         by (of_fetch j is rest left) =
             let n : j ≡ k = (let e : Fetching j ≡ Fetching k = sym is ∙ op in cc e) in
             let p = waits_there os j rest in
-            let f : Fetched szx t p.0.number p.1 = fetched szx server word t law p.0 p.2 p.1 p.4 in
+            let f : Fetched sizes t p.0.number p.1 = fetched sizes server word t law p.0 p.2 p.1 p.4 in
             let b = awaits_block p.1.fetch.asked p.1.fetch.tag f.part f.rest f.gathered.awaits in
             let number : p.0.number ≡ k = p.3 ∙ n in
             fetch_asks t law x k os p.0 p.0 b.0 op (s.request ∙ ap (λ o. message_of o x.operation) left) p.2 number
@@ -343,22 +349,23 @@ module _ (szx : ℕ) where
             ∙ ap (λ i. message_of (with_rest i (Some new) os) x.operation) same)) p.1 number
             (found_changed k f (λ o. refl) os p.0 here) refl asks
 
-    cancel_here : (t : List Call) (c : Call) → ClientLaw server szx word (c ∷ t) → (x : Sending) (k : ℕ)
-        → sends (own_of szx t) c ≡ Some x → (s : SentAs t x) → x.operation ≡ Cancelling k → IsOfObservation szx k x t
+    cancel_here : (t : List Call) (c : Call) → ClientLaw server sizes word (c ∷ t) → (x : Sending) (k : ℕ)
+        → sends (own_of sizes t) c ≡ Some x → (s : SentAs t x) → x.operation ≡ Cancelling k
+        → IsOfObservation sizes k x t
     cancel_here t c law x k is s op = by s.source
       where
-        past : ClientLaw server szx word t
-        past = client_back server szx word (c ∷ []) t law
+        past : ClientLaw server sizes word t
+        past = client_back server sizes word (c ∷ []) t law
 
         os : List Observation
-        os = (own_of szx t).observations
+        os = (own_of sizes t).observations
 
-        by : AskSource (at s.now (own_of szx t)) s.effect x.operation → IsOfObservation szx k x t
+        by : AskSource (at s.now (own_of sizes t)) s.effect x.operation → IsOfObservation sizes k x t
         by (of_call j r tr e) = let z : Cancelling k ≡ Calling j r tr = sym op ∙ e in absurd (cc z)
         by (of_fetch j e rest left) = let z : Cancelling k ≡ Fetching j = sym op ∙ e in absurd (cc z)
         by (of_part j n new b e rest asks left) = let z : Cancelling k ≡ Fetching j = sym op ∙ e in absurd (cc z)
         by (of_queue queue first left) =
-            let waits = (known server szx word t past.rows past.exchanges.rows).waits in
+            let waits = (known server sizes word t past.rows past.exchanges.rows).waits in
             let h : AllWait os (Cancelling k ∷ queue) = subst (AllWait os) (first ∙ ap (λ o. o ∷ queue) op) waits in
             let p = found_of k os h.0 in
             let r = of_live t past p.0 p.1 in
@@ -368,14 +375,14 @@ module _ (szx : ℕ) where
             ∙ (ap (λ z. get z (option observe (uint 1) ∷ path_options (observed_path k os))) token_is
             ∙ ap (λ path. get (Some p.0.token) (option observe (uint 1) ∷ path_options path))
             (path_is k os p.0 p.3)))) in
-            let key : x.token ≡ p.0.token = cancel_token word (lower_of szx (c ∷ t))
-            (are_tokens server word (lower_of szx (c ∷ t)) law.exchanges.rows) x.request x.token p.0.token
-            (ap (λ (q : E.Request). q.token) request) (was_asked szx (c ∷ t) x (inl is)) in
+            let key : x.token ≡ p.0.token = cancel_token word (lower_of sizes (c ∷ t))
+            (are_tokens server word (lower_of sizes (c ∷ t)) law.exchanges.rows) x.request x.token p.0.token
+            (ap (λ (q : E.Request). q.token) request) (was_asked sizes (c ∷ t) x (inl is)) in
             record {
               path = p.0.path;
               taken = subst (λ i. WasObserved (record { number = i; path = p.0.path }) t) p.2
                   (path_taken t past p.0 p.1);
-              asks = subst (λ o. AsksFor szx o p.0.path x t) (sym op) (
+              asks = subst (λ o. AsksFor sizes o p.0.path x t) (sym op) (
                 request ∙ ap (λ z. get (Some z) (option observe (uint 1) ∷ path_options p.0.path)) (sym key),
                 record {
                   path = p.0.path;
@@ -387,21 +394,26 @@ module _ (szx : ℕ) where
               );
             }
 
-    here : (t : List Call) (c : Call) → ClientLaw server szx word (c ∷ t) → (x : Sending) (number : ℕ)
-        → sends (own_of szx t) c ≡ Some x → observation_for x.operation ≡ Some number → IsOfObservation szx number x t
+    here : (t : List Call) (c : Call) → ClientLaw server sizes word (c ∷ t) → (x : Sending) (number : ℕ)
+        → sends (own_of sizes t) c ≡ Some x → observation_for x.operation ≡ Some number
+        → IsOfObservation sizes number x t
     here t c law x number is h = by x.operation refl h
       where
-        by : (op : Operation) → x.operation ≡ op → observation_for op ≡ Some number → IsOfObservation szx number x t
+        by : (op : Operation) → x.operation ≡ op → observation_for op ≡ Some number → IsOfObservation sizes number x t
         by (Registering k path) e h = let n : k ≡ number =
-            cc h in subst (λ i. IsOfObservation szx i x t) n (registration_here t x k path (sent_as t c x is) e)
+            cc h in subst (λ i. IsOfObservation sizes i x t) n (registration_here t x k path (sent_as t c x is) e)
         by (Fetching k) e h = let n : k ≡ number =
-            cc h in subst (λ i. IsOfObservation szx i x t) n
-            (fetch_here t (client_back server szx word (c ∷ []) t law) x k (sent_as t c x is) e)
+            cc h in subst (λ i. IsOfObservation sizes i x t) n
+            (fetch_here t (client_back server sizes word (c ∷ []) t law) x k (sent_as t c x is) e)
         by (Cancelling k) e h = let n : k ≡ number =
-            cc h in subst (λ i. IsOfObservation szx i x t) n (cancel_here t c law x k is (sent_as t c x is) e)
+            cc h in subst (λ i. IsOfObservation sizes i x t) n (cancel_here t c law x k is (sent_as t c x is) e)
         by (Calling k r tr) e h = absurd (cc h)
         by Dropped e h = absurd (cc h)
 
-    pub are_of_observations : (t : List Call) → ClientLaw server szx word t → AreOfObservations szx t
+    pub are_of_observations : (t : List Call) → ClientLaw server sizes word t → AreOfObservations sizes t
     are_of_observations [] law = tt
-    are_of_observations (c ∷ t) law = (here t c law, are_of_observations t (client_back server szx word (c ∷ []) t law))
+    are_of_observations (c ∷ t) law = (
+      here t c law,
+      are_of_observations t
+          (client_back server sizes word (c ∷ []) t law),
+    )

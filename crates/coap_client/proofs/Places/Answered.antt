@@ -4,6 +4,7 @@ use Rattle.std.proofs.Common.{None, List, [], ◌∷◌, ◌++◌, refl, ap, sym
 use Rattle.std.specs.Prelude.{◌==◌, filter}
 use Rattle.coap_types.specs.declared.endpoint.Endpoint.{Endpoint}
 use Rattle.coap_codec.specs.Message.{Message}
+use Rattle.coap_block.specs.Sizes.{Sizes}
 use Rattle.coap_block.specs.declared.fetch_verdict.Verdict.{Verdict}
 use Rattle.coap_block.specs.declared.fetch_verdict.Verdict.TheVariants as verdict
 use Rattle.coap_block.specs.declared.fetch_step.FetchRefusal.TheVariants as refusal
@@ -155,8 +156,8 @@ registered_retains s k path now m z = by (is_notification m)
   where
     by : (b : Bool) → Retains s (cond b (record {
       own =
-          record s { running = None; observations = s.observations ++ begun k path s.szx now m ∷ [] };
-      report = first_value k s.szx m;
+          record s { running = None; observations = s.observations ++ begun k path s.sizes now m ∷ [] };
+      report = first_value k s.sizes m;
       deed = Keeps m.token;
     }) (ends (of k (R.Ended m.code)) s))
     by true = aside_retains s _ z refl
@@ -240,20 +241,21 @@ calls_append : (n : ℕ) (xs ys : List Operation) → calls_in n (xs ++ ys) ≡ 
 calls_append n [] ys = omega arith
 calls_append n (x ∷ xs) ys = let ih = calls_append n xs ys in omega (arith, ih)
 
-module _ (server : Endpoint) (szx word : ℕ) where
+module _ (server : Endpoint) (sizes : Sizes) (word : ℕ) where
   abbrev finals : ℕ → List Call → ℕ
   finals n [] = 0
-  finals n (c ∷ past) = final_of n (reports (own_of szx past) c) + finals n past
+  finals n (c ∷ past) = final_of n (reports (own_of sizes past) c) + finals n past
 
   abbrev Kept : ℕ → List Call → Type 0
-  Kept n t = 1 ≤ (call_in n (own_of szx t).running + calls_in n (own_of szx t).queue) + finals n t
+  Kept n t = 1 ≤ (call_in n (own_of sizes t).running + calls_in n (own_of sizes t).queue) + finals n t
 
-  has_report : (n : ℕ) (t : List Call) → 1 ≤ finals n t → HasReport server szx word n t
+  has_report : (n : ℕ) (t : List Call) → 1 ≤ finals n t → HasReport server sizes word n t
   has_report n [] h = absurd (omega (arith, h))
-  has_report n (c ∷ t) h = by (reports (own_of szx t) c) refl (has_report n t)
+  has_report n (c ∷ t) h = by (reports (own_of sizes t) c) refl (has_report n t)
     where
-      hits_it : (x : Reported) → reports (own_of szx t) c ≡ Some x → (v : Bool) → is_value x.report ≡ v → (b : Bool)
-          → (x.number == n) ≡ b → (1 ≤ finals n t → HasReport server szx word n t) → HasReport server szx word n (c ∷ t)
+      hits_it : (x : Reported) → reports (own_of sizes t) c ≡ Some x → (v : Bool) → is_value x.report ≡ v → (b : Bool)
+          → (x.number == n) ≡ b → (1 ≤ finals n t → HasReport server sizes word n t)
+          → HasReport server sizes word n (c ∷ t)
       hits_it x is false last true e f = inl (x, same_number x.number n e, record { made = is; final = last })
       hits_it x is true last b e f =
           let a = ap (final_of n) is in
@@ -265,67 +267,71 @@ module _ (server : Endpoint) (szx word : ℕ) where
           let g = hits x.number n false e in
           inr (f (omega (arith, h, a, d, g)))
 
-      by : (o : Option Reported) → reports (own_of szx t) c ≡ o → (1 ≤ finals n t → HasReport server szx word n t)
-          → HasReport server szx word n (c ∷ t)
+      by : (o : Option Reported) → reports (own_of sizes t) c ≡ o → (1 ≤ finals n t → HasReport server sizes word n t)
+          → HasReport server sizes word n (c ∷ t)
       by None is f = let a = ap (final_of n) is in inr (f (omega (arith, h, a)))
       by (Some x) is f = hits_it x is (is_value x.report) refl (x.number == n) refl f
 
   -- a call that was taken waits, runs or has its last report
-  plain_kept : (n : ℕ) (t : List Call) (c : Call) → (own_of szx (c ∷ t)).running ≡ (own_of szx t).running
-      → calls_in n (own_of szx t).queue ≤ calls_in n (own_of szx (c ∷ t)).queue → reports (own_of szx t) c ≡ None
+  plain_kept : (n : ℕ) (t : List Call) (c : Call) → (own_of sizes (c ∷ t)).running ≡ (own_of sizes t).running
+      → calls_in n (own_of sizes t).queue ≤ calls_in n (own_of sizes (c ∷ t)).queue → reports (own_of sizes t) c ≡ None
       → Kept n t → Kept n (c ∷ t)
   plain_kept n t c running queue none h = let a = ap (call_in n) running in let b =
       ap (final_of n) none in omega (arith, a, b, h, queue)
 
-  kept_on : (n : ℕ) (t : List Call) (c : Call) → ClientRows szx (c ∷ t) → X.AskerLaw server word (lower_of szx (c ∷ t))
+  kept_on : (n : ℕ) (t : List Call) (c : Call) → ClientRows sizes (c ∷ t)
+      → X.AskerLaw server word (lower_of sizes (c ∷ t))
       → Kept n t → Kept n (c ∷ t)
   kept_on n t (Calls now r (Ok k)) rows law h =
       plain_kept n t (Calls now r (Ok k)) refl (let a =
-      calls_append n (own_of szx t).queue (calling (own_of szx t).szx k r ∷ []) in omega (arith, a)) refl h
+      calls_append n (own_of sizes t).queue (calling (own_of sizes t).sizes k r ∷ []) in omega (arith, a)) refl h
   kept_on n t (Calls now r (Err why)) rows law h = plain_kept n t (Calls now r (Err why)) refl (omega arith) refl h
   kept_on n t (Observes now path (Ok k)) rows law h =
       plain_kept n t (Observes now path (Ok k)) refl
-      (let a = calls_append n (own_of szx t).queue (Registering k path ∷ []) in omega (arith, a)) refl h
+      (let a = calls_append n (own_of sizes t).queue (Registering k path ∷ []) in omega (arith, a)) refl h
   kept_on n t (Observes now path (Err why)) rows law h =
       plain_kept n t (Observes now path (Err why)) refl (omega arith) refl h
   kept_on n t (Cancels now k None) rows law h =
       plain_kept n t (Cancels now k None) refl (let a =
-      calls_append n (own_of szx t).queue (Cancelling k ∷ []) in omega (arith, a)) refl h
+      calls_append n (own_of sizes t).queue (Cancelling k ∷ []) in omega (arith, a)) refl h
   kept_on n t (Cancels now k (Some why)) rows law h =
       plain_kept n t (Cancels now k (Some why)) refl (omega arith) refl h
   kept_on n t (Forgets k kept false) rows law h = plain_kept n t (Forgets k kept false) refl (omega arith) refl h
-  kept_on n t (Forgets k kept true) rows law h = let a = calls_uncancelled n k (own_of szx t).queue in let b =
-      call_dropped n k (own_of szx t).running in omega (arith, a, b, h)
+  kept_on n t (Forgets k kept true) rows law h = let a = calls_uncancelled n k (own_of sizes t).queue in let b =
+      call_dropped n k (own_of sizes t).running in omega (arith, a, b, h)
   kept_on n t (NextOut answer) rows law h = plain_kept n t (NextOut answer) refl (omega arith) refl h
   kept_on n t (NextReport answer) rows law h = plain_kept n t (NextReport answer) refl (omega arith) refl h
   kept_on n t (Asked answer) rows law h = plain_kept n t (Asked answer) refl (omega arith) refl h
   kept_on n t (Feeds now from bytes w up settled event sent token kept) rows law h =
       let c : Call = Feeds now from bytes w up settled event sent token kept in
-      let k = known server szx word t rows.1 (law_back server word (lower (own_of szx t) c) (lower_of szx t) law) in
-      let m : ℕ = max (own_of szx t).clock now in
-      let e : Effect = happened (at now (own_of szx t)) m event in
-      let g = goes_fed server szx word t now from bytes w up settled event sent token kept k law in
-      let a = (closed_retains (at now (own_of szx t)) m e token g.asks
-      (happened_retains (at now (own_of szx t)) m event) e.deed refl).per n in
+      let k = known server sizes word t rows.1 (law_back server word (lower (own_of sizes t) c)
+      (lower_of sizes t) law) in
+      let m : ℕ = max (own_of sizes t).clock now in
+      let e : Effect = happened (at now (own_of sizes t)) m event in
+      let g = goes_fed server sizes word t now from bytes w up settled event sent token kept k law in
+      let a = (closed_retains (at now (own_of sizes t)) m e token g.asks
+      (happened_retains (at now (own_of sizes t)) m event) e.deed refl).per n in
       omega (arith, a, h)
   kept_on n t (Ticks now w below turn sent token kept answer) rows law h =
       let c : Call = Ticks now w below turn sent token kept answer in
-      let k = known server szx word t rows.1 (law_back server word (lower (own_of szx t) c) (lower_of szx t) law) in
-      let m : ℕ = max (own_of szx t).clock now in
-      let e : Effect = passes (at now (own_of szx t)) m turn in
-      let g = goes_ticked server szx word t now turn k in
-      let a = (closed_retains (at now (own_of szx t)) m e token g.asks
-      (passes_retains (at now (own_of szx t)) m turn) e.deed refl).per n in
+      let k = known server sizes word t rows.1 (law_back server word (lower (own_of sizes t) c)
+      (lower_of sizes t) law) in
+      let m : ℕ = max (own_of sizes t).clock now in
+      let e : Effect = passes (at now (own_of sizes t)) m turn in
+      let g = goes_ticked server sizes word t now turn k in
+      let a = (closed_retains (at now (own_of sizes t)) m e token g.asks
+      (passes_retains (at now (own_of sizes t)) m turn) e.deed refl).per n in
       omega (arith, a, h)
 
-  taken_kept : (x : Taken) (t : List Call) → ClientRows szx t → X.AskerLaw server word (lower_of szx t) → WasTaken x t
+  taken_kept : (x : Taken) (t : List Call) → ClientRows sizes t → X.AskerLaw server word (lower_of sizes t)
+      → WasTaken x t
       → Kept x.number t
   taken_kept x [] rows law h = absurd h
   taken_kept x (c ∷ t) rows law (inr h) = kept_on x.number t c rows law
-      (taken_kept x t rows.1 (law_back server word (lower (own_of szx t) c) (lower_of szx t) law) h)
+      (taken_kept x t rows.1 (law_back server word (lower (own_of sizes t) c) (lower_of sizes t) law) h)
   taken_kept x (Calls now r (Ok k) ∷ t) rows law (inl h) =
       let same : ◌≡◌ {A = Taken} (record { number = k; request = r }) x = cc h in
-      let a = calls_append x.number (own_of szx t).queue (calling (own_of szx t).szx k r ∷ []) in
+      let a = calls_append x.number (own_of sizes t).queue (calling (own_of sizes t).sizes k r ∷ []) in
       let b : hit k x.number ≡ 1 = ap (λ (y : Taken). hit y.number x.number) same ∙ hit_self x.number in
       omega (arith, a, b)
   taken_kept x (Calls now r (Err why) ∷ t) rows law (inl h) = absurd (cc h)
@@ -341,15 +347,17 @@ module _ (server : Endpoint) (szx word : ℕ) where
   -- a tick that does nothing reports nothing
   quiet_tick : (t : List Call) (now w : ℕ) (below : L.Answer) (turn : Turn) (sent : L.Answer)
       (token : Result (List ℕ) AskRefusal) (kept : Bool)
-      → IsRight (own_of szx t) (Ticks now w below turn sent token kept false)
-      → reports (own_of szx t) (Ticks now w below turn sent token kept false) ≡ None
+      → IsRight (own_of sizes t) (Ticks now w below turn sent token kept false)
+      → reports (own_of sizes t) (Ticks now w below turn sent token kept false) ≡ None
   quiet_tick t now w below turn sent token kept right =
-      ap (λ e. (close (max (own_of szx t).clock now) e token).report)
-      (rested server szx word t now w below turn sent token kept right).effect_is
+      ap (λ e. (close (max (own_of sizes t).clock now) e token).report)
+      (rested server sizes word t now w below turn sent token kept right).effect_is
 
-  answered_here : (t : List Call) (c : Call) → ClientRows szx (c ∷ t) → X.AskerLaw server word (lower_of szx (c ∷ t))
-      → reports (own_of szx t) c ≡ None → WaitsFor server szx word t c ⊎ IsEmpty server szx word (own_of szx (c ∷ t))
-      → (x : Taken) → WasTaken x t → (HasReport server szx word x.number t → ⊥) → WaitsFor server szx word t c
+  answered_here : (t : List Call) (c : Call) → ClientRows sizes (c ∷ t)
+      → X.AskerLaw server word (lower_of sizes (c ∷ t))
+      → reports (own_of sizes t) c ≡ None → WaitsFor server sizes word t c
+      ⊎ IsEmpty server sizes word (own_of sizes (c ∷ t))
+      → (x : Taken) → WasTaken x t → (HasReport server sizes word x.number t → ⊥) → WaitsFor server sizes word t c
   answered_here t c rows law none (inl waits) x taken unreported = waits
   answered_here t c rows law none (inr empty) x taken unreported =
       let k : Kept x.number (c ∷ t) = taken_kept x (c ∷ t) rows law (inr taken) in
@@ -359,21 +367,22 @@ module _ (server : Endpoint) (szx word : ℕ) where
       let there : 1 ≤ finals x.number t = omega (arith, k, a, b, d) in
       absurd (unreported (has_report x.number t there))
 
-  pub are_answered : (t : List Call) → ClientLaw server szx word t → AreAnswered server szx word t
-  are_answered t law = all t law.rows law.exchanges.rows (are_resting server szx word t law)
+  pub are_answered : (t : List Call) → ClientLaw server sizes word t → AreAnswered server sizes word t
+  are_answered t law = all t law.rows law.exchanges.rows (are_resting server sizes word t law)
     where
-      none_of_tick : (t : List Call) (c : Call) → IsRight (own_of szx t) c → IsIdleTick server szx word c
-          → reports (own_of szx t) c ≡ None
+      none_of_tick : (t : List Call) (c : Call) → IsRight (own_of sizes t) c → IsIdleTick server sizes word c
+          → reports (own_of sizes t) c ≡ None
       none_of_tick t c right i =
-          subst (λ d. IsRight (own_of szx t) d → reports (own_of szx t) d ≡ None) (sym i.7)
+          subst (λ d. IsRight (own_of sizes t) d → reports (own_of sizes t) d ≡ None) (sym i.7)
           (λ r. quiet_tick t i.0 i.1 i.2 i.3 i.4 i.5 i.6 r) right
 
-      all : (t : List Call) → ClientRows szx t → X.AskerLaw server word (lower_of szx t) → AreResting server szx word t
-          → AreAnswered server szx word t
+      all : (t : List Call) → ClientRows sizes t → X.AskerLaw server word (lower_of sizes t)
+          → AreResting server sizes word t
+          → AreAnswered server sizes word t
       all [] rows law resting = tt
       all (c ∷ t) rows law resting = (
         λ i x taken unreported. answered_here t c rows law (none_of_tick t c rows.0 i)
             (resting.0 i) x taken unreported,
         all t rows.1
-            (law_back server word (lower (own_of szx t) c) (lower_of szx t) law) resting.1,
+            (law_back server word (lower (own_of sizes t) c) (lower_of sizes t) law) resting.1,
       )

@@ -4,6 +4,7 @@ use Rattle.std.proofs.Common.{◌++◌, refl, ap, sym, ◌∙◌, append_assoc, 
 use Rattle.std.specs.Prelude.{◌==◌, slice_get, option_to_list, filter}
 use Rattle.std.proofs.lemmas.List.{append-nil}
 use Rattle.std.proofs.lemmas.List.Elements.{filter-append}
+use Rattle.coap_block.specs.Sizes.{Sizes}
 use Rattle.coap_client.specs.Trace.{Reported, Call, Calls, Observes, Cancels, Forgets, Feeds, Ticks}
 use Rattle.coap_client.specs.Trace.{NextOut, NextReport, Asked}
 use Rattle.coap_client.specs.Own.{Own}
@@ -60,48 +61,48 @@ module _ (p : Reported → Bool) where
       by left false true is holds ih = ap (λ z. cond z (r ∷ filter p left) (filter p left)) holds ∙ ap (λ l. r ∷ l) ih
       by left false false is holds ih = ap (λ z. cond z (r ∷ filter p left) (filter p left)) holds ∙ ih
 
-module _ (szx : ℕ) where
-  pub waits : (t : List Call) → ClientRows szx t → GivesInOrder szx t
+module _ (sizes : Sizes) where
+  pub waits : (t : List Call) → ClientRows sizes t → GivesInOrder sizes t
   waits [] rows p none = refl
   waits (Calls now r (Ok n) ∷ t) rows p none =
-      same p (made szx t) (given t) (own_of szx t).reports (waits t rows.1 p (λ x h e. none x h (inr e)))
+      same p (made sizes t) (given t) (own_of sizes t).reports (waits t rows.1 p (λ x h e. none x h (inr e)))
   waits (Calls now r (Err why) ∷ t) rows p none =
-      same p (made szx t) (given t) (own_of szx t).reports (waits t rows.1 p (λ x h e. none x h (inr e)))
+      same p (made sizes t) (given t) (own_of sizes t).reports (waits t rows.1 p (λ x h e. none x h (inr e)))
   waits (Observes now path (Ok n) ∷ t) rows p none =
-      same p (made szx t) (given t) (own_of szx t).reports (waits t rows.1 p (λ x h e. none x h (inr e)))
+      same p (made sizes t) (given t) (own_of sizes t).reports (waits t rows.1 p (λ x h e. none x h (inr e)))
   waits (Observes now path (Err why) ∷ t) rows p none =
-      same p (made szx t) (given t) (own_of szx t).reports (waits t rows.1 p (λ x h e. none x h (inr e)))
+      same p (made sizes t) (given t) (own_of sizes t).reports (waits t rows.1 p (λ x h e. none x h (inr e)))
   waits (Cancels now number None ∷ t) rows p none =
-      same p (made szx t) (given t) (own_of szx t).reports (waits t rows.1 p (λ x h e. none x h (inr e)))
+      same p (made sizes t) (given t) (own_of sizes t).reports (waits t rows.1 p (λ x h e. none x h (inr e)))
   waits (Cancels now number (Some why) ∷ t) rows p none =
-      same p (made szx t) (given t) (own_of szx t).reports (waits t rows.1 p (λ x h e. none x h (inr e)))
+      same p (made sizes t) (given t) (own_of sizes t).reports (waits t rows.1 p (λ x h e. none x h (inr e)))
   waits (Forgets number kept false ∷ t) rows p none =
-      same p (made szx t) (given t) (own_of szx t).reports (waits t rows.1 p (λ x h e. none x h (inr e)))
+      same p (made sizes t) (given t) (own_of sizes t).reports (waits t rows.1 p (λ x h e. none x h (inr e)))
   waits (Forgets number kept true ∷ t) rows p none =
       let apart : (r : Reported) → p r ≡ true → (r.number == number)
       ≡ false = λ r h. false_if (r.number == number)
       (λ e. none r h (inl (ap (λ n. Some n) (sym (same_number r.number number e))))) in
-      same p (made szx t) (given t) (own_of szx t).reports (waits t rows.1 p (λ x h e. none x h (inr e)))
-      ∙ ap (λ l. filter p (given t ++ []) ++ l) (sym (stay p number (own_of szx t).reports apart))
-  waits (NextOut answer ∷ t) rows p none = same p (made szx t) (given t) (own_of szx t).reports
+      same p (made sizes t) (given t) (own_of sizes t).reports (waits t rows.1 p (λ x h e. none x h (inr e)))
+      ∙ ap (λ l. filter p (given t ++ []) ++ l) (sym (stay p number (own_of sizes t).reports apart))
+  waits (NextOut answer ∷ t) rows p none = same p (made sizes t) (given t) (own_of sizes t).reports
       (waits t rows.1 p (λ x h e. none x h (inr e)))
-  waits (NextReport answer ∷ t) rows p none = taken p (made szx t) (given t) (own_of szx t).reports answer rows.0
+  waits (NextReport answer ∷ t) rows p none = taken p (made sizes t) (given t) (own_of sizes t).reports answer rows.0
       (waits t rows.1 p (λ x h e. none x h (inr e)))
-  waits (Asked answer ∷ t) rows p none = same p (made szx t) (given t) (own_of szx t).reports
+  waits (Asked answer ∷ t) rows p none = same p (made sizes t) (given t) (own_of sizes t).reports
       (waits t rows.1 p (λ x h e. none x h (inr e)))
   waits (Feeds now from bytes w up settled event sent token kept ∷ t) rows p none =
-      let s : Own = own_of szx t in
+      let s : Own = own_of sizes t in
       let m : ℕ = max s.clock now in
       let e : Effect = happened (at now s) m event in
       let new : List Reported = option_to_list (close m e token).report in
       let z = steadied (at now s) m e token e.deed refl (happened_steady (at now s) m event) in
-      more p (made szx t) (given t) s.reports new (waits t rows.1 p (λ x h k. none x h (inr k)))
+      more p (made sizes t) (given t) s.reports new (waits t rows.1 p (λ x h k. none x h (inr k)))
       ∙ ap (λ l. filter p (given t ++ []) ++ filter p (l ++ new)) (sym z.reports)
   waits (Ticks now w below turn sent token kept answer ∷ t) rows p none =
-      let s : Own = own_of szx t in
+      let s : Own = own_of sizes t in
       let m : ℕ = max s.clock now in
       let e : Effect = passes (at now s) m turn in
       let new : List Reported = option_to_list (close m e token).report in
       let z = steadied (at now s) m e token e.deed refl (passes_steady (at now s) m turn) in
-      more p (made szx t) (given t) s.reports new (waits t rows.1 p (λ x h k. none x h (inr k)))
+      more p (made sizes t) (given t) s.reports new (waits t rows.1 p (λ x h k. none x h (inr k)))
       ∙ ap (λ l. filter p (given t ++ []) ++ filter p (l ++ new)) (sym z.reports)

@@ -3,6 +3,7 @@ use Rattle.std.proofs.Common.{◌≡◌, ℕ, max, Bool, true, false, Option, So
 use Rattle.std.proofs.Common.{◌∙◌, append_assoc, drop, Ok, Err}
 use Rattle.std.specs.Prelude.{◌==◌, not, slice_get, option_to_list, filter}
 use Rattle.std.proofs.lemmas.List.{append-nil}
+use Rattle.coap_block.specs.Sizes.{Sizes}
 use Rattle.coap_client.specs.Trace.{Reported, Call, Calls, Observes, Cancels, Forgets, Feeds, Ticks}
 use Rattle.coap_client.specs.Trace.{NextOut, NextReport, Asked}
 use Rattle.coap_client.specs.Own.{Own}
@@ -36,44 +37,46 @@ taken xs ys (z ∷ zs) (Some r) is h =
     let e : z ≡ r = cc is in
     append-nil xs ∙ (h ∙ (sym (append_assoc ys (z ∷ []) zs) ∙ ap (λ w. (ys ++ w ∷ []) ++ zs) e))
 
-module _ (szx : ℕ) where
-  pub all_wait : (t : List Call) → ClientRows szx t → NoneDropped szx t → made szx t ≡ given t ++ (own_of szx t).reports
+module _ (sizes : Sizes) where
+  pub all_wait : (t : List Call) → ClientRows sizes t → NoneDropped sizes t
+      → made sizes t ≡ given t ++ (own_of sizes t).reports
   all_wait [] rows none = refl
   all_wait (Calls now r (Ok n) ∷ t) rows none =
-      same (made szx t) (given t) (own_of szx t).reports (all_wait t rows.1 none.1)
+      same (made sizes t) (given t) (own_of sizes t).reports (all_wait t rows.1 none.1)
   all_wait (Calls now r (Err why) ∷ t) rows none =
-      same (made szx t) (given t) (own_of szx t).reports (all_wait t rows.1 none.1)
+      same (made sizes t) (given t) (own_of sizes t).reports (all_wait t rows.1 none.1)
   all_wait (Observes now path (Ok n) ∷ t) rows none =
-      same (made szx t) (given t) (own_of szx t).reports (all_wait t rows.1 none.1)
+      same (made sizes t) (given t) (own_of sizes t).reports (all_wait t rows.1 none.1)
   all_wait (Observes now path (Err why) ∷ t) rows none =
-      same (made szx t) (given t) (own_of szx t).reports (all_wait t rows.1 none.1)
+      same (made sizes t) (given t) (own_of sizes t).reports (all_wait t rows.1 none.1)
   all_wait (Cancels now number None ∷ t) rows none =
-      same (made szx t) (given t) (own_of szx t).reports (all_wait t rows.1 none.1)
+      same (made sizes t) (given t) (own_of sizes t).reports (all_wait t rows.1 none.1)
   all_wait (Cancels now number (Some why) ∷ t) rows none =
-      same (made szx t) (given t) (own_of szx t).reports (all_wait t rows.1 none.1)
+      same (made sizes t) (given t) (own_of sizes t).reports (all_wait t rows.1 none.1)
   all_wait (Forgets number kept false ∷ t) rows none =
-      same (made szx t) (given t) (own_of szx t).reports (all_wait t rows.1 none.1)
+      same (made sizes t) (given t) (own_of sizes t).reports (all_wait t rows.1 none.1)
   all_wait (Forgets number kept true ∷ t) rows none =
-      none_drops (λ r. not (r.number == number)) (made szx t) (given t) (own_of szx t).reports (none.0 number refl)
+      none_drops (λ r. not (r.number == number)) (made sizes t) (given t) (own_of sizes t).reports (none.0 number refl)
       (all_wait t rows.1 none.1)
-  all_wait (NextOut answer ∷ t) rows none = same (made szx t) (given t) (own_of szx t).reports
+  all_wait (NextOut answer ∷ t) rows none = same (made sizes t) (given t) (own_of sizes t).reports
       (all_wait t rows.1 none.1)
   all_wait (NextReport answer ∷ t) rows none =
-      taken (made szx t) (given t) (own_of szx t).reports answer rows.0 (all_wait t rows.1 none.1)
-  all_wait (Asked answer ∷ t) rows none = same (made szx t) (given t) (own_of szx t).reports (all_wait t rows.1 none.1)
+      taken (made sizes t) (given t) (own_of sizes t).reports answer rows.0 (all_wait t rows.1 none.1)
+  all_wait (Asked answer ∷ t) rows none = same (made sizes t) (given t) (own_of sizes t).reports
+      (all_wait t rows.1 none.1)
   all_wait (Feeds now from bytes w up settled event sent token kept ∷ t) rows none =
-      let s : Own = own_of szx t in
+      let s : Own = own_of sizes t in
       let m : ℕ = max s.clock now in
       let e : Effect = happened (at now s) m event in
       let new : List Reported = option_to_list (close m e token).report in
       let z = steadied (at now s) m e token e.deed refl (happened_steady (at now s) m event) in
-      more (made szx t) (given t) s.reports new (all_wait t rows.1 none.1)
+      more (made sizes t) (given t) s.reports new (all_wait t rows.1 none.1)
       ∙ ap (λ l. (given t ++ []) ++ (l ++ new)) (sym z.reports)
   all_wait (Ticks now w below turn sent token kept answer ∷ t) rows none =
-      let s : Own = own_of szx t in
+      let s : Own = own_of sizes t in
       let m : ℕ = max s.clock now in
       let e : Effect = passes (at now s) m turn in
       let new : List Reported = option_to_list (close m e token).report in
       let z = steadied (at now s) m e token e.deed refl (passes_steady (at now s) m turn) in
-      more (made szx t) (given t) s.reports new (all_wait t rows.1 none.1)
+      more (made sizes t) (given t) s.reports new (all_wait t rows.1 none.1)
       ∙ ap (λ l. (given t ++ []) ++ (l ++ new)) (sym z.reports)

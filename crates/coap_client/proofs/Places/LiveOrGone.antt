@@ -2,6 +2,7 @@
 use Rattle.std.proofs.Common.{◌≡◌, ◌≤◌, ◌⊎◌, inl, inr, ℕ, ◌+◌, max, Bool, true, false, cond, not, ◌&&◌, Option, Some}
 use Rattle.std.proofs.Common.{None, List, ◌∷◌, [], map, refl, ap, Result, Ok, Err, arith}
 use Rattle.std.specs.Prelude.{◌==◌}
+use Rattle.coap_block.specs.Sizes.{Sizes}
 use Rattle.coap_block.specs.declared.fetch_verdict.Verdict.TheVariants as verdict
 use Rattle.coap_exchange.specs.declared.asker.AskRefusal.{AskRefusal}
 use Rattle.coap_exchange.specs.declared.asker.Event.{Event}
@@ -95,7 +96,7 @@ module _ (s : Own) where
   moves_end now told (mv.is_done k r tr final rep a hears_it runs ends_so) =
       inl (λ n h. (let e = count_held n s (not final && is_upload tr) (of k rep) in omega (arith, e, h)))
   moves_end now told (mv.registers k path a hears_it runs note) =
-      inl (λ n h. (let e = in_observations_append n s.observations (begun k path s.szx now a ∷ []) in omega
+      inl (λ n h. (let e = in_observations_append n s.observations (begun k path s.sizes now a ∷ []) in omega
       (arith, e, h)))
   moves_end now told (mv.refuses k path a hears_it runs note) = inl (λ n h. h)
   moves_end now told (mv.fetches_on k m a num size hears_it runs rest code asks) =
@@ -128,7 +129,7 @@ module _ (s : Own) where
       )
   moves_end now told (mv.renews o a notes found note newer) =
       inl (λ n h. (let e = count_changed n o.number
-      (λ p. record p { watch = arrived p.watch (sequence_in a) now true; rest = first_rest s.szx a }) s.observations
+      (λ p. record p { watch = arrived p.watch (sequence_in a) now true; rest = first_rest s.sizes a }) s.observations
       (λ p. refl) in omega (arith, e, h)))
   moves_end now told (mv.passes_by o a notes found note newer) =
       inl (λ n h. (let e = count_changed n o.number
@@ -160,20 +161,20 @@ closed_ends s now e token (inr k) (quiet q none own_same report_same) n h =
 closed_ends s now e token (inr k) (goes_out op key asks given sends_it own_same report_same) n h = absurd (k.0 op asks)
 closed_ends s now e token (inr k) (is_refused op why asks given none all) n h = absurd (k.0 op asks)
 
-module _ (szx : ℕ) where
+module _ (sizes : Sizes) where
   -- in one call, where it isn't forgotten
   abbrev pub StaysLive : List Call → Call → Type 0
-  StaysLive t c = (n : ℕ) → 1 ≤ in_observations n (own_of szx t).observations
-      → 1 ≤ in_observations n (own_of szx (c ∷ t)).observations +
-      (final_of n (reports (own_of szx t) c) + forgotten_by n c)
+  StaysLive t c = (n : ℕ) → 1 ≤ in_observations n (own_of sizes t).observations
+      → 1 ≤ in_observations n (own_of sizes (c ∷ t)).observations +
+      (final_of n (reports (own_of sizes t) c) + forgotten_by n c)
 
-  live_turned : (t : List Call) (c : Call) → Turned szx t c → StaysLive t c
+  live_turned : (t : List Call) (c : Call) → Turned sizes t c → StaysLive t c
   live_turned t c k n h =
-      let m : ℕ = max (own_of szx t).clock k.now in
-      let s : Own = at k.now (own_of szx t) in
+      let m : ℕ = max (own_of sizes t).clock k.now in
+      let s : Own = at k.now (own_of sizes t) in
       let e : Effect = left_by s m k.told k.move in
       let a = closed_ends s m e k.token (moves_end s m k.told k.move) k.closes n h in
-      let b : in_observations n (own_of szx (c ∷ t)).observations
+      let b : in_observations n (own_of sizes (c ∷ t)).observations
       ≡ in_observations n (closed m e e.deed k.token).own.observations =
       ap (λ (o : Own). in_observations n o.observations) k.own_is in
       let d = ap (final_of n) k.reports_is in
@@ -186,14 +187,14 @@ module _ (szx : ℕ) where
   stays_live t (Observes now path (Err why)) n h = omega (arith, h)
   stays_live t (Cancels now k None) n h = omega (arith, h)
   stays_live t (Cancels now k (Some why)) n h = omega (arith, h)
-  stays_live t (Forgets k was true) n h = let a = count_without n k (own_of szx t).observations h in omega (arith, a)
+  stays_live t (Forgets k was true) n h = let a = count_without n k (own_of sizes t).observations h in omega (arith, a)
   stays_live t (Forgets k was false) n h = omega (arith, h)
   stays_live t (NextOut answer) n h = omega (arith, h)
   stays_live t (NextReport answer) n h = omega (arith, h)
   stays_live t (Asked answer) n h = omega (arith, h)
   stays_live t (Feeds now from bytes w up settled event sent token was) n h =
       live_turned t (Feeds now from bytes w up settled event sent token was)
-      (fed_turned szx t now from bytes w up settled event sent token was) n h
+      (fed_turned sizes t now from bytes w up settled event sent token was) n h
   stays_live t (Ticks now w below turn sent token was answer) n h =
       live_turned t (Ticks now w below turn sent token was answer)
-      (ticked_turned szx t now w below turn sent token was answer) n h
+      (ticked_turned sizes t now w below turn sent token was answer) n h

@@ -4,8 +4,8 @@ use Rattle.std.proofs.Common.{Ok, Err}
 use Rattle.std.specs.Prelude.{◌==◌, nat_lt, nat_le, length}
 use Rattle.coap_types.specs.Past.{Ever}
 use Rattle.coap_types.specs.declared.endpoint.Endpoint.{Endpoint}
-use Rattle.coap_types.specs.declared.limits.TheConstants.{MAX_BODY_LEN as max_body}
 use Rattle.coap_types.specs.declared.option_number.TheConstants.{BLOCK2 as block2}
+use Rattle.coap_block.specs.Sizes.{Sizes}
 use Rattle.coap_exchange.specs.AskerLaw as X
 use Rattle.coap_client.specs.declared.limits.TheConstants.{MAX_OBSERVATIONS as max_observations}
 use Rattle.coap_client.specs.declared.refusals.CallRefusal.TheVariants.{QueueFull, BodyTooLarge, BadPath, WatchesFull}
@@ -20,23 +20,23 @@ use Rattle.coap_client.specs.Law.{ClientRows, own_of, lower_of}
 use Rattle.coap_client.specs.Follows.Numbers.{number_given, NumbersOnce}
 use Rattle.coap_client.proofs.Places.Once.{Known, known, law_back, fed, ticked, given_is}
 
-module _ (server : Endpoint) (szx word : ℕ) where
+module _ (server : Endpoint) (sizes : Sizes) (word : ℕ) where
   abbrev taken : List Call → ℕ
-  taken t = (own_of szx t).taken
+  taken t = (own_of sizes t).taken
 
   -- the next number is given
-  is_next : (t : List Call) (c : Call) → ClientRows szx (c ∷ t) → (n : ℕ) → number_given c ≡ Some n
+  is_next : (t : List Call) (c : Call) → ClientRows sizes (c ∷ t) → (n : ℕ) → number_given c ≡ Some n
       → (n ≡ taken t) × (taken (c ∷ t) ≡ taken t + 1)
   is_next t (Calls now r (Ok k)) rows n h =
-      let s : Own = own_of szx t in
+      let s : Own = own_of sizes t in
       let same : k ≡ n = cc h in (
-        sym same ∙ given_is (is_full s) (nat_lt max_body (length r.body))
+        sym same ∙ given_is (is_full s) (nat_lt s.sizes.limit (length r.body))
             (are_long (block_option_number r.method) (options_of r))
             (s.taken == max_numbers) QueueFull BodyTooLarge BadPath CallsSpent k s.taken rows.0,
         refl,
       )
   is_next t (Observes now path (Ok k)) rows n h =
-      let s : Own = own_of szx t in
+      let s : Own = own_of sizes t in
       let same : k ≡ n = cc h in (
         sym same ∙ given_is (is_full s) (are_long block2 (path_options path)) (nat_le max_observations (observed s))
             (s.taken == max_numbers) QueueFull BadPath WatchesFull CallsSpent k s.taken rows.0,
@@ -52,7 +52,7 @@ module _ (server : Endpoint) (szx word : ℕ) where
   is_next t (NextReport answer) rows n h = absurd (cc h)
   is_next t (Asked answer) rows n h = absurd (cc h)
 
-  grows : (t : List Call) (c : Call) → Known server szx word t → X.AskerLaw server word (lower_of szx (c ∷ t))
+  grows : (t : List Call) (c : Call) → Known server sizes word t → X.AskerLaw server word (lower_of sizes (c ∷ t))
       → taken t ≤ taken (c ∷ t)
   grows t (Calls now r (Ok n)) k law = omega arith
   grows t (Calls now r (Err why)) k law = omega arith
@@ -63,27 +63,27 @@ module _ (server : Endpoint) (szx word : ℕ) where
   grows t (Forgets number kept true) k law = omega arith
   grows t (Forgets number kept false) k law = omega arith
   grows t (Feeds now from bytes w up settled event sent token kept) k law = let e =
-      (fed server szx word t now from bytes w up settled event sent token kept k law).taken_is in omega (arith, e)
+      (fed server sizes word t now from bytes w up settled event sent token kept k law).taken_is in omega (arith, e)
   grows t (Ticks now w below turn sent token kept answer) k law = let e =
-      (ticked server szx word t now w below turn sent token kept answer k law).taken_is in omega (arith, e)
+      (ticked server sizes word t now w below turn sent token kept answer k law).taken_is in omega (arith, e)
   grows t (NextOut answer) k law = omega arith
   grows t (NextReport answer) k law = omega arith
   grows t (Asked answer) k law = omega arith
 
-  below : (t : List Call) → ClientRows szx t → X.AskerLaw server word (lower_of szx t) → (n : ℕ)
+  below : (t : List Call) → ClientRows sizes t → X.AskerLaw server word (lower_of sizes t) → (n : ℕ)
       → Ever (λ b. number_given b ≡ Some n) t → n + 1 ≤ taken t
   below [] rows law n w = absurd w
   below (c ∷ t) rows law n (inl h) = let k = is_next t c rows n h in let a = k.0 in let b = k.1 in omega (arith, a, b)
   below (c ∷ t) rows law n (inr w) =
-      let past = law_back server word (lower (own_of szx t) c) (lower_of szx t) law in
+      let past = law_back server word (lower (own_of sizes t) c) (lower_of sizes t) law in
       let k = below t rows.1 past n w in
-      let g = grows t c (known server szx word t rows.1 past) law in
+      let g = grows t c (known server sizes word t rows.1 past) law in
       omega (arith, k, g)
 
-  pub numbers_once : (t : List Call) → ClientRows szx t → X.AskerLaw server word (lower_of szx t) → NumbersOnce t
+  pub numbers_once : (t : List Call) → ClientRows sizes t → X.AskerLaw server word (lower_of sizes t) → NumbersOnce t
   numbers_once [] rows law = tt
   numbers_once (c ∷ t) rows law =
-      let past = law_back server word (lower (own_of szx t) c) (lower_of szx t) law in (
+      let past = law_back server word (lower (own_of sizes t) c) (lower_of sizes t) law in (
         λ n h w. let a = (is_next t c rows n h).0 in let b = below t rows.1 past n w in absurd (omega (arith, a, b)),
         numbers_once t rows.1 past,
       )

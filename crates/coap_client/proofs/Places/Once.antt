@@ -8,13 +8,13 @@ use Rattle.std.proofs.lemmas.Bool.Decides.{nat_tests}
 use Rattle.coap_types.specs.declared.endpoint.Endpoint.{Endpoint}
 use Rattle.coap_layer.specs.Trace as L
 use Rattle.std.proofs.lemmas.Bool.{ltb-true}
+use Rattle.coap_block.specs.Sizes.{Sizes}
 use Rattle.coap_exchange.specs.declared.asker.AskRefusal.{AskRefusal}
 use Rattle.coap_exchange.specs.declared.asker.Event.{Event}
 use Rattle.coap_exchange.specs.declared.asker.Turn.{Turn}
 use Rattle.coap_exchange.specs.AskerTrace as E
 use Rattle.coap_exchange.specs.AskerSteps as P
 use Rattle.coap_exchange.specs.AskerLaw as X
-use Rattle.coap_types.specs.declared.limits.TheConstants.{MAX_BODY_LEN as max_body}
 use Rattle.coap_client.specs.declared.limits.TheConstants.{MAX_OBSERVATIONS as max_observations}
 use Rattle.coap_client.specs.declared.refusals.CallRefusal.{CallRefusal}
 use Rattle.coap_client.specs.declared.refusals.CallRefusal.TheVariants.{QueueFull, BodyTooLarge, BadPath, WatchesFull}
@@ -159,27 +159,27 @@ no_cancel s k h j is = by (j == k) (ap (λ r. not (list_any (is_cancel_of k) (op
     by true e = absurd (cc e)
     by false e = refl
 
-module _ (server : Endpoint) (szx word : ℕ) where
+module _ (server : Endpoint) (sizes : Sizes) (word : ℕ) where
   abbrev pub beneath : List Call → E.Own
-  beneath t = X.own_of server word (lower_of szx t)
+  beneath t = X.own_of server word (lower_of sizes t)
 
   pub record Known (t : List Call) : Type 0 where
-    pub waits : AllWait (own_of szx t).observations (own_of szx t).queue
-    pub runs_on : IfRuns (own_of szx t).observations (own_of szx t).running
-    pub linked : Linked (own_of szx t).running (own_of szx t).observations (beneath t).running
-    pub one : InOnePlace szx t
+    pub waits : AllWait (own_of sizes t).observations (own_of sizes t).queue
+    pub runs_on : IfRuns (own_of sizes t).observations (own_of sizes t).running
+    pub linked : Linked (own_of sizes t).running (own_of sizes t).observations (beneath t).running
+    pub one : InOnePlace sizes t
 
-  pub sound_of : (t : List Call) → Known t → Sound (own_of szx t)
+  pub sound_of : (t : List Call) → Known t → Sound (own_of sizes t)
   sound_of t k = record { at_most = λ n. at_most_one _ _ _ (k.one n); waits = k.waits; runs_on = k.runs_on }
 
   -- an event, or a turn
   module _ (t : List Call) (now w : ℕ) (sent : L.Answer) (token : Result (List ℕ) AskRefusal) (kept : Bool) (e : Effect)
       (input : E.Call) where
     abbrev s : Own
-    s = at now (own_of szx t)
+    s = at now (own_of sizes t)
 
     abbrev m : ℕ
-    m = max (own_of szx t).clock now
+    m = max (own_of sizes t).clock now
 
     abbrev later : List E.Call
     later = deeds (close m e token).deed (close m e token).own m w sent token kept
@@ -187,62 +187,62 @@ module _ (server : Endpoint) (szx word : ℕ) where
     abbrev first : List E.Call
     first = deeds e.deed e.own m w sent token kept
 
-    stepped : Known t → X.AskerLaw server word (done_for e m w sent token kept input ++ lower_of szx t)
+    stepped : Known t → X.AskerLaw server word (done_for e m w sent token kept input ++ lower_of sizes t)
         → (P.IsRight (beneath t) input → Goes s (P.after (beneath t) input).running e)
         → Closes s (close m e token) (X.own_of server word
-        (done_for e m w sent token kept input ++ lower_of szx t)).running
+        (done_for e m w sent token kept input ++ lower_of sizes t)).running
     stepped k law goes =
         let right = done_right (beneath t) later first input
-        (law_front server word (later ++ (first ++ input ∷ [])) (lower_of szx t) law) in
+        (law_front server word (later ++ (first ++ input ∷ [])) (lower_of sizes t) law) in
         let sound : Sound s = (let z = sound_of t k in record
         { at_most = z.at_most; waits = z.waits; runs_on = z.runs_on }) in
         let c = closes s e (P.after (beneath t) input) sound (goes right.0) m w sent kept token right.1 in
         subst (Closes s (close m e token)) (sym (ap (λ (y : E.Own). y.running)
-        (own_ran server word (later ++ (first ++ input ∷ [])) (lower_of szx t)
+        (own_ran server word (later ++ (first ++ input ∷ [])) (lower_of sizes t)
         ∙ done_ran (beneath t) later first input))) c
 
   pub fed : (t : List Call) (now : ℕ) (from : Endpoint) (bytes : List ℕ) (w : ℕ) (up : L.Answer) (settled : Bool)
       (event : Option Event) (sent : L.Answer) (token : Result (List ℕ) AskRefusal) (kept : Bool) → Known t
-      → X.AskerLaw server word (lower_of szx (Feeds now from bytes w up settled event sent token kept ∷ t))
-      → Closes (at now (own_of szx t)) (close (max (own_of szx t).clock now)
-      (happened (at now (own_of szx t)) (max (own_of szx t).clock now) event) token)
+      → X.AskerLaw server word (lower_of sizes (Feeds now from bytes w up settled event sent token kept ∷ t))
+      → Closes (at now (own_of sizes t)) (close (max (own_of sizes t).clock now)
+      (happened (at now (own_of sizes t)) (max (own_of sizes t).clock now) event) token)
       (beneath (Feeds now from bytes w up settled event sent token kept ∷ t)).running
   fed t now from bytes w up settled event sent token kept k law =
-      let m : ℕ = max (own_of szx t).clock now in
+      let m : ℕ = max (own_of sizes t).clock now in
       let z = sound_of t k in
-      stepped t now w sent token kept (happened (at now (own_of szx t)) m event)
+      stepped t now w sent token kept (happened (at now (own_of sizes t)) m event)
       (E.Receive m from bytes up settled event) k law
-      (λ right. happened_goes (at now (own_of szx t)) (beneath t).running _
+      (λ right. happened_goes (at now (own_of sizes t)) (beneath t).running _
       (record { at_most = z.at_most; waits = z.waits; runs_on = z.runs_on }) k.linked m event
       (came (beneath t) from _ up event right))
 
   pub ticked : (t : List Call) (now w : ℕ) (below : L.Answer) (turn : Turn) (sent : L.Answer)
       (token : Result (List ℕ) AskRefusal) (kept answer : Bool) → Known t
-      → X.AskerLaw server word (lower_of szx (Ticks now w below turn sent token kept answer ∷ t))
-      → Closes (at now (own_of szx t)) (close (max (own_of szx t).clock now)
-      (passes (at now (own_of szx t)) (max (own_of szx t).clock now) turn) token)
+      → X.AskerLaw server word (lower_of sizes (Ticks now w below turn sent token kept answer ∷ t))
+      → Closes (at now (own_of sizes t)) (close (max (own_of sizes t).clock now)
+      (passes (at now (own_of sizes t)) (max (own_of sizes t).clock now) turn) token)
       (beneath (Ticks now w below turn sent token kept answer ∷ t)).running
   ticked t now w below turn sent token kept answer k law =
-      let m : ℕ = max (own_of szx t).clock now in
+      let m : ℕ = max (own_of sizes t).clock now in
       let z = sound_of t k in
-      stepped t now w sent token kept (passes (at now (own_of szx t)) m turn) (E.Ticks m below turn) k law
-      (λ right. passes_goes (at now (own_of szx t)) (beneath t).running
+      stepped t now w sent token kept (passes (at now (own_of sizes t)) m turn) (E.Ticks m below turn) k law
+      (λ right. passes_goes (at now (own_of sizes t)) (beneath t).running
       (record { at_most = z.at_most; waits = z.waits; runs_on = z.runs_on }) k.linked m turn)
 
   -- one number more waits
   queued : (t : List Call) (c : Call) (op : Operation) (k : ℕ) → Known t → ((n : ℕ) → in_op n op ≡ hit k n)
-      → k ≡ (own_of szx t).taken → (n : ℕ)
-      → (in_running n (own_of szx t).running + (in_queue n ((own_of szx t).queue ++ op ∷ []) + in_observations n
-      (own_of szx t).observations)) + gone szx n t ≡ cond (nat_lt n ((own_of szx t).taken + 1)) 1 0
+      → k ≡ (own_of sizes t).taken → (n : ℕ)
+      → (in_running n (own_of sizes t).running + (in_queue n ((own_of sizes t).queue ++ op ∷ []) + in_observations n
+      (own_of sizes t).observations)) + gone sizes n t ≡ cond (nat_lt n ((own_of sizes t).taken + 1)) 1 0
   queued t c op k known place is n =
-      let a = in_queue_append n (own_of szx t).queue (op ∷ []) in
-      let b = below_next n (own_of szx t).taken in
+      let a = in_queue_append n (own_of sizes t).queue (op ∷ []) in
+      let b = below_next n (own_of sizes t).taken in
       let d = place n ∙ ap (λ i. hit i n) is in
       let e = known.one n in
       omega (arith, a, b, d, e)
 
   called : (t : List Call) (now : ℕ) (r : Request) (answer : Result ℕ CallRefusal)
-      → answer ≡ call_answer (own_of szx t) r → Known t → Known (Calls now r answer ∷ t)
+      → answer ≡ call_answer (own_of sizes t) r → Known t → Known (Calls now r answer ∷ t)
   called t now r (Err why) right k = record {
     waits = k.waits;
     runs_on = k.runs_on;
@@ -250,24 +250,24 @@ module _ (server : Endpoint) (szx word : ℕ) where
     one = λ n. let e = k.one n in omega (arith, e);
   }
   called t now r (Ok number) right k =
-      let s : Own = own_of szx t in
-      let is : number ≡ s.taken = given_is (is_full s) (nat_lt max_body (length r.body))
+      let s : Own = own_of sizes t in
+      let is : number ≡ s.taken = given_is (is_full s) (nat_lt s.sizes.limit (length r.body))
       (are_long (block_option_number r.method) (options_of r))
       (s.taken == max_numbers) QueueFull BodyTooLarge BadPath CallsSpent number s.taken right in
       record {
-        waits = wait_behind s.observations s.queue (calling s.szx number r) k.waits tt;
+        waits = wait_behind s.observations s.queue (calling s.sizes number r) k.waits tt;
         runs_on = k.runs_on;
         linked = k.linked;
-        one = λ n. let e = queued t (Calls now r (Ok number)) (calling s.szx number r) number k
+        one = λ n. let e = queued t (Calls now r (Ok number)) (calling s.sizes number r) number k
             (λ i. refl) is n in omega (arith, e);
       }
 
   observed_by : (t : List Call) (now : ℕ) (path : List (List ℕ)) (answer : Result ℕ CallRefusal)
-      → answer ≡ observe_answer (own_of szx t) path → Known t → Known (Observes now path answer ∷ t)
+      → answer ≡ observe_answer (own_of sizes t) path → Known t → Known (Observes now path answer ∷ t)
   observed_by t now path (Err why) right k = record
       { waits = k.waits; runs_on = k.runs_on; linked = k.linked; one = λ n. let e = k.one n in omega (arith, e) }
   observed_by t now path (Ok number) right k =
-      let s : Own = own_of szx t in
+      let s : Own = own_of sizes t in
       let is : number ≡ s.taken = given_is (is_full s) (are_long block2 (path_options path))
       (nat_le max_observations (observed s)) (s.taken == max_numbers) QueueFull BadPath WatchesFull CallsSpent
       number s.taken right in
@@ -280,11 +280,11 @@ module _ (server : Endpoint) (szx word : ℕ) where
       }
 
   cancelled : (t : List Call) (now number : ℕ) (answer : Option CancelRefusal)
-      → answer ≡ cancel_answer (own_of szx t) number → Known t → Known (Cancels now number answer ∷ t)
+      → answer ≡ cancel_answer (own_of sizes t) number → Known t → Known (Cancels now number answer ∷ t)
   cancelled t now number (Some why) right k = record
       { waits = k.waits; runs_on = k.runs_on; linked = k.linked; one = λ n. let e = k.one n in omega (arith, e) }
   cancelled t now number None right k =
-      let s : Own = own_of szx t in
+      let s : Own = own_of sizes t in
       let live = found_by_number number s.observations
       (live_if (is_live number s) (is_cancelled number s) (is_full s) right) in
       record {
@@ -294,7 +294,7 @@ module _ (server : Endpoint) (szx word : ℕ) where
         one = λ n. let e = k.one n in let a = in_queue_append n s.queue (Cancelling number ∷ []) in omega (arith, a, e);
       }
 
-  forgot : (t : List Call) (number : ℕ) (kept answer : Bool) → answer ≡ may_forget (own_of szx t) number → Known t
+  forgot : (t : List Call) (number : ℕ) (kept answer : Bool) → answer ≡ may_forget (own_of sizes t) number → Known t
       → Known (Forgets number kept answer ∷ t)
   forgot t number kept false right k = record {
     waits = k.waits;
@@ -303,14 +303,14 @@ module _ (server : Endpoint) (szx word : ℕ) where
     one = λ n. let e = k.one n in omega (arith, e);
   }
   forgot t number kept true right k =
-      let s : Own = own_of szx t in
+      let s : Own = own_of sizes t in
       let both = and_both (is_live number s) (not (is_cancelled number s)) right in
       let g = over_goes s (beneath t).running (sound_of t k) k.linked number (Ended 0)
       (found_by_number number s.observations both.0) (no_cancel s number both.1) refl in
       let apart : (op : Operation) → releases (observation_of number s.observations) ≡ Asks op
       → ⊥ = releases_none (observation_of number s.observations) in
       let cs : List E.Call = deeds (releases (observation_of number s.observations)) s 0 0 L.Nothing (Ok []) kept in
-      let same = ap (λ (y : E.Own). y.running) (own_ran server word cs (lower_of szx t))
+      let same = ap (λ (y : E.Own). y.running) (own_ran server word cs (lower_of sizes t))
       ∙ quiet_deeds 0 0 L.Nothing kept (Ok []) (releases (observation_of number s.observations)) s
       (beneath t) apart in
       record {
@@ -323,20 +323,20 @@ module _ (server : Endpoint) (szx word : ℕ) where
       }
 
   closed_known : (t : List Call) (c : Call) (now : ℕ) (e : Effect) (request : Option Requested)
-      → own_of szx (c ∷ t) ≡ asking request (reporting e) → reports (own_of szx t) c ≡ e.report
-      → ((n : ℕ) → forgotten_by n c ≡ 0) → Known t → Closes (at now (own_of szx t)) e (beneath (c ∷ t)).running
+      → own_of sizes (c ∷ t) ≡ asking request (reporting e) → reports (own_of sizes t) c ≡ e.report
+      → ((n : ℕ) → forgotten_by n c ≡ 0) → Known t → Closes (at now (own_of sizes t)) e (beneath (c ∷ t)).running
       → Known (c ∷ t)
   closed_known t c now e request own_is report_is none k z = record {
     waits = subst (λ (o : Own). AllWait o.observations o.queue) (sym own_is) z.waits;
     runs_on = subst (λ (o : Own). IfRuns o.observations o.running) (sym own_is) z.runs_on;
     linked = subst (λ (o : Own). Linked o.running o.observations (beneath (c ∷ t)).running) (sym own_is) z.linked;
     one = λ n.
-        subst (λ (o : Own). places n o + gone szx n (c ∷ t) ≡ cond (nat_lt n o.taken) 1 0) (sym own_is)
+        subst (λ (o : Own). places n o + gone sizes n (c ∷ t) ≡ cond (nat_lt n o.taken) 1 0) (sym own_is)
         (let a = z.conserved n in let b = k.one n in let d = ap (final_of n) report_is in let f = none n in let i =
         ap (below n) z.taken_is in omega (arith, a, b, d, f, i));
   }
 
-  pub known : (t : List Call) → ClientRows szx t → X.AskerLaw server word (lower_of szx t) → Known t
+  pub known : (t : List Call) → ClientRows sizes t → X.AskerLaw server word (lower_of sizes t) → Known t
   known [] rows law = record {
     waits = tt;
     runs_on = tt;
@@ -348,14 +348,14 @@ module _ (server : Endpoint) (szx word : ℕ) where
   known (Cancels now number answer ∷ t) rows law = cancelled t now number answer rows.0 (known t rows.1 law)
   known (Forgets number kept answer ∷ t) rows law =
       forgot t number kept answer rows.0 (known t rows.1
-      (law_back server word (lower (own_of szx t) (Forgets number kept answer)) (lower_of szx t) law))
+      (law_back server word (lower (own_of sizes t) (Forgets number kept answer)) (lower_of sizes t) law))
   known (Feeds now from bytes w up settled event sent token kept ∷ t) rows law =
       let c : Call = Feeds now from bytes w up settled event sent token kept in
-      let k = known t rows.1 (law_back server word (lower (own_of szx t) c) (lower_of szx t) law) in
+      let k = known t rows.1 (law_back server word (lower (own_of sizes t) c) (lower_of sizes t) law) in
       closed_known t c now _ _ refl refl (λ n. refl) k (fed t now from bytes w up settled event sent token kept k law)
   known (Ticks now w below turn sent token kept answer ∷ t) rows law =
       let c : Call = Ticks now w below turn sent token kept answer in
-      let k = known t rows.1 (law_back server word (lower (own_of szx t) c) (lower_of szx t) law) in
+      let k = known t rows.1 (law_back server word (lower (own_of sizes t) c) (lower_of sizes t) law) in
       closed_known t c now _ _ refl refl (λ n. refl) k (ticked t now w below turn sent token kept answer k law)
   known (NextOut answer ∷ t) rows law = let k =
       known t rows.1 law.1 in record {
@@ -375,8 +375,9 @@ module _ (server : Endpoint) (szx word : ℕ) where
       { waits = k.waits; runs_on = k.runs_on; linked = k.linked; one = λ n. let e = k.one n in omega (arith, e) }
 
   -- what is reported is of a number that was in a place
-  pub from_place : (t : List Call) (c : Call) → Known t → X.AskerLaw server word (lower_of szx (c ∷ t)) → (x : Reported)
-      → reports (own_of szx t) c ≡ Some x → 1 ≤ places x.number (own_of szx t)
+  pub from_place : (t : List Call) (c : Call) → Known t → X.AskerLaw server word (lower_of sizes (c ∷ t))
+      → (x : Reported)
+      → reports (own_of sizes t) c ≡ Some x → 1 ≤ places x.number (own_of sizes t)
   from_place t (Calls now r answer) k law x h = absurd (cc h)
   from_place t (Observes now path answer) k law x h = absurd (cc h)
   from_place t (Cancels now number answer) k law x h = absurd (cc h)
@@ -390,26 +391,27 @@ module _ (server : Endpoint) (szx word : ℕ) where
       (ticked t now w below turn sent token kept answer k law).source x h
 
   -- what was reported for the last time is gone
-  pub final_gone : (number : ℕ) (t : List Call) → HasReport server szx word number t → 1 ≤ gone szx number t
+  pub final_gone : (number : ℕ) (t : List Call) → HasReport server sizes word number t → 1 ≤ gone sizes number t
   final_gone number [] h = absurd h
   final_gone number (c ∷ t) (inr h) = let ih = final_gone number t h in omega (arith, ih)
   final_gone number (c ∷ t) (inl h) =
-      let a : final_of number (reports (own_of szx t) c) ≡ final_of number (Some h.0) = ap (final_of number) h.2.made in
+      let a : final_of number (reports (own_of sizes t) c) ≡ final_of number (Some h.0) = ap
+      (final_of number) h.2.made in
       let b : final_of number (Some h.0) ≡ hit h.0.number number =
       ap (λ v. cond v 0 (hit h.0.number number)) h.2.final in
       let d : hit h.0.number number ≡ 1 = ap (λ i. hit i number) h.1 ∙ hit_self number in
       omega (arith, a, b, d)
 
-  pub reported_once : (t : List Call) → ClientLaw server szx word t → ReportedOnce server szx word t
+  pub reported_once : (t : List Call) → ClientLaw server sizes word t → ReportedOnce server sizes word t
   reported_once t law = all t law.rows law.exchanges.rows
     where
-      all : (t : List Call) → ClientRows szx t → X.AskerLaw server word (lower_of szx t)
-          → ReportedOnce server szx word t
+      all : (t : List Call) → ClientRows sizes t → X.AskerLaw server word (lower_of sizes t)
+          → ReportedOnce server sizes word t
       all [] rows law = tt
       all (c ∷ t) rows law =
-          let below = law_back server word (lower (own_of szx t) c) (lower_of szx t) law in
+          let below = law_back server word (lower (own_of sizes t) c) (lower_of sizes t) law in
           let k = known t rows.1 below in (
-            λ x made h. both_one (places x.number (own_of szx t)) (gone szx x.number t) _ (k.one x.number)
+            λ x made h. both_one (places x.number (own_of sizes t)) (gone sizes x.number t) _ (k.one x.number)
                 (from_place t c k law x made) (final_gone x.number t h),
             all t rows.1 below,
           )

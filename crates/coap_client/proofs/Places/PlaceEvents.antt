@@ -142,21 +142,21 @@ registered_goes s x sound none k path is at m = by (is_notification m)
   where
     by : (b : Bool)
         → Goes s x (cond b (record {
-          own = record s { running = None; observations = s.observations ++ begun k path s.szx at m ∷ [] };
-          report = first_value k s.szx m;
+          own = record s { running = None; observations = s.observations ++ begun k path s.sizes at m ∷ [] };
+          report = first_value k s.sizes m;
           deed = Keeps m.token;
         }) (ends (of k (Ended m.code)) s))
     by true = record {
       conserved = λ n.
-          let a = value_quiet n k (sequence_in m) (F.start s.szx 0) m (part (F.start s.szx 0) m) in
-          let b = in_observations_append n s.observations (begun k path s.szx at m ∷ []) in
+          let a = value_quiet n k (sequence_in m) (F.start s.sizes 0) m (part (F.start s.sizes 0) m) in
+          let b = in_observations_append n s.observations (begun k path s.sizes at m ∷ []) in
           let c = ap (in_running n) is in
           omega (arith, a, b, c);
-      waits = wait_append s.observations (begun k path s.szx at m ∷ []) s.queue sound.waits;
+      waits = wait_append s.observations (begun k path s.sizes at m ∷ []) s.queue sound.waits;
       runs_on = tt;
       taken_is = refl;
       source = λ r h.
-          let e = value_of_number k (sequence_in m) (F.start s.szx 0) m (part (F.start s.szx 0) m) r h in
+          let e = value_of_number k (sequence_in m) (F.start s.sizes 0) m (part (F.start s.sizes 0) m) r h in
           let c = ap (in_running k) is in
           let d = hit_self k in
           subst (λ n. 1 ≤ places n s) (sym e) (omega (arith, c, d));
@@ -220,20 +220,20 @@ module _ (s : Own) (x : Option Exchange) (sound : Sound s) (l : Linked s.running
   module _ (o : Observation) (found : observation_with m.token s.observations ≡ Some o) where
     abbrev renewing : Observation → Observation
     renewing p = cond (p.number == o.number) (record p
-        { watch = arrived p.watch (sequence_in m) at true; rest = first_rest s.szx m }) p
+        { watch = arrived p.watch (sequence_in m) at true; rest = first_rest s.sizes m }) p
 
     renewing_number : (p : Observation) → (renewing p).number ≡ p.number
     renewing_number p = number_if (p.number == o.number) p
-        (record p { watch = arrived p.watch (sequence_in m) at true; rest = first_rest s.szx m }) refl
+        (record p { watch = arrived p.watch (sequence_in m) at true; rest = first_rest s.sizes m }) refl
 
     renewing_token : (p : Observation) → (renewing p).token ≡ p.token
     renewing_token p = token_if (p.number == o.number) p
-        (record p { watch = arrived p.watch (sequence_in m) at true; rest = first_rest s.szx m }) refl
+        (record p { watch = arrived p.watch (sequence_in m) at true; rest = first_rest s.sizes m }) refl
 
     renewed_goes : Goes s x (renewed o s at m)
     renewed_goes = record {
       conserved = λ n.
-          let a = value_quiet n o.number (sequence_in m) (F.start s.szx 0) m (part (F.start s.szx 0) m) in
+          let a = value_quiet n o.number (sequence_in m) (F.start s.sizes 0) m (part (F.start s.sizes 0) m) in
           let b = in_map n renewing renewing_number s.observations in
           let c = in_dropped n o.number s.running in
           omega (arith, a, b, c);
@@ -242,7 +242,7 @@ module _ (s : Own) (x : Option Exchange) (sound : Sound s) (l : Linked s.running
           (runs_dropped o.number s.observations s.running sound.runs_on);
       taken_is = refl;
       source = λ r h.
-          let e = value_of_number o.number (sequence_in m) (F.start s.szx 0) m (part (F.start s.szx 0) m) r h in
+          let e = value_of_number o.number (sequence_in m) (F.start s.sizes 0) m (part (F.start s.sizes 0) m) r h in
           let there = (found_by_token m.token s.observations o found).1 in
           subst (λ n. 1 ≤ places n s) (sym e) (omega (arith, there));
       asks = λ op h. absurd (cc h);

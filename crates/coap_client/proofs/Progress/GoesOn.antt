@@ -4,13 +4,13 @@ use Rattle.std.proofs.Common.{List, [], ◌∷◌, ◌++◌, length, slice_get, 
 use Rattle.std.specs.Prelude.{◌==◌, ◌||◌, nat_lt, nat_le}
 use Rattle.std.proofs.lemmas.List.{append_assoc}
 use Rattle.coap_types.specs.declared.endpoint.Endpoint.{Endpoint}
-use Rattle.coap_types.specs.declared.limits.TheConstants.{MAX_BODY_LEN as max_body}
 use Rattle.coap_types.specs.declared.option_number.TheConstants.{BLOCK2 as block2}
 use Rattle.coap_types.specs.Bytes.{AreBytes}
 use Rattle.coap_types.specs.declared.request.Method.{Method}
 use Rattle.coap_types.specs.declared.request.Method.TheVariants.{Get, Post, Put, Delete}
 use Rattle.coap_layer.specs.Rows.{IsSpelled}
 use Rattle.coap_layer.specs.Trace as L
+use Rattle.coap_block.specs.Sizes.{Sizes}
 use Rattle.coap_exchange.specs.declared.asker.AskRefusal.{AskRefusal}
 use Rattle.coap_exchange.specs.declared.asker.Event.{Event}
 use Rattle.coap_exchange.specs.declared.asker.Turn.{Turn}
@@ -164,11 +164,12 @@ shorts_closed now e token z (goes_out op key asks given sends_it own_same report
 shorts_closed now e token z (is_refused op why asks given none all) =
     subst (λ (c : Effect). Shorts c.own) (sym all) (shorts_failed e.own has_sent NoIds (Some op) z)
 
-module _ (szx : ℕ) where
-  shorts_turned : (t : List Call) (c : Call) (k : Turned szx t c) → Shorts (own_of szx t) → Shorts (own_of szx (c ∷ t))
+module _ (sizes : Sizes) where
+  shorts_turned : (t : List Call) (c : Call) (k : Turned sizes t c) → Shorts (own_of sizes t)
+      → Shorts (own_of sizes (c ∷ t))
   shorts_turned t c k h =
-      let m : ℕ = max (own_of szx t).clock k.now in
-      let s : Own = at k.now (own_of szx t) in
+      let m : ℕ = max (own_of sizes t).clock k.now in
+      let s : Own = at k.now (own_of sizes t) in
       subst Shorts (sym k.own_is) (shorts_closed m (left_by s m k.told k.move) k.token
       (shorts_moves s m k.told h k.move) k.closes)
 
@@ -190,12 +191,12 @@ module _ (szx : ℕ) where
       ∙ ap (λ os. before_path r.method r ++ (path_options r.path ++ os)) (same_after r.method r)
 
   shorts_called : (s : Own) (now : ℕ) (r : Request) (answer : Result ℕ CallRefusal) → answer ≡ call_answer s r
-      → Shorts s → Shorts (numbered (λ number. calling s.szx number r) answer (at now s))
+      → Shorts s → Shorts (numbered (λ number. calling s.sizes number r) answer (at now s))
   shorts_called s now r (Err why) is h = h
   shorts_called s now r (Ok number) is h = (
-    all_more IsShortOp s.queue (calling s.szx number r) h.0
+    all_more IsShortOp s.queue (calling s.sizes number r) h.0
         (ap (are_long (block_option_number r.method)) (same_options r)
-        ∙ by (is_full s) (nat_lt max_body (length r.body))
+        ∙ by (is_full s) (nat_lt s.sizes.limit (length r.body))
         (are_long (block_option_number r.method) (options_of r)) refl is),
     h.1,
     h.2,
@@ -228,26 +229,26 @@ module _ (szx : ℕ) where
       by false false true short e = absurd (cc e)
       by false false false short e = short
 
-  shorts : (t : List Call) → ClientRows szx t → Shorts (own_of szx t)
+  shorts : (t : List Call) → ClientRows sizes t → Shorts (own_of sizes t)
   shorts [] rows = (tt, tt, tt)
   shorts (c ∷ t) rows = by c rows.0 (shorts t rows.1)
     where
-      by : (c : Call) → IsRight (own_of szx t) c → Shorts (own_of szx t) → Shorts (own_of szx (c ∷ t))
-      by (Calls now r answer) right h = shorts_called (own_of szx t) now r answer right h
-      by (Observes now path answer) right h = shorts_observed (own_of szx t) now path answer right h
-      by (Cancels now k None) right h = (all_more IsShortOp (own_of szx t).queue (Cancelling k) h.0 tt, h.1, h.2)
+      by : (c : Call) → IsRight (own_of sizes t) c → Shorts (own_of sizes t) → Shorts (own_of sizes (c ∷ t))
+      by (Calls now r answer) right h = shorts_called (own_of sizes t) now r answer right h
+      by (Observes now path answer) right h = shorts_observed (own_of sizes t) now path answer right h
+      by (Cancels now k None) right h = (all_more IsShortOp (own_of sizes t).queue (Cancelling k) h.0 tt, h.1, h.2)
       by (Cancels now k (Some why)) right h = h
       by (Forgets k kept true) right h = let ops =
-          ops_over k (own_of szx t) (h.0, h.1) in (
+          ops_over k (own_of sizes t) (h.0, h.1) in (
             ops.0,
             ops.1,
-            live_without ShortPath k (own_of szx t).observations h.2,
+            live_without ShortPath k (own_of sizes t).observations h.2,
           )
       by (Forgets k kept false) right h = h
       by (Feeds now from bytes w up settled event sent token kept) right h =
-          shorts_turned t _ (fed_turned szx t now from bytes w up settled event sent token kept) h
+          shorts_turned t _ (fed_turned sizes t now from bytes w up settled event sent token kept) h
       by (Ticks now w below turn sent token kept answer) right h =
-          shorts_turned t _ (ticked_turned szx t now w below turn sent token kept answer) h
+          shorts_turned t _ (ticked_turned sizes t now w below turn sent token kept answer) h
       by (NextOut answer) right h = h
       by (NextReport answer) right h = h
       by (Asked answer) right h = h
@@ -351,12 +352,12 @@ module _ (server : Endpoint) (word : ℕ) where
     answers (Releases k) is can = let r = releases_on k calls law in record
         { sent = L.Nothing; token = Ok []; kept = r.0; law_of = r.1 }
 
-module _ (server : Endpoint) (szx word : ℕ) (t : List Call) (law : ClientLaw server szx word t) where
+module _ (server : Endpoint) (sizes : Sizes) (word : ℕ) (t : List Call) (law : ClientLaw server sizes word t) where
   abbrev mine : Own
-  mine = own_of szx t
+  mine = own_of sizes t
 
   abbrev under : List A.Call
-  under = lower_of szx t
+  under = lower_of sizes t
 
   split : (a b : List A.Call) (i : A.Call) → (a ++ (b ++ i ∷ [])) ++ under ≡ a ++ (b ++ (i ∷ under))
   split a b i = append_assoc a (b ++ i ∷ []) under ∙ ap (λ l. a ++ l) (append_assoc b (i ∷ []) under)
@@ -368,8 +369,8 @@ module _ (server : Endpoint) (szx word : ℕ) (t : List Call) (law : ClientLaw s
   -- an observation's token is that of its registration
   observed_short : (k : ℕ) (token : List ℕ) → token_of k mine.observations ≡ Some token → length token ≤ 8
   observed_short k token is =
-      let r = live_found _ k mine.observations token (live szx server word t law) is in
-      subst (λ (z : List ℕ). length z ≤ 8) r.1.token_is (short_tokens szx server word t law r.1.sending r.1.sent)
+      let r = live_found _ k mine.observations token (live sizes server word t law) is in
+      subst (λ (z : List ℕ). length z ≤ 8) r.1.token_is (short_tokens sizes server word t law r.1.sending r.1.sent)
 
   can_ask : (now : ℕ) (told : Option Event) (e : Effect) → Moved (at now mine) (max mine.clock now) told e
       → (calls : List A.Call) → (op : Operation) → e.deed ≡ Asks op → Spelled (E.own_of server word calls) e op
@@ -377,7 +378,7 @@ module _ (server : Endpoint) (szx word : ℕ) (t : List Call) (law : ClientLaw s
       let s : Own = at now mine in
       let m : ℕ = max mine.clock now in
       let left : Effect = left_by s m told moved.0 in
-      let short = shorts_moves s m told (shorts szx t law.rows) moved.0 in
+      let short = shorts_moves s m told (shorts sizes t law.rows) moved.0 in
       let so = asks_so s m told moved.0 op (ap (λ (z : Effect). z.deed) (sym moved.1) ∙ is) in
       let few = token_short (E.own_of server word calls) left.own.observations op
       (λ k same token given. observed_short k token (sym (so.token k same) ∙ given)) in
@@ -386,11 +387,11 @@ module _ (server : Endpoint) (szx word : ℕ) (t : List Call) (law : ClientLaw s
       (message_of left.own.observations op)) (subst IfShort so.runs short.1) short.2 few)
 
   forgets_on : (number : ℕ) → (kept : Bool) × (answer : Bool)
-      × ClientLaw server szx word (Forgets number kept answer ∷ t)
+      × ClientLaw server sizes word (Forgets number kept answer ∷ t)
   forgets_on number = by (may_forget mine number) refl
     where
       by : (b : Bool) → b ≡ may_forget mine number
-          → (kept : Bool) × (answer : Bool) × ClientLaw server szx word (Forgets number kept answer ∷ t)
+          → (kept : Bool) × (answer : Bool) × ClientLaw server sizes word (Forgets number kept answer ∷ t)
       by false is = (false, false, record { rows = (is, law.rows); exchanges = law.exchanges })
       by true is = let r = ends_on server word (observation_of number mine.observations) mine 0 0 L.Nothing
           (Ok []) under law.exchanges in (r.0, true, record { rows = (is, law.rows); exchanges = r.1 })
@@ -398,7 +399,7 @@ module _ (server : Endpoint) (szx word : ℕ) (t : List Call) (law : ClientLaw s
   feeds_on : (now : ℕ) (from : Endpoint) (bytes : List ℕ) (w : ℕ) → AreBytes bytes
       → (up : L.Answer) × (settled : Bool) × (event : Option Event) × (sent : L.Answer)
       × (token : Result (List ℕ) AskRefusal) × (kept : Bool)
-      × ClientLaw server szx word (Feeds now from bytes w up settled event sent token kept ∷ t)
+      × ClientLaw server sizes word (Feeds now from bytes w up settled event sent token kept ∷ t)
   feeds_on now from bytes w are =
       let m : ℕ = max mine.clock now in
       let k = receives server word under law.exchanges m from bytes are in
@@ -422,7 +423,7 @@ module _ (server : Endpoint) (szx word : ℕ) (t : List Call) (law : ClientLaw s
 
   ticks_on : (now w : ℕ)
       → (below : L.Answer) × (turn : Turn) × (sent : L.Answer) × (token : Result (List ℕ) AskRefusal) × (kept : Bool)
-      × (answer : Bool) × ClientLaw server szx word (Ticks now w below turn sent token kept answer ∷ t)
+      × (answer : Bool) × ClientLaw server sizes word (Ticks now w below turn sent token kept answer ∷ t)
   ticks_on now w =
       let m : ℕ = max mine.clock now in
       let k = ticks server word under law.exchanges m in
@@ -445,7 +446,7 @@ module _ (server : Endpoint) (szx word : ℕ) (t : List Call) (law : ClientLaw s
         },
       )
 
-  pub goes_on : GoesOn server szx word t
+  pub goes_on : GoesOn server sizes word t
   goes_on = record {
     calls = λ now r. (call_answer mine r, record { rows = (refl, law.rows); exchanges = law.exchanges });
     observes = λ now path. (observe_answer mine path, record { rows = (refl, law.rows); exchanges = law.exchanges });

@@ -4,6 +4,7 @@ use Rattle.std.proofs.Common.{[], ◌∷◌, refl, ap, sym, subst, ◌∙◌, Re
 use Rattle.std.specs.Prelude.{◌==◌}
 use Rattle.coap_types.specs.declared.endpoint.Endpoint.{Endpoint}
 use Rattle.coap_layer.specs.Trace as L
+use Rattle.coap_block.specs.Sizes.{Sizes}
 use Rattle.coap_exchange.specs.declared.asker.AskRefusal.{AskRefusal}
 use Rattle.coap_exchange.specs.declared.asker.Turn.{Turn}
 use Rattle.coap_exchange.specs.declared.asker.Turn.TheVariants as turn_of
@@ -165,46 +166,46 @@ module _ (s : Own) (m : ℕ) where
   asks_first (turn_of.End e) k w h =
       let none : None ≡ Some (Fetching k) = sym (failed_none (λ t. true) (lapse e) s s.running) ∙ h in absurd (cc none)
 
-module _ (szx : ℕ) (server : Endpoint) (word : ℕ) where
+module _ (sizes : Sizes) (server : Endpoint) (word : ℕ) where
   -- a tick
   module _ (t : List Call) (now w : ℕ) (below : L.Answer) (d : Turn) (sent : L.Answer)
-      (token : Result (List ℕ) AskRefusal) (kept did : Bool) (law : ClientLaw server szx word t) where
+      (token : Result (List ℕ) AskRefusal) (kept did : Bool) (law : ClientLaw server sizes word t) where
     abbrev c : Call
     c = Ticks now w below d sent token kept did
 
     abbrev s : Own
-    s = at now (own_of szx t)
+    s = at now (own_of sizes t)
 
     abbrev m : ℕ
-    m = max (own_of szx t).clock now
+    m = max (own_of sizes t).clock now
 
-    tick_asks : asked_for (own_of szx t) c ≡ asks_at s m d
+    tick_asks : asked_for (own_of sizes t) c ≡ asks_at s m d
     tick_asks = asked_is (passes s m d) (passes s m d).deed token
 
-    ordered : Ascends (own_of szx t).observations
-    ordered = ascends szx server word t law
+    ordered : Ascends (own_of sizes t).observations
+    ordered = ascends sizes server word t law
 
-    waits : AllWait (own_of szx t).observations (own_of szx t).queue
-    waits = (known server szx word t law.rows law.exchanges.rows).waits
+    waits : AllWait (own_of sizes t).observations (own_of sizes t).queue
+    waits = (known server sizes word t law.rows law.exchanges.rows).waits
 
-    starts_at : (first : ℕ) → to_fetch (own_of szx t).observations ≡ Some first
-        → asked_for (own_of szx t) c ≡ Some (Fetching first) → StartsLowest (own_of szx t) c first
+    starts_at : (first : ℕ) → to_fetch (own_of sizes t).observations ≡ Some first
+        → asked_for (own_of sizes t) c ≡ Some (Fetching first) → StartsLowest (own_of sizes t) c first
     starts_at first is asked = record {
       asked = asked;
-      wanted = first_wanted (own_of szx t).observations first ordered is;
+      wanted = first_wanted (own_of sizes t).observations first ordered is;
       lowest = λ other wanted. (
-          let f = first_of (own_of szx t).observations other wanted.0 ordered wanted.1 in
+          let f = first_of (own_of sizes t).observations other wanted.0 ordered wanted.1 in
           let same : Some first ≡ Some f.first = sym is ∙ f.is in
           let number_is : first ≡ f.first = cc same in
           let low = f.lowest in
           omega (arith, number_is, low));
     }
 
-    none_starts : (number : ℕ) → IsWanted number (own_of szx t) → taken.starts (own_of szx t) c ≡ true → ⊥
+    none_starts : (number : ℕ) → IsWanted number (own_of sizes t) → taken.starts (own_of sizes t) c ≡ true → ⊥
     none_starts number wanted h = by (asks_at s m d) refl
       where
-        f : First (own_of szx t).observations number
-        f = first_of (own_of szx t).observations number wanted.0 ordered wanted.1
+        f : First (own_of sizes t).observations number
+        f = first_of (own_of sizes t).observations number wanted.0 ordered wanted.1
 
         turns : is_turn (asks_at s m d) ≡ true
         turns = ap is_turn (sym tick_asks) ∙ h
@@ -217,31 +218,31 @@ module _ (szx : ℕ) (server : Endpoint) (word : ℕ) where
             ap (λ o. is_turn (Some o)) (sym op_is) ∙ (ap is_turn (sym is) ∙ turns) in
             cc z
 
-    one_starts : (number : ℕ) → IsWanted number (own_of szx t) → (own_of szx t).running ≡ None
-        → Some d ≡ Some turn_of.Idle → (first : ℕ) × StartsLowest (own_of szx t) c first
+    one_starts : (number : ℕ) → IsWanted number (own_of sizes t) → (own_of sizes t).running ≡ None
+        → Some d ≡ Some turn_of.Idle → (first : ℕ) × StartsLowest (own_of sizes t) c first
     one_starts number wanted none is =
-        let f = first_of (own_of szx t).observations number wanted.0 ordered wanted.1 in
+        let f = first_of (own_of sizes t).observations number wanted.0 ordered wanted.1 in
         let idle_is : d ≡ turn_of.Idle = cc is in
         let asks : asks_at s m d ≡ Some (Fetching f.first) =
         ap (asks_at s m) idle_is
-        ∙ (ap (λ o. asks_op (idle s m o (to_fetch (own_of szx t).observations)).deed) none
+        ∙ (ap (λ o. asks_op (idle s m o (to_fetch (own_of sizes t).observations)).deed) none
         ∙ ap (λ n. asks_op (idle s m None n).deed) f.is) in
         (f.first, starts_at f.first f.is (tick_asks ∙ asks))
 
-    no_other : (number : ℕ) → asked_for (own_of szx t) c ≡ Some (Fetching number)
-        → StartsLowest (own_of szx t) c number
+    no_other : (number : ℕ) → asked_for (own_of sizes t) c ≡ Some (Fetching number)
+        → StartsLowest (own_of sizes t) c number
     no_other number asked = starts_at number (asks_first s m d number waits (sym tick_asks ∙ asked)) asked
 
   -- no other call starts anything
-  no_tick : (t : List Call) (c : Call) → turn_in c ≡ None → (taken.starts (own_of szx t) c ≡ true → ⊥)
-      → FetchesFirst szx t c
+  no_tick : (t : List Call) (c : Call) → turn_in c ≡ None → (taken.starts (own_of sizes t) c ≡ true → ⊥)
+      → FetchesFirst sizes t c
   no_tick t c none never = record {
     none_starts = λ number wanted h. never h;
     one_starts = λ number wanted free is. (let z : None ≡ Some turn_of.Idle = sym none ∙ is in absurd (cc z));
     no_other = λ d number is asked. (let z : None ≡ Some d = sym none ∙ is in absurd (cc z));
   }
 
-  fetch_first : (t : List Call) (c : Call) → ClientLaw server szx word t → FetchesFirst szx t c
+  fetch_first : (t : List Call) (c : Call) → ClientLaw server sizes word t → FetchesFirst sizes t c
   fetch_first t (Ticks now w below d sent token kept did) law = record {
     none_starts = none_starts t now w below d sent token kept did law;
     one_starts = one_starts t now w below d sent token kept did law;
@@ -257,9 +258,9 @@ module _ (szx : ℕ) (server : Endpoint) (word : ℕ) where
   fetch_first t (NextReport answer) law = no_tick t (NextReport answer) refl (λ h. cc h)
   fetch_first t (Asked answer) law = no_tick t (Asked answer) refl (λ h. cc h)
 
-pub fetches_first : (server : Endpoint) (szx word : ℕ) (t : List Call) → ClientLaw server szx word t
-    → AllFetchFirst szx t
-fetches_first server szx word [] law = tt
-fetches_first server szx word (c ∷ t) law =
-    let past = client_back server szx word (c ∷ []) t law in
-    (fetch_first szx server word t c past, fetches_first server szx word t past)
+pub fetches_first : (server : Endpoint) (sizes : Sizes) (word : ℕ) (t : List Call) → ClientLaw server sizes word t
+    → AllFetchFirst sizes t
+fetches_first server sizes word [] law = tt
+fetches_first server sizes word (c ∷ t) law =
+    let past = client_back server sizes word (c ∷ []) t law in
+    (fetch_first sizes server word t c past, fetches_first server sizes word t past)

@@ -7,6 +7,7 @@ use Rattle.coap_types.specs.declared.endpoint.Endpoint.{Endpoint}
 use Rattle.coap_types.specs.declared.block.Block.{Block}
 use Rattle.coap_types.specs.declared.option_number.TheConstants.{BLOCK1 as block1}
 use Rattle.coap_codec.specs.Message.{Message}
+use Rattle.coap_block.specs.Sizes.{Sizes}
 use Rattle.coap_block.specs.UploadStep.{UploadState, more_follows, moved, continues}
 use Rattle.coap_exchange.specs.declared.asker.AskRefusal.{AskRefusal}
 use Rattle.coap_exchange.specs.declared.asker.Event.{Event}
@@ -78,20 +79,21 @@ asks_runs s now told (mv.fails e un) op h = absurd (by s.running h)
     by (Some (Cancelling k)) h = releases_none _ op h
 
 -- where a request is sent, it is of the operation that runs then, and nothing is reported
-pub record SentNow (szx : ℕ) (t : List Call) (c : Call) (x : Sending) : Type 0 where
-  pub runs : (own_of szx (c ∷ t)).running ≡ Some x.operation
-  pub none : reports (own_of szx t) c ≡ None
-  pub last : last_sent szx (c ∷ t) ≡ Some x
+pub record SentNow (sizes : Sizes) (t : List Call) (c : Call) (x : Sending) : Type 0 where
+  pub runs : (own_of sizes (c ∷ t)).running ≡ Some x.operation
+  pub none : reports (own_of sizes t) c ≡ None
+  pub last : last_sent sizes (c ∷ t) ≡ Some x
 
-module _ (szx : ℕ) (t : List Call) (c : Call) (x : Sending) where
-  last_now : sends (own_of szx t) c ≡ Some x → last_sent szx (c ∷ t) ≡ Some x
-  last_now h = ap (λ z. elim z [ Some y ↦ Some y | None ↦ last_sent szx t ]) h
+module _ (sizes : Sizes) (t : List Call) (c : Call) (x : Sending) where
+  last_now : sends (own_of sizes t) c ≡ Some x → last_sent sizes (c ∷ t) ≡ Some x
+  last_now h = ap (λ z. elim z [ Some y ↦ Some y | None ↦ last_sent sizes t ]) h
 
   now_by : (now : ℕ) (e : Effect) (token : Result (List ℕ) AskRefusal) (request : Option Requested)
       → ((op : Operation) → e.deed ≡ Asks op → e.own.running ≡ Some op) → Closing now e token
-      → own_of szx (c ∷ t) ≡ left_with request (closed now e e.deed token)
-      → sends (own_of szx t) c ≡ sent_by e e.deed token → reports (own_of szx t) c ≡ (closed now e e.deed token).report
-      → sends (own_of szx t) c ≡ Some x → SentNow szx t c x
+      → own_of sizes (c ∷ t) ≡ left_with request (closed now e e.deed token)
+      → sends (own_of sizes t) c ≡ sent_by e e.deed token → reports (own_of sizes t) c
+      ≡ (closed now e e.deed token).report
+      → sends (own_of sizes t) c ≡ Some x → SentNow sizes t c x
   now_by now e token request runs (quiet q none own_same report_same) own sending report h = let k : Some x
       ≡ None = sym h ∙ (sending ∙ none) in absurd (cc k)
   now_by now e token request runs (is_refused op why asks given none all) own sending report h = let k : Some x
@@ -106,30 +108,31 @@ module _ (szx : ℕ) (t : List Call) (c : Call) (x : Sending) where
         last = last_now h;
       }
 
-  now_turned : Turned szx t c → sends (own_of szx t) c ≡ Some x → SentNow szx t c x
+  now_turned : Turned sizes t c → sends (own_of sizes t) c ≡ Some x → SentNow sizes t c x
   now_turned k h =
-      let m : ℕ = max (own_of szx t).clock k.now in
-      now_by m (left_by (at k.now (own_of szx t)) m k.told k.move) k.token k.request
-      (asks_runs (at k.now (own_of szx t)) m k.told k.move) k.closes k.own_is k.sends_is k.reports_is h
+      let m : ℕ = max (own_of sizes t).clock k.now in
+      now_by m (left_by (at k.now (own_of sizes t)) m k.told k.move) k.token k.request
+      (asks_runs (at k.now (own_of sizes t)) m k.told k.move) k.closes k.own_is k.sends_is k.reports_is h
 
-pub sent_now : (szx : ℕ) (t : List Call) (c : Call) (x : Sending) → sends (own_of szx t) c ≡ Some x → SentNow szx t c x
-sent_now szx t (Feeds now from bytes w up settled event sent token kept) x h =
-    now_turned szx t (Feeds now from bytes w up settled event sent token kept) x
-    (fed_turned szx t now from bytes w up settled event sent token kept) h
-sent_now szx t (Ticks now w below turn sent token kept answer) x h =
-    now_turned szx t (Ticks now w below turn sent token kept answer) x
-    (ticked_turned szx t now w below turn sent token kept answer) h
-sent_now szx t (Calls now r answer) x h = absurd (cc h)
-sent_now szx t (Observes now path answer) x h = absurd (cc h)
-sent_now szx t (Cancels now k answer) x h = absurd (cc h)
-sent_now szx t (Forgets k kept answer) x h = absurd (cc h)
-sent_now szx t (NextOut answer) x h = absurd (cc h)
-sent_now szx t (NextReport answer) x h = absurd (cc h)
-sent_now szx t (Asked answer) x h = absurd (cc h)
+pub sent_now : (sizes : Sizes) (t : List Call) (c : Call) (x : Sending) → sends (own_of sizes t) c ≡ Some x
+    → SentNow sizes t c x
+sent_now sizes t (Feeds now from bytes w up settled event sent token kept) x h =
+    now_turned sizes t (Feeds now from bytes w up settled event sent token kept) x
+    (fed_turned sizes t now from bytes w up settled event sent token kept) h
+sent_now sizes t (Ticks now w below turn sent token kept answer) x h =
+    now_turned sizes t (Ticks now w below turn sent token kept answer) x
+    (ticked_turned sizes t now w below turn sent token kept answer) h
+sent_now sizes t (Calls now r answer) x h = absurd (cc h)
+sent_now sizes t (Observes now path answer) x h = absurd (cc h)
+sent_now sizes t (Cancels now k answer) x h = absurd (cc h)
+sent_now sizes t (Forgets k kept answer) x h = absurd (cc h)
+sent_now sizes t (NextOut answer) x h = absurd (cc h)
+sent_now sizes t (NextReport answer) x h = absurd (cc h)
+sent_now sizes t (Asked answer) x h = absurd (cc h)
 
-pub last_same : (szx : ℕ) (t : List Call) (c : Call) → sends (own_of szx t) c ≡ None
-    → last_sent szx (c ∷ t) ≡ last_sent szx t
-last_same szx t c none = ap (λ z. elim z [ Some x ↦ Some x | None ↦ last_sent szx t ]) none
+pub last_same : (sizes : Sizes) (t : List Call) (c : Call) → sends (own_of sizes t) c ≡ None
+    → last_sent sizes (c ∷ t) ≡ last_sent sizes t
+last_same sizes t c none = ap (λ z. elim z [ Some x ↦ Some x | None ↦ last_sent sizes t ]) none
 
 -- a further request follows none that is the last
 continued_more : (u : UploadState) (o : Option Block) (next : Transfer) → calls.continued u o ≡ calls.Asks next
@@ -177,116 +180,119 @@ call_place (Fetching n) k h = absurd (cc h)
 call_place (Cancelling n) k h = absurd (cc h)
 call_place Dropped k h = absurd (cc h)
 
-module _ (szx : ℕ) where
+module _ (sizes : Sizes) where
   -- A request of a call waits for its answer; or was answered, and the call runs on; or the call is over.
   pub data Place (t : List Call) (x : Sending) (k : ℕ) : Type 0 where
-    waits : (own_of szx t).running ≡ Some x.operation → last_sent szx t ≡ Some x → Place t x k
-    went_on : (op : Operation) → (own_of szx t).running ≡ Some op → call_of op ≡ Some k → Ever (HearsBy x.token) t
+    waits : (own_of sizes t).running ≡ Some x.operation → last_sent sizes t ≡ Some x → Place t x k
+    went_on : (op : Operation) → (own_of sizes t).running ≡ Some op → call_of op ≡ Some k → Ever (HearsBy x.token) t
         → is_last x.operation ≡ false → Place t x k
-    is_gone : 1 ≤ gone szx k t → Place t x k
+    is_gone : 1 ≤ gone sizes k t → Place t x k
 
   abbrev pub Placed : List Call → Type 0
-  Placed t = (x : Sending) (k : ℕ) → WasSent szx x t → call_of x.operation ≡ Some k → Place t x k
+  Placed t = (x : Sending) (k : ℕ) → WasSent sizes x t → call_of x.operation ≡ Some k → Place t x k
 
-  gone_later : (k : ℕ) (t : List Call) (c : Call) → 1 ≤ gone szx k t → 1 ≤ gone szx k (c ∷ t)
+  gone_later : (k : ℕ) (t : List Call) (c : Call) → 1 ≤ gone sizes k t → 1 ≤ gone sizes k (c ∷ t)
   gone_later k t c h = omega (arith, h)
 
   -- the answer is to the request that waits
-  heard_now : (t : List Call) (c : Call) (m : Message) (x : Sending) → Answers szx t c m → last_sent szx t ≡ Some x
+  heard_now : (t : List Call) (c : Call) (m : Message) (x : Sending) → Answers sizes t c m → last_sent sizes t ≡ Some x
       → hears c ≡ Some m → HearsBy x.token c
   heard_now t c m x a last is = let e : a.sending
       ≡ x = (let k : Some a.sending ≡ Some x = sym a.last ∙ last in cc k)
       in (m, is, sym a.token ∙ ap (λ (z : Sending). z.token) e)
 
-  place_here : (t : List Call) (c : Call) (answers : (m : Message) → hears c ≡ Some m → Answers szx t c m) (x : Sending)
+  place_here : (t : List Call) (c : Call) (answers : (m : Message) → hears c ≡ Some m
+      → Answers sizes t c m) (x : Sending)
       (k : ℕ) → call_of x.operation ≡ Some k → Place t x k → Place (c ∷ t) x k
   place_here t c answers x k is (is_gone h) = is_gone (gone_later k t c h)
-  place_here t c answers x k is (waits runs last) = by (fate szx t c x.operation (lone_call x.operation k is) runs)
+  place_here t c answers x k is (waits runs last) = by (fate sizes t c x.operation (lone_call x.operation k is) runs)
     where
-      by : Fate szx t c x.operation → Place (c ∷ t) x k
-      by (runs_on run none) = waits run (last_same szx t c none ∙ last)
+      by : Fate sizes t c x.operation → Place (c ∷ t) x k
+      by (runs_on run none) = waits run (last_same sizes t c none ∙ last)
       by (goes_on n r tr next m y op_is heard asks sends_it y_is run) =
           let number : Some n ≡ Some k = ap call_of (sym op_is) ∙ is in
           went_on (Calling n r next) run number (inl (heard_now t c m x (answers m heard) last heard))
           (ap is_last op_is ∙ not_last n r tr next m asks)
       by (ends_it n number final none) = let e : n
           ≡ k = (let z : Some n ≡ Some k = sym number ∙ calls_of x.operation k is in cc z) in is_gone
-          (subst (λ j. 1 ≤ gone szx j (c ∷ t)) e (omega (arith, final)))
-  place_here t c answers x k is (went_on op runs op_is heard last) = by (fate szx t c op (lone_call op k op_is) runs)
+          (subst (λ j. 1 ≤ gone sizes j (c ∷ t)) e (omega (arith, final)))
+  place_here t c answers x k is (went_on op runs op_is heard last) = by (fate sizes t c op (lone_call op k op_is) runs)
     where
-      by : Fate szx t c op → Place (c ∷ t) x k
+      by : Fate sizes t c op → Place (c ∷ t) x k
       by (runs_on run none) = went_on op run op_is (inr heard) last
       by (goes_on n r tr next m y is_call hears_it asks sends_it y_is run) = let number : Some n
           ≡ Some k = ap call_of (sym is_call) ∙ op_is in went_on (Calling n r next) run number (inr heard) last
       by (ends_it n number final none) = let e : n
           ≡ k = (let z : Some n ≡ Some k = sym number ∙ calls_of op k op_is in cc z) in is_gone
-          (subst (λ j. 1 ≤ gone szx j (c ∷ t)) e (omega (arith, final)))
+          (subst (λ j. 1 ≤ gone sizes j (c ∷ t)) e (omega (arith, final)))
 
-  pub placed : (t : List Call) → AnswersLast szx t → Placed t
+  pub placed : (t : List Call) → AnswersLast sizes t → Placed t
   placed [] answers x k was is = absurd was
-  placed (c ∷ t) answers x k (inl now) is = let z = sent_now szx t c x now in waits z.runs z.last
+  placed (c ∷ t) answers x k (inl now) is = let z = sent_now sizes t c x now in waits z.runs z.last
   placed (c ∷ t) answers x k (inr before) is = place_here t c answers.0 x k is (placed t answers.1 x k before is)
 
   module _ (server : Endpoint) (word : ℕ) where
     -- what is sent of a call shows that it is not over
-    not_gone : (t : List Call) (c : Call) → ClientLaw server szx word (c ∷ t) → (y : Sending) (k : ℕ)
-        → sends (own_of szx t) c ≡ Some y → call_of y.operation ≡ Some k → 1 ≤ gone szx k t → ⊥
+    not_gone : (t : List Call) (c : Call) → ClientLaw server sizes word (c ∷ t) → (y : Sending) (k : ℕ)
+        → sends (own_of sizes t) c ≡ Some y → call_of y.operation ≡ Some k → 1 ≤ gone sizes k t → ⊥
     not_gone t c law y k is number h =
-        let z = sent_now szx t c y is in
-        let kn = known server szx word (c ∷ t) law.rows law.exchanges.rows in
+        let z = sent_now sizes t c y is in
+        let kn = known server sizes word (c ∷ t) law.rows law.exchanges.rows in
         let a = ap (in_running k) z.runs in
         let b = call_place y.operation k number in
-        both_one (places k (own_of szx (c ∷ t))) (gone szx k (c ∷ t)) _ (kn.one k) (omega (arith, a, b))
+        both_one (places k (own_of sizes (c ∷ t))) (gone sizes k (c ∷ t)) _ (kn.one k) (omega (arith, a, b))
         (gone_later k t c h)
 
-    ordered : (t : List Call) (c : Call) → ClientLaw server szx word (c ∷ t) → AnswersLast szx (c ∷ t) → InOrder szx t c
+    ordered : (t : List Call) (c : Call) → ClientLaw server sizes word (c ∷ t) → AnswersLast sizes (c ∷ t)
+        → InOrder sizes t c
     ordered t c law answers = record {
-      in_turn = in_turn szx t c law.rows;
-      none_with = λ y is. (sent_now szx t c y is).none;
+      in_turn = in_turn sizes t c law.rows;
+      none_with = λ y is. (sent_now sizes t c y is).none;
       none_behind = λ x y k is was first second last. behind x y k is last first second
           (placed t answers.1 x k was first);
       one_by_one = λ x y k is was first second. one x y k is first second (placed t answers.1 x k was first);
     }
       where
-        silent : (y : Sending) → sends (own_of szx t) c ≡ Some y → sends (own_of szx t) c ≡ None → ⊥
+        silent : (y : Sending) → sends (own_of sizes t) c ≡ Some y → sends (own_of sizes t) c ≡ None → ⊥
         silent y is none = let k : Some y ≡ None = sym is ∙ none in cc k
 
-        behind : (x y : Sending) (k : ℕ) → sends (own_of szx t) c ≡ Some y → is_last x.operation ≡ true
+        behind : (x y : Sending) (k : ℕ) → sends (own_of sizes t) c ≡ Some y → is_last x.operation ≡ true
             → call_of x.operation ≡ Some k → call_of y.operation ≡ Some k → Place t x k → ⊥
         behind x y k is last first second (is_gone h) = not_gone t c law y k is second h
         behind x y k is last first second (went_on op runs op_is heard other) = cc (last, other)
         behind x y k is last first second (waits runs was) =
-            by (fate szx t c x.operation (lone_call x.operation k first) runs)
+            by (fate sizes t c x.operation (lone_call x.operation k first) runs)
           where
-            by : Fate szx t c x.operation → ⊥
+            by : Fate sizes t c x.operation → ⊥
             by (runs_on run none) = silent y is none
             by (goes_on n r tr next m z op_is heard asks sends_it z_is run) = let e : is_last x.operation
                 ≡ false = ap is_last op_is ∙ not_last n r tr next m asks in cc (last, e)
             by (ends_it n number final none) = silent y is none
 
-        one : (x y : Sending) (k : ℕ) → sends (own_of szx t) c ≡ Some y → call_of x.operation ≡ Some k
+        one : (x y : Sending) (k : ℕ) → sends (own_of sizes t) c ≡ Some y → call_of x.operation ≡ Some k
             → call_of y.operation ≡ Some k → Place t x k → Ever (HearsBy x.token) (c ∷ t)
         one x y k is first second (is_gone h) = absurd (not_gone t c law y k is second h)
         one x y k is first second (went_on op runs op_is heard other) = inr heard
-        one x y k is first second (waits runs was) = by (fate szx t c x.operation (lone_call x.operation k first) runs)
+        one x y k is first second (waits runs was) = by (fate sizes t c x.operation
+            (lone_call x.operation k first) runs)
           where
-            by : Fate szx t c x.operation → Ever (HearsBy x.token) (c ∷ t)
+            by : Fate sizes t c x.operation → Ever (HearsBy x.token) (c ∷ t)
             by (runs_on run none) = absurd (silent y is none)
             by (goes_on n r tr next m z op_is heard asks sends_it z_is run) =
                 inl (heard_now t c m x (answers.0 m heard) was heard)
             by (ends_it n number final none) = absurd (silent y is none)
 
-    pub are_in_order : (t : List Call) → ClientLaw server szx word t → AreInOrder szx t
+    pub are_in_order : (t : List Call) → ClientLaw server sizes word t → AreInOrder sizes t
     are_in_order [] law = tt
     are_in_order (c ∷ t) law = (
-      ordered t c law (answers_last szx server word (c ∷ t) law),
-      are_in_order t (client_back server szx word (c ∷ []) t law),
+      ordered t c law (answers_last sizes server word (c ∷ t) law),
+      are_in_order t (client_back server sizes word (c ∷ []) t law),
     )
 
-    pub one_last : (t : List Call) → ClientLaw server szx word t → OneLast szx t
+    pub one_last : (t : List Call) → ClientLaw server sizes word t → OneLast sizes t
     one_last t law = all t (are_in_order t law)
       where
-        all : (t : List Call) → AreInOrder szx t → OneLast szx t
+        all : (t : List Call) → AreInOrder sizes t → OneLast sizes t
         all [] law x y k a b first second p q = absurd a
         all (c ∷ t) law x y k (inl a) (inl b) first second p q = cc (a, b)
         all (c ∷ t) law x y k (inl a) (inr b) first second p q = absurd (law.0.none_behind y x k a b second first q)

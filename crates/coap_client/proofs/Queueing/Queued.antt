@@ -64,8 +64,8 @@ answered_queued s now m (Some (Calling k r t)) = called_queued k r t s (answer r
 answered_queued s now m (Some (Registering k path)) =
     queued_if s.queue (is_notification m)
     (record {
-      own = record s { running = None; observations = s.observations ++ begun k path s.szx now m ∷ [] };
-      report = first_value k s.szx m;
+      own = record s { running = None; observations = s.observations ++ begun k path s.sizes now m ∷ [] };
+      report = first_value k s.sizes m;
       deed = Keeps m.token;
     })
     (ends (of k (Ended m.code)) s) (same refl) (same refl)

@@ -5,8 +5,8 @@ use Rattle.std.proofs.Common.{ap, sym, subst, ◌∙◌, Result, Ok, Err, arith,
 use Rattle.std.specs.Prelude.{nat_le, nat_lt, length, drop, is_some, option_to_list}
 use Rattle.std.specs.Option.{option_map}
 use Rattle.coap_types.specs.declared.endpoint.Endpoint.{Endpoint}
-use Rattle.coap_types.specs.declared.limits.TheConstants.{MAX_BODY_LEN as max_body}
 use Rattle.coap_types.specs.declared.option_number.TheConstants.{BLOCK2 as block2}
+use Rattle.coap_block.specs.Sizes.{Sizes}
 use Rattle.coap_client.specs.declared.limits.TheConstants.{MAX_WAITING_CALLS as max_waiting}
 use Rattle.coap_client.specs.declared.limits.TheConstants.{MAX_OBSERVATIONS as max_observations}
 use Rattle.coap_client.specs.declared.refusals.CallRefusal.TheVariants.{QueueFull, BodyTooLarge, BadPath, WatchesFull}
@@ -48,12 +48,13 @@ use Rattle.coap_client.specs.Follows.Ends.{Unsent, unsent_by}
 use Rattle.coap_client.specs.Follows.Taken.{Waiting, ACall, ARegistration, ACancel, waiting_of, is_turn}
 use Rattle.coap_client.specs.Follows.Taken.{starts}
 use Rattle.coap_client.specs.Follows.Taken.{last_of, over_in}
-use Rattle.coap_client.specs.Follows.Taken.{without, numbers_in, waiting_in, taking_of, observing_of}
+use Rattle.coap_client.specs.Follows.Taken.{without, numbers_in, next_number, waiting_in, taking_of, observing_of}
 use Rattle.coap_client.specs.Follows.Taken.{cancelling_of, StartsFirst, TakesRight, AllTaken}
 use Rattle.coap_client.proofs.Queueing.Queued.{Queued, same, over, failed_queued, happened_queued}
 use Rattle.coap_client.proofs.Queueing.Queued.{closed_queued}
 use Rattle.coap_client.proofs.Queueing.WaitingLists.{waits, waits_append, waits_without, none_cancelled, waits_length}
 use Rattle.coap_client.proofs.Queueing.WaitingLists.{waits_some}
+use Rattle.coap_client.proofs.Sending.OfCalls.{size_is}
 
 -- what is asked for, by the deed
 
@@ -152,53 +153,55 @@ none_left : (a b c d : ℕ) (f : Bool) → (a + (b + c)) + d ≡ cond f 1 0 → 
 none_left a b c d true h k = omega (arith, h, k)
 none_left a b c d false h k = absurd (omega (arith, h, k))
 
-module _ (server : Endpoint) (szx word : ℕ) where
+module _ (server : Endpoint) (sizes : Sizes) (word : ℕ) where
   abbrev Laws : List Call → Type 0
-  Laws t = X.AskerLaw server word (lower_of szx t)
+  Laws t = X.AskerLaw server word (lower_of sizes t)
 
   under : (t : List Call) (c : Call) → Laws (c ∷ t) → Laws t
-  under t c law = law_back server word (lower (own_of szx t) c) (lower_of szx t) law
+  under t c law = law_back server word (lower (own_of sizes t) c) (lower_of sizes t) law
 
   -- behind a datagram or a tick
-  module _ (t : List Call) (c : Call) (k : Known server szx word (c ∷ t)) (x : Effect)
-      (queue_is : (own_of szx (c ∷ t)).queue ≡ x.own.queue) (reports_is : reports (own_of szx t) c ≡ x.report)
-      (over_is : over_in (own_of szx t) c ≡ last_of (reports (own_of szx t) c)) where
-    gone_now : (n : ℕ) → over_in (own_of szx t) c ≡ Some n → 1 ≤ gone szx n (c ∷ t)
-    gone_now n h = let a = last_final (reports (own_of szx t) c) n (sym over_is ∙ h) in omega (arith, a)
+  module _ (t : List Call) (c : Call) (k : Known server sizes word (c ∷ t)) (x : Effect)
+      (queue_is : (own_of sizes (c ∷ t)).queue ≡ x.own.queue) (reports_is : reports (own_of sizes t) c ≡ x.report)
+      (over_is : over_in (own_of sizes t) c ≡ last_of (reports (own_of sizes t) c)) where
+    gone_now : (n : ℕ) → over_in (own_of sizes t) c ≡ Some n → 1 ≤ gone sizes n (c ∷ t)
+    gone_now n h = let a = last_final (reports (own_of sizes t) c) n (sym over_is ∙ h) in omega (arith, a)
 
-    left_over : (q : List Operation) → (own_of szx (c ∷ t)).queue ≡ q → (o : Option ℕ) → over_in (own_of szx t) c ≡ o
-        → waits (own_of szx (c ∷ t)).queue ≡ without o (waits q)
+    left_over : (q : List Operation) → (own_of sizes (c ∷ t)).queue ≡ q → (o : Option ℕ)
+        → over_in (own_of sizes t) c ≡ o
+        → waits (own_of sizes (c ∷ t)).queue ≡ without o (waits q)
     left_over q is None h = ap waits is
     left_over q is (Some n) h =
-        let s : Own = own_of szx (c ∷ t) in
+        let s : Own = own_of sizes (c ∷ t) in
         let none = none_left (in_running n s.running) (in_queue n s.queue) (in_observations n s.observations)
-        (gone szx n (c ∷ t)) (nat_lt n s.taken) (k.one n) (gone_now n h) in
+        (gone sizes n (c ∷ t)) (nat_lt n s.taken) (k.one n) (gone_now n h) in
         ap waits is ∙ sym (none_cancelled n s.observations q none (subst (AllWait s.observations) is k.waits))
 
     turned_waits : (q : List Operation) → Queued q x
-        → waits (own_of szx (c ∷ t)).queue ≡ without (over_in (own_of szx t) c) (waits q)
-    turned_waits q (same h) = left_over q (queue_is ∙ h) (over_in (own_of szx t) c) refl
+        → waits (own_of sizes (c ∷ t)).queue ≡ without (over_in (own_of sizes t) c) (waits q)
+    turned_waits q (same h) = left_over q (queue_is ∙ h) (over_in (own_of sizes t) c) refl
     turned_waits q (over n r last made h) =
-        let is : over_in (own_of szx t) c ≡ Some n = over_is
+        let is : over_in (own_of sizes t) c ≡ Some n = over_is
         ∙ (ap last_of (reports_is ∙ made) ∙ ap (λ b. cond b None (Some n)) last) in
         ap waits (queue_is ∙ h) ∙ (waits_without n q ∙ ap (λ o. without o (waits q)) (sym is))
 
   -- what waits is what the trace says
   abbrev Told : List Call → Type 0
-  Told t = waits (own_of szx t).queue ≡ waiting_in szx t
+  Told t = waits (own_of sizes t).queue ≡ waiting_in sizes t
 
-  plain : (t : List Call) → Told t → waits (own_of szx t).queue ≡ waiting_in szx t ++ []
-  plain t h = h ∙ sym (append-nil (waiting_in szx t))
+  plain : (t : List Call) → Told t → waits (own_of sizes t).queue ≡ waiting_in sizes t ++ []
+  plain t h = h ∙ sym (append-nil (waiting_in sizes t))
 
   more : (t : List Call) (op : Operation) (w : Waiting) → waiting_of op ≡ Some w → Told t
-      → waits ((own_of szx t).queue ++ op ∷ []) ≡ waiting_in szx t ++ w ∷ []
-  more t op w is h = waits_append (own_of szx t).queue (op ∷ [])
+      → waits ((own_of sizes t).queue ++ op ∷ []) ≡ waiting_in sizes t ++ w ∷ []
+  more t op w is h = waits_append (own_of sizes t).queue (op ∷ [])
       ∙ (ap (λ z. z ++ (option_to_list (waiting_of op) ++ [])) h
-      ∙ ap (λ o. waiting_in szx t ++ (option_to_list o ++ [])) is)
+      ∙ ap (λ o. waiting_in sizes t ++ (option_to_list o ++ [])) is)
 
-  pub told : (t : List Call) → ClientRows szx t → Laws t → Told t
+  pub told : (t : List Call) → ClientRows sizes t → Laws t → Told t
   told [] rows law = refl
-  told (Calls now r (Ok n) ∷ t) rows law = more t (calling (own_of szx t).szx n r) (ACall n) refl (told t rows.1 law)
+  told (Calls now r (Ok n) ∷ t) rows law = more t (calling (own_of sizes t).sizes n r) (ACall n) refl
+      (told t rows.1 law)
   told (Calls now r (Err why) ∷ t) rows law = plain t (told t rows.1 law)
   told (Observes now path (Ok n) ∷ t) rows law = more t (Registering n path) (ARegistration n) refl (told t rows.1 law)
   told (Observes now path (Err why) ∷ t) rows law = plain t (told t rows.1 law)
@@ -210,42 +213,43 @@ module _ (server : Endpoint) (szx word : ℕ) where
   told (Forgets n was false ∷ t) rows law = plain t (told t rows.1 law)
   told (Forgets n was true ∷ t) rows law =
       let h = told t rows.1 (under t (Forgets n was true) law) in
-      waits_without n (own_of szx t).queue ∙ (ap (without (Some n)) h
-      ∙ sym (append-nil (without (Some n) (waiting_in szx t))))
+      waits_without n (own_of sizes t).queue ∙ (ap (without (Some n)) h
+      ∙ sym (append-nil (without (Some n) (waiting_in sizes t))))
   told (Feeds now from bytes w up settled event sent token was ∷ t) rows law =
       let c : Call = Feeds now from bytes w up settled event sent token was in
       let below = under t c law in
-      let m : ℕ = max (own_of szx t).clock now in
-      let e : Effect = happened (at now (own_of szx t)) m event in
-      let g = goes_fed server szx word t now from bytes w up settled event sent token was
-      (known server szx word t rows.1 below) law in
-      let q = closed_queued m (own_of szx t).queue e token (closing m e token) (λ op h. (g.asks op h).0)
-      (happened_queued (at now (own_of szx t)) m event) in
+      let m : ℕ = max (own_of sizes t).clock now in
+      let e : Effect = happened (at now (own_of sizes t)) m event in
+      let g = goes_fed server sizes word t now from bytes w up settled event sent token was
+      (known server sizes word t rows.1 below) law in
+      let q = closed_queued m (own_of sizes t).queue e token (closing m e token) (λ op h. (g.asks op h).0)
+      (happened_queued (at now (own_of sizes t)) m event) in
       let h = told t rows.1 below in
-      turned_waits t c (known server szx word (c ∷ t) rows law) (close m e token) refl refl refl (own_of szx t).queue q
-      ∙ (ap (without (over_in (own_of szx t) c)) h
-      ∙ sym (append-nil (without (over_in (own_of szx t) c) (waiting_in szx t))))
+      turned_waits t c (known server sizes word (c ∷ t) rows law) (close m e token) refl refl refl
+      (own_of sizes t).queue q
+      ∙ (ap (without (over_in (own_of sizes t) c)) h
+      ∙ sym (append-nil (without (over_in (own_of sizes t) c) (waiting_in sizes t))))
   told (Ticks now w low turn sent token was did ∷ t) rows law =
       let c : Call = Ticks now w low turn sent token was did in
       let below = under t c law in
-      let m : ℕ = max (own_of szx t).clock now in
-      let s : Own = at now (own_of szx t) in
+      let m : ℕ = max (own_of sizes t).clock now in
+      let s : Own = at now (own_of sizes t) in
       let e : Effect = passes s m turn in
-      let old = known server szx word t rows.1 below in
-      let g = goes_ticked server szx word t now turn old in
+      let old = known server sizes word t rows.1 below in
+      let g = goes_ticked server sizes word t now turn old in
       let z = passes_starts s m turn old.waits in
       let q = closed_queued m z.waiting e token (closing m e token) (λ op h. (g.asks op h).0) z.queued in
       let h = told t rows.1 below in
-      let so : waits z.waiting ≡ cond (starts (own_of szx t) c) (drop 1 (waiting_in szx t)) (waiting_in szx t)
-      = z.is ∙ (ap (λ o. cond (is_turn o) (drop 1 (waits (own_of szx t).queue)) (waits (own_of szx t).queue))
-      (sym (asked_is e e.deed token)) ∙ ap (λ ws. cond (starts (own_of szx t) c) (drop 1 ws) ws) h)
+      let so : waits z.waiting ≡ cond (starts (own_of sizes t) c) (drop 1 (waiting_in sizes t)) (waiting_in sizes t)
+      = z.is ∙ (ap (λ o. cond (is_turn o) (drop 1 (waits (own_of sizes t).queue)) (waits (own_of sizes t).queue))
+      (sym (asked_is e e.deed token)) ∙ ap (λ ws. cond (starts (own_of sizes t) c) (drop 1 ws) ws) h)
       in
-      turned_waits t c (known server szx word (c ∷ t) rows law) (close m e token) refl refl refl z.waiting q
-      ∙ (ap (without (over_in (own_of szx t) c)) so
-      ∙ sym (append-nil (without (over_in (own_of szx t) c)
-      (cond (starts (own_of szx t) c) (drop 1 (waiting_in szx t)) (waiting_in szx t)))))
+      turned_waits t c (known server sizes word (c ∷ t) rows law) (close m e token) refl refl refl z.waiting q
+      ∙ (ap (without (over_in (own_of sizes t) c)) so
+      ∙ sym (append-nil (without (over_in (own_of sizes t) c)
+      (cond (starts (own_of sizes t) c) (drop 1 (waiting_in sizes t)) (waiting_in sizes t)))))
 
-  counted : (t : List Call) → ClientRows szx t → Laws t → (own_of szx t).taken ≡ numbers_in t
+  counted : (t : List Call) → ClientRows sizes t → Laws t → (own_of sizes t).taken ≡ numbers_in t
   counted [] rows law = refl
   counted (Calls now r (Ok n) ∷ t) rows law = let h = counted t rows.1 law in omega (arith, h)
   counted (Calls now r (Err why) ∷ t) rows law = let h = counted t rows.1 law in omega (arith, h)
@@ -261,62 +265,66 @@ module _ (server : Endpoint) (szx word : ℕ) where
   counted (Asked answer ∷ t) rows law = let h = counted t rows.1 law in omega (arith, h)
   counted (Feeds now from bytes w up settled event sent token was ∷ t) rows law =
       let below = under t (Feeds now from bytes w up settled event sent token was) law in
-      let a = (fed server szx word t now from bytes w up settled event sent token was
-      (known server szx word t rows.1 below) law).taken_is in
+      let a = (fed server sizes word t now from bytes w up settled event sent token was
+      (known server sizes word t rows.1 below) law).taken_is in
       let h = counted t rows.1 below in
       omega (arith, a, h)
   counted (Ticks now w low turn sent token was did ∷ t) rows law =
       let below = under t (Ticks now w low turn sent token was did) law in
-      let a = (ticked server szx word t now w low turn sent token was did
-      (known server szx word t rows.1 below) law).taken_is in
+      let a = (ticked server sizes word t now w low turn sent token was did
+      (known server sizes word t rows.1 below) law).taken_is in
       let h = counted t rows.1 below in
       omega (arith, a, h)
 
-  module _ (t : List Call) (rows : ClientRows szx t) (law : Laws t) where
+  module _ (t : List Call) (rows : ClientRows sizes t) (law : Laws t) where
     abbrev own : Own
-    own = own_of szx t
+    own = own_of sizes t
 
-    full_is : is_full own ≡ nat_le max_waiting (length (waiting_in szx t))
+    full_is : is_full own ≡ nat_le max_waiting (length (waiting_in sizes t))
     full_is = ap (nat_le max_waiting) (sym (waits_length own.observations own.queue
-        (known server szx word t rows law).waits) ∙ ap length (told t rows law))
+        (known server sizes word t rows law).waits) ∙ ap length (told t rows law))
 
     next_by : (n : ℕ) → own.taken ≡ n → cond (own.taken == max_numbers) (Err CallsSpent) (Ok own.taken)
         ≡ cond (n == max_numbers) (Err CallsSpent) (Ok n)
     next_by n is = ap (λ i. cond (i == max_numbers) (Err CallsSpent) (Ok i)) is
 
-    pub call_is : (r : Request) → call_answer own r ≡ taking_of szx t r
+    pub call_is : (r : Request) → call_answer own r ≡ taking_of sizes t r
     call_is r =
-        ap (λ b. cond b (Err QueueFull) (cond (nat_lt max_body (length r.body)) (Err BodyTooLarge)
+        ap (λ b. cond b (Err QueueFull) (cond (nat_lt own.sizes.limit (length r.body)) (Err BodyTooLarge)
         (cond (are_long (block_option_number r.method) (options_of r)) (Err BadPath)
         (cond (own.taken == max_numbers) (Err CallsSpent) (Ok own.taken))))) full_is
-        ∙ ap (λ z. cond (nat_le max_waiting (length (waiting_in szx t))) (Err QueueFull)
-        (cond (nat_lt max_body (length r.body)) (Err BodyTooLarge)
+        ∙ (ap (λ z. cond (nat_le max_waiting (length (waiting_in sizes t))) (Err QueueFull)
+        (cond (nat_lt own.sizes.limit (length r.body)) (Err BodyTooLarge)
         (cond (are_long (block_option_number r.method) (options_of r)) (Err BadPath) z)))
         (next_by (numbers_in t) (counted t rows law))
+        ∙ ap (λ (z : Sizes). cond (nat_le max_waiting (length (waiting_in sizes t))) (Err QueueFull)
+        (cond (nat_lt z.limit (length r.body)) (Err BodyTooLarge)
+        (cond (are_long (block_option_number r.method) (options_of r)) (Err BadPath) (next_number sizes t))))
+        (size_is sizes t))
 
-    pub observation_is : (path : List (List ℕ)) → observe_answer own path ≡ observing_of szx t path
+    pub observation_is : (path : List (List ℕ)) → observe_answer own path ≡ observing_of sizes t path
     observation_is path =
         ap (λ b. cond b (Err QueueFull) (cond (are_long block2 (path_options path)) (Err BadPath)
         (cond (nat_le max_observations (observed own)) (Err WatchesFull)
         (cond (own.taken == max_numbers) (Err CallsSpent) (Ok own.taken))))) full_is
-        ∙ ap (λ z. cond (nat_le max_waiting (length (waiting_in szx t))) (Err QueueFull)
+        ∙ ap (λ z. cond (nat_le max_waiting (length (waiting_in sizes t))) (Err QueueFull)
         (cond (are_long block2 (path_options path)) (Err BadPath)
         (cond (nat_le max_observations (observed own)) (Err WatchesFull) z)))
         (next_by (numbers_in t) (counted t rows law))
 
-    pub cancel_is : (number : ℕ) → cancel_answer own number ≡ cancelling_of szx t number
+    pub cancel_is : (number : ℕ) → cancel_answer own number ≡ cancelling_of sizes t number
     cancel_is number = ap (λ b. cond (not (is_live number own) || is_cancelled number own) (Some cancel.Unknown)
         (cond b (Some cancel.QueueFull) None)) full_is
 
-  starts_first : (t : List Call) (c : Call) → ClientLaw server szx word (c ∷ t) → starts (own_of szx t) c ≡ true
-      → StartsFirst szx t c
+  starts_first : (t : List Call) (c : Call) → ClientLaw server sizes word (c ∷ t) → starts (own_of sizes t) c ≡ true
+      → StartsFirst sizes t c
   starts_first t (Ticks now w low turn sent token was did) law h =
       let c : Call = Ticks now w low turn sent token was did in
       let below = under t c law.exchanges.rows in
-      let m : ℕ = max (own_of szx t).clock now in
-      let s : Own = at now (own_of szx t) in
+      let m : ℕ = max (own_of sizes t).clock now in
+      let s : Own = at now (own_of sizes t) in
       let e : Effect = passes s m turn in
-      let z = passes_starts s m turn (known server szx word t law.rows.1 below).waits in
+      let z = passes_starts s m turn (known server sizes word t law.rows.1 below).waits in
       let f = z.first (ap is_turn (sym (asked_is e e.deed token)) ∙ h) in
       record {
         operation = f.0;
@@ -335,22 +343,22 @@ module _ (server : Endpoint) (szx word : ℕ) where
   starts_first t (NextReport did) law h = absurd (cc h)
   starts_first t (Asked did) law h = absurd (cc h)
 
-  takes_here : (t : List Call) (c : Call) → ClientLaw server szx word (c ∷ t) → TakesRight szx t c
+  takes_here : (t : List Call) (c : Call) → ClientLaw server sizes word (c ∷ t) → TakesRight sizes t c
   takes_here t c law =
       let below = under t c law.exchanges.rows in
       record {
         calls = λ now r answer is. (let row : answer
-            ≡ call_answer (own_of szx t) r = subst (IsRight (own_of szx t)) is law.rows.0 in row
+            ≡ call_answer (own_of sizes t) r = subst (IsRight (own_of sizes t)) is law.rows.0 in row
             ∙ call_is t law.rows.1 below r);
         observes = λ now path answer is. (let row : answer
-            ≡ observe_answer (own_of szx t) path = subst (IsRight (own_of szx t)) is law.rows.0 in row
+            ≡ observe_answer (own_of sizes t) path = subst (IsRight (own_of sizes t)) is law.rows.0 in row
             ∙ observation_is t law.rows.1 below path);
         cancels = λ now number answer is. (let row : answer
-            ≡ cancel_answer (own_of szx t) number = subst (IsRight (own_of szx t)) is law.rows.0 in row
+            ≡ cancel_answer (own_of sizes t) number = subst (IsRight (own_of sizes t)) is law.rows.0 in row
             ∙ cancel_is t law.rows.1 below number);
         in_order = starts_first t c law;
       }
 
-  pub all_taken : (t : List Call) → ClientLaw server szx word t → AllTaken szx t
+  pub all_taken : (t : List Call) → ClientLaw server sizes word t → AllTaken sizes t
   all_taken [] law = tt
-  all_taken (c ∷ t) law = (takes_here t c law, all_taken t (client_back server szx word (c ∷ []) t law))
+  all_taken (c ∷ t) law = (takes_here t c law, all_taken t (client_back server sizes word (c ∷ []) t law))

@@ -3,6 +3,7 @@ use Rattle.std.proofs.Common.{◌≡◌, ◌≤◌, inl, inr, ℕ, max, true, co
 use Rattle.std.proofs.Common.{ap, sym, subst, ◌∙◌, arith}
 use Rattle.std.specs.Prelude.{◌==◌}
 use Rattle.coap_types.specs.declared.endpoint.Endpoint.{Endpoint}
+use Rattle.coap_block.specs.Sizes.{Sizes}
 use Rattle.coap_block.specs.declared.fetch_verdict.Verdict.TheVariants as verdict
 use Rattle.coap_block.specs.FetchStep as F
 use Rattle.coap_exchange.specs.declared.asker.Event.TheVariants as event_of
@@ -44,33 +45,33 @@ record There (os : List Observation) (k : ℕ) (rest : Option Notified) : Type 0
   number : it.number ≡ k
   rest_is : it.rest ≡ rest
 
-module _ (szx : ℕ) where
-  there_now : (t : List Call) (c : Call) (n : Newly) → notifies (own_of szx t) c ≡ Some n
-      → There (own_of szx (c ∷ t)).observations n.number (first_rest (own_of szx t).szx n.message)
+module _ (sizes : Sizes) where
+  there_now : (t : List Call) (c : Call) (n : Newly) → notifies (own_of sizes t) c ≡ Some n
+      → There (own_of sizes (c ∷ t)).observations n.number (first_rest (own_of sizes t).sizes n.message)
   there_now t (Feeds now from bytes w up settled (Some (event_of.Answer m)) sent token was) n is =
-      let s : Own = at now (own_of szx t) in
-      let z : ℕ = max (own_of szx t).clock now in
-      let r = registers_as (own_of szx t).running z m n is in
+      let s : Own = at now (own_of sizes t) in
+      let z : ℕ = max (own_of sizes t).clock now in
+      let r = registers_as (own_of sizes t).running z m n is in
       let c : Call = Feeds now from bytes w up settled (Some (event_of.Answer m)) sent token was in
-      let new : Observation = begun r.number r.path s.szx z m in
-      let left : (own_of szx (c ∷ t)).observations ≡ s.observations ++ new ∷ [] =
+      let new : Observation = begun r.number r.path s.sizes z m in
+      let left : (own_of sizes (c ∷ t)).observations ≡ s.observations ++ new ∷ [] =
       ap (λ (x : Effect). (closed z x x.deed token).own.observations)
       (registered_effect s z m r.number r.path r.runs r.note) in
       record {
         it = new;
         there = subst (In new) (sym left) (in_last s.observations new);
         number = ap (λ (x : Newly). x.number) (sym r.is);
-        rest_is = ap (λ (x : Newly). first_rest s.szx x.message) (sym r.is);
+        rest_is = ap (λ (x : Newly). first_rest s.sizes x.message) (sym r.is);
       }
   there_now t (Feeds now from bytes w up settled (Some (event_of.Notice m)) sent token was) n is =
-      let s : Own = at now (own_of szx t) in
-      let z : ℕ = max (own_of szx t).clock now in
+      let s : Own = at now (own_of sizes t) in
+      let z : ℕ = max (own_of sizes t).clock now in
       let r = renews_as (observation_with m.token s.observations) z m n is in
       let o : Observation = r.observation in
       let c : Call = Feeds now from bytes w up settled (Some (event_of.Notice m)) sent token was in
       let f : Observation → Observation = λ p. cond (p.number == o.number)
-      (record p { watch = arrived p.watch (sequence_in m) z true; rest = first_rest s.szx m }) p in
-      let left : (own_of szx (c ∷ t)).observations ≡ map f s.observations =
+      (record p { watch = arrived p.watch (sequence_in m) z true; rest = first_rest s.sizes m }) p in
+      let left : (own_of sizes (c ∷ t)).observations ≡ map f s.observations =
       ap (λ (x : Effect). (closed z x x.deed token).own.observations)
       (renewed_effect s z m o r.found r.note r.newer) in
       record {
@@ -78,12 +79,12 @@ module _ (szx : ℕ) where
         there = subst (In (f o)) (sym left)
             (in_mapped f s.observations o (in_found m.token s.observations o r.found));
         number = number_if (o.number == o.number) o
-            (record o { watch = arrived o.watch (sequence_in m) z true; rest = first_rest s.szx m }) refl
+            (record o { watch = arrived o.watch (sequence_in m) z true; rest = first_rest s.sizes m }) refl
             ∙ ap (λ (x : Newly). x.number) (sym r.is);
         rest_is = ap (λ b. (cond b (record o {
           watch = arrived o.watch (sequence_in m) z true;
-          rest = first_rest s.szx m;
-        }) o).rest) (number_self o.number) ∙ ap (λ (x : Newly). first_rest s.szx x.message) (sym r.is);
+          rest = first_rest s.sizes m;
+        }) o).rest) (number_self o.number) ∙ ap (λ (x : Newly). first_rest s.sizes x.message) (sym r.is);
       }
   there_now t (Feeds now from bytes w up settled (Some event_of.Reset) sent token was) n is = absurd (cc is)
   there_now t (Feeds now from bytes w up settled (Some event_of.Timeout) sent token was) n is = absurd (cc is)
@@ -98,28 +99,29 @@ module _ (szx : ℕ) where
   there_now t (NextReport answer) n is = absurd (cc is)
   there_now t (Asked answer) n is = absurd (cc is)
 
-  wants_here : (server : Endpoint) (word : ℕ) (t : List Call) (c : Call) → ClientLaw server szx word (c ∷ t)
-      → (n : Newly) (num size : ℕ) → notifies (own_of szx t) c ≡ Some n
-      → part (F.start szx 0) n.message ≡ verdict.Ask num size → Wants szx n num size t c
+  wants_here : (server : Endpoint) (word : ℕ) (t : List Call) (c : Call) → ClientLaw server sizes word (c ∷ t)
+      → (n : Newly) (num size : ℕ) → notifies (own_of sizes t) c ≡ Some n
+      → part (F.start sizes 0) n.message ≡ verdict.Ask num size → Wants sizes n num size t c
   wants_here server word t c law n num size is asks =
       let m = n.message in
-      let os : List Observation = (own_of szx (c ∷ t)).observations in
+      let os : List Observation = (own_of sizes (c ∷ t)).observations in
       let h = there_now t c n is in
       let k : ℕ = (h.it).number in
-      let places = most server szx word (c ∷ t) law k in
+      let places = most server sizes word (c ∷ t) law k in
       let one : in_observations k os ≤ 1 = omega (arith, places) in
       let q : Notified = record {
         sequence = sequence_in m;
-        fetch = F.after (F.start szx 0) (tag_in m) m.payload (verdict.Ask num size);
+        fetch = F.after (F.start sizes 0) (tag_in m) m.payload (verdict.Ask num size);
       } in
-      let first : first_rest (own_of szx t).szx m ≡ Some q =
-      ap (λ i. first_rest i m) (size_is szx t) ∙ ap (rest_left (sequence_in m) (F.start szx 0) m) asks in
+      let first : first_rest (own_of sizes t).sizes m ≡ Some q =
+      ap (λ i. first_rest i m) (size_is sizes t) ∙ ap (rest_left (sequence_in m) (F.start sizes 0) m) asks in
       let found : rest_of k os ≡ Some q =
       ap (λ o. elim o [ None ↦ None | Some x ↦ x.rest ]) (of_number os h.it h.there one) ∙ (h.rest_is ∙ first) in
       let here : rest_of n.number os ≡ Some q = subst (λ i. rest_of i os ≡ Some q) h.number found in
       record { wanted = (q, here); asks = ap (λ o. elim o [ None ↦ None | Some x ↦ x.fetch.asked ]) here }
 
-pub all_want : (server : Endpoint) (szx word : ℕ) (t : List Call) → ClientLaw server szx word t → AllWant szx t
-all_want server szx word [] law = tt
-all_want server szx word (c ∷ t) law =
-    (wants_here szx server word t c law, all_want server szx word t (client_back server szx word (c ∷ []) t law))
+pub all_want : (server : Endpoint) (sizes : Sizes) (word : ℕ) (t : List Call) → ClientLaw server sizes word t
+    → AllWant sizes t
+all_want server sizes word [] law = tt
+all_want server sizes word (c ∷ t) law =
+    (wants_here sizes server word t c law, all_want server sizes word t (client_back server sizes word (c ∷ []) t law))

@@ -10,6 +10,7 @@ use Rattle.coap_types.specs.declared.option_number.TheConstants.{BLOCK1 as block
 use Rattle.coap_types.specs.declared.request.Method.{Method}
 use Rattle.coap_types.specs.declared.request.Method.TheVariants.{Get, Post, Put, Delete}
 use Rattle.coap_codec.specs.Message.{Message}
+use Rattle.coap_block.specs.Sizes.{Sizes}
 use Rattle.coap_block.specs.declared.fetch_step.FetchRefusal.{FetchRefusal}
 use Rattle.coap_block.specs.declared.fetch_step.FetchRefusal.TheVariants as refusal
 use Rattle.coap_block.specs.declared.fetch_verdict.Verdict.{Verdict}
@@ -106,24 +107,24 @@ failed_code false n code h = (refl, cc h)
 
 -- which success counts, of what is carried
 
-single_code : (szx : ℕ) (method : Method) (body : List ℕ) (code : ℕ) → CarriesBody szx method body Single
+single_code : (sizes : Sizes) (method : Method) (body : List ℕ) (code : ℕ) → CarriesBody sizes method body Single
     → is_success method code ≡ (code == deleted)
-single_code szx Get body code h = refl
-single_code szx Post body code h = absurd h
-single_code szx Put body code h = absurd h
-single_code szx Delete body code h = refl
+single_code sizes Get body code h = refl
+single_code sizes Post body code h = absurd h
+single_code sizes Put body code h = absurd h
+single_code sizes Delete body code h = refl
 
-upload_code : (szx : ℕ) (method : Method) (body : List ℕ) (u : UploadState) (code : ℕ)
-    → CarriesBody szx method body (Uploads u) → is_success method code ≡ ((code == created) || (code == changed))
-upload_code szx Get body u code h = absurd h
-upload_code szx Post body u code h = refl
-upload_code szx Put body u code h = refl
-upload_code szx Delete body u code h = absurd h
+upload_code : (sizes : Sizes) (method : Method) (body : List ℕ) (u : UploadState) (code : ℕ)
+    → CarriesBody sizes method body (Uploads u) → is_success method code ≡ ((code == created) || (code == changed))
+upload_code sizes Get body u code h = absurd h
+upload_code sizes Post body u code h = refl
+upload_code sizes Put body u code h = refl
+upload_code sizes Delete body u code h = absurd h
 
-module _ (szx k : ℕ) (r : Request) (body : List ℕ) (m : Message) where
+module _ (sizes : Sizes) (k : ℕ) (r : Request) (body : List ℕ) (m : Message) where
   -- the answer to a block
 
-  module _ (u : UploadState) (carries : CarriesBody szx r.method body (Uploads u)) where
+  module _ (u : UploadState) (carries : CarriesBody sizes r.method body (Uploads u)) where
     abbrev awaited : Bool
     awaited = (m.code == continue) && is_longer u
 
@@ -168,7 +169,7 @@ module _ (szx k : ℕ) (r : Request) (body : List ℕ) (m : Message) where
         let t = tested final (Done code) refl h in
         let d = done_code (is_success r.method m.code) m.code code t.is in
         let so : ((m.code == created) || (m.code == changed))
-        ≡ true = sym (upload_code szx r.method body u m.code carries) ∙ d.0 in
+        ≡ true = sym (upload_code sizes r.method body u m.code carries) ∙ d.0 in
         elim (either (m.code == created) (m.code == changed) so) [
           | inl a ↦ let same = same_number m.code created a in ((last_of created refl same t.not_early, inl same), d.1)
           | inr b ↦ let same = same_number m.code changed b in ((last_of changed refl same t.not_early, inr same), d.1)
@@ -184,7 +185,7 @@ module _ (szx k : ℕ) (r : Request) (body : List ℕ) (m : Message) where
             ∙ not_early in grind (arith, nat_tests, z)
         by false e =
             let n = neither (m.code == created) (m.code == changed)
-            (sym (upload_code szx r.method body u m.code carries) ∙ none) in (
+            (sym (upload_code sizes r.method body u m.code carries) ∙ none) in (
               differ m.code created n.0,
               differ m.code changed n.1,
               λ long same.
@@ -238,21 +239,21 @@ module _ (szx k : ℕ) (r : Request) (body : List ℕ) (m : Message) where
         by false true h = no_code (calls.Ends true (Valid (tag_in m))) final (Done code) refl refl h
         by false false h = let z = ap next_report h in cc z
 
-  pub done_of : (tr : Transfer) → CarriesBody szx r.method body tr → (final : Bool) (code : ℕ)
+  pub done_of : (tr : Transfer) → CarriesBody sizes r.method body tr → (final : Bool) (code : ℕ)
       → answer r tr m ≡ calls.Ends final (Done code) → Succeeds (Calling k r tr) m.code × (m.code ≡ code)
   done_of (Fetches f) carries final code h = absurd (got_done f final code h)
   done_of (Uploads u) carries final code h = upload_done u carries final code h
   done_of Single carries final code h =
       let d = done_code (is_success r.method m.code) m.code code (ap next_report h) in
-      (same_number m.code deleted (sym (single_code szx r.method body m.code carries) ∙ d.0), d.1)
+      (same_number m.code deleted (sym (single_code sizes r.method body m.code carries) ∙ d.0), d.1)
 
-  pub failed_of : (tr : Transfer) → CarriesBody szx r.method body tr → (final : Bool) (code : ℕ)
+  pub failed_of : (tr : Transfer) → CarriesBody sizes r.method body tr → (final : Bool) (code : ℕ)
       → answer r tr m ≡ calls.Ends final (Failed code) → Fails (Calling k r tr) m.code × (m.code ≡ code)
   failed_of (Fetches f) carries final code h = got_failed f final code h
   failed_of (Uploads u) carries final code h = upload_failed u carries final code h
   failed_of Single carries final code h =
       let d = failed_code (is_success r.method m.code) m.code code (ap next_report h) in
-      (differ m.code deleted (sym (single_code szx r.method body m.code carries) ∙ d.0), d.1)
+      (differ m.code deleted (sym (single_code sizes r.method body m.code carries) ∙ d.0), d.1)
 
   -- .. and each such answer is reported so
 
@@ -262,7 +263,7 @@ module _ (szx k : ℕ) (r : Request) (body : List ℕ) (m : Message) where
   ends_failed : (method : Method) → is_success method m.code ≡ false → done method m.code ≡ Failed m.code
   ends_failed method h = ap (λ b. cond b (Done m.code) (Failed m.code)) h
 
-  module _ (u : UploadState) (carries : CarriesBody szx r.method body (Uploads u)) where
+  module _ (u : UploadState) (carries : CarriesBody sizes r.method body (Uploads u)) where
     sent_by : (report : Report) → awaited u carries ≡ false → early u carries ≡ false → done r.method m.code ≡ report
         → calls.sent r.method u m ≡ calls.Ends true report
     sent_by report a e is = ap (λ b. by_tests u carries b (early u carries)) a
@@ -274,7 +275,7 @@ module _ (szx k : ℕ) (r : Request) (body : List ℕ) (m : Message) where
     success_is code same other so last =
         sent_by (Done m.code) (ap (λ n. (n == continue) && is_longer u) same ∙ ap (λ b. b && is_longer u) other)
         (ap (λ b. b && calls.is_below_errors m.code) last)
-        (ends_done r.method (upload_code szx r.method body u m.code carries
+        (ends_done r.method (upload_code sizes r.method body u m.code carries
         ∙ (ap (λ n. (n == created) || (n == changed)) same ∙ so)))
 
     each_upload_done : Succeeds (Calling k r (Uploads u)) m.code
@@ -298,10 +299,10 @@ module _ (szx k : ℕ) (r : Request) (body : List ℕ) (m : Message) where
     each_upload_failed true more h =
         sent_by (Failed m.code) (ap (λ b. b && is_longer u) (below m.code h))
         (ap (λ b. b && calls.is_below_errors m.code) more ∙ no_below m.code h)
-        (ends_failed r.method (upload_code szx r.method body u m.code carries ∙ no_success m.code h))
+        (ends_failed r.method (upload_code sizes r.method body u m.code carries ∙ no_success m.code h))
     each_upload_failed false more h =
         sent_by (Failed m.code) (by (is_longer u) refl) (ap (λ b. b && calls.is_below_errors m.code) more)
-        (ends_failed r.method (upload_code szx r.method body u m.code carries
+        (ends_failed r.method (upload_code sizes r.method body u m.code carries
         ∙ (ap (λ b. b || (m.code == changed)) (apart m.code created h.0) ∙ apart m.code changed h.1)))
       where
         false_right : (a : Bool) → (a && false) ≡ false
@@ -312,14 +313,14 @@ module _ (szx k : ℕ) (r : Request) (body : List ℕ) (m : Message) where
         by false e = false_right (m.code == continue)
         by true e = ap (λ a. a && true) (apart m.code continue (h.2 e))
 
-  pub each_done_of : (tr : Transfer) → CarriesBody szx r.method body tr → Succeeds (Calling k r tr) m.code
+  pub each_done_of : (tr : Transfer) → CarriesBody sizes r.method body tr → Succeeds (Calling k r tr) m.code
       → answer r tr m ≡ calls.Ends true (Done m.code)
   each_done_of (Fetches f) carries h = absurd h
   each_done_of (Uploads u) carries h = each_upload_done u carries h
   each_done_of Single carries h = ap (calls.Ends true)
-      (ends_done r.method (single_code szx r.method body m.code carries ∙ equal m.code deleted h))
+      (ends_done r.method (single_code sizes r.method body m.code carries ∙ equal m.code deleted h))
 
-  pub each_failed_of : (tr : Transfer) → CarriesBody szx r.method body tr → Fails (Calling k r tr) m.code
+  pub each_failed_of : (tr : Transfer) → CarriesBody sizes r.method body tr → Fails (Calling k r tr) m.code
       → answer r tr m ≡ calls.Ends true (Failed m.code)
   each_failed_of (Fetches f) carries h =
       ap (λ b. cond b (calls.fetched f m (part f m))
@@ -333,4 +334,4 @@ module _ (szx k : ℕ) (r : Request) (body : List ℕ) (m : Message) where
       by true e = ap has_tags (h.1 (same_number m.code valid e))
   each_failed_of (Uploads u) carries h = each_upload_failed u carries (more_follows u) refl h
   each_failed_of Single carries h = ap (calls.Ends true)
-      (ends_failed r.method (single_code szx r.method body m.code carries ∙ apart m.code deleted h))
+      (ends_failed r.method (single_code sizes r.method body m.code carries ∙ apart m.code deleted h))

@@ -2,6 +2,7 @@
 use Rattle.std.proofs.Common.{◌≡◌, ◌⊎◌, inl, inr, ℕ, max, Bool, true, false, Option, Some, None, List, refl}
 use Rattle.std.proofs.Common.{ap, sym, subst, ◌∙◌}
 use Rattle.coap_codec.specs.Message.{Message}
+use Rattle.coap_block.specs.Sizes.{Sizes}
 use Rattle.coap_block.specs.declared.fetch_verdict.Verdict.{Verdict}
 use Rattle.coap_block.specs.declared.fetch_verdict.Verdict.TheVariants as verdict
 use Rattle.coap_block.specs.FetchStep.{FetchState}
@@ -101,7 +102,7 @@ move_gives s now told (mv.is_done k r tr final rep a hears_it runs ends_so) =
       },
     )
 move_gives s now told (mv.registers k path a hears_it runs note) =
-    inl (value_none k _ (F.start s.szx 0) a (part (F.start s.szx 0) a))
+    inl (value_none k _ (F.start s.sizes 0) a (part (F.start s.sizes 0) a))
 move_gives s now told (mv.refuses k path a hears_it runs note) = inl refl
 move_gives s now told (mv.fetches_on k n a num size hears_it runs rest code asks) = inl refl
 move_gives s now told (mv.fetched k n a hears_it runs rest code done) = inl refl
@@ -112,26 +113,26 @@ move_gives s now told (mv.is_dropped a hears_it runs) = inl refl
 move_gives s now told (mv.fails e un) = inl (failed_none (λ t. true) (lapse e) s s.running (lapse_none e))
 move_gives s now told (mv.is_ended o a notes found note) = inl refl
 move_gives s now told (mv.renews o a notes found note newer) =
-    inl (value_none o.number _ (F.start s.szx 0) a (part (F.start s.szx 0) a))
+    inl (value_none o.number _ (F.start s.sizes 0) a (part (F.start s.sizes 0) a))
 move_gives s now told (mv.passes_by o a notes found note newer) = inl refl
 
-module _ (szx : ℕ) where
-  given_from : (t : List Call) (c : Call) → Turned szx t c → (k : ℕ) (report : Report) → is_of_answer report ≡ true
-      → reports (own_of szx t) c ≡ of k report → GivesReport (own_of szx t) (hears c) k report
+module _ (sizes : Sizes) where
+  given_from : (t : List Call) (c : Call) → Turned sizes t c → (k : ℕ) (report : Report) → is_of_answer report ≡ true
+      → reports (own_of sizes t) c ≡ of k report → GivesReport (own_of sizes t) (hears c) k report
   given_from t c z k report is_it made = by z.closes
-      (move_gives (at z.now (own_of szx t)) (max (own_of szx t).clock z.now) z.told z.move)
+      (move_gives (at z.now (own_of sizes t)) (max (own_of sizes t).clock z.now) z.told z.move)
     where
       e : Effect
-      e = left_by (at z.now (own_of szx t)) (max (own_of szx t).clock z.now) z.told z.move
+      e = left_by (at z.now (own_of sizes t)) (max (own_of sizes t).clock z.now) z.told z.move
 
-      shows : (o : Option Reported) → reports (own_of szx t) c ≡ o → answer_reported o ≡ false → ⊥
+      shows : (o : Option Reported) → reports (own_of sizes t) c ≡ o → answer_reported o ≡ false → ⊥
       shows o is none = let a : answer_reported (of k report) ≡ false = ap answer_reported (sym made ∙ is)
           ∙ none in cc (a, is_it)
 
-      by : Closing (max (own_of szx t).clock z.now) e z.token
+      by : Closing (max (own_of sizes t).clock z.now) e z.token
           → (answer_reported e.report ≡ false) ⊎ ((j : ℕ) × (rep : Report) × (e.report ≡ of j rep)
-          × GivesReport (at z.now (own_of szx t)) (heard_in z.told) j rep)
-          → GivesReport (own_of szx t) (hears c) k report
+          × GivesReport (at z.now (own_of sizes t)) (heard_in z.told) j rep)
+          → GivesReport (own_of sizes t) (hears c) k report
       by (goes_out op key asks given sends_it own_same report_same) m =
           absurd (shows None (z.reports_is ∙ report_same) refl)
       by (is_refused op why asks given none all) m =
@@ -145,7 +146,7 @@ module _ (szx : ℕ) where
           let n : m.0 ≡ k = ap (λ (x : Reported). x.number) record_same in
           let rep : m.1 ≡ report = ap (λ (x : Reported). x.report) record_same in
           let g0 = m.3 in
-          let g : GivesReport (own_of szx t) (hears c) m.0 m.1
+          let g : GivesReport (own_of sizes t) (hears c) m.0 m.1
           = record {
             request = g0.request;
             transfer = g0.transfer;
@@ -156,17 +157,17 @@ module _ (szx : ℕ) where
             ends_so = g0.ends_so;
           }
           in
-          subst (λ j. GivesReport (own_of szx t) (hears c) j report) n
-          (subst (GivesReport (own_of szx t) (hears c) m.0) rep g)
+          subst (λ j. GivesReport (own_of sizes t) (hears c) j report) n
+          (subst (GivesReport (own_of sizes t) (hears c) m.0) rep g)
 
   pub gives_of : (t : List Call) (c : Call) (k : ℕ) (report : Report) → is_of_answer report ≡ true
-      → reports (own_of szx t) c ≡ of k report → GivesReport (own_of szx t) (hears c) k report
+      → reports (own_of sizes t) c ≡ of k report → GivesReport (own_of sizes t) (hears c) k report
   gives_of t (Feeds now from bytes w up settled event sent token was) k report is_it made =
       given_from t (Feeds now from bytes w up settled event sent token was)
-      (fed_turned szx t now from bytes w up settled event sent token was) k report is_it made
+      (fed_turned sizes t now from bytes w up settled event sent token was) k report is_it made
   gives_of t (Ticks now w below turn sent token was answer) k report is_it made =
       given_from t (Ticks now w below turn sent token was answer)
-      (ticked_turned szx t now w below turn sent token was answer) k report is_it made
+      (ticked_turned sizes t now w below turn sent token was answer) k report is_it made
   gives_of t (Calls now r answer) k report is_it made = absurd (cc made)
   gives_of t (Observes now path answer) k report is_it made = absurd (cc made)
   gives_of t (Cancels now n answer) k report is_it made = absurd (cc made)

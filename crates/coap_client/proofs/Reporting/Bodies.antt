@@ -10,6 +10,7 @@ use Rattle.coap_types.specs.declared.option_number.TheConstants.{BLOCK1 as block
 use Rattle.coap_types.specs.declared.request.Method.{Method}
 use Rattle.coap_types.specs.declared.request.Method.TheVariants.{Get, Post, Put, Delete}
 use Rattle.coap_codec.specs.Message.{Message}
+use Rattle.coap_block.specs.Sizes.{Sizes}
 use Rattle.coap_block.specs.declared.fetch_step.FetchRefusal.{FetchRefusal}
 use Rattle.coap_block.specs.declared.fetch_step.FetchRefusal.TheVariants as refusal
 use Rattle.coap_block.specs.declared.fetch_verdict.Verdict.{Verdict}
@@ -61,7 +62,7 @@ use Rattle.coap_client.proofs.Sending.Tokens.{last_was_sent}
 none_asks : (f : FetchState) (tag : Option (List ℕ)) (len num size : ℕ)
     → F.verdict f None tag len ≡ verdict.Ask num size → ⊥
 none_asks f tag len num size h = by (Rattle.std.specs.Prelude.is_some f.asked)
-    (Rattle.std.specs.Prelude.nat_lt Rattle.coap_types.specs.Piece.max_body_len len) h
+    (Rattle.std.specs.Prelude.nat_lt f.limit len) h
   where
     by : (a b : Bool) → cond a (verdict.Refuse refusal.BadBlock) (cond b (verdict.Refuse refusal.TooLarge) verdict.Done)
         ≡ verdict.Ask num size → ⊥
@@ -105,7 +106,7 @@ none_before parts f len tag g h = by f.asked g.awaits h
   where
     by : (o : Option fetch.Asked) → Awaits o f.tag parts
         → cond (is_some o) (verdict.Refuse refusal.BadBlock)
-        (cond (Rattle.std.specs.Prelude.nat_lt Rattle.coap_types.specs.Piece.max_body_len len)
+        (cond (Rattle.std.specs.Prelude.nat_lt f.limit len)
         (verdict.Refuse refusal.TooLarge) verdict.Done) ≡ verdict.Done → parts ≡ []
     by None a h = a
     by (Some asked) a h = absurd (cc h)
@@ -138,8 +139,8 @@ alone_first k r f parts g none = by f.asked g.awaits
     by None a = number_self k
     by (Some asked) a = absurd (a.1 none)
 
-pub gathered_none : (size restarts : ℕ) → Gathered [] (F.start size restarts)
-gathered_none size restarts = record { bytes = refl; chained = tt; full = tt; awaits = refl }
+pub gathered_none : (sizes : Sizes) (restarts : ℕ) → Gathered [] (F.start sizes restarts)
+gathered_none sizes restarts = record { bytes = refl; chained = tt; full = tt; awaits = refl }
 
 -- what a GET goes on with
 
@@ -303,15 +304,15 @@ each_map P Q f (x ∷ xs) h = (f x h.0, each_map P Q f xs h.1)
 
 -- a GET that waits has taken nothing
 abbrev IsNew : Operation → Type 0
-IsNew (Calling k r (Fetches f)) = (size : ℕ) × (f ≡ F.start size 0)
+IsNew (Calling k r (Fetches f)) = (sizes : Sizes) × (f ≡ F.start sizes 0)
 IsNew op = Unit {0}
 
-new_call : (size k : ℕ) (r : Request) (method : Method)
-    → IsNew (Calling k (record r { body = [] }) (transfer_of size r method))
-new_call size k r Get = (size, refl)
-new_call size k r Post = tt
-new_call size k r Put = tt
-new_call size k r Delete = tt
+new_call : (sizes : Sizes) (k : ℕ) (r : Request) (method : Method)
+    → IsNew (Calling k (record r { body = [] }) (transfer_of sizes r method))
+new_call sizes k r Get = (sizes, refl)
+new_call sizes k r Post = tt
+new_call sizes k r Put = tt
+new_call sizes k r Delete = tt
 
 all_more : (P : Operation → Type 0) (ops : List Operation) (op : Operation) → AllOf P ops → P op
     → AllOf P (ops ++ op ∷ [])
@@ -326,28 +327,29 @@ waits_closed P now e token h (goes_out op key asks given sends_it own_same repor
 waits_closed P now e token h (is_refused op why asks given none all) =
     subst (λ (x : Effect). AllOf P x.own.queue) (sym all) ((failed_runs e.own has_sent NoIds (Some op)).waits P h)
 
-module _ (szx : ℕ) where
-  all_new : (t : List Call) → AllOf IsNew (own_of szx t).queue
+module _ (sizes : Sizes) where
+  all_new : (t : List Call) → AllOf IsNew (own_of sizes t).queue
   all_new [] = tt
-  all_new (Calls now r (Ok n) ∷ t) = all_more IsNew (own_of szx t).queue (calling (own_of szx t).szx n r) (all_new t)
-      (new_call (own_of szx t).szx n r r.method)
+  all_new (Calls now r (Ok n) ∷ t) = all_more IsNew (own_of sizes t).queue (calling (own_of sizes t).sizes n r)
+      (all_new t)
+      (new_call (own_of sizes t).sizes n r r.method)
   all_new (Calls now r (Err why) ∷ t) = all_new t
-  all_new (Observes now path (Ok n) ∷ t) = all_more IsNew (own_of szx t).queue (Registering n path) (all_new t) tt
+  all_new (Observes now path (Ok n) ∷ t) = all_more IsNew (own_of sizes t).queue (Registering n path) (all_new t) tt
   all_new (Observes now path (Err why) ∷ t) = all_new t
-  all_new (Cancels now k None ∷ t) = all_more IsNew (own_of szx t).queue (Cancelling k) (all_new t) tt
+  all_new (Cancels now k None ∷ t) = all_more IsNew (own_of sizes t).queue (Cancelling k) (all_new t) tt
   all_new (Cancels now k (Some why) ∷ t) = all_new t
-  all_new (Forgets k was true ∷ t) = all_uncancelled k IsNew (own_of szx t).queue (all_new t)
+  all_new (Forgets k was true ∷ t) = all_uncancelled k IsNew (own_of sizes t).queue (all_new t)
   all_new (Forgets k was false ∷ t) = all_new t
   all_new (NextOut answer ∷ t) = all_new t
   all_new (NextReport answer ∷ t) = all_new t
   all_new (Asked answer ∷ t) = all_new t
   all_new (Feeds now from bytes w up settled event sent token was ∷ t) =
-      let s : Own = own_of szx t in
+      let s : Own = own_of sizes t in
       let m : ℕ = max s.clock now in
       let e : Effect = happened (at now s) m event in
       waits_closed IsNew m e token ((happened_runs (at now s) m event).waits IsNew (all_new t)) (closing m e token)
   all_new (Ticks now w below turn sent token was answer ∷ t) =
-      let s : Own = own_of szx t in
+      let s : Own = own_of sizes t in
       let m : ℕ = max s.clock now in
       let e : Effect = passes (at now s) m turn in
       waits_closed IsNew m e token ((passes_runs (at now s) m turn).waits IsNew (all_new t)) (closing m e token)
@@ -356,7 +358,7 @@ module _ (szx : ℕ) where
   pub record Parts (t : List Call) (k : ℕ) (f : FetchState) : Type 0 where
     pub parts : List Part
     pub gathered : Gathered parts f
-    pub took : Each (λ p. TookPart szx k p t) parts
+    pub took : Each (λ p. TookPart sizes k p t) parts
 
   call_in : (op : Operation) (k : ℕ) → runs_call k (Some op) ≡ true → call_of op ≡ Some k
   call_in (Calling n r tr) k h = ap (λ z. Some z) (same_number n k h)
@@ -365,26 +367,26 @@ module _ (szx : ℕ) where
   call_in (Cancelling n) k h = absurd (cc h)
   call_in Dropped k h = absurd (cc h)
 
-  pub heard_for : (t : List Call) (c : Call) (m : Message) (k : ℕ) (r : Request) (tr : Transfer) → Answers szx t c m
-      → (own_of szx t).running ≡ Some (Calling k r tr) → hears c ≡ Some m → HeardFor szx k m t c
+  pub heard_for : (t : List Call) (c : Call) (m : Message) (k : ℕ) (r : Request) (tr : Transfer) → Answers sizes t c m
+      → (own_of sizes t).running ≡ Some (Calling k r tr) → hears c ≡ Some m → HeardFor sizes k m t c
   heard_for t c m k r tr a runs heard = record {
     heard = heard;
     sending = a.sending;
-    sent = last_was_sent szx t a.sending a.last;
+    sent = last_was_sent sizes t a.sending a.last;
     of_call = call_in a.sending.operation k (a.number k (ap (runs_call k) runs ∙ number_self k));
     token = a.token;
   }
 
   parts_here : (t : List Call) (c : Call) (k : ℕ) (r : Request) (f : FetchState)
-      → ((m : Message) → hears c ≡ Some m → Answers szx t c m) → Origin szx t c k r (Fetches f)
-      → ((q : Request) (g : FetchState) → (own_of szx t).running ≡ Some (Calling k q (Fetches g)) → Parts t k g)
+      → ((m : Message) → hears c ≡ Some m → Answers sizes t c m) → Origin sizes t c k r (Fetches f)
+      → ((q : Request) (g : FetchState) → (own_of sizes t).running ≡ Some (Calling k q (Fetches g)) → Parts t k g)
       → Parts (c ∷ t) k f
   parts_here t c k r f answers (kept runs none) ih =
       let p = ih r f runs in
       record {
         parts = p.parts;
         gathered = p.gathered;
-        took = each_map (λ q. TookPart szx k q t) (λ q. TookPart szx k q (c ∷ t))
+        took = each_map (λ q. TookPart sizes k q t) (λ q. TookPart sizes k q (c ∷ t))
             (λ q h. (ap (is_first k) none, inr h)) p.parts p.took;
       }
   parts_here t c k r f answers (begins queue is) ih =
@@ -398,22 +400,22 @@ module _ (szx : ℕ) where
         | inl again ↦ record {
           parts = [];
           gathered =
-              subst (Gathered []) (sym again) (gathered_none n.before.szx (n.before.restarts + 1));
+              subst (Gathered []) (sym again) (gathered_none (F.sizes_of n.before) (n.before.restarts + 1));
           took = tt;
         }
         | inr more ↦ (
             let p = ih r n.before (runs ∙ ap (λ z. Some (Calling k r z)) n.old_is) in
             let b = part_asks n.before m more.0 more.1 more.2 in
             let next : f ≡ F.after n.before (tag_in m) m.payload (verdict.Ask more.0 more.1) = more.3 in
-            let quiet_first : is_first k (sends (own_of szx t) c) ≡ false = ap (is_first k) sends_it
+            let quiet_first : is_first k (sends (own_of sizes t) c) ≡ false = ap (is_first k) sends_it
             ∙ (ap (is_first_of k) op_is ∙ ap (λ g. is_first_of k (Calling k r (Fetches g))) next) in
             let new : Part = part_of_block b.0 (tag_in m) m.payload in
             record {
               parts = p.parts ++ new ∷ [];
               gathered = subst (Gathered (p.parts ++ new ∷ [])) (sym next)
                   (gathered_by_part p.parts n.before b.0 (tag_in m) m.payload more.0 more.1 p.gathered b.2);
-              took = each_append (λ q. TookPart szx k q (c ∷ t)) p.parts new
-                  (each_map (λ q. TookPart szx k q t) (λ q. TookPart szx k q (c ∷ t))
+              took = each_append (λ q. TookPart sizes k q (c ∷ t)) p.parts new
+                  (each_map (λ q. TookPart sizes k q t) (λ q. TookPart sizes k q (c ∷ t))
                   (λ q h. (quiet_first, inr h)) p.parts p.took) (
                     quiet_first,
                     inl (record {
@@ -425,15 +427,15 @@ module _ (szx : ℕ) where
             })
       ]
 
-  pub parts_of : (t : List Call) → AnswersLast szx t → (k : ℕ) (r : Request) (f : FetchState)
-      → (own_of szx t).running ≡ Some (Calling k r (Fetches f)) → Parts t k f
+  pub parts_of : (t : List Call) → AnswersLast sizes t → (k : ℕ) (r : Request) (f : FetchState)
+      → (own_of sizes t).running ≡ Some (Calling k r (Fetches f)) → Parts t k f
   parts_of [] answers k r f is = absurd (cc is)
-  parts_of (c ∷ t) answers k r f is = parts_here t c k r f answers.0 (origin szx t c k r (Fetches f) is)
+  parts_of (c ∷ t) answers k r f is = parts_here t c k r f answers.0 (origin sizes t c k r (Fetches f) is)
       (λ q g runs. parts_of t answers.1 k q g runs)
 
   -- at a call
   gives_body : (t : List Call) (c : Call) (k : ℕ) (report : Report) → is_body report ≡ true
-      → GivesReport (own_of szx t) (hears c) k report → GivesBody (own_of szx t) (hears c) k report
+      → GivesReport (own_of sizes t) (hears c) k report → GivesBody (own_of sizes t) (hears c) k report
   gives_body t c k report body g =
       let d = done_as g.request g.transfer g.message g.final report g.ends_so body in
       record {
@@ -448,25 +450,25 @@ module _ (szx : ℕ) where
       }
 
   -- the request that runs was sent last, as it is
-  runs_as : (server : Endpoint) (word : ℕ) (t : List Call) → ClientLaw server szx word t
-      → (k : ℕ) (r : Request) (f : FetchState) (x : Sending) → (own_of szx t).running ≡ Some (Calling k r (Fetches f))
-      → last_sent szx t ≡ Some x
+  runs_as : (server : Endpoint) (word : ℕ) (t : List Call) → ClientLaw server sizes word t
+      → (k : ℕ) (r : Request) (f : FetchState) (x : Sending) → (own_of sizes t).running ≡ Some (Calling k r (Fetches f))
+      → last_sent sizes t ≡ Some x
       → x.operation ≡ Calling k r (Fetches f)
   runs_as server word t law k r f x runs last =
       elim h.same [ inl d ↦ absurd (cc d) | inr same ↦ ap (λ (y : Sending). y.operation) one ∙ same ]
     where
-      h : Tracked szx t (Calling k r (Fetches f)) (beneath server szx word t).running
-      h = subst (λ o. IfTracked szx t o (beneath server szx word t).running) runs
-          (all_sends szx server word t law.rows law.exchanges.rows).tracked
+      h : Tracked sizes t (Calling k r (Fetches f)) (beneath server sizes word t).running
+      h = subst (λ o. IfTracked sizes t o (beneath server sizes word t).running) runs
+          (all_sends sizes server word t law.rows law.exchanges.rows).tracked
 
       one : x ≡ h.sending
       one = let e : Some x ≡ Some h.sending = sym last ∙ h.last in cc e
 
-  whole_here : (server : Endpoint) (word : ℕ) (t : List Call) (c : Call) → ClientLaw server szx word t
-      → AnswersLast szx (c ∷ t) → (k : ℕ) (tag : Option (List ℕ)) (format : Option ℕ) (body : List ℕ)
-      → reports (own_of szx t) c ≡ of k (Body tag format body) → IsFetched szx k tag format body t c
+  whole_here : (server : Endpoint) (word : ℕ) (t : List Call) (c : Call) → ClientLaw server sizes word t
+      → AnswersLast sizes (c ∷ t) → (k : ℕ) (tag : Option (List ℕ)) (format : Option ℕ) (body : List ℕ)
+      → reports (own_of sizes t) c ≡ of k (Body tag format body) → IsFetched sizes k tag format body t c
   whole_here server word t c law answers k tag format body made =
-      let g = gives_body t c k (Body tag format body) refl (gives_of szx t c k (Body tag format body) refl made) in
+      let g = gives_body t c k (Body tag format body) refl (gives_of sizes t c k (Body tag format body) refl made) in
       let p = parts_of t answers.1 k g.request g.fetch g.runs in
       let a = answers.0 g.message g.heard_it in
       let tag_is : tag ≡ tag_in g.message = cc (g.is) in
@@ -479,7 +481,7 @@ module _ (szx : ℕ) where
         heard = record {
           heard = g.heard_it;
           sending = a.sending;
-          sent = last_was_sent szx t a.sending a.last;
+          sent = last_was_sent sizes t a.sending a.last;
           of_call = ap call_of op;
           token = a.token;
         };
@@ -496,13 +498,13 @@ module _ (szx : ℕ) where
         format_is = format_is;
       }
 
-  bodies : (server : Endpoint) (word : ℕ) (t : List Call) → ClientLaw server szx word t → AnswersLast szx t
-      → BodiesAreWhole szx t
+  bodies : (server : Endpoint) (word : ℕ) (t : List Call) → ClientLaw server sizes word t → AnswersLast sizes t
+      → BodiesAreWhole sizes t
   bodies server word [] law answers = tt
   bodies server word (c ∷ t) law answers =
-      let before = client_back server szx word (c ∷ []) t law
+      let before = client_back server sizes word (c ∷ []) t law
       in (whole_here server word t c before answers, bodies server word t before answers.1)
 
-pub bodies_are_whole : (server : Endpoint) (szx word : ℕ) (t : List Call) → ClientLaw server szx word t
-    → BodiesAreWhole szx t
-bodies_are_whole server szx word t law = bodies szx server word t law (answers_last szx server word t law)
+pub bodies_are_whole : (server : Endpoint) (sizes : Sizes) (word : ℕ) (t : List Call) → ClientLaw server sizes word t
+    → BodiesAreWhole sizes t
+bodies_are_whole server sizes word t law = bodies sizes server word t law (answers_last sizes server word t law)

@@ -5,6 +5,7 @@ use Rattle.std.proofs.Common.{◌∷◌, ◌++◌, refl, ap, sym, subst, ◌∙�
 use Rattle.std.specs.Prelude.{◌==◌}
 use Rattle.coap_types.specs.declared.endpoint.Endpoint.{Endpoint}
 use Rattle.coap_codec.specs.Message.{Message}
+use Rattle.coap_block.specs.Sizes.{Sizes}
 use Rattle.coap_block.specs.declared.fetch_step.FetchRefusal.TheVariants as refusal
 use Rattle.coap_block.specs.declared.fetch_verdict.Verdict.{Verdict}
 use Rattle.coap_block.specs.declared.fetch_verdict.Verdict.TheVariants as verdict
@@ -55,14 +56,14 @@ use Rattle.coap_client.proofs.Reporting.TableLines.{report_in, got_lines, sent_l
 
 -- a representation that a notification brings
 
-notified_by : (k sequence szx : ℕ) (m : Message) (v : Verdict)
-    → value k sequence (F.start szx 0) m v
+notified_by : (k sequence : ℕ) (sizes : Sizes) (m : Message) (v : Verdict)
+    → value k sequence (F.start sizes 0) m v
     ≡ reported_as k (first_of (line (true && (true && is_whole v)) (Value sequence (tag_in m) (format_in m) m.payload)
     ∷ line false (Ended m.code) ∷ []))
-notified_by k sequence szx m verdict.Done = refl
-notified_by k sequence szx m verdict.Again = refl
-notified_by k sequence szx m (verdict.Ask num size) = refl
-notified_by k sequence szx m (verdict.Refuse why) = refl
+notified_by k sequence sizes m verdict.Done = refl
+notified_by k sequence sizes m verdict.Again = refl
+notified_by k sequence sizes m (verdict.Ask num size) = refl
+notified_by k sequence sizes m (verdict.Refuse why) = refl
 
 module _ (i : ℕ) (token : Result (List ℕ) AskRefusal) where
   abbrev reported : Effect → Option Reported
@@ -81,19 +82,20 @@ module _ (i : ℕ) (token : Result (List ℕ) AskRefusal) where
       by (Ok key) none = refl
       by (Err why) none = absurd (cc none)
 
-  registered_reports : (k : ℕ) (path : List (List ℕ)) (s : Own) (now szx : ℕ) (m : Message) → s.szx ≡ szx
-      → reported (registered k path s now m) ≡ reported_as k (first_of (notified_lines szx true m))
-  registered_reports k path s now szx m same = by (is_notification m)
+  registered_reports : (k : ℕ) (path : List (List ℕ)) (s : Own) (now : ℕ) (sizes : Sizes) (m : Message)
+      → s.sizes ≡ sizes
+      → reported (registered k path s now m) ≡ reported_as k (first_of (notified_lines sizes true m))
+  registered_reports k path s now sizes m same = by (is_notification m)
     where
       by : (b : Bool) → reported (cond b (record {
         own =
-            record s { running = None; observations = s.observations ++ begun k path s.szx now m ∷ [] };
-        report = first_value k s.szx m;
+            record s { running = None; observations = s.observations ++ begun k path s.sizes now m ∷ [] };
+        report = first_value k s.sizes m;
         deed = Keeps m.token;
       }) (ends (of k (Ended m.code)) s))
-          ≡ reported_as k (first_of (line (b && (true && is_whole (part (F.start szx 0) m)))
+          ≡ reported_as k (first_of (line (b && (true && is_whole (part (F.start sizes 0) m)))
           (Value (sequence_in m) (tag_in m) (format_in m) m.payload) ∷ line (not b) (Ended m.code) ∷ []))
-      by true = ap (λ z. first_value k z m) same ∙ notified_by k (sequence_in m) szx m (part (F.start szx 0) m)
+      by true = ap (λ z. first_value k z m) same ∙ notified_by k (sequence_in m) sizes m (part (F.start sizes 0) m)
       by false = refl
 
   fetch_by_reports : (k : ℕ) (n : Notified) (s : Own) (m : Message) (b : Bool) (v : Verdict)
@@ -118,64 +120,65 @@ module _ (i : ℕ) (token : Result (List ℕ) AskRefusal) where
   fetch_reports k (Some n) s m none = fetch_by_reports k n s m (m.code == content) (part n.fetch m) none
 
   -- the answer to the request of an operation
-  answer_reports : (szx : ℕ) (s : Own) (m : Message) (op : Operation) → s.szx ≡ szx → sent (answered s i m (Some op))
+  answer_reports : (sizes : Sizes) (s : Own) (m : Message) (op : Operation) → s.sizes ≡ sizes
+      → sent (answered s i m (Some op))
       → reported (answered s i m (Some op))
-      ≡ reported_as (number_in op) (first_of (answer_lines szx s.observations op m))
-  answer_reports szx s m (Calling k r (Fetches f)) same none =
+      ≡ reported_as (number_in op) (first_of (answer_lines sizes s.observations op m))
+  answer_reports sizes s m (Calling k r (Fetches f)) same none =
       call_reports k r (Fetches f) s (answer r (Fetches f) m) none ∙ ap (reported_as k) (got_lines r f m)
-  answer_reports szx s m (Calling k r (Uploads u)) same none =
+  answer_reports sizes s m (Calling k r (Uploads u)) same none =
       call_reports k r (Uploads u) s (answer r (Uploads u) m) none ∙ ap (reported_as k) (sent_lines r.method u m)
-  answer_reports szx s m (Calling k r Single) same none =
+  answer_reports sizes s m (Calling k r Single) same none =
       call_reports k r Single s (answer r Single m) none
       ∙ ap (reported_as k) (single_so m.code (is_success r.method m.code))
-  answer_reports szx s m (Registering k path) same none = registered_reports k path s i szx m same
-  answer_reports szx s m (Fetching k) same none = fetch_reports k (rest_of k s.observations) s m none
-  answer_reports szx s m (Cancelling k) same none =
+  answer_reports sizes s m (Registering k path) same none = registered_reports k path s i sizes m same
+  answer_reports sizes s m (Fetching k) same none = fetch_reports k (rest_of k s.observations) s m none
+  answer_reports sizes s m (Cancelling k) same none =
       released i (cancel_over k Cancelled s) (observation_of k s.observations) token
-  answer_reports szx s m Dropped same none = refl
+  answer_reports sizes s m Dropped same none = refl
 
   -- a notification
-  notice_by : (szx : ℕ) (s : Own) (m : Message) (o : Observation) (b c : Bool) → s.szx ≡ szx
+  notice_by : (sizes : Sizes) (s : Own) (m : Message) (o : Observation) (b c : Bool) → s.sizes ≡ sizes
       → reported (cond (not b) (is_over o.number (Ended m.code) s)
       (cond c (renewed o s i m) (stays (passed o s i m))))
-      ≡ reported_as o.number (first_of (line (b && (c && is_whole (part (F.start szx 0) m)))
+      ≡ reported_as o.number (first_of (line (b && (c && is_whole (part (F.start sizes 0) m)))
       (Value (sequence_in m) (tag_in m) (format_in m) m.payload) ∷ line (not b) (Ended m.code) ∷ []))
-  notice_by szx s m o false c same = released i (is_over o.number (Ended m.code) s)
+  notice_by sizes s m o false c same = released i (is_over o.number (Ended m.code) s)
       (observation_of o.number s.observations) token
-  notice_by szx s m o true true same = ap (λ z. first_value o.number z m) same
-      ∙ notified_by o.number (sequence_in m) szx m (part (F.start szx 0) m)
-  notice_by szx s m o true false same = refl
+  notice_by sizes s m o true true same = ap (λ z. first_value o.number z m) same
+      ∙ notified_by o.number (sequence_in m) sizes m (part (F.start sizes 0) m)
+  notice_by sizes s m o true false same = refl
 
-  notice_reports : (szx : ℕ) (s : Own) (m : Message) (o : Observation) → s.szx ≡ szx
+  notice_reports : (sizes : Sizes) (s : Own) (m : Message) (o : Observation) → s.sizes ≡ sizes
       → reported (noticed_by (Some o) s i m)
-      ≡ reported_as o.number (first_of (notified_lines szx (is_newer o.watch.mark (sequence_in m) i) m))
-  notice_reports szx s m o same =
-      notice_by szx s m o (is_notification m) (is_newer o.watch.mark (sequence_in m) i) same
+      ≡ reported_as o.number (first_of (notified_lines sizes (is_newer o.watch.mark (sequence_in m) i) m))
+  notice_reports sizes s m o same =
+      notice_by sizes s m o (is_notification m) (is_newer o.watch.mark (sequence_in m) i) same
 
-module _ (szx : ℕ) (t : List Call) where
+module _ (sizes : Sizes) (t : List Call) where
   abbrev Answers : Call → Type 0
-  Answers c = (m : Message) (op : Operation) → hears c ≡ Some m → (own_of szx t).running ≡ Some op
-      → unsent (own_of szx t) c ≡ None
-      → reports (own_of szx t) c
-      ≡ reported_as (number_in op) (first_of (answer_lines szx (own_of szx t).observations op m))
+  Answers c = (m : Message) (op : Operation) → hears c ≡ Some m → (own_of sizes t).running ≡ Some op
+      → unsent (own_of sizes t) c ≡ None
+      → reports (own_of sizes t) c
+      ≡ reported_as (number_in op) (first_of (answer_lines sizes (own_of sizes t).observations op m))
 
   abbrev Notes : Call → Type 0
   Notes c = (m : Message) (o : Observation) → notes c ≡ Some m
-      → observation_with m.token (own_of szx t).observations ≡ Some o
-      → reports (own_of szx t) c ≡ reported_as o.number (first_of (notified_lines szx
-      (is_newer o.watch.mark (sequence_in m) (moment_of (own_of szx t) c)) m))
+      → observation_with m.token (own_of sizes t).observations ≡ Some o
+      → reports (own_of sizes t) c ≡ reported_as o.number (first_of (notified_lines sizes
+      (is_newer o.watch.mark (sequence_in m) (moment_of (own_of sizes t) c)) m))
 
   answer_here : (c : Call) → Answers c
   answer_here (Feeds now from bytes w up settled (Some (event_of.Answer a)) sent token was) m op heard runs none =
-      let s : Own = own_of szx t in
+      let s : Own = own_of sizes t in
       let i : ℕ = max s.clock now in
       let same : a ≡ m = cc heard in
       subst (λ (y : Message). reports s (Feeds now from bytes w up settled (Some (event_of.Answer a)) sent token was)
-      ≡ reported_as (number_in op) (first_of (answer_lines szx s.observations op y))) same
+      ≡ reported_as (number_in op) (first_of (answer_lines sizes s.observations op y))) same
       (subst (λ o. unsent_by (answered (at now s) i a o).deed token ≡ None
       → (close i (answered (at now s) i a o) token).report
-      ≡ reported_as (number_in op) (first_of (answer_lines szx s.observations op a))) (sym runs)
-      (answer_reports i token szx (at now s) a op (size_is szx t)) none)
+      ≡ reported_as (number_in op) (first_of (answer_lines sizes s.observations op a))) (sym runs)
+      (answer_reports i token sizes (at now s) a op (size_is sizes t)) none)
   answer_here (Feeds now from bytes w up settled (Some (event_of.Notice a)) sent token was) m op heard runs none =
       absurd (cc heard)
   answer_here (Feeds now from bytes w up settled (Some event_of.Timeout) sent token was) m op heard runs none =
@@ -196,13 +199,13 @@ module _ (szx : ℕ) (t : List Call) where
 
   notice_here : (c : Call) → Notes c
   notice_here (Feeds now from bytes w up settled (Some (event_of.Notice a)) sent token was) m o noted found =
-      let s : Own = own_of szx t in
+      let s : Own = own_of sizes t in
       let i : ℕ = max s.clock now in
       let same : m ≡ a = cc noted in
       ap (λ (y : Message). reports s (Feeds now from bytes w up settled (Some (event_of.Notice y)) sent token was))
       (sym same)
       ∙ (ap (λ x. (close i (noticed_by x (at now s) i m) token).report) found
-      ∙ notice_reports i token szx (at now s) m o (size_is szx t))
+      ∙ notice_reports i token sizes (at now s) m o (size_is sizes t))
   notice_here (Feeds now from bytes w up settled (Some (event_of.Answer a)) sent token was) m o noted found =
       absurd (cc noted)
   notice_here (Feeds now from bytes w up settled (Some event_of.Timeout) sent token was) m o noted found =
@@ -249,11 +252,11 @@ idle_none s i (Some op) fetch = refl
 idle_none s i None (Some k) = refl
 idle_none s i None None = starts_none s i s.queue
 
-module _ (szx : ℕ) (server : Endpoint) (word : ℕ) (t : List Call) where
+module _ (sizes : Sizes) (server : Endpoint) (word : ℕ) (t : List Call) where
   abbrev ReportsNone : Call → Type 0
-  ReportsNone c = ((m : Message) → hears c ≡ Some m → (own_of szx t).running ≡ None)
-      → ((m : Message) → notes c ≡ Some m → observation_with m.token (own_of szx t).observations ≡ None)
-      → ends_as c ≡ None → unsent (own_of szx t) c ≡ None → reports (own_of szx t) c ≡ None
+  ReportsNone c = ((m : Message) → hears c ≡ Some m → (own_of sizes t).running ≡ None)
+      → ((m : Message) → notes c ≡ Some m → observation_with m.token (own_of sizes t).observations ≡ None)
+      → ends_as c ≡ None → unsent (own_of sizes t) c ≡ None → reports (own_of sizes t) c ≡ None
 
   time_ends : (now w : ℕ) (below : L.Answer) (e : _) (sent : L.Answer) (token : Result (List ℕ) AskRefusal)
       (was did : Bool) → ByTime e → ends_as (Ticks now w below (turn_is.End e) sent token was did) ≡ None → ⊥
@@ -264,32 +267,32 @@ module _ (szx : ℕ) (server : Endpoint) (word : ℕ) (t : List Call) where
       let z : Some R.NoResponse ≡ None =
       ap (λ x. ends_as (Ticks now w below (turn_is.End x) sent token was did)) (sym is) ∙ none in cc z
 
-  none_here : (c : Call) → ClientLaw server szx word (c ∷ t) → ReportsNone c
+  none_here : (c : Call) → ClientLaw server sizes word (c ∷ t) → ReportsNone c
   none_here (Feeds now from bytes w up settled None sent token was) law heard noted ends_so none = refl
   none_here (Feeds now from bytes w up settled (Some (event_of.Answer a)) sent token was) law heard noted ends_so none =
-      let i : ℕ = max (own_of szx t).clock now in
-      ap (λ op. (close i (answered (at now (own_of szx t)) i a op) token).report) (heard a refl)
+      let i : ℕ = max (own_of sizes t).clock now in
+      ap (λ op. (close i (answered (at now (own_of sizes t)) i a op) token).report) (heard a refl)
   none_here (Feeds now from bytes w up settled (Some (event_of.Notice a)) sent token was) law heard noted ends_so none =
-      let i : ℕ = max (own_of szx t).clock now in
-      ap (λ o. (close i (noticed_by o (at now (own_of szx t)) i a) token).report) (noted a refl)
+      let i : ℕ = max (own_of sizes t).clock now in
+      ap (λ o. (close i (noticed_by o (at now (own_of sizes t)) i a) token).report) (noted a refl)
   none_here (Feeds now from bytes w up settled (Some event_of.Reset) sent token was) law heard noted ends_so none =
       absurd (cc ends_so)
   none_here (Feeds now from bytes w up settled (Some event_of.Timeout) sent token was) law heard noted ends_so none =
-      absurd (fed_came szx server word t now from bytes w up settled (Some event_of.Timeout) sent token was
+      absurd (fed_came sizes server word t now from bytes w up settled (Some event_of.Timeout) sent token was
       law.exchanges.rows)
   none_here (Feeds now from bytes w up settled (Some event_of.NoResponse) sent token was) law heard noted ends_so none =
-      absurd (fed_came szx server word t now from bytes w up settled (Some event_of.NoResponse) sent token was
+      absurd (fed_came sizes server word t now from bytes w up settled (Some event_of.NoResponse) sent token was
       law.exchanges.rows)
   none_here (Ticks now w below turn_is.Idle sent token was did) law heard noted ends_so none =
-      let s : Own = at now (own_of szx t) in
-      let i : ℕ = max (own_of szx t).clock now in
+      let s : Own = at now (own_of sizes t) in
+      let i : ℕ = max (own_of sizes t).clock now in
       report_none i (idle s i s.running (to_fetch s.observations)) token
       (idle_none s i s.running (to_fetch s.observations)) none
   none_here (Ticks now w below turn_is.Copied sent token was did) law heard noted ends_so none = refl
   none_here (Ticks now w below (turn_is.End e) sent token was did) law heard noted ends_so none =
-      let b = beneath server szx word t in
-      let ended = ended_by b (max b.clock (max (own_of szx t).clock now)) below e
-      (ticked_turn szx server word t now w below (turn_is.End e) sent token was did law.exchanges.rows) in
+      let b = beneath server sizes word t in
+      let ended = ended_by b (max b.clock (max (own_of sizes t).clock now)) below e
+      (ticked_turn sizes server word t now w below (turn_is.End e) sent token was did law.exchanges.rows) in
       absurd (time_ends now w below e sent token was did ended.by_time ends_so)
   none_here (Calls now q did) law heard noted ends_so none = refl
   none_here (Observes now path did) law heard noted ends_so none = refl
@@ -299,14 +302,14 @@ module _ (szx : ℕ) (server : Endpoint) (word : ℕ) (t : List Call) where
   none_here (NextReport did) law heard noted ends_so none = refl
   none_here (Asked did) law heard noted ends_so none = refl
 
-pub reports_by_table : (server : Endpoint) (szx word : ℕ) (t : List Call) → ClientLaw server szx word t
-    → ReportsByTable szx t
-reports_by_table server szx word [] law = tt
-reports_by_table server szx word (c ∷ t) law = (
+pub reports_by_table : (server : Endpoint) (sizes : Sizes) (word : ℕ) (t : List Call) → ClientLaw server sizes word t
+    → ReportsByTable sizes t
+reports_by_table server sizes word [] law = tt
+reports_by_table server sizes word (c ∷ t) law = (
   record {
-    answer = answer_here szx t c;
-    notice = notice_here szx t c;
-    none = none_here szx server word t c law;
+    answer = answer_here sizes t c;
+    notice = notice_here sizes t c;
+    none = none_here sizes server word t c law;
   },
-  reports_by_table server szx word t (client_back server szx word (c ∷ []) t law),
+  reports_by_table server sizes word t (client_back server sizes word (c ∷ []) t law),
 )

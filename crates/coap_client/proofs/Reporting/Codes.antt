@@ -3,6 +3,7 @@ use Rattle.std.proofs.Common.{◌≡◌, ◌⊎◌, inl, inr, ℕ, max, Bool, tr
 use Rattle.std.proofs.Common.{ap, sym, subst, ◌∙◌}
 use Rattle.coap_types.specs.declared.endpoint.Endpoint.{Endpoint}
 use Rattle.coap_codec.specs.Message.{Message}
+use Rattle.coap_block.specs.Sizes.{Sizes}
 use Rattle.coap_exchange.specs.declared.asker.Event.TheVariants as event_of
 use Rattle.coap_client.specs.Trace.{Request, Report, Failed, Done, Call, Calls}
 use Rattle.coap_client.specs.Trace.{Observes, Cancels, Forgets, Feeds, Ticks, NextOut, NextReport}
@@ -30,7 +31,7 @@ use Rattle.coap_client.specs.Follows.Codes.{Succeeds, Fails, IsOfCode, ReportsCo
 use Rattle.coap_client.proofs.Reporting.AnswerReports.{GivesReport, gives_of}
 use Rattle.coap_client.proofs.Reporting.AnswerCodes.{done_of, failed_of, each_done_of, each_failed_of}
 
-module _ (szx : ℕ) where
+module _ (sizes : Sizes) where
   -- the answer to the call that runs is reported
 
   pub reports_answer : (s : Own) (c : Call) (k : ℕ) (r : Request) (tr : Transfer) (m : Message) (final : Bool)
@@ -65,32 +66,32 @@ module _ (szx : ℕ) where
 
   -- what runs is the request that was sent last, as its call asks
 
-  of_call_in : (t : List Call) → AreOfCalls szx t → (x : Sending) (k : ℕ) → WasSent szx x t
-      → call_of x.operation ≡ Some k → (past : List Call) × IsOfCall szx k x past
+  of_call_in : (t : List Call) → AreOfCalls sizes t → (x : Sending) (k : ℕ) → WasSent sizes x t
+      → call_of x.operation ≡ Some k → (past : List Call) × IsOfCall sizes k x past
   of_call_in [] law x k h of = absurd h
   of_call_in (c ∷ t) law x k (inl h) of = (t, law.0 x k h of)
   of_call_in (c ∷ t) law x k (inr h) of = of_call_in t law.1 x k h of
 
   record Runs (t : List Call) (k : ℕ) (r : Request) (tr : Transfer) : Type 0 where
     sending : Sending
-    last : last_sent szx t ≡ Some sending
+    last : last_sent sizes t ≡ Some sending
     operation : sending.operation ≡ Calling k r tr
     body : List ℕ
-    carries : CarriesBody szx r.method body tr
+    carries : CarriesBody sizes r.method body tr
 
   module _ (server : Endpoint) (word : ℕ) where
-    runs_as : (t : List Call) → ClientLaw server szx word t → (k : ℕ) (r : Request) (tr : Transfer)
-        → (own_of szx t).running ≡ Some (Calling k r tr) → Runs t k r tr
+    runs_as : (t : List Call) → ClientLaw server sizes word t → (k : ℕ) (r : Request) (tr : Transfer)
+        → (own_of sizes t).running ≡ Some (Calling k r tr) → Runs t k r tr
     runs_as t law k r tr is = by x.same
       where
-        x : Tracked szx t (Calling k r tr) (beneath server szx word t).running
-        x = subst (λ o. IfTracked szx t o (beneath server szx word t).running) is
-            (all_sends szx server word t law.rows law.exchanges.rows).tracked
+        x : Tracked sizes t (Calling k r tr) (beneath server sizes word t).running
+        x = subst (λ o. IfTracked sizes t o (beneath server sizes word t).running) is
+            (all_sends sizes server word t law.rows law.exchanges.rows).tracked
 
         by : (Calling k r tr ≡ Dropped) ⊎ (x.sending.operation ≡ Calling k r tr) → Runs t k r tr
         by (inl d) = absurd (cc d)
         by (inr same) =
-            let g = (of_call_in t (are_of_calls szx t) x.sending k (last_was_sent szx t x.sending x.last)
+            let g = (of_call_in t (are_of_calls sizes t) x.sending k (last_was_sent sizes t x.sending x.last)
             (ap call_of same)).1 in
             let op : Calling k r tr ≡ Calling k (record g.request { body = [] }) g.transfer = sym same ∙ g.operation in
             let request_is : r ≡ record g.request { body = [] } = cc op in
@@ -101,15 +102,15 @@ module _ (szx : ℕ) where
               last = x.last;
               operation = same;
               body = g.request.body;
-              carries = subst (λ z. CarriesBody szx r.method g.request.body z) (sym transfer_is)
-                  (subst (λ z. CarriesBody szx z g.request.body g.transfer) (sym method_is) g.carries);
+              carries = subst (λ z. CarriesBody sizes r.method g.request.body z) (sym transfer_is)
+                  (subst (λ z. CarriesBody sizes z g.request.body g.transfer) (sym method_is) g.carries);
             }
 
-    module _ (t : List Call) (c : Call) (law : ClientLaw server szx word t)
-        (answers : (m : Message) → hears c ≡ Some m → Answers szx t c m) (k : ℕ) where
+    module _ (t : List Call) (c : Call) (law : ClientLaw server sizes word t)
+        (answers : (m : Message) → hears c ≡ Some m → Answers sizes t c m) (k : ℕ) where
       of_code : (Means : Operation → ℕ → Type 0) (report : Report) (code : ℕ)
-          (g : GivesReport (own_of szx t) (hears c) k report) → Means (Calling k g.request g.transfer) g.message.code
-          → g.message.code ≡ code → IsOfCode szx Means k code t c
+          (g : GivesReport (own_of sizes t) (hears c) k report) → Means (Calling k g.request g.transfer) g.message.code
+          → g.message.code ≡ code → IsOfCode sizes Means k code t c
       of_code Means report code g means same =
           let a = answers g.message g.heard_it in
           let runs = runs_as t law k g.request g.transfer g.runs in
@@ -122,7 +123,7 @@ module _ (szx : ℕ) where
             heard = record {
               heard = g.heard_it;
               sending = a.sending;
-              sent = last_was_sent szx t a.sending a.last;
+              sent = last_was_sent sizes t a.sending a.last;
               of_call = ap call_of op;
               token = a.token;
             };
@@ -131,38 +132,38 @@ module _ (szx : ℕ) where
             means = subst (Means a.sending.operation) same (subst (λ o. Means o g.message.code) (sym op) means);
           }
 
-      done_so : (code : ℕ) → reports (own_of szx t) c ≡ of k (Done code) → IsOfCode szx Succeeds k code t c
+      done_so : (code : ℕ) → reports (own_of sizes t) c ≡ of k (Done code) → IsOfCode sizes Succeeds k code t c
       done_so code made =
-          let g = gives_of szx t c k (Done code) refl made in
+          let g = gives_of sizes t c k (Done code) refl made in
           let runs = runs_as t law k g.request g.transfer g.runs in
-          let d = done_of szx k g.request runs.body g.message g.transfer runs.carries g.final code g.ends_so in
+          let d = done_of sizes k g.request runs.body g.message g.transfer runs.carries g.final code g.ends_so in
           of_code Succeeds (Done code) code g d.0 d.1
 
-      failed_so : (code : ℕ) → reports (own_of szx t) c ≡ of k (Failed code) → IsOfCode szx Fails k code t c
+      failed_so : (code : ℕ) → reports (own_of sizes t) c ≡ of k (Failed code) → IsOfCode sizes Fails k code t c
       failed_so code made =
-          let g = gives_of szx t c k (Failed code) refl made in
+          let g = gives_of sizes t c k (Failed code) refl made in
           let runs = runs_as t law k g.request g.transfer g.runs in
-          let d = failed_of szx k g.request runs.body g.message g.transfer runs.carries g.final code g.ends_so in
+          let d = failed_of sizes k g.request runs.body g.message g.transfer runs.carries g.final code g.ends_so in
           of_code Fails (Failed code) code g d.0 d.1
 
-      each_done_so : (r : Request) (tr : Transfer) (m : Message) → (own_of szx t).running ≡ Some (Calling k r tr)
-          → hears c ≡ Some m → Succeeds (Calling k r tr) m.code → reports (own_of szx t) c ≡ of k (Done m.code)
+      each_done_so : (r : Request) (tr : Transfer) (m : Message) → (own_of sizes t).running ≡ Some (Calling k r tr)
+          → hears c ≡ Some m → Succeeds (Calling k r tr) m.code → reports (own_of sizes t) c ≡ of k (Done m.code)
       each_done_so r tr m is heard so =
           let runs = runs_as t law k r tr is in
-          reports_answer (own_of szx t) c k r tr m true (Done m.code) is heard
-          (each_done_of szx k r runs.body m tr runs.carries so)
+          reports_answer (own_of sizes t) c k r tr m true (Done m.code) is heard
+          (each_done_of sizes k r runs.body m tr runs.carries so)
 
-      each_failed_so : (r : Request) (tr : Transfer) (m : Message) → (own_of szx t).running ≡ Some (Calling k r tr)
-          → hears c ≡ Some m → Fails (Calling k r tr) m.code → reports (own_of szx t) c ≡ of k (Failed m.code)
+      each_failed_so : (r : Request) (tr : Transfer) (m : Message) → (own_of sizes t).running ≡ Some (Calling k r tr)
+          → hears c ≡ Some m → Fails (Calling k r tr) m.code → reports (own_of sizes t) c ≡ of k (Failed m.code)
       each_failed_so r tr m is heard so =
           let runs = runs_as t law k r tr is in
-          reports_answer (own_of szx t) c k r tr m true (Failed m.code) is heard
-          (each_failed_of szx k r runs.body m tr runs.carries so)
+          reports_answer (own_of sizes t) c k r tr m true (Failed m.code) is heard
+          (each_failed_of sizes k r runs.body m tr runs.carries so)
 
-    all_codes : (t : List Call) → ClientLaw server szx word t → AnswersLast szx t → ReportsCodes szx t
+    all_codes : (t : List Call) → ClientLaw server sizes word t → AnswersLast sizes t → ReportsCodes sizes t
     all_codes [] law answers = tt
     all_codes (c ∷ t) law answers =
-        let before = client_back server szx word (c ∷ []) t law in (
+        let before = client_back server sizes word (c ∷ []) t law in (
           record {
             done = λ k code made. done_so t c before answers.0 k code made;
             failed = λ k code made. failed_so t c before answers.0 k code made;
@@ -172,6 +173,6 @@ module _ (szx : ℕ) where
           all_codes t before answers.1,
         )
 
-pub reports_codes : (server : Endpoint) (szx word : ℕ) (t : List Call) → ClientLaw server szx word t
-    → ReportsCodes szx t
-reports_codes server szx word t law = all_codes szx server word t law (answers_last szx server word t law)
+pub reports_codes : (server : Endpoint) (sizes : Sizes) (word : ℕ) (t : List Call) → ClientLaw server sizes word t
+    → ReportsCodes sizes t
+reports_codes server sizes word t law = all_codes sizes server word t law (answers_last sizes server word t law)

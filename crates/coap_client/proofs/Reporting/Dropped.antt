@@ -5,6 +5,7 @@ use Rattle.std.proofs.Common.{◌∷◌, refl, ap, sym, subst, ◌∙◌, Ok, Er
 use Rattle.std.specs.Prelude.{◌==◌}
 use Rattle.coap_types.specs.declared.endpoint.Endpoint.{Endpoint}
 use Rattle.coap_codec.specs.Message.{Message}
+use Rattle.coap_block.specs.Sizes.{Sizes}
 use Rattle.coap_exchange.specs.AskerLaw as X
 use Rattle.coap_exchange.specs.declared.asker.Event.{Event}
 use Rattle.coap_exchange.specs.declared.asker.Exchange.{Exchange}
@@ -143,22 +144,22 @@ module _ (s : Own) (now : ℕ) (told : Option Event) where
       (λ k same is. newer k (newly_as o.number now m) is (comes o m notes found note newer_so) same) s.running refl h
   drops w (mv.passes_by o m notes found note newer_so) h = before h
 
-module _ (szx : ℕ) where
+module _ (sizes : Sizes) where
   -- the request that was sent last; it is dropped
   pub record LastFetches (t : List Call) : Type 0 where
     pub sending : Sending
-    pub last : last_sent szx t ≡ Some sending
+    pub last : last_sent sizes t ≡ Some sending
     pub number : ℕ
     pub fetches : sending.operation ≡ Fetching number
-    pub off : (1 ≤ gone szx number t) ⊎ (SentSince szx number sending t → ⊥)
+    pub off : (1 ≤ gone sizes number t) ⊎ (SentSince sizes number sending t → ⊥)
 
   abbrev pub IfDropped : List Call → Type 0
-  IfDropped t = (own_of szx t).running ≡ Some Dropped → LastFetches t
+  IfDropped t = (own_of sizes t).running ≡ Some Dropped → LastFetches t
 
-  fetches_later : (t : List Call) (c : Call) → sends (own_of szx t) c ≡ None → LastFetches t → LastFetches (c ∷ t)
+  fetches_later : (t : List Call) (c : Call) → sends (own_of sizes t) c ≡ None → LastFetches t → LastFetches (c ∷ t)
   fetches_later t c none h = record {
     sending = h.sending;
-    last = last_same szx t c none ∙ h.last;
+    last = last_same sizes t c none ∙ h.last;
     number = h.number;
     fetches = h.fetches;
     off = elim h.off [
@@ -172,27 +173,27 @@ module _ (szx : ℕ) where
 
   module _ (server : Endpoint) (word : ℕ) where
     -- the fetch of an observation was sent last, and is dropped now
-    of_fetch : (t : List Call) (c : Call) → sends (own_of szx t) c ≡ None → (k : ℕ) (x : Option Exchange)
-        → IfTracked szx t (Some (Fetching k)) x
-        → ((y : Sending) → (1 ≤ gone szx k (c ∷ t)) ⊎ (SentSince szx k y (c ∷ t) → ⊥)) → LastFetches (c ∷ t)
+    of_fetch : (t : List Call) (c : Call) → sends (own_of sizes t) c ≡ None → (k : ℕ) (x : Option Exchange)
+        → IfTracked sizes t (Some (Fetching k)) x
+        → ((y : Sending) → (1 ≤ gone sizes k (c ∷ t)) ⊎ (SentSince sizes k y (c ∷ t) → ⊥)) → LastFetches (c ∷ t)
     of_fetch t c none k x h off = record {
       sending = h.sending;
-      last = last_same szx t c none ∙ h.last;
+      last = last_same sizes t c none ∙ h.last;
       number = k;
       fetches = elim h.same [ inl d ↦ absurd (cc d) | inr e ↦ e ];
       off = off h.sending;
     }
 
     module _ (t : List Call) (c : Call) (ih : IfDropped t)
-        (tr : IfTracked szx t (own_of szx t).running (beneath server szx word t).running) where
-      fetched_so : sends (own_of szx t) c ≡ None → (k : ℕ) → (own_of szx t).running ≡ Some (Fetching k)
-          → ((y : Sending) → (1 ≤ gone szx k (c ∷ t)) ⊎ (SentSince szx k y (c ∷ t) → ⊥)) → LastFetches (c ∷ t)
-      fetched_so none k is off = of_fetch t c none k (beneath server szx word t).running
-          (subst (λ o. IfTracked szx t o (beneath server szx word t).running) is tr) off
+        (tr : IfTracked sizes t (own_of sizes t).running (beneath server sizes word t).running) where
+      fetched_so : sends (own_of sizes t) c ≡ None → (k : ℕ) → (own_of sizes t).running ≡ Some (Fetching k)
+          → ((y : Sending) → (1 ≤ gone sizes k (c ∷ t)) ⊎ (SentSince sizes k y (c ∷ t) → ⊥)) → LastFetches (c ∷ t)
+      fetched_so none k is off = of_fetch t c none k (beneath server sizes word t).running
+          (subst (λ o. IfTracked sizes t o (beneath server sizes word t).running) is tr) off
 
       -- it is forgotten
-      dropped_of : sends (own_of szx t) c ≡ None → (j : ℕ) → 1 ≤ gone szx j (c ∷ t) → (running : Option Operation)
-          → (own_of szx t).running ≡ running → dropped j running ≡ Some Dropped → LastFetches (c ∷ t)
+      dropped_of : sends (own_of sizes t) c ≡ None → (j : ℕ) → 1 ≤ gone sizes j (c ∷ t) → (running : Option Operation)
+          → (own_of sizes t).running ≡ running → dropped j running ≡ Some Dropped → LastFetches (c ∷ t)
       dropped_of none j off None is h = absurd (cc h)
       dropped_of none j off (Some (Calling k r u)) is h = absurd (cc h)
       dropped_of none j off (Some (Registering k path)) is h = absurd (cc h)
@@ -202,34 +203,34 @@ module _ (szx : ℕ) where
         where
           by : (b : Bool) → (k == j) ≡ b → cond b (Some Dropped) (Some (Fetching k)) ≡ Some Dropped
               → LastFetches (c ∷ t)
-          by true e h = fetched_so none k is (λ y. inl (subst (λ i. 1 ≤ gone szx i (c ∷ t))
+          by true e h = fetched_so none k is (λ y. inl (subst (λ i. 1 ≤ gone sizes i (c ∷ t))
               (sym (same_number k j e)) off))
           by false e h = absurd (cc h)
 
-      module _ (w : AllWait (own_of szx t).observations (own_of szx t).queue) (k : Turned szx t c) where
+      module _ (w : AllWait (own_of sizes t).observations (own_of sizes t).queue) (k : Turned sizes t c) where
         abbrev m : ℕ
-        m = max (own_of szx t).clock k.now
+        m = max (own_of sizes t).clock k.now
 
         abbrev s : Own
-        s = at k.now (own_of szx t)
+        s = at k.now (own_of sizes t)
 
         abbrev left : Effect
         left = left_by s m k.told k.move
 
-        drop_now : sends (own_of szx t) c ≡ None → reports (own_of szx t) c ≡ left.report
+        drop_now : sends (own_of sizes t) c ≡ None → reports (own_of sizes t) c ≡ left.report
             → Drop s m k.told left.report → LastFetches (c ∷ t)
         drop_now none made (before is) = fetches_later t c none (ih is)
         drop_now none made (over j is final) = fetched_so none j is (λ y. inl (
-            let z : final_of j (reports (own_of szx t) c) ≡ 1 = ap (final_of j) made ∙ final in
+            let z : final_of j (reports (own_of sizes t) c) ≡ 1 = ap (final_of j) made ∙ final in
             omega (arith, z)))
         drop_now none made (newer j n is taken same) = fetched_so none j is (λ y. inr (λ since. (
-            let noted : notifies (own_of szx t) c ≡ Some n = k.notifies_is ∙ taken in
-            let here : is_newly_of j (notifies (own_of szx t) c) ≡ true =
+            let noted : notifies (own_of sizes t) c ≡ Some n = k.notifies_is ∙ taken in
+            let here : is_newly_of j (notifies (own_of sizes t) c) ≡ true =
             ap (is_newly_of j) noted ∙ (ap (λ i. i == j) same ∙ number_self j) in
             let z : true ≡ false = sym here ∙ since.0 in
             cc z)))
 
-        by_closing : Closing m left k.token → (own_of szx (c ∷ t)).running ≡ Some Dropped → LastFetches (c ∷ t)
+        by_closing : Closing m left k.token → (own_of sizes (c ∷ t)).running ≡ Some Dropped → LastFetches (c ∷ t)
         by_closing (quiet q none own_same report_same) is =
             drop_now (k.sends_is ∙ none) (k.reports_is ∙ report_same)
             (drops s m k.told w k.move (sym (ap (λ (o : Own). o.running) own_same)
@@ -247,7 +248,7 @@ module _ (szx : ℕ) where
         turned : IfDropped (c ∷ t)
         turned = by_closing k.closes
 
-    pub if_dropped : (t : List Call) → ClientRows szx t → X.AskerLaw server word (lower_of szx t) → IfDropped t
+    pub if_dropped : (t : List Call) → ClientRows sizes t → X.AskerLaw server word (lower_of sizes t) → IfDropped t
     if_dropped [] rows law = λ is. absurd (cc is)
     if_dropped (Calls now r (Ok k) ∷ t) rows law =
         λ is. fetches_later t (Calls now r (Ok k)) refl (if_dropped t rows.1 law is)
@@ -269,19 +270,20 @@ module _ (szx : ℕ) where
     if_dropped (Forgets k was false ∷ t) rows law =
         λ is. fetches_later t (Forgets k was false) refl (if_dropped t rows.1 law is)
     if_dropped (Forgets k was true ∷ t) rows law =
-        let below = law_back server word (lower (own_of szx t) (Forgets k was true)) (lower_of szx t) law in
+        let below = law_back server word (lower (own_of sizes t) (Forgets k was true)) (lower_of sizes t) law in
         let one = hit_self k in
         λ is. dropped_of t (Forgets k was true) (if_dropped t rows.1 below)
-        (all_sends szx server word t rows.1 below).tracked refl k (omega (arith, one)) (own_of szx t).running refl is
+        (all_sends sizes server word t rows.1 below).tracked refl k (omega (arith, one))
+        (own_of sizes t).running refl is
     if_dropped (Feeds now from bytes w up settled event sent token was ∷ t) rows law =
         let c : Call = Feeds now from bytes w up settled event sent token was in
-        let below = law_back server word (lower (own_of szx t) c) (lower_of szx t) law in
-        turned t c (if_dropped t rows.1 below) (all_sends szx server word t rows.1 below).tracked
-        (known server szx word t rows.1 below).waits
-        (fed_turned szx t now from bytes w up settled event sent token was)
+        let below = law_back server word (lower (own_of sizes t) c) (lower_of sizes t) law in
+        turned t c (if_dropped t rows.1 below) (all_sends sizes server word t rows.1 below).tracked
+        (known server sizes word t rows.1 below).waits
+        (fed_turned sizes t now from bytes w up settled event sent token was)
     if_dropped (Ticks now w below_it turn sent token was answer ∷ t) rows law =
         let c : Call = Ticks now w below_it turn sent token was answer in
-        let below = law_back server word (lower (own_of szx t) c) (lower_of szx t) law in
-        turned t c (if_dropped t rows.1 below) (all_sends szx server word t rows.1 below).tracked
-        (known server szx word t rows.1 below).waits
-        (ticked_turned szx t now w below_it turn sent token was answer)
+        let below = law_back server word (lower (own_of sizes t) c) (lower_of sizes t) law in
+        turned t c (if_dropped t rows.1 below) (all_sends sizes server word t rows.1 below).tracked
+        (known server sizes word t rows.1 below).waits
+        (ticked_turned sizes t now w below_it turn sent token was answer)

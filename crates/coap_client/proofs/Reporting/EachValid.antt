@@ -5,6 +5,7 @@ use Rattle.coap_types.specs.declared.endpoint.Endpoint.{Endpoint}
 use Rattle.coap_types.specs.declared.request.Method.{Method}
 use Rattle.coap_types.specs.declared.request.Method.TheVariants.{Get}
 use Rattle.coap_codec.specs.Message.{Message}
+use Rattle.coap_block.specs.Sizes.{Sizes}
 use Rattle.coap_client.specs.Trace.{Request, Valid, Failed, Call}
 use Rattle.coap_client.specs.Own.{Transfer, Fetches, Uploads, Single}
 use Rattle.coap_client.specs.Calls.{has_tags, answer}
@@ -33,26 +34,27 @@ got_valid r f m tags code =
     (cond ((n == valid) && has_tags r.etags) (calls.Ends true (Valid (tag_in m))) (calls.Ends true (Failed n)))) code
     ∙ ap (λ b. cond b (calls.Ends true (Valid (tag_in m))) (calls.Ends true (Failed valid))) (some_tags r.etags tags)
 
-answer_valid : (szx : ℕ) (r : Request) (body : List ℕ) (tr : Transfer) (m : Message)
-    → CarriesBody szx Get body tr → r.etags ≢ [] → m.code ≡ valid → answer r tr m ≡ calls.Ends true (Valid (tag_in m))
-answer_valid szx r body (Fetches f) m carries tags code = got_valid r f m tags code
-answer_valid szx r body (Uploads u) m carries tags code = absurd carries
-answer_valid szx r body Single m carries tags code = absurd carries
+answer_valid : (sizes : Sizes) (r : Request) (body : List ℕ) (tr : Transfer) (m : Message)
+    → CarriesBody sizes Get body tr → r.etags ≢ [] → m.code ≡ valid → answer r tr m ≡ calls.Ends true (Valid (tag_in m))
+answer_valid sizes r body (Fetches f) m carries tags code = got_valid r f m tags code
+answer_valid sizes r body (Uploads u) m carries tags code = absurd carries
+answer_valid sizes r body Single m carries tags code = absurd carries
 
-valid_here : (server : Endpoint) (szx word : ℕ) (t : List Call) (c : Call) → ClientLaw server szx word (c ∷ t)
+valid_here : (server : Endpoint) (sizes : Sizes) (word : ℕ) (t : List Call) (c : Call)
+    → ClientLaw server sizes word (c ∷ t)
     → (x : Taken) (m : Message) → WasTaken x t → x.request.method ≡ Get → x.request.etags ≢ []
-    → HeardFor szx x.number m t c → m.code ≡ valid → reports (own_of szx t) c ≡ of x.number (Valid (tag_in m))
-valid_here server szx word t c law x m was method tags h code =
-    let k = runs_call szx server word t c law x was m h in
+    → HeardFor sizes x.number m t c → m.code ≡ valid → reports (own_of sizes t) c ≡ of x.number (Valid (tag_in m))
+valid_here server sizes word t c law x m was method tags h code =
+    let k = runs_call sizes server word t c law x was m h in
     let r : Request = record x.request { body = [] } in
-    reports_answer szx (own_of szx t) c x.number r k.transfer m true (Valid (tag_in m)) k.runs h.heard
-    (answer_valid szx r x.request.body k.transfer m
-    (subst (λ (w : Method). CarriesBody szx w x.request.body k.transfer) method k.carries) tags code)
+    reports_answer sizes (own_of sizes t) c x.number r k.transfer m true (Valid (tag_in m)) k.runs h.heard
+    (answer_valid sizes r x.request.body k.transfer m
+    (subst (λ (w : Method). CarriesBody sizes w x.request.body k.transfer) method k.carries) tags code)
 
-pub each_is_valid : (server : Endpoint) (szx word : ℕ) (t : List Call) → ClientLaw server szx word t
-    → EachIsValid szx t
-each_is_valid server szx word [] law = tt
-each_is_valid server szx word (c ∷ t) law = (
-  valid_here server szx word t c law,
-  each_is_valid server szx word t (client_back server szx word (c ∷ []) t law),
+pub each_is_valid : (server : Endpoint) (sizes : Sizes) (word : ℕ) (t : List Call) → ClientLaw server sizes word t
+    → EachIsValid sizes t
+each_is_valid server sizes word [] law = tt
+each_is_valid server sizes word (c ∷ t) law = (
+  valid_here server sizes word t c law,
+  each_is_valid server sizes word t (client_back server sizes word (c ∷ []) t law),
 )

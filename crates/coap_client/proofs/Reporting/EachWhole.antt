@@ -4,6 +4,7 @@ use Rattle.std.proofs.Common.{[], ◌∷◌, refl, ap, sym, subst, ◌∙◌, ar
 use Rattle.std.specs.Prelude.{◌==◌}
 use Rattle.coap_types.specs.declared.endpoint.Endpoint.{Endpoint}
 use Rattle.coap_codec.specs.Message.{Message}
+use Rattle.coap_block.specs.Sizes.{Sizes}
 use Rattle.coap_block.specs.declared.fetch_verdict.Verdict.TheVariants as verdict
 use Rattle.coap_block.specs.declared.fetch_step.FetchRefusal.TheVariants as refusal
 use Rattle.coap_block.specs.FetchStep.{FetchState}
@@ -35,18 +36,18 @@ use Rattle.coap_client.proofs.Hearing.HeardRuns.{HeardRuns, heard_runs, sent_las
 use Rattle.coap_client.proofs.Observing.Notified.{registers_as, renews_as}
 use Rattle.coap_client.proofs.Observing.Notified.{registered_effect, renewed_effect}
 use Rattle.coap_client.proofs.Observing.ObservationOrigins.{in_count}
-use Rattle.coap_client.proofs.Observing.Values.{found_rest}
+use Rattle.coap_client.proofs.Observing.Values.{found_rest, fetched}
 use Rattle.coap_client.proofs.Places.Once.{known, both_one}
 use Rattle.coap_client.proofs.Reporting.Codes.{reports_answer}
 use Rattle.coap_client.proofs.Reporting.Dropped.{if_dropped}
 use Rattle.coap_client.proofs.Reporting.LastParts.{last_part}
-use Rattle.coap_client.proofs.Sending.OfCalls.{size_is}
+use Rattle.coap_client.proofs.Sending.OfCalls.{fetch_sizes, running_taken, size_is}
 use Rattle.coap_client.proofs.Sending.SentFor.{sent_call}
 use Rattle.coap_client.proofs.Sending.Tokens.{last_was_sent, one_of_token}
 use Rattle.coap_client.proofs.Turning.Leading.{client_back}
 
 -- the last part of a GET
-got_body : (r : Request) (f : FetchState) (m : Message) (body : List ℕ) → MakesWhole f m body
+got_body : (r : Request) (f : FetchState) (m : Message) (body : List ℕ) → MakesWhole f.limit f m body
     → calls.got r f m ≡ calls.Ends true (Body (tag_in m) (format_in m) body)
 got_body r f m body whole =
     let is : (m.code == content) ≡ true = ap (λ n. n == content) whole.code in
@@ -56,15 +57,16 @@ got_body r f m body whole =
     ∙ (ap (calls.fetched f m) l.done ∙ ap (λ b. calls.Ends true (Body (tag_in m) (format_in m) b)) l.body_is)
 
 -- a notification that is whole
-first_whole : (k szx own : ℕ) (m : Message) (body : List ℕ) → own ≡ szx → MakesWhole (F.start szx 0) m body
+first_whole : (k : ℕ) (sizes own : Sizes) (m : Message) (body : List ℕ) → own ≡ sizes
+    → MakesWhole sizes.limit (F.start sizes 0) m body
     → first_value k own m ≡ of k (Value (sequence_in m) (tag_in m) (format_in m) body)
-first_whole k szx own m body same whole =
-    let l = last_part (F.start szx 0) m body whole in
-    ap (λ z. first_value k z m) same ∙ (ap (value k (sequence_in m) (F.start szx 0) m) l.done
+first_whole k sizes own m body same whole =
+    let l = last_part (F.start sizes 0) m body whole in
+    ap (λ z. first_value k z m) same ∙ (ap (value k (sequence_in m) (F.start sizes 0) m) l.done
     ∙ ap (λ b. of k (Value (sequence_in m) (tag_in m) (format_in m) b)) l.body_is)
 
 -- the last part of a fetch
-fetched_whole : (k : ℕ) (n : Notified) (s : Own) (m : Message) (body : List ℕ) → MakesWhole n.fetch m body
+fetched_whole : (k : ℕ) (n : Notified) (s : Own) (m : Message) (body : List ℕ) → MakesWhole n.fetch.limit n.fetch m body
     → (fetch_answered k (Some n) s m) ≡ fetch_by k n s m verdict.Done
 fetched_whole k n s m body whole =
     let l = last_part n.fetch m body whole in
@@ -74,7 +76,7 @@ fetched_whole k n s m body whole =
 
 reports_fetched : (s : Own) (c : Call) (k : ℕ) (n : Notified) (m : Message) (body : List ℕ)
     → s.running ≡ Some (Fetching k) → hears c ≡ Some m → rest_of k s.observations ≡ Some n
-    → MakesWhole n.fetch m body → reports s c ≡ of k (Value n.sequence (tag_in m) (format_in m) body)
+    → MakesWhole n.fetch.limit n.fetch m body → reports s c ≡ of k (Value n.sequence (tag_in m) (format_in m) body)
 reports_fetched s (Feeds now from bytes w up settled (Some (event_of.Answer a)) sent token was) k n m body runs heard
     rest whole =
     let same : m ≡ a = cc heard in
@@ -105,29 +107,30 @@ reports_fetched s (NextOut did) k n m body runs heard rest whole = absurd (cc he
 reports_fetched s (NextReport did) k n m body runs heard rest whole = absurd (cc heard)
 reports_fetched s (Asked did) k n m body runs heard rest whole = absurd (cc heard)
 
-module _ (szx : ℕ) (t : List Call) where
+module _ (sizes : Sizes) (t : List Call) where
   abbrev ShowsWhole : Call → Newly → Type 0
-  ShowsWhole c n = (body : List ℕ) → MakesWhole (F.start szx 0) n.message body → reports (own_of szx t) c
+  ShowsWhole c n = (body : List ℕ) → MakesWhole sizes.limit (F.start sizes 0) n.message body
+      → reports (own_of sizes t) c
       ≡ of n.number (Value (sequence_in n.message) (tag_in n.message) (format_in n.message) body)
 
-  value_here : (c : Call) (n : Newly) → notifies (own_of szx t) c ≡ Some n → ShowsWhole c n
+  value_here : (c : Call) (n : Newly) → notifies (own_of sizes t) c ≡ Some n → ShowsWhole c n
   value_here (Feeds now from bytes w up settled (Some (event_of.Answer a)) sent token was) n h =
-      let s : Own = own_of szx t in
+      let s : Own = own_of sizes t in
       let i : ℕ = max s.clock now in
       let c : Call = Feeds now from bytes w up settled (Some (event_of.Answer a)) sent token was in
       let r = registers_as s.running i a n h in
       subst (ShowsWhole c) (sym r.is) (λ body whole.
       ap (λ (e : Effect). (close i e token).report) (registered_effect (at now s) i a r.number r.path r.runs r.note)
-      ∙ first_whole r.number szx s.szx a body (size_is szx t) whole)
+      ∙ first_whole r.number sizes s.sizes a body (size_is sizes t) whole)
   value_here (Feeds now from bytes w up settled (Some (event_of.Notice a)) sent token was) n h =
-      let s : Own = own_of szx t in
+      let s : Own = own_of sizes t in
       let i : ℕ = max s.clock now in
       let c : Call = Feeds now from bytes w up settled (Some (event_of.Notice a)) sent token was in
       let r = renews_as (observation_with a.token s.observations) i a n h in
       subst (ShowsWhole c) (sym r.is) (λ body whole.
       ap (λ (e : Effect). (close i e token).report)
       (renewed_effect (at now s) i a r.observation r.found r.note r.newer)
-      ∙ first_whole r.observation.number szx s.szx a body (size_is szx t) whole)
+      ∙ first_whole r.observation.number sizes s.sizes a body (size_is sizes t) whole)
   value_here (Feeds now from bytes w up settled (Some event_of.Timeout) sent token was) n h = absurd (cc h)
   value_here (Feeds now from bytes w up settled (Some event_of.Reset) sent token was) n h = absurd (cc h)
   value_here (Feeds now from bytes w up settled (Some event_of.NoResponse) sent token was) n h = absurd (cc h)
@@ -141,29 +144,33 @@ module _ (szx : ℕ) (t : List Call) where
   value_here (NextReport did) n h = absurd (cc h)
   value_here (Asked did) n h = absurd (cc h)
 
-module _ (szx : ℕ) (server : Endpoint) (word : ℕ) (t : List Call) (c : Call)
-    (law : ClientLaw server szx word (c ∷ t)) where
-  past : ClientLaw server szx word t
-  past = client_back server szx word (c ∷ []) t law
+module _ (sizes : Sizes) (server : Endpoint) (word : ℕ) (t : List Call) (c : Call)
+    (law : ClientLaw server sizes word (c ∷ t)) where
+  past : ClientLaw server sizes word t
+  past = client_back server sizes word (c ∷ []) t law
 
-  body_here : (k : ℕ) (m : Message) (h : HeardFor szx k m t c) (r : Request) (f : FetchState)
-      → h.sending.operation ≡ Calling k r (Fetches f) → (body : List ℕ) → MakesWhole f m body
-      → reports (own_of szx t) c ≡ of k (Body (tag_in m) (format_in m) body)
+  body_here : (k : ℕ) (m : Message) (h : HeardFor sizes k m t c) (r : Request) (f : FetchState)
+      → h.sending.operation ≡ Calling k r (Fetches f) → (body : List ℕ) → MakesWhole sizes.limit f m body
+      → reports (own_of sizes t) c ≡ of k (Body (tag_in m) (format_in m) body)
   body_here k m h r f op body whole =
-      let z = heard_runs szx server word t c law m h.heard in
-      let same : h.sending ≡ z.sending = sent_last szx server word t past h.sending z.sending k h.sent h.of_call z.last
+      let z = heard_runs sizes server word t c law m h.heard in
+      let same : h.sending
+      ≡ z.sending = sent_last sizes server word t past h.sending z.sending k h.sent h.of_call z.last
       (h.token ∙ sym z.token) in
       let runs_it : z.operation ≡ Calling k r (Fetches f) = sent_call z.operation z.sending k r (Fetches f) z.is_for
       (ap (λ (y : Sending). y.operation) (sym same) ∙ op) in
-      reports_answer szx (own_of szx t) c k r (Fetches f) m true (Body (tag_in m) (format_in m) body)
-      (z.runs ∙ ap (λ o. Some o) runs_it) h.heard (got_body r f m body whole)
+      let runs : (own_of sizes t).running ≡ Some (Calling k r (Fetches f)) = z.runs ∙ ap (λ o. Some o) runs_it in
+      let q = running_taken sizes t k r (Fetches f) runs in
+      let are : F.sizes_of f ≡ sizes = fetch_sizes sizes q.0.method q.0.body f q.3 in
+      reports_answer sizes (own_of sizes t) c k r (Fetches f) m true (Body (tag_in m) (format_in m) body) runs h.heard
+      (got_body r f m body (subst (λ i. MakesWhole i f m body) (sym (ap (λ (x : Sizes). x.limit) are)) whole))
 
   -- the fetch that is answered was sent last, and counts
-  fetch_last : (k : ℕ) (m : Message) (h : HeardToFetch szx k m t c) (z : HeardRuns szx server word t m)
+  fetch_last : (k : ℕ) (m : Message) (h : HeardToFetch sizes k m t c) (z : HeardRuns sizes server word t m)
       → h.sending ≡ z.sending
   fetch_last k m h z =
-      elim (one_of_token szx server word t past h.sending z.sending h.sent
-      (last_was_sent szx t z.sending z.last) (h.token ∙ sym z.token)) [
+      elim (one_of_token sizes server word t past h.sending z.sending h.sent
+      (last_was_sent sizes t z.sending z.last) (h.token ∙ sym z.token)) [
         | inl e ↦ e
         | inr r ↦ elim r [
           | inl d ↦ (let w : Fetching k ≡ Registering d.number d.path = sym h.fetches ∙ d.registers in absurd (cc w))
@@ -171,12 +178,12 @@ module _ (szx : ℕ) (server : Endpoint) (word : ℕ) (t : List Call) (c : Call)
         ]
       ]
 
-  runs_fetch : (k : ℕ) (m : Message) (h : HeardToFetch szx k m t c) (n : Notified)
-      → rest_of k (own_of szx t).observations ≡ Some n → (own_of szx t).running ≡ Some (Fetching k)
+  runs_fetch : (k : ℕ) (m : Message) (h : HeardToFetch sizes k m t c) (n : Notified)
+      → rest_of k (own_of sizes t).observations ≡ Some n → (own_of sizes t).running ≡ Some (Fetching k)
   runs_fetch k m h n rest = z.runs ∙ ap (λ o. Some o) (by z.operation refl z.is_for)
     where
-      z : HeardRuns szx server word t m
-      z = heard_runs szx server word t c law m h.heard
+      z : HeardRuns sizes server word t m
+      z = heard_runs sizes server word t c law m h.heard
 
       same : h.sending ≡ z.sending
       same = fetch_last k m h z
@@ -186,23 +193,23 @@ module _ (szx : ℕ) (server : Endpoint) (word : ℕ) (t : List Call) (c : Call)
 
       counts : z.operation ≡ Dropped → ⊥
       counts gone_op =
-          let d = if_dropped szx server word t past.rows past.exchanges.rows (z.runs ∙ ap (λ o. Some o) gone_op) in
+          let d = if_dropped sizes server word t past.rows past.exchanges.rows (z.runs ∙ ap (λ o. Some o) gone_op) in
           let both : Some d.sending ≡ Some z.sending = sym d.last ∙ z.last in
           let last : d.sending ≡ h.sending = (let y : d.sending ≡ z.sending = cc both in y ∙ sym same) in
           let op : Fetching d.number ≡ Fetching k = sym d.fetches ∙ (ap (λ (y : Sending). y.operation) last
           ∙ h.fetches) in
           let number_is : d.number ≡ k = cc op in
-          let kn = known server szx word t past.rows past.exchanges.rows in
+          let kn = known server sizes word t past.rows past.exchanges.rows in
           elim d.off [
             | inl g ↦ (
-                let x = found_rest k (own_of szx t).observations n rest in
-                let live : 1 ≤ in_observations k (own_of szx t).observations =
-                subst (λ i. 1 ≤ in_observations i (own_of szx t).observations) x.2
-                (in_count x.0 (own_of szx t).observations x.1) in
-                both_one (places k (own_of szx t)) (gone szx k t) _ (kn.one k) (omega (arith, live))
-                (subst (λ i. 1 ≤ gone szx i t) number_is g))
-            | inr f ↦ f (subst (λ i. SentSince szx i d.sending t) (sym number_is)
-                (subst (λ (y : Sending). SentSince szx k y t) (sym last) h.since))
+                let x = found_rest k (own_of sizes t).observations n rest in
+                let live : 1 ≤ in_observations k (own_of sizes t).observations =
+                subst (λ i. 1 ≤ in_observations i (own_of sizes t).observations) x.2
+                (in_count x.0 (own_of sizes t).observations x.1) in
+                both_one (places k (own_of sizes t)) (gone sizes k t) _ (kn.one k) (omega (arith, live))
+                (subst (λ i. 1 ≤ gone sizes i t) number_is g))
+            | inr f ↦ f (subst (λ i. SentSince sizes i d.sending t) (sym number_is)
+                (subst (λ (y : Sending). SentSince sizes k y t) (sym last) h.since))
           ]
 
       by : (o : Operation) → z.operation ≡ o → IsSentFor o z.sending → o ≡ Fetching k
@@ -212,18 +219,26 @@ module _ (szx : ℕ) (server : Endpoint) (word : ℕ) (t : List Call) (c : Call)
       by (Fetching j) is e = sym e ∙ fetches
       by Dropped is e = absurd (counts is)
 
-  whole_here : ReportsWhole szx t c
+  -- .. in the client's sizes
+  rest_limit : (k : ℕ) (n : Notified) → rest_of k (own_of sizes t).observations ≡ Some n
+      → n.fetch.limit ≡ sizes.limit
+  rest_limit k n rest =
+      let x = found_rest k (own_of sizes t).observations n rest in
+      ap (λ (y : Sizes). y.limit) (fetched sizes server word t past x.0 x.1 n x.3).sizes_are
+
+  whole_here : ReportsWhole sizes t c
   whole_here = record {
     body = body_here;
-    value = value_here szx t c;
+    value = value_here sizes t c;
     fetched = λ k m h n rest body whole.
-        reports_fetched (own_of szx t) c k n m body (runs_fetch k m h n rest) h.heard rest whole;
+        reports_fetched (own_of sizes t) c k n m body (runs_fetch k m h n rest) h.heard rest
+        (subst (λ i. MakesWhole i n.fetch m body) (sym (rest_limit k n rest)) whole);
   }
 
-pub whole_are_reported : (server : Endpoint) (szx word : ℕ) (t : List Call) → ClientLaw server szx word t
-    → WholeAreReported szx t
-whole_are_reported server szx word [] law = tt
-whole_are_reported server szx word (c ∷ t) law = (
-  whole_here szx server word t c law,
-  whole_are_reported server szx word t (client_back server szx word (c ∷ []) t law),
+pub whole_are_reported : (server : Endpoint) (sizes : Sizes) (word : ℕ) (t : List Call) → ClientLaw server sizes word t
+    → WholeAreReported sizes t
+whole_are_reported server sizes word [] law = tt
+whole_are_reported server sizes word (c ∷ t) law = (
+  whole_here sizes server word t c law,
+  whole_are_reported server sizes word t (client_back server sizes word (c ∷ []) t law),
 )

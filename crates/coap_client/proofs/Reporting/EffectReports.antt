@@ -148,11 +148,12 @@ registered_none : (k : ℕ) (path : List (List ℕ)) (s : Own) (now : ℕ) (m : 
 registered_none k path s now m =
     effect_if (is_notification m)
     (record {
-      own = record s { running = None; observations = s.observations ++ begun k path s.szx now m ∷ [] };
-      report = first_value k s.szx m;
+      own = record s { running = None; observations = s.observations ++ begun k path s.sizes now m ∷ [] };
+      report = first_value k s.sizes m;
       deed = Keeps m.token;
     })
-    (ends (of k (Ended m.code)) s) (value_none k (sequence_in m) (F.start s.szx 0) m (part (F.start s.szx 0) m)) refl
+    (ends (of k (Ended m.code)) s) (value_none k (sequence_in m) (F.start s.sizes 0) m
+    (part (F.start s.sizes 0) m)) refl
 
 pub answered_none : (s : Own) (now : ℕ) (m : Message) (running : Option Operation)
     → lapse_in (answered s now m running).report ≡ false
@@ -172,7 +173,7 @@ noticed_by_none (Some o) s now m =
     effect_if (not (is_notification m)) (is_over o.number (Ended m.code) s)
     (cond (is_newer o.watch.mark (sequence_in m) now) (renewed o s now m) (stays (passed o s now m))) refl
     (effect_if (is_newer o.watch.mark (sequence_in m) now) (renewed o s now m) (stays (passed o s now m))
-    (value_none o.number (sequence_in m) (F.start s.szx 0) m (part (F.start s.szx 0) m)) refl)
+    (value_none o.number (sequence_in m) (F.start s.sizes 0) m (part (F.start s.sizes 0) m)) refl)
 
 pub noticed_none : (s : Own) (now : ℕ) (m : Message) → lapse_in (noticed s now m).report ≡ false
 noticed_none s now m = noticed_by_none (observation_with m.token s.observations) s now m

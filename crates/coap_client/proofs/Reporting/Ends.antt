@@ -9,9 +9,9 @@ use Rattle.std.proofs.lemmas.Bool.Decides.{nat_tests}
 use Rattle.coap_types.specs.Past.{Ever, Always}
 use Rattle.coap_types.proofs.Facts.Traces.{Always_back}
 use Rattle.coap_types.specs.declared.endpoint.Endpoint.{Endpoint}
-use Rattle.coap_types.specs.declared.limits.TheConstants.{MAX_BODY_LEN as max_body}
 use Rattle.coap_types.specs.declared.option_number.TheConstants.{BLOCK2 as block2}
 use Rattle.coap_layer.specs.Trace as L
+use Rattle.coap_block.specs.Sizes.{Sizes}
 use Rattle.coap_exchange.specs.declared.asker.AskRefusal.{AskRefusal}
 use Rattle.coap_exchange.specs.declared.asker.AskRefusal.TheVariants as refusal
 use Rattle.coap_exchange.specs.declared.asker.Event.{Event}
@@ -78,35 +78,36 @@ in_place : (a b : ℕ) (c : Bool) → a + b ≡ cond c 1 0 → 1 ≤ a → c ≡
 in_place a b true h p = refl
 in_place a b false h p = absurd (omega (arith, h, p))
 
-module _ (server : Endpoint) (szx word : ℕ) where
+module _ (server : Endpoint) (sizes : Sizes) (word : ℕ) where
   abbrev Laws : List E.Call → Type 0
   Laws calls = X.AskerLaw server word calls
 
-  below_of : (t : List Call) (c : Call) → Laws (lower_of szx (c ∷ t)) → Laws (lower_of szx t)
-  below_of t c law = law_back server word (lower (own_of szx t) c) (lower_of szx t) law
+  below_of : (t : List Call) (c : Call) → Laws (lower_of sizes (c ∷ t)) → Laws (lower_of sizes t)
+  below_of t c law = law_back server word (lower (own_of sizes t) c) (lower_of sizes t) law
 
   -- each number below those to come was given
   abbrev Given : ℕ → List Call → Type 0
   Given n t = Ever (λ b. number_given b ≡ Some n) t
 
-  next_given : (t : List Call) (c : Call) (k n : ℕ) → number_given c ≡ Some k → k ≡ (own_of szx t).taken
-      → (nat_lt n (own_of szx t).taken ≡ true → Given n t) → nat_lt n ((own_of szx t).taken + 1) ≡ true
+  next_given : (t : List Call) (c : Call) (k n : ℕ) → number_given c ≡ Some k → k ≡ (own_of sizes t).taken
+      → (nat_lt n (own_of sizes t).taken ≡ true → Given n t) → nat_lt n ((own_of sizes t).taken + 1) ≡ true
       → Given n (c ∷ t)
-  next_given t c k n gives is ih h = elim (split n (own_of szx t).taken h)
+  next_given t c k n gives is ih h = elim (split n (own_of sizes t).taken h)
       [ inl low ↦ inr (ih low) | inr same ↦ inl (gives ∙ ap (λ i. Some i) (is ∙ sym same)) ]
 
-  given : (t : List Call) → ClientRows szx t → Laws (lower_of szx t) → (n : ℕ) → nat_lt n (own_of szx t).taken ≡ true
+  given : (t : List Call) → ClientRows sizes t → Laws (lower_of sizes t) → (n : ℕ)
+      → nat_lt n (own_of sizes t).taken ≡ true
       → Given n t
   given [] rows law n h = let a = ltb-true n 0 h in absurd (omega (arith, a))
   given (Calls now r (Ok k) ∷ t) rows law n h =
-      let s : Own = own_of szx t in
-      let is = given_is (is_full s) (nat_lt max_body (length r.body))
+      let s : Own = own_of sizes t in
+      let is = given_is (is_full s) (nat_lt s.sizes.limit (length r.body))
       (are_long (block_option_number r.method) (options_of r))
       (s.taken == max_numbers) QueueFull BodyTooLarge BadPath CallsSpent k s.taken rows.0 in
       next_given t (Calls now r (Ok k)) k n refl is (λ low. given t rows.1 law n low) h
   given (Calls now r (Err why) ∷ t) rows law n h = inr (given t rows.1 law n h)
   given (Observes now path (Ok k) ∷ t) rows law n h =
-      let s : Own = own_of szx t in
+      let s : Own = own_of sizes t in
       let is = given_is (is_full s) (are_long block2 (path_options path)) (nat_le max_observations (observed s))
       (s.taken == max_numbers) QueueFull BadPath WatchesFull CallsSpent k s.taken rows.0 in
       next_given t (Observes now path (Ok k)) k n refl is (λ low. given t rows.1 law n low) h
@@ -121,39 +122,39 @@ module _ (server : Endpoint) (szx word : ℕ) where
   given (Feeds now from bytes w up settled event sent token was ∷ t) rows law n h =
       let c : Call = Feeds now from bytes w up settled event sent token was in
       let under = below_of t c law in
-      let k = known server szx word t rows.1 under in
+      let k = known server sizes word t rows.1 under in
       inr (given t rows.1 under n (ap (nat_lt n) (sym
-      (fed server szx word t now from bytes w up settled event sent token was k law).taken_is) ∙ h))
+      (fed server sizes word t now from bytes w up settled event sent token was k law).taken_is) ∙ h))
   given (Ticks now w below turn sent token was answer ∷ t) rows law n h =
       let c : Call = Ticks now w below turn sent token was answer in
       let under = below_of t c law in
-      let k = known server szx word t rows.1 under in
+      let k = known server sizes word t rows.1 under in
       inr (given t rows.1 under n (ap (nat_lt n) (sym
-      (ticked server szx word t now w below turn sent token was answer k law).taken_is) ∙ h))
+      (ticked server sizes word t now w below turn sent token was answer k law).taken_is) ∙ h))
 
-  numbered_so : (t : List Call) (c : Call) → ClientLaw server szx word (c ∷ t) → (x : Reported)
-      → reports (own_of szx t) c ≡ Some x → Given x.number t
+  numbered_so : (t : List Call) (c : Call) → ClientLaw server sizes word (c ∷ t) → (x : Reported)
+      → reports (own_of sizes t) c ≡ Some x → Given x.number t
   numbered_so t c law x made =
       let under = below_of t c law.exchanges.rows in
-      let k = known server szx word t law.rows.1 under in
-      given t law.rows.1 under x.number (in_place (places x.number (own_of szx t)) (gone szx x.number t)
-      (nat_lt x.number (own_of szx t).taken) (k.one x.number)
-      (from_place server szx word t c k law.exchanges.rows x made))
+      let k = known server sizes word t law.rows.1 under in
+      given t law.rows.1 under x.number (in_place (places x.number (own_of sizes t)) (gone sizes x.number t)
+      (nat_lt x.number (own_of sizes t).taken) (k.one x.number)
+      (from_place server sizes word t c k law.exchanges.rows x made))
 
   -- the exchange that runs is that of the request that was sent last
   record LastIs (t : List Call) : Type 0 where
     sending : Sending
-    last : last_sent szx t ≡ Some sending
-    same : reported_in (own_of szx t).running ≡ reported_of sending.operation
+    last : last_sent sizes t ≡ Some sending
+    same : reported_in (own_of sizes t).running ≡ reported_of sending.operation
 
-  last_is : (t : List Call) → ClientRows szx t → Laws (lower_of szx t) → (x : Exchange)
-      → (beneath server szx word t).running ≡ Some x → LastIs t
-  last_is t rows law x runs = by (own_of szx t).running refl (known server szx word t rows law).linked
-      (all_sends szx server word t rows law).tracked
+  last_is : (t : List Call) → ClientRows sizes t → Laws (lower_of sizes t) → (x : Exchange)
+      → (beneath server sizes word t).running ≡ Some x → LastIs t
+  last_is t rows law x runs = by (own_of sizes t).running refl (known server sizes word t rows law).linked
+      (all_sends sizes server word t rows law).tracked
     where
-      by : (o : Option Operation) → (own_of szx t).running ≡ o
-          → Linked o (own_of szx t).observations (beneath server szx word t).running
-          → IfTracked szx t o (beneath server szx word t).running → LastIs t
+      by : (o : Option Operation) → (own_of sizes t).running ≡ o
+          → Linked o (own_of sizes t).observations (beneath server sizes word t).running
+          → IfTracked sizes t o (beneath server sizes word t).running → LastIs t
       by None is link tr = let none : None ≡ Some x = sym link ∙ runs in absurd (cc none)
       by (Some op) is link tr = elim tr.same [
         | inr same ↦ record {
@@ -162,7 +163,7 @@ module _ (server : Endpoint) (szx word : ℕ) where
           same = ap reported_in is ∙ ap reported_of (sym same);
         }
         | inl gone_op ↦ (
-            let d = if_dropped szx server word t rows law (is ∙ ap (λ z. Some z) gone_op) in
+            let d = if_dropped sizes server word t rows law (is ∙ ap (λ z. Some z) gone_op) in
             record {
               sending = d.sending;
               last = d.last;
@@ -174,21 +175,21 @@ module _ (server : Endpoint) (szx word : ℕ) where
   module _ (t : List Call) (now w : ℕ) (sent : L.Answer) (token : Result (List ℕ) AskRefusal) (kept : Bool) (e : Effect)
       (input : E.Call) where
     abbrev m : ℕ
-    m = max (own_of szx t).clock now
+    m = max (own_of sizes t).clock now
 
     abbrev calls : List E.Call
-    calls = done_for e m w sent token kept input ++ lower_of szx t
+    calls = done_for e m w sent token kept input ++ lower_of sizes t
 
     abbrev later : List E.Call
     later = deeds (close m e token).deed (close m e token).own m w sent token kept
 
     abbrev x1 : E.Own
-    x1 = P.after (beneath server szx word t) input
+    x1 = P.after (beneath server sizes word t) input
 
-    right : Laws calls → P.IsRight (beneath server szx word t) input
+    right : Laws calls → P.IsRight (beneath server sizes word t) input
         × AreRight x1 (later ++ deeds e.deed e.own m w sent token kept)
-    right law = done_right (beneath server szx word t) later (deeds e.deed e.own m w sent token kept) input
-        (law_front server word (later ++ (deeds e.deed e.own m w sent token kept ++ input ∷ [])) (lower_of szx t) law)
+    right law = done_right (beneath server sizes word t) later (deeds e.deed e.own m w sent token kept) input
+        (law_front server word (later ++ (deeds e.deed e.own m w sent token kept ++ input ∷ [])) (lower_of sizes t) law)
 
     -- a request that is asked for and not sent
     module _ (law : Laws calls) (told : AreRefused calls) (op : Operation) (why : AskRefusal) (asks : e.deed ≡ Asks op)
@@ -199,24 +200,25 @@ module _ (server : Endpoint) (szx word : ℕ) where
       none_runs : x1.running ≡ None
       none_runs = subst (λ d. Leaves d e x1.running) asks leaves
 
-      behind : Always TellsRunning (ask ∷ input ∷ lower_of szx t)
+      behind : Always TellsRunning (ask ∷ input ∷ lower_of sizes t)
       behind =
-          subst (λ d. Always TellsRunning ((deeds d e.own m w sent token kept ++ input ∷ []) ++ lower_of szx t)) asks
-          (Always_back TellsRunning later ((deeds e.deed e.own m w sent token kept ++ input ∷ []) ++ lower_of szx t)
+          subst (λ d. Always TellsRunning ((deeds d e.own m w sent token kept ++ input ∷ []) ++ lower_of sizes t)) asks
+          (Always_back TellsRunning later ((deeds e.deed e.own m w sent token kept ++ input ∷ []) ++ lower_of sizes t)
           (subst (Always TellsRunning) (append_assoc later (deeds e.deed e.own m w sent token kept ++ input ∷ [])
-          (lower_of szx t)) told))
+          (lower_of sizes t)) told))
 
-      rows_behind : Laws (ask ∷ input ∷ lower_of szx t)
+      rows_behind : Laws (ask ∷ input ∷ lower_of sizes t)
       rows_behind =
-          subst (λ d. Laws ((deeds d e.own m w sent token kept ++ input ∷ []) ++ lower_of szx t)) asks
-          (law_back server word later ((deeds e.deed e.own m w sent token kept ++ input ∷ []) ++ lower_of szx t)
-          (subst Laws (append_assoc later (deeds e.deed e.own m w sent token kept ++ input ∷ []) (lower_of szx t)) law))
+          subst (λ d. Laws ((deeds d e.own m w sent token kept ++ input ∷ []) ++ lower_of sizes t)) asks
+          (law_back server word later ((deeds e.deed e.own m w sent token kept ++ input ∷ []) ++ lower_of sizes t)
+          (subst Laws (append_assoc later (deeds e.deed e.own m w sent token kept ++ input ∷ [])
+          (lower_of sizes t)) law))
 
       not_running : why ≡ refusal.Running → ⊥
       not_running is =
           let o = behind.0.runs m w (message_of e.own.observations op) sent
           (ap (λ z. E.Ask m (message_of e.own.observations op) w sent z) (given_so ∙ ap (λ y. Err y) is)) in
-          let k = exchanges.runs_it server word (input ∷ lower_of szx t) rows_behind.1 o.0 o.1 in
+          let k = exchanges.runs_it server word (input ∷ lower_of sizes t) rows_behind.1 o.0 o.1 in
           let none : None ≡ Some o.0 = ap token_in (sym none_runs) ∙ k in
           cc none
 
@@ -230,48 +232,49 @@ module _ (server : Endpoint) (szx word : ℕ) where
   -- a datagram
   module _ (t : List Call) (now : ℕ) (from : Endpoint) (bytes : List ℕ) (w : ℕ) (up : L.Answer) (settled : Bool)
       (event : Option Event) (sent : L.Answer) (token : Result (List ℕ) AskRefusal) (kept : Bool)
-      (rows : ClientRows szx t) (law : Laws (lower_of szx
+      (rows : ClientRows sizes t) (law : Laws (lower_of sizes
       (Feeds now from bytes w up settled event sent token kept ∷ t))) where
     abbrev s : Own
-    s = at now (own_of szx t)
+    s = at now (own_of sizes t)
 
     abbrev feed : Call
     feed = Feeds now from bytes w up settled event sent token kept
 
     abbrev input : E.Call
-    input = E.Receive (max (own_of szx t).clock now) from bytes up settled event
+    input = E.Receive (max (own_of sizes t).clock now) from bytes up settled event
 
     abbrev moment : ℕ
-    moment = max (own_of szx t).clock now
+    moment = max (own_of sizes t).clock now
 
     abbrev fed_effect : Effect
     fed_effect = happened s moment event
 
-    under : Laws (lower_of szx t)
+    under : Laws (lower_of sizes t)
     under = below_of t feed law
 
-    came_so : Came (beneath server szx word t).running (P.after (beneath server szx word t) input).running event
-    came_so = came (beneath server szx word t) from _ up event (right t now w sent token kept fed_effect input law).0
+    came_so : Came (beneath server sizes word t).running (P.after (beneath server sizes word t) input).running event
+    came_so = came (beneath server sizes word t) from _ up event (right t now w sent token kept fed_effect input law).0
 
-    fed_want : AreRefused (lower_of szx (feed ∷ t)) → (u : Unsent) → unsent (own_of szx t) feed ≡ Some u → IsWant u.why
+    fed_want : AreRefused (lower_of sizes (feed ∷ t)) → (u : Unsent) → unsent (own_of sizes t) feed ≡ Some u
+        → IsWant u.why
     fed_want told u is =
         let k = unsent_asks fed_effect token u is in
-        let g = goes_fed server szx word t now from bytes w up settled event sent token kept
-        (known server szx word t rows under) law in
+        let g = goes_fed server sizes word t now from bytes w up settled event sent token kept
+        (known server sizes word t rows under) law in
         wanting t now w sent token kept fed_effect input law told u.operation u.why k.0 k.1 g.leaves
 
     abbrev Tells : Reported → Type 0
     Tells x = ((is_end x.report ≡ true) × (ends_as feed ≡ Some x.report)) ⊎ Refuses fed_effect token x
 
-    fed_tells : (x : Reported) → reports (own_of szx t) feed ≡ Some x → is_lapse x.report ≡ true → Tells x
+    fed_tells : (x : Reported) → reports (own_of sizes t) feed ≡ Some x → is_lapse x.report ≡ true → Tells x
     fed_tells x made lapse_so = by event refl came_so
       where
         quiet_so : (o : Option Event) → event ≡ o → lapse_in (happened s moment o).report ≡ false → Tells x
         quiet_so o is none = inr (refuses_so moment fed_effect token (closing moment fed_effect token)
             (ap (λ z. lapse_in (happened s moment z).report) is ∙ none) x made lapse_so)
 
-        by : (o : Option Event) → event ≡ o → Came (beneath server szx word t).running
-            (P.after (beneath server szx word t) input).running o → Tells x
+        by : (o : Option Event) → event ≡ o → Came (beneath server sizes word t).running
+            (P.after (beneath server sizes word t) input).running o → Tells x
         by None is h = quiet_so None is refl
         by (Some (event_of.Answer a)) is h = quiet_so (Some (event_of.Answer a)) is (answered_none s moment a s.running)
         by (Some (event_of.Notice a)) is h = quiet_so (Some (event_of.Notice a)) is (noticed_none s moment a)
@@ -289,14 +292,14 @@ module _ (server : Endpoint) (szx word : ℕ) where
             )
 
     abbrev Ended : Report → Type 0
-    Ended r = (x : Sending) × (last_sent szx t ≡ Some x)
-        × (reports (own_of szx t) feed ≡ report_to r (reported_of x.operation))
+    Ended r = (x : Sending) × (last_sent sizes t ≡ Some x)
+        × (reports (own_of sizes t) feed ≡ report_to r (reported_of x.operation))
 
     fed_ends : (r : Report) → ends_as feed ≡ Some r → Ended r
     fed_ends r ends_so = by event refl came_so (ends_so)
       where
-        by : (o : Option Event) → event ≡ o → Came (beneath server szx word t).running
-            (P.after (beneath server szx word t) input).running o
+        by : (o : Option Event) → event ≡ o → Came (beneath server sizes word t).running
+            (P.after (beneath server sizes word t) input).running o
             → ends_as (Feeds now from bytes w up settled o sent token kept) ≡ Some r → Ended r
         by None is h end_is = absurd (cc end_is)
         by (Some (event_of.Answer a)) is h end_is = absurd (cc end_is)
@@ -316,15 +319,16 @@ module _ (server : Endpoint) (szx word : ℕ) where
   -- time passes
   module _ (t : List Call) (now w : ℕ) (below : L.Answer) (turn : Turn) (sent : L.Answer)
       (token : Result (List ℕ) AskRefusal) (kept answer : Bool)
-      (rows : ClientRows szx t) (law : Laws (lower_of szx (Ticks now w below turn sent token kept answer ∷ t))) where
+      (rows : ClientRows sizes t) (law : Laws (lower_of sizes
+      (Ticks now w below turn sent token kept answer ∷ t))) where
     abbrev ts : Own
-    ts = at now (own_of szx t)
+    ts = at now (own_of sizes t)
 
     abbrev tick : Call
     tick = Ticks now w below turn sent token kept answer
 
     abbrev tick_moment : ℕ
-    tick_moment = max (own_of szx t).clock now
+    tick_moment = max (own_of sizes t).clock now
 
     abbrev tick_input : E.Call
     tick_input = E.Ticks tick_moment below turn
@@ -332,16 +336,18 @@ module _ (server : Endpoint) (szx word : ℕ) where
     abbrev tick_effect : Effect
     tick_effect = passes ts tick_moment turn
 
-    tick_under : Laws (lower_of szx t)
+    tick_under : Laws (lower_of sizes t)
     tick_under = below_of t tick law
 
-    tick_right : turn ≡ turn_of (beneath server szx word t) (max (beneath server szx word t).clock tick_moment) below
+    tick_right : turn ≡ turn_of (beneath server sizes word t)
+        (max (beneath server sizes word t).clock tick_moment) below
     tick_right = (right t now w sent token kept tick_effect tick_input law).0
 
-    tick_want : AreRefused (lower_of szx (tick ∷ t)) → (u : Unsent) → unsent (own_of szx t) tick ≡ Some u → IsWant u.why
+    tick_want : AreRefused (lower_of sizes (tick ∷ t)) → (u : Unsent) → unsent (own_of sizes t) tick ≡ Some u
+        → IsWant u.why
     tick_want told u is =
         let k = unsent_asks tick_effect token u is in
-        let g = goes_ticked server szx word t now turn (known server szx word t rows tick_under) in
+        let g = goes_ticked server sizes word t now turn (known server sizes word t rows tick_under) in
         wanting t now w sent token kept tick_effect tick_input law told u.operation u.why k.0 k.1 g.leaves
 
     abbrev TickTells : Reported → Type 0
@@ -362,11 +368,12 @@ module _ (server : Endpoint) (szx word : ℕ) where
           ∙ ap (λ z. Some (lapse z)) (sym none)),
     )
 
-    ended_here : (e : Event) → turn ≡ turn_is.End e → EndedBy (beneath server szx word t) e
-    ended_here e is = ended_by (beneath server szx word t) (max (beneath server szx word t).clock tick_moment) below e
+    ended_here : (e : Event) → turn ≡ turn_is.End e → EndedBy (beneath server sizes word t) e
+    ended_here e is = ended_by (beneath server sizes word t) (max
+        (beneath server sizes word t).clock tick_moment) below e
         (sym is ∙ tick_right)
 
-    tick_tells : (x : Reported) → reports (own_of szx t) tick ≡ Some x → is_lapse x.report ≡ true → TickTells x
+    tick_tells : (x : Reported) → reports (own_of sizes t) tick ≡ Some x → is_lapse x.report ≡ true → TickTells x
     tick_tells x made lapse_so = by turn refl
       where
         quiet_so : (v : Turn) → turn ≡ v → lapse_in (passes ts tick_moment v).report ≡ false → TickTells x
@@ -385,8 +392,8 @@ module _ (server : Endpoint) (szx word : ℕ) where
             inl (ap is_end k.0 ∙ said.0, said.1 ∙ ap (λ z. Some z) (sym k.0))
 
     abbrev TickEnded : Report → Type 0
-    TickEnded r = (x : Sending) × (last_sent szx t ≡ Some x)
-        × (reports (own_of szx t) tick ≡ report_to r (reported_of x.operation))
+    TickEnded r = (x : Sending) × (last_sent sizes t ≡ Some x)
+        × (reports (own_of sizes t) tick ≡ report_to r (reported_of x.operation))
 
     tick_ends : (r : Report) → ends_as tick ≡ Some r → TickEnded r
     tick_ends r ends_so = by turn refl ends_so
@@ -412,21 +419,21 @@ module _ (server : Endpoint) (szx word : ℕ) where
   -- each call
   abbrev AllSo : List Call → Call → Type 0
   AllSo t c =
-      ((r : Report) → ends_as c ≡ Some r → (x : Sending) × (last_sent szx t ≡ Some x)
-      × (reports (own_of szx t) c ≡ report_to r (reported_of x.operation)))
-      × ((x : Reported) → reports (own_of szx t) c ≡ Some x → is_lapse x.report ≡ true
+      ((r : Report) → ends_as c ≡ Some r → (x : Sending) × (last_sent sizes t ≡ Some x)
+      × (reports (own_of sizes t) c ≡ report_to r (reported_of x.operation)))
+      × ((x : Reported) → reports (own_of sizes t) c ≡ Some x → is_lapse x.report ≡ true
       → ((is_end x.report ≡ true) × (ends_as c ≡ Some x.report))
-      ⊎ ((u : Unsent) × (unsent (own_of szx t) c ≡ Some u) × (x.report ≡ NoIds)
+      ⊎ ((u : Unsent) × (unsent (own_of sizes t) c ≡ Some u) × (x.report ≡ NoIds)
       × (reported_of u.operation ≡ Some x.number)))
-      × ((u : Unsent) → unsent (own_of szx t) c ≡ Some u
-      → IsWant u.why × (reports (own_of szx t) c ≡ report_to NoIds (reported_of u.operation)))
+      × ((u : Unsent) → unsent (own_of sizes t) c ≡ Some u
+      → IsWant u.why × (reports (own_of sizes t) c ≡ report_to NoIds (reported_of u.operation)))
 
-  all_so : (t : List Call) (c : Call) → ClientLaw server szx word (c ∷ t) → AllSo t c
+  all_so : (t : List Call) (c : Call) → ClientLaw server sizes word (c ∷ t) → AllSo t c
   all_so t (Feeds now from bytes w up settled event sent token kept) law =
       let rows = law.rows.1 in
-      let told = are_refused server word (lower_of szx (Feeds now from bytes w up settled event sent token kept ∷ t))
+      let told = are_refused server word (lower_of sizes (Feeds now from bytes w up settled event sent token kept ∷ t))
       law.exchanges in
-      let e : Effect = happened (at now (own_of szx t)) (max (own_of szx t).clock now) event in (
+      let e : Effect = happened (at now (own_of sizes t)) (max (own_of sizes t).clock now) event in (
         λ r h. fed_ends t now from bytes w up settled event sent token kept rows law.exchanges.rows r h,
         λ x made h. elim (fed_tells t now from bytes w up settled event sent token kept rows law.exchanges.rows x made
             h) [
@@ -435,14 +442,14 @@ module _ (server : Endpoint) (szx word : ℕ) where
             ],
         λ u h. (
           fed_want t now from bytes w up settled event sent token kept rows law.exchanges.rows told u h,
-          unsent_report (max (own_of szx t).clock now) e token u h,
+          unsent_report (max (own_of sizes t).clock now) e token u h,
         ),
       )
   all_so t (Ticks now w below turn sent token kept answer) law =
       let rows = law.rows.1 in
-      let told = are_refused server word (lower_of szx (Ticks now w below turn sent token kept answer ∷ t))
+      let told = are_refused server word (lower_of sizes (Ticks now w below turn sent token kept answer ∷ t))
       law.exchanges in
-      let e : Effect = passes (at now (own_of szx t)) (max (own_of szx t).clock now) turn in (
+      let e : Effect = passes (at now (own_of sizes t)) (max (own_of sizes t).clock now) turn in (
         λ r h. tick_ends t now w below turn sent token kept answer rows law.exchanges.rows r h,
         λ x made h. elim (tick_tells t now w below turn sent token kept answer rows law.exchanges.rows x made h) [
           | inl k ↦ inl k
@@ -450,7 +457,7 @@ module _ (server : Endpoint) (szx word : ℕ) where
         ],
         λ u h. (
           tick_want t now w below turn sent token kept answer rows law.exchanges.rows told u h,
-          unsent_report (max (own_of szx t).clock now) e token u h,
+          unsent_report (max (own_of sizes t).clock now) e token u h,
         ),
       )
   all_so t (Calls now r answer) law = (λ r h. absurd (cc h), λ x made h. absurd (cc made), λ u h. absurd (cc h))
@@ -461,7 +468,7 @@ module _ (server : Endpoint) (szx word : ℕ) where
   all_so t (NextReport answer) law = (λ r h. absurd (cc h), λ x made h. absurd (cc made), λ u h. absurd (cc h))
   all_so t (Asked answer) law = (λ r h. absurd (cc h), λ x made h. absurd (cc made), λ u h. absurd (cc h))
 
-  ends_here : (t : List Call) (c : Call) → ClientLaw server szx word (c ∷ t) → ReportsEnds szx t c
+  ends_here : (t : List Call) (c : Call) → ClientLaw server sizes word (c ∷ t) → ReportsEnds sizes t c
   ends_here t c law =
       let k = all_so t c law in
       record {
@@ -474,6 +481,6 @@ module _ (server : Endpoint) (szx word : ℕ) where
             [ inl z ↦ absurd (cc z.0) | inr z ↦ (z.0, z.1, z.3) ];
       }
 
-  pub all_ends : (t : List Call) → ClientLaw server szx word t → AllEnds szx t
+  pub all_ends : (t : List Call) → ClientLaw server sizes word t → AllEnds sizes t
   all_ends [] law = tt
-  all_ends (c ∷ t) law = (ends_here t c law, all_ends t (client_back server szx word (c ∷ []) t law))
+  all_ends (c ∷ t) law = (ends_here t c law, all_ends t (client_back server sizes word (c ∷ []) t law))

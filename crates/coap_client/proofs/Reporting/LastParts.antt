@@ -9,7 +9,7 @@ use Rattle.std.proofs.lemmas.List.{length-take, length-drop}
 use Rattle.std.proofs.lemmas.Slice.Eq.{bytes_eq-Decides}
 use Rattle.coap_types.specs.OptionValues.{value_of}
 use Rattle.coap_types.specs.BlockValue.{block_in}
-use Rattle.coap_types.specs.Piece.{size_of, offset_of, Begins, Piece, max_body_len}
+use Rattle.coap_types.specs.Piece.{size_of, offset_of, Begins, Piece}
 use Rattle.coap_types.specs.declared.block.Block.{Block}
 use Rattle.coap_types.specs.declared.option_number.TheConstants.{BLOCK2 as block2}
 use Rattle.coap_codec.specs.Message.{Message}
@@ -161,7 +161,7 @@ tag_fits (Some asked) old b tag payload parts w is last one =
 
 last_block : (parts : List Part) (f : FetchState) (b : Block) (tag : Option (List ℕ)) (payload body : List ℕ)
     → Gathered parts f → IsAsked f.asked (Some b) → Whole (payloads_of parts (Some b) tag payload) body
-    → length body ≤ max_body_len → F.verdict f (Some b) tag (length payload) ≡ verdict.Done
+    → length body ≤ f.limit → F.verdict f (Some b) tag (length payload) ≡ verdict.Done
 last_block parts f b tag payload body g is whole short =
     let l : Part = part_of_block b tag payload in
     let last : b.more ≡ false = ends_last parts l whole.0.ends in
@@ -170,23 +170,23 @@ last_block parts f b tag payload body g is whole short =
     let sum = e.sum in
     let tags = tag_fits f.asked f.tag b tag payload parts g.awaits is last whole.1 in
     done_by (fits f.asked b.num b.szx && is_sized b.more b.num b.szx (length payload))
-    (nat_lt max_body_len (offset_of b.num b.szx + length payload)) (lacks_tag b tag) (F.differs f tag) b.more
+    (nat_lt f.limit (offset_of b.num b.szx + length payload)) (lacks_tag b tag) (F.differs f tag) b.more
     (F.changed f.restarts) (verdict.Ask (F.next_num f b) (F.next_szx f b))
     (ap (λ x. x && is_sized b.more b.num b.szx (length payload)) (asked_fits f.asked b is)
     ∙ (ap (λ x. is_sized x b.num b.szx (length payload)) last ∙ sized b.num b.szx (length payload) e.short e.some))
-    (lt_false max_body_len (offset_of b.num b.szx + length payload) (omega (arith, sum, short))) tags.has tags.same last
+    (lt_false f.limit (offset_of b.num b.szx + length payload) (omega (arith, sum, short))) tags.has tags.same last
 
 last_alone : (parts : List Part) (f : FetchState) (tag : Option (List ℕ)) (payload body : List ℕ) → Gathered parts f
-    → parts ≡ [] → payload ≡ body → length body ≤ max_body_len
+    → parts ≡ [] → payload ≡ body → length body ≤ f.limit
     → F.verdict f None tag (length payload) ≡ verdict.Done
 last_alone parts f tag payload body g none whole short = by f.asked g.awaits
   where
     by : (o : Option Asked) → Awaits o f.tag parts
         → cond (is_some o) (verdict.Refuse refusal.BadBlock)
-        (cond (nat_lt max_body_len (length payload)) (verdict.Refuse refusal.TooLarge) verdict.Done) ≡ verdict.Done
+        (cond (nat_lt f.limit (length payload)) (verdict.Refuse refusal.TooLarge) verdict.Done) ≡ verdict.Done
     by None w = let len : length payload ≡ length body = ap length whole in
         ap (λ b. cond b (verdict.Refuse refusal.TooLarge) verdict.Done)
-        (lt_false max_body_len (length payload) (omega (arith, len, short)))
+        (lt_false f.limit (length payload) (omega (arith, len, short)))
     by (Some asked) w = absurd (w.1 none)
 
 -- what comes last is the last part to the transfer
@@ -201,7 +201,7 @@ block_part f tag len b (Some v) h = ap (λ x. elim x [
 
 last_done : (f : FetchState) (m : Message) (body : List ℕ) (parts : List Part) (block : Option Block)
     → Gathered parts f → ComesLast parts m block → IsAsked f.asked block
-    → Whole (payloads_of parts block (tag_in m) m.payload) body → length body ≤ max_body_len
+    → Whole (payloads_of parts block (tag_in m) m.payload) body → length body ≤ f.limit
     → (part f m ≡ verdict.Done) × (F.verdict f block (tag_in m) (length m.payload) ≡ verdict.Done)
 last_done f m body parts None g last is whole short =
     let d = last_alone parts f (tag_in m) m.payload body g last.1 whole short in
@@ -214,7 +214,7 @@ pub record IsLast (f : FetchState) (m : Message) (body : List ℕ) : Type 0 wher
   pub done : part f m ≡ verdict.Done
   pub body_is : f.gathered ++ m.payload ≡ body
 
-pub last_part : (f : FetchState) (m : Message) (body : List ℕ) → MakesWhole f m body → IsLast f m body
+pub last_part : (f : FetchState) (m : Message) (body : List ℕ) → MakesWhole f.limit f m body → IsLast f m body
 last_part f m body w =
     let d = last_done f m body w.parts w.block w.gathered w.last w.asked w.whole w.short in
     record {

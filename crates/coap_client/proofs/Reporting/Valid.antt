@@ -8,6 +8,7 @@ use Rattle.coap_types.specs.declared.option_number.TheConstants.{BLOCK1 as block
 use Rattle.coap_types.specs.declared.request.Method.{Method}
 use Rattle.coap_types.specs.declared.request.Method.TheVariants.{Get, Post, Put, Delete}
 use Rattle.coap_codec.specs.Message.{Message}
+use Rattle.coap_block.specs.Sizes.{Sizes}
 use Rattle.coap_block.specs.declared.fetch_step.FetchRefusal.{FetchRefusal}
 use Rattle.coap_block.specs.declared.fetch_step.FetchRefusal.TheVariants as refusal
 use Rattle.coap_block.specs.declared.fetch_verdict.Verdict.{Verdict}
@@ -133,53 +134,56 @@ taken_later t c (Cancelling k) h = tt
 taken_later t c Dropped h = tt
 
 -- a call that fetches is a GET
-get_of : (szx : ℕ) (method : Method) (body : List ℕ) (tr : Transfer) (f : FetchState) → CarriesBody szx method body tr
+get_of : (sizes : Sizes) (method : Method) (body : List ℕ) (tr : Transfer) (f : FetchState)
+    → CarriesBody sizes method body tr
     → tr ≡ Fetches f → method ≡ Get
-get_of szx Get body tr f carries is = refl
-get_of szx Post body tr f carries is = absurd (subst (CarriesBody szx Post body) is carries)
-get_of szx Put body tr f carries is = absurd (subst (CarriesBody szx Put body) is carries)
-get_of szx Delete body tr f carries is = absurd (subst (CarriesBody szx Delete body) is carries)
+get_of sizes Get body tr f carries is = refl
+get_of sizes Post body tr f carries is = absurd (subst (CarriesBody sizes Post body) is carries)
+get_of sizes Put body tr f carries is = absurd (subst (CarriesBody sizes Put body) is carries)
+get_of sizes Delete body tr f carries is = absurd (subst (CarriesBody sizes Delete body) is carries)
 
 some_tags : (tags : List (List ℕ)) → has_tags tags ≡ true → tags ≡ [] → ⊥
 some_tags [] h none = cc h
 some_tags (x ∷ tags) h none = cc none
 
-module _ (szx : ℕ) where
-  all_taken : (t : List Call) → AllOf (IsTaken t) (own_of szx t).queue
-  all_taken = all_wait szx IsTaken taken_later (λ t now r n. (r, inl refl, refl)) (λ t now path n. tt) (λ t now n. tt)
+module _ (sizes : Sizes) where
+  all_taken : (t : List Call) → AllOf (IsTaken t) (own_of sizes t).queue
+  all_taken = all_wait sizes IsTaken taken_later (λ t now r n. (r, inl refl, refl)) (λ t now path n. tt) (λ t now n. tt)
 
-  taken_here : (t : List Call) (c : Call) (k : ℕ) (r : Request) (tr : Transfer) → Origin szx t c k r tr
-      → ((old : Transfer) → (own_of szx t).running ≡ Some (Calling k r old) → IsTaken t (Calling k r old))
+  taken_here : (t : List Call) (c : Call) (k : ℕ) (r : Request) (tr : Transfer) → Origin sizes t c k r tr
+      → ((old : Transfer) → (own_of sizes t).running ≡ Some (Calling k r old) → IsTaken t (Calling k r old))
       → IsTaken (c ∷ t) (Calling k r tr)
   taken_here t c k r tr (kept runs none) ih = let h = ih tr runs in (h.0, inr h.1, h.2)
   taken_here t c k r tr (follows old m x runs heard asks sends_it op_is) ih = let h = ih old runs in (h.0, inr h.1, h.2)
   taken_here t c k r tr (begins queue is) ih = let h : AllOf (IsTaken t) (Calling k r tr ∷ queue) =
       subst (AllOf (IsTaken t)) is (all_taken t) in let g = h.0 in (g.0, inr g.1, g.2)
 
-  running_taken : (t : List Call) (k : ℕ) (r : Request) (tr : Transfer) → (own_of szx t).running ≡ Some (Calling k r tr)
+  running_taken : (t : List Call) (k : ℕ) (r : Request) (tr : Transfer)
+      → (own_of sizes t).running ≡ Some (Calling k r tr)
       → IsTaken t (Calling k r tr)
   running_taken [] k r tr is = absurd (cc is)
-  running_taken (c ∷ t) k r tr is = taken_here t c k r tr (origin szx t c k r tr is)
+  running_taken (c ∷ t) k r tr is = taken_here t c k r tr (origin sizes t c k r tr is)
       (λ old runs. running_taken t k r old runs)
 
-  validated : (server : Endpoint) (word : ℕ) (t : List Call) (c : Call) → ClientLaw server szx word (c ∷ t) → (k : ℕ)
-      (tag : Option (List ℕ)) → reports (own_of szx t) c ≡ of k (Valid tag) → IsValidated szx k tag t c
+  validated : (server : Endpoint) (word : ℕ) (t : List Call) (c : Call) → ClientLaw server sizes word (c ∷ t) → (k : ℕ)
+      (tag : Option (List ℕ)) → reports (own_of sizes t) c ≡ of k (Valid tag) → IsValidated sizes k tag t c
   validated server word t c law k tag made =
-      let answers = answers_last szx server word (c ∷ t) law in
-      let g = gives_of szx t c k (Valid tag) refl made in
+      let answers = answers_last sizes server word (c ∷ t) law in
+      let g = gives_of sizes t c k (Valid tag) refl made in
       let shown = valid_as g.request g.transfer g.message g.final (Valid tag) g.ends_so refl in
       let q = running_taken t k g.request g.transfer g.runs in
-      let heard : HeardFor szx k g.message t c =
-      heard_for szx t c g.message k g.request g.transfer (answers.0 g.message g.heard_it) g.runs g.heard_it in
+      let heard : HeardFor sizes k g.message t c =
+      heard_for sizes t c g.message k g.request g.transfer (answers.0 g.message g.heard_it) g.runs g.heard_it in
       let x : Taken = record { number = k; request = q.0 } in
-      let run = runs_call szx server word t c law x q.1 g.message heard in
+      let run = runs_call sizes server word t c law x q.1 g.message heard in
       let same : Some (Calling k (record q.0 { body = [] }) run.transfer) ≡ Some (Calling k g.request g.transfer) =
       sym run.runs ∙ g.runs in
       let transfer_is : run.transfer ≡ g.transfer = cc same in
       record {
         request = q.0;
         taken = q.1;
-        method = get_of szx (q.0).method (q.0).body run.transfer shown.fetch run.carries (transfer_is ∙ shown.fetches);
+        method = get_of sizes (q.0).method (q.0).body run.transfer shown.fetch run.carries (transfer_is
+            ∙ shown.fetches);
         etags = λ none. some_tags g.request.etags shown.tags (q.2 ∙ none);
         message = g.message;
         heard = heard;
@@ -187,12 +191,13 @@ module _ (szx : ℕ) where
         tag_is = cc (shown.is);
       }
 
-  all_validated : (server : Endpoint) (word : ℕ) (t : List Call) → ClientLaw server szx word t → ValidOfTags szx t
+  all_validated : (server : Endpoint) (word : ℕ) (t : List Call) → ClientLaw server sizes word t → ValidOfTags sizes t
   all_validated server word [] law = tt
   all_validated server word (c ∷ t) law = (
     validated server word t c law,
-    all_validated server word t (client_back server szx word (c ∷ []) t law),
+    all_validated server word t (client_back server sizes word (c ∷ []) t law),
   )
 
-pub valid_of_tags : (server : Endpoint) (szx word : ℕ) (t : List Call) → ClientLaw server szx word t → ValidOfTags szx t
-valid_of_tags server szx word t law = all_validated szx server word t law
+pub valid_of_tags : (server : Endpoint) (sizes : Sizes) (word : ℕ) (t : List Call) → ClientLaw server sizes word t
+    → ValidOfTags sizes t
+valid_of_tags server sizes word t law = all_validated sizes server word t law

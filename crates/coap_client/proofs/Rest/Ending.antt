@@ -8,6 +8,7 @@ use Rattle.coap_layer.specs.Machine.State as S
 use Rattle.coap_layer.specs.Machine.Steps.{Steps, left_after}
 use Rattle.coap_layer.specs.Trace as L
 use Rattle.coap_layer.proofs.Facts.StepsOfLayer.{steps_split}
+use Rattle.coap_block.specs.Sizes.{Sizes}
 use Rattle.coap_block.specs.Whole.{Each}
 use Rattle.coap_exchange.specs.declared.asker.AskRefusal.{AskRefusal}
 use Rattle.coap_exchange.specs.declared.asker.Turn.{Turn}
@@ -44,15 +45,15 @@ module _ (server : Endpoint) (word : ℕ) where
   exchanged (c ∷ cs) calls law =
       let earlier = X.lower_of server word (cs ++ calls) in
       let later = P.lower (X.own_of server word (cs ++ calls)) c in
-      let k = steps_split (S.start word) law.left later earlier law.layer in
-      let under = subst (λ s. Steps s later law.left) (left_is (S.start word) k.0 earlier k.1) k.2 in (
+      let k = steps_split (S.start (S.usual word)) law.left later earlier law.layer in
+      let under = subst (λ s. Steps s later law.left) (left_is (S.start (S.usual word)) k.0 earlier k.1) k.2 in (
         beneath (cs ++ calls),
         exchanged cs calls (record { rows = law.rows.1; left = k.0; layer = k.1 }),
         record {
           right = law.rows.0;
           own_is = refl;
           under = subst (Steps (beneath (cs ++ calls)).layer later)
-              (left_is (S.start word) law.left (later ++ earlier) law.layer) under;
+              (left_is (S.start (S.usual word)) law.left (later ++ earlier) law.layer) under;
         },
       )
 
@@ -65,10 +66,10 @@ left_of server word [] x h = h
 left_of server word (c ∷ cs) x h =
     let before : h.0 ≡ exchanges_left server word cs = left_of server word cs h.0 h.1 in
     let own : x.own ≡ X.own_of server word (c ∷ cs) = h.2.own_is ∙ ap (λ (y : X.State). P.after y.own c) before in
-    let layer : x.layer ≡ left_after (S.start word) (X.lower_of server word (c ∷ cs)) =
+    let layer : x.layer ≡ left_after (S.start (S.usual word)) (X.lower_of server word (c ∷ cs)) =
     left_is h.0.layer x.layer (P.lower h.0.own c) h.2.under
     ∙ (ap (λ (y : X.State). left_after y.layer (P.lower y.own c)) before
-    ∙ sym (left_append (S.start word) (P.lower (X.own_of server word cs) c) (X.lower_of server word cs))) in
+    ∙ sym (left_append (S.start (S.usual word)) (P.lower (X.own_of server word cs) c) (X.lower_of server word cs))) in
     ap (λ o. exchanges_so o x.layer) own ∙ ap (exchanges_so (X.own_of server word (c ∷ cs))) layer
 
 state_is : (s : State) (own : Own) (layer : X.State) → s.own ≡ own → s.layer ≡ layer
@@ -76,16 +77,16 @@ state_is : (s : State) (own : Own) (layer : X.State) → s.own ≡ own → s.lay
 state_is s own layer p q = ap (λ (o : Own). record { own = o; layer = s.layer }) p
     ∙ ap (λ (l : X.State). record { own = own; layer = l }) q
 
-module _ (server : Endpoint) (szx word : ℕ) where
+module _ (server : Endpoint) (sizes : Sizes) (word : ℕ) where
   -- what the calls so far leave: each takes one step
   abbrev state : List Call → State
-  state t = state_left server szx word t
+  state t = state_left server sizes word t
 
-  stepped : (t : List Call) (c : Call) → ClientLaw server szx word (c ∷ t) → Step (state t) c (state (c ∷ t))
+  stepped : (t : List Call) (c : Call) → ClientLaw server sizes word (c ∷ t) → Step (state t) c (state (c ∷ t))
   stepped t c law = record {
     right = law.rows.0;
     own_is = refl;
-    under = exchanged server word (lower (own_of szx t) c) (lower_of szx t) law.exchanges;
+    under = exchanged server word (lower (own_of sizes t) c) (lower_of sizes t) law.exchanges;
   }
 
   pub size : ℕ → List Call → ℕ
@@ -99,56 +100,58 @@ module _ (server : Endpoint) (szx word : ℕ) where
 
   pub less : (now w : ℕ) (t : List Call) (below sent : L.Answer) (token : Result (List ℕ) AskRefusal) (kept : Bool)
       (d : Turn)
-      → ClientLaw server szx word (Ticks now w below d sent token kept true ∷ t)
+      → ClientLaw server sizes word (Ticks now w below d sent token kept true ∷ t)
       → size now (Ticks now w below d sent token kept true ∷ t) < size now t
   unfolding size
   less now w t below sent token kept d law =
       let c : Call = Ticks now w below d sent token kept true in
       work_falls (state t) (state (c ∷ t)) now w below sent token kept d (stepped t c law)
 
-  pub out_less : (t : List Call) (p : L.Packet) → ClientLaw server szx word (NextOut (Some p) ∷ t)
+  pub out_less : (t : List Call) (p : L.Packet) → ClientLaw server sizes word (NextOut (Some p) ∷ t)
       → out_count (NextOut (Some p) ∷ t) < out_count t
   unfolding out_count
-  out_less t p law = take_less (S.start word) law.exchanges.left p
-      (X.lower_of server word (lower_of szx t)) law.exchanges.layer
+  out_less t p law = take_less (S.start (S.usual word)) law.exchanges.left p
+      (X.lower_of server word (lower_of sizes t)) law.exchanges.layer
 
-  pub report_less : (t : List Call) (r : Reported) → ClientLaw server szx word (NextReport (Some r) ∷ t)
+  pub report_less : (t : List Call) (r : Reported) → ClientLaw server sizes word (NextReport (Some r) ∷ t)
       → report_count (NextReport (Some r) ∷ t) < report_count t
   unfolding report_count
-  report_less t r law = first_less (own_of szx t).reports r law.rows.0
+  report_less t r law = first_less (own_of sizes t).reports r law.rows.0
 
-  so_many : (now : ℕ) (t calls : List Call) → Each (IsTick now true) calls → ClientLaw server szx word (calls ++ t)
+  so_many : (now : ℕ) (t calls : List Call) → Each (IsTick now true) calls → ClientLaw server sizes word (calls ++ t)
       → length calls + size now (calls ++ t) ≤ size now t
   so_many now t [] h law = omega arith
   so_many now t (c ∷ calls) h law =
-      let k = so_many now t calls h.1 (client_back server szx word (c ∷ []) (calls ++ t) law) in
+      let k = so_many now t calls h.1 (client_back server sizes word (c ∷ []) (calls ++ t) law) in
       let w = h.0.0 in
       let b = h.0.1 in
       let one = less now w (calls ++ t) b.0 b.2 b.3 b.4 b.1
-      (subst (λ d. ClientLaw server szx word (d ∷ (calls ++ t))) b.5 law) in
+      (subst (λ d. ClientLaw server sizes word (d ∷ (calls ++ t))) b.5 law) in
       let same : size now (c ∷ (calls ++ t)) ≡ size now (Ticks now w b.0 b.1 b.2 b.3 b.4 true ∷ (calls ++ t)) =
       ap (λ d. size now (d ∷ (calls ++ t))) b.5 in
       omega (arith, k, one, same)
 
-  pub ticks_end : (t : List Call) → TicksEnd server szx word t
+  pub ticks_end : (t : List Call) → TicksEnd server sizes word t
   unfolding size
   ticks_end t now calls h law = let k = so_many now t calls h law in omega (arith, k)
 
   -- the calls lead to this state, and to no other
-  leads_there : (t : List Call) → ClientLaw server szx word t → Led server szx word t (state_left server szx word t)
+  leads_there : (t : List Call) → ClientLaw server sizes word t
+      → Led server sizes word t (state_left server sizes word t)
   leads_there t law = record {
     rows = law.rows;
     own_is = refl;
-    layer = subst (λ cs. X.Exchanged (X.fresh_state server word) (lower_of szx t) (exchanges_left server word cs))
-        (append-nil (lower_of szx t))
-        (exchanged server word (lower_of szx t) [] (subst (ExchangeLaw server word) (sym (append-nil (lower_of szx t)))
+    layer = subst (λ cs. X.Exchanged (X.fresh_state server word) (lower_of sizes t) (exchanges_left server word cs))
+        (append-nil (lower_of sizes t))
+        (exchanged server word (lower_of sizes t) [] (subst (ExchangeLaw server word)
+        (sym (append-nil (lower_of sizes t)))
         law.exchanges));
   }
 
-  pub one_state : (t : List Call) → ClientLaw server szx word t → (s : State)
-      → Led server szx word t s ↔ (s ≡ state_left server szx word t)
+  pub one_state : (t : List Call) → ClientLaw server sizes word t → (s : State)
+      → Led server sizes word t s ↔ (s ≡ state_left server sizes word t)
   one_state t law s = (
-    λ led. state_is s (own_of szx t) (exchanges_left server word (lower_of szx t)) led.own_is
-        (left_of server word (lower_of szx t) s.layer led.layer),
-    λ same. subst (Led server szx word t) (sym same) (leads_there t law),
+    λ led. state_is s (own_of sizes t) (exchanges_left server word (lower_of sizes t)) led.own_is
+        (left_of server word (lower_of sizes t) s.layer led.layer),
+    λ same. subst (Led server sizes word t) (sym same) (leads_there t law),
   )

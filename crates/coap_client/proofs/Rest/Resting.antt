@@ -5,6 +5,7 @@ use Rattle.std.proofs.Common.{Err}
 use Rattle.coap_types.specs.declared.endpoint.Endpoint.{Endpoint}
 use Rattle.coap_types.specs.declared.endpoint.Moment.{Moment}
 use Rattle.coap_layer.specs.Trace as L
+use Rattle.coap_block.specs.Sizes.{Sizes}
 use Rattle.coap_exchange.specs.declared.asker.AskRefusal.{AskRefusal}
 use Rattle.coap_exchange.specs.declared.asker.Event.TheVariants as event_of
 use Rattle.coap_exchange.specs.declared.asker.Exchange.{Exchange}
@@ -46,16 +47,16 @@ deeds_clock m w sent token kept (Keeps t) o y h = h
 deeds_clock m w sent token kept (Releases t) o y h = h
 deeds_clock m w sent token kept (Asks op) o y h = omega (arith, h)
 
-module _ (server : Endpoint) (szx word : ℕ) where
+module _ (server : Endpoint) (sizes : Sizes) (word : ℕ) where
   done_clock : (t : List Call) (m w : ℕ) (sent : L.Answer) (token : Result (List ℕ) AskRefusal) (kept : Bool)
-      (e : Effect) (input : E.Call) → (P.after (beneath server szx word t) input).clock ≤ m
-      → (X.own_of server word (done_for e m w sent token kept input ++ lower_of szx t)).clock ≤ m
+      (e : Effect) (input : E.Call) → (P.after (beneath server sizes word t) input).clock ≤ m
+      → (X.own_of server word (done_for e m w sent token kept input ++ lower_of sizes t)).clock ≤ m
   done_clock t m w sent token kept e input h =
       let c : Effect = close m e token in
       let later : List E.Call = deeds c.deed c.own m w sent token kept in
       let first : List E.Call = deeds e.deed e.own m w sent token kept in
-      let x : E.Own = beneath server szx word t in
-      let same = own_ran server word (later ++ (first ++ input ∷ [])) (lower_of szx t)
+      let x : E.Own = beneath server sizes word t in
+      let same = own_ran server word (later ++ (first ++ input ∷ [])) (lower_of sizes t)
       ∙ (ran_append x later (first ++ input ∷ []) ∙ ap (λ y. ran y later) (ran_append x first (input ∷ []))) in
       subst (λ (y : E.Own). y.clock ≤ m) (sym same)
       (deeds_clock m w sent token kept c.deed c.own _
@@ -80,44 +81,44 @@ module _ (server : Endpoint) (szx word : ℕ) where
   releases_quiet None op h = cc h
   releases_quiet (Some o) op h = cc h
 
-  pub clocks : (t : List Call) → (beneath server szx word t).clock ≤ (own_of szx t).clock
+  pub clocks : (t : List Call) → (beneath server sizes word t).clock ≤ (own_of sizes t).clock
   clocks [] = omega arith
-  clocks (Calls now r answer ∷ t) = let a = answer_clock answer (λ number. calling (own_of szx t).szx number r)
-      (at now (own_of szx t)) in let b = clocks t in omega (arith, a, b)
+  clocks (Calls now r answer ∷ t) = let a = answer_clock answer (λ number. calling (own_of sizes t).sizes number r)
+      (at now (own_of sizes t)) in let b = clocks t in omega (arith, a, b)
   clocks (Observes now path answer ∷ t) = let a =
-      answer_clock answer (λ number. Registering number path) (at now (own_of szx t)) in let b =
+      answer_clock answer (λ number. Registering number path) (at now (own_of sizes t)) in let b =
       clocks t in omega (arith, a, b)
-  clocks (Cancels now k answer ∷ t) = let a = cancel_clock answer k (at now (own_of szx t)) in let b =
+  clocks (Cancels now k answer ∷ t) = let a = cancel_clock answer k (at now (own_of sizes t)) in let b =
       clocks t in omega (arith, a, b)
   clocks (Forgets k kept false ∷ t) = clocks t
   clocks (Forgets k kept true ∷ t) =
-      let d : Deed = releases (observation_of k (own_of szx t).observations) in
-      let same = ap (λ (y : E.Own). y.clock) (own_ran server word (deeds d (own_of szx t) 0 0 L.Nothing (Ok []) kept)
-      (lower_of szx t)) ∙ release_clock d (own_of szx t) kept (beneath server szx word t)
-      (releases_quiet (observation_of k (own_of szx t).observations)) in
+      let d : Deed = releases (observation_of k (own_of sizes t).observations) in
+      let same = ap (λ (y : E.Own). y.clock) (own_ran server word (deeds d (own_of sizes t) 0 0 L.Nothing (Ok []) kept)
+      (lower_of sizes t)) ∙ release_clock d (own_of sizes t) kept (beneath server sizes word t)
+      (releases_quiet (observation_of k (own_of sizes t).observations)) in
       let b = clocks t in omega (arith, same, b)
   clocks (NextOut answer ∷ t) = clocks t
   clocks (NextReport answer ∷ t) = clocks t
   clocks (Asked answer ∷ t) = clocks t
   clocks (Feeds now from bytes w up settled event sent token kept ∷ t) =
-      let m : ℕ = max (own_of szx t).clock now in
-      let s : Own = at now (own_of szx t) in
+      let m : ℕ = max (own_of sizes t).clock now in
+      let s : Own = at now (own_of sizes t) in
       let e : Effect = happened s m event in
       let b = clocks t in
       let st = steadied s m e token e.deed refl (happened_steady s m event) in
       let c = st.clock in
       let a = done_clock t m w sent token kept e (E.Receive m from bytes up settled event) (omega (arith, b)) in
-      subst (λ i. (beneath server szx word (Feeds now from bytes w up settled event sent token kept ∷ t)).clock ≤ i)
+      subst (λ i. (beneath server sizes word (Feeds now from bytes w up settled event sent token kept ∷ t)).clock ≤ i)
       (sym c) a
   clocks (Ticks now w below turn sent token kept answer ∷ t) =
-      let m : ℕ = max (own_of szx t).clock now in
-      let s : Own = at now (own_of szx t) in
+      let m : ℕ = max (own_of sizes t).clock now in
+      let s : Own = at now (own_of sizes t) in
       let e : Effect = passes s m turn in
       let b = clocks t in
       let st = steadied s m e token e.deed refl (passes_steady s m turn) in
       let c = st.clock in
       let a = done_clock t m w sent token kept e (E.Ticks m below turn) (omega (arith, b)) in
-      subst (λ i. (beneath server szx word (Ticks now w below turn sent token kept answer ∷ t)).clock ≤ i) (sym c) a
+      subst (λ i. (beneath server sizes word (Ticks now w below turn sent token kept answer ∷ t)).clock ≤ i) (sym c) a
 
   -- a tick that did nothing
   idle_turn : (t : Turn) (b : Bool) → false ≡ (not (is_idle t) || b) → (t ≡ turn_of.Idle) × (b ≡ false)
@@ -129,26 +130,29 @@ module _ (server : Endpoint) (szx word : ℕ) where
   pub record Rested (t : List Call) (now w : ℕ) (below : L.Answer) (turn : Turn) (sent : L.Answer)
       (token : Result (List ℕ) AskRefusal) (kept : Bool) : Type 0 where
     pub idle_is : turn ≡ turn_of.Idle
-    pub effect_is : passes (at now (own_of szx t)) (max (own_of szx t).clock now) turn ≡ stays (at now (own_of szx t))
-    pub waits : ((op : Operation) × ((own_of szx t).running ≡ Some op))
-        ⊎ (((own_of szx t).running ≡ None) × (((own_of szx t).queue ≡ [])
-        ⊎ ((op : Operation) × (queue : List Operation) × ((own_of szx t).queue ≡ op ∷ queue) × (is_upload_op op ≡ true)
-        × (is_held (at now (own_of szx t)) (max (own_of szx t).clock now) ≡ true))))
+    pub effect_is : passes (at now (own_of sizes t)) (max (own_of sizes t).clock now) turn
+        ≡ stays (at now (own_of sizes t))
+    pub waits : ((op : Operation) × ((own_of sizes t).running ≡ Some op))
+        ⊎ (((own_of sizes t).running ≡ None) × (((own_of sizes t).queue ≡ [])
+        ⊎ ((op : Operation) × (queue : List Operation) × ((own_of sizes t).queue ≡ op ∷ queue)
+        × (is_upload_op op ≡ true)
+        × (is_held (at now (own_of sizes t)) (max (own_of sizes t).clock now) ≡ true))))
 
   module _ (t : List Call) (now : ℕ) where
     abbrev s : Own
-    s = at now (own_of szx t)
+    s = at now (own_of sizes t)
 
     abbrev m : ℕ
-    m = max (own_of szx t).clock now
+    m = max (own_of sizes t).clock now
 
     abbrev Waits : Type 0
-    Waits = ((op : Operation) × ((own_of szx t).running ≡ Some op))
-        ⊎ (((own_of szx t).running ≡ None) × (((own_of szx t).queue ≡ [])
-        ⊎ ((op : Operation) × (queue : List Operation) × ((own_of szx t).queue ≡ op ∷ queue) × (is_upload_op op ≡ true)
+    Waits = ((op : Operation) × ((own_of sizes t).running ≡ Some op))
+        ⊎ (((own_of sizes t).running ≡ None) × (((own_of sizes t).queue ≡ [])
+        ⊎ ((op : Operation) × (queue : List Operation) × ((own_of sizes t).queue ≡ op ∷ queue)
+        × (is_upload_op op ≡ true)
         × (is_held s m ≡ true))))
 
-    starts_rests : (queue : List Operation) → (own_of szx t).running ≡ None → (own_of szx t).queue ≡ queue
+    starts_rests : (queue : List Operation) → (own_of sizes t).running ≡ None → (own_of sizes t).queue ≡ queue
         → asks (starts s m queue).deed ≡ false → (starts s m queue ≡ stays s) × Waits
     starts_rests [] none is h = (refl, inr (none, inl is))
     starts_rests (op ∷ queue) none is h = by (is_upload_op op) refl (is_held s m) refl h
@@ -160,19 +164,19 @@ module _ (server : Endpoint) (szx word : ℕ) where
         by true e false f h = absurd (cc h)
         by false e b f h = absurd (cc h)
 
-    idle_rests : (running : Option Operation) → (own_of szx t).running ≡ running → (number : Option ℕ)
+    idle_rests : (running : Option Operation) → (own_of sizes t).running ≡ running → (number : Option ℕ)
         → asks (idle s m running number).deed ≡ false → (idle s m running number ≡ stays s) × Waits
     idle_rests (Some op) is number h = (refl, inl (op, is))
     idle_rests None is (Some k) h = absurd (cc h)
-    idle_rests None is None h = starts_rests (own_of szx t).queue is refl h
+    idle_rests None is None h = starts_rests (own_of sizes t).queue is refl h
 
     pub rested : (w : ℕ) (below : L.Answer) (turn : Turn) (sent : L.Answer) (token : Result (List ℕ) AskRefusal)
-        (kept : Bool) → IsRight (own_of szx t) (Ticks now w below turn sent token kept false)
+        (kept : Bool) → IsRight (own_of sizes t) (Ticks now w below turn sent token kept false)
         → Rested t now w below turn sent token kept
     rested w below turn sent token kept right =
         let i = idle_turn turn (asks (passes s m turn).deed) right in
         let quiet : asks (passes s m turn_of.Idle).deed ≡ false = ap (λ u. asks (passes s m u).deed) (sym i.0) ∙ i.1 in
-        let r = idle_rests (own_of szx t).running refl (to_fetch (own_of szx t).observations) quiet in
+        let r = idle_rests (own_of sizes t).running refl (to_fetch (own_of sizes t).observations) quiet in
         record { idle_is = i.0; effect_is = ap (passes s m) i.0 ∙ r.0; waits = r.1 }
 
   lt_of : (a b : ℕ) → (b ≤ a → ⊥) → a < b
@@ -184,52 +188,53 @@ module _ (server : Endpoint) (szx word : ℕ) where
   -- .. and the exchange that runs is not due
   module _ (t : List Call) (now w : ℕ) (below : L.Answer) (turn : Turn) (sent : L.Answer)
       (token : Result (List ℕ) AskRefusal) (kept : Bool)
-      (rows : ClientRows szx (Ticks now w below turn sent token kept false ∷ t))
-      (law : X.AskerLaw server word (lower_of szx (Ticks now w below turn sent token kept false ∷ t)))
-      (due : EndWhenDue server word (lower_of szx (Ticks now w below turn sent token kept false ∷ t))) where
+      (rows : ClientRows sizes (Ticks now w below turn sent token kept false ∷ t))
+      (law : X.AskerLaw server word (lower_of sizes (Ticks now w below turn sent token kept false ∷ t)))
+      (due : EndWhenDue server word (lower_of sizes (Ticks now w below turn sent token kept false ∷ t))) where
     abbrev c : Call
     c = Ticks now w below turn sent token kept false
 
     abbrev at_m : ℕ
-    at_m = max (own_of szx t).clock now
+    at_m = max (own_of sizes t).clock now
 
     abbrev input : E.Call
     input = E.Ticks at_m below turn
 
     abbrev behind : Effect → List E.Call
-    behind e = done_for e at_m w sent token kept input ++ lower_of szx t
+    behind e = done_for e at_m w sent token kept input ++ lower_of sizes t
 
     r : Rested t now w below turn sent token kept
     r = rested t now w below turn sent token kept rows.0
 
-    queue_is : (own_of szx (c ∷ t)).queue ≡ (own_of szx t).queue
+    queue_is : (own_of sizes (c ∷ t)).queue ≡ (own_of sizes t).queue
     queue_is = ap (λ e. (reporting (close at_m e token)).queue) r.effect_is
 
-    running_is : (own_of szx (c ∷ t)).running ≡ (own_of szx t).running
+    running_is : (own_of sizes (c ∷ t)).running ≡ (own_of sizes t).running
     running_is = ap (λ e. (reporting (close at_m e token)).running) r.effect_is
 
-    clock_is : (own_of szx (c ∷ t)).clock ≡ at_m
+    clock_is : (own_of sizes (c ∷ t)).clock ≡ at_m
     clock_is = ap (λ e. (reporting (close at_m e token)).clock) r.effect_is
 
-    exchange_is : (beneath server szx word (c ∷ t)).running ≡ (beneath server szx word t).running
+    exchange_is : (beneath server sizes word (c ∷ t)).running ≡ (beneath server sizes word t).running
     exchange_is = ap (λ e. (X.own_of server word (behind e)).running) r.effect_is
-        ∙ ap (λ u. R.running_unless u (beneath server szx word t).running) r.idle_is
+        ∙ ap (λ u. R.running_unless u (beneath server sizes word t).running) r.idle_is
 
-    last_is : A.last_begun server word (lower_of szx (c ∷ t)) ≡ A.last_begun server word (lower_of szx t)
+    last_is : A.last_begun server word (lower_of sizes (c ∷ t)) ≡ A.last_begun server word (lower_of sizes t)
     last_is = ap (λ e. A.last_begun server word (behind e)) r.effect_is
 
-    due_now : EndWhenDue server word (input ∷ lower_of szx t)
+    due_now : EndWhenDue server word (input ∷ lower_of sizes t)
     due_now = subst (λ e. EndWhenDue server word (behind e)) r.effect_is due
 
-    moment_is : A.moment server word (lower_of szx t) at_m ≡ at_m
+    moment_is : A.moment server word (lower_of sizes t) at_m ≡ at_m
     moment_is = let a = clocks t in omega (arith, a)
 
     -- what runs was sent last
-    runs_for : (x : Exchange) → (beneath server szx word t).running ≡ Some x → SentFor szx server word (c ∷ t) x
-    runs_for x runs = sent_for szx server word (c ∷ t) rows law x (exchange_is ∙ runs)
+    runs_for : (x : Exchange) → (beneath server sizes word t).running ≡ Some x → SentFor sizes server word (c ∷ t) x
+    runs_for x runs = sent_for sizes server word (c ∷ t) rows law x (exchange_is ∙ runs)
 
-    not_due : (x : Exchange) → (beneath server szx word t).running ≡ Some x → (acked : Option Moment) → x.acked ≡ acked
-        → IsNotDue server szx word (c ∷ t) (own_of szx (c ∷ t)).clock
+    not_due : (x : Exchange) → (beneath server sizes word t).running ≡ Some x → (acked : Option Moment)
+        → x.acked ≡ acked
+        → IsNotDue server sizes word (c ∷ t) (own_of sizes (c ∷ t)).clock
     not_due x runs None none =
         let f = due_now.0.unheard at_m below turn x refl runs none in
         let late : f.begun.timeout * failure_timeouts ≤ at_m - f.begun.at
@@ -275,18 +280,20 @@ module _ (server : Endpoint) (szx word : ℕ) where
           not_due = inr (acked, heard, subst (λ i. i - acked.0 < exchange_lifetime) (sym clock_is) soon);
         }
 
-    held_same : is_held (own_of szx (c ∷ t)) (own_of szx (c ∷ t)).clock ≡ is_held (at now (own_of szx t)) at_m
+    held_same : is_held (own_of sizes (c ∷ t)) (own_of sizes (c ∷ t)).clock ≡ is_held (at now (own_of sizes t)) at_m
     held_same = ap (λ e. is_held (reporting (close at_m e token)) (reporting (close at_m e token)).clock) r.effect_is
 
-    rests_for : Known server szx word t → WaitsFor server szx word t c ⊎ IsEmpty server szx word (own_of szx (c ∷ t))
+    rests_for : Known server sizes word t → WaitsFor server sizes word t c
+        ⊎ IsEmpty server sizes word (own_of sizes (c ∷ t))
     rests_for k = elim r.waits [
-      | inl run ↦ (let l : Linked (Some run.0) (own_of szx t).observations (beneath server szx word t).running =
-          subst (λ o. Linked o (own_of szx t).observations (beneath server szx word t).running) run.1 k.linked in inl
+      | inl run ↦ (let l : Linked (Some run.0) (own_of sizes t).observations (beneath server sizes word t).running =
+          subst
+          (λ o. Linked o (own_of sizes t).observations (beneath server sizes word t).running) run.1 k.linked in inl
           (inl (not_due l.0 l.1 l.0.acked refl)))
       | inr idle_now ↦ elim idle_now.1 [
         | inl empty ↦ inr (record { queue = queue_is ∙ empty; none = running_is ∙ idle_now.0 })
         | inr q ↦ (let held = held_same ∙ q.4 in
-            let f = held_for server szx word (c ∷ t) rows law (own_of szx (c ∷ t)).clock held in
+            let f = held_for server sizes word (c ∷ t) rows law (own_of sizes (c ∷ t)).clock held in
             inl (inr (record {
               operation = q.0;
               queue = q.1;
@@ -305,24 +312,24 @@ module _ (server : Endpoint) (szx word : ℕ) where
   due_back [] rest h = h
   due_back (x ∷ cs) rest h = due_back cs rest h.1
 
-  pub are_resting : (t : List Call) → ClientLaw server szx word t → AreResting server szx word t
+  pub are_resting : (t : List Call) → ClientLaw server sizes word t → AreResting server sizes word t
   are_resting t law = all t law.rows law.exchanges.rows
-      (when_due server word (lower_of szx t) law.exchanges.rows law.exchanges.left law.exchanges.layer)
+      (when_due server word (lower_of sizes t) law.exchanges.rows law.exchanges.left law.exchanges.layer)
     where
-      here : (t : List Call) (c : Call) → ClientRows szx (c ∷ t) → X.AskerLaw server word (lower_of szx (c ∷ t))
-          → EndWhenDue server word (lower_of szx (c ∷ t)) → Known server szx word t → IsIdleTick server szx word c
-          → WaitsFor server szx word t c ⊎ IsEmpty server szx word (own_of szx (c ∷ t))
+      here : (t : List Call) (c : Call) → ClientRows sizes (c ∷ t) → X.AskerLaw server word (lower_of sizes (c ∷ t))
+          → EndWhenDue server word (lower_of sizes (c ∷ t)) → Known server sizes word t → IsIdleTick server sizes word c
+          → WaitsFor server sizes word t c ⊎ IsEmpty server sizes word (own_of sizes (c ∷ t))
       here t c rows law due k i =
-          subst (λ d. ClientRows szx (d ∷ t) → X.AskerLaw server word (lower_of szx (d ∷ t))
-          → EndWhenDue server word (lower_of szx (d ∷ t))
-          → WaitsFor server szx word t d ⊎ IsEmpty server szx word (own_of szx (d ∷ t))) (sym i.7)
+          subst (λ d. ClientRows sizes (d ∷ t) → X.AskerLaw server word (lower_of sizes (d ∷ t))
+          → EndWhenDue server word (lower_of sizes (d ∷ t))
+          → WaitsFor server sizes word t d ⊎ IsEmpty server sizes word (own_of sizes (d ∷ t))) (sym i.7)
           (λ rows law due. rests_for t i.0 i.1 i.2 i.3 i.4 i.5 i.6 rows law due k) rows law due
 
-      all : (t : List Call) → ClientRows szx t → X.AskerLaw server word (lower_of szx t)
-          → EndWhenDue server word (lower_of szx t) → AreResting server szx word t
+      all : (t : List Call) → ClientRows sizes t → X.AskerLaw server word (lower_of sizes t)
+          → EndWhenDue server word (lower_of sizes t) → AreResting server sizes word t
       all [] rows law due = tt
       all (c ∷ t) rows law due =
-          let under = law_back server word (lower (own_of szx t) c) (lower_of szx t) law in (
-            λ i. here t c rows law due (known server szx word t rows.1 under) i,
-            all t rows.1 under (due_back (lower (own_of szx t) c) (lower_of szx t) due),
+          let under = law_back server word (lower (own_of sizes t) c) (lower_of sizes t) law in (
+            λ i. here t c rows law due (known server sizes word t rows.1 under) i,
+            all t rows.1 under (due_back (lower (own_of sizes t) c) (lower_of sizes t) due),
           )

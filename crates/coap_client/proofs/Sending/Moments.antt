@@ -4,11 +4,12 @@ use Rattle.std.proofs.Common.{◌≡◌, ◌≤◌, inl, inr, ℕ, max, Bool, tr
 use Rattle.std.proofs.Common.{refl, ap, ◌∙◌, arith, Result, Ok, Err}
 use Rattle.coap_types.specs.Past.{Ever}
 use Rattle.coap_types.specs.declared.endpoint.Endpoint.{Endpoint}
-use Rattle.coap_layer.specs.Machine.State.{State, start, made, moment as moment_at}
+use Rattle.coap_layer.specs.Machine.State.{State, start, usual, made, moment as moment_at}
 use Rattle.coap_layer.specs.Machine.Steps.{Asked, left_after, entries}
 use Rattle.coap_layer.specs.Trace as L
 use Rattle.coap_layer.specs.Words.{Open, begun}
 use Rattle.coap_layer.proofs.Facts.Sendings.{begins_of}
+use Rattle.coap_block.specs.Sizes.{Sizes}
 use Rattle.coap_exchange.specs.declared.asker.AskRefusal.{AskRefusal}
 use Rattle.coap_exchange.specs.declared.asker.Exchange.{Exchange}
 use Rattle.coap_exchange.specs.declared.matching.Opening.{Opening}
@@ -206,37 +207,41 @@ moment_from s (NextOut answer) = omega arith
 moment_from s (NextReport answer) = omega arith
 moment_from s (AskedFor answer) = omega arith
 
-module _ (server : Endpoint) (szx word : ℕ) where
-  asks_at : (past : List Call) (c : Call) → Every (AskedAt (moment (own_of szx past) c))
-      (call_asks server szx word past c)
-  asks_at past c = asked_at (moment (own_of szx past) c) server word (lower_of szx past) (lower (own_of szx past) c)
-      (lower_timed (own_of szx past) c)
+module _ (server : Endpoint) (sizes : Sizes) (word : ℕ) where
+  asks_at : (past : List Call) (c : Call) → Every (AskedAt (moment (own_of sizes past) c))
+      (call_asks server sizes word past c)
+  asks_at past c = asked_at (moment (own_of sizes past) c) server word (lower_of sizes past)
+      (lower (own_of sizes past) c)
+      (lower_timed (own_of sizes past) c)
 
   -- the layer's clock is not past that of the client
-  pub clock_by : (t : List Call) → (left_after (start word) (all_asked server szx word t)).clock ≤ (own_of szx t).clock
+  pub clock_by : (t : List Call) → (left_after (start (usual word)) (all_asked server sizes word t)).clock ≤
+      (own_of sizes t).clock
   clock_by [] = omega arith
   clock_by (c ∷ t) =
-      let m : ℕ = moment (own_of szx t) c in
+      let m : ℕ = moment (own_of sizes t) c in
       let before = clock_by t in
-      let from = moment_from (own_of szx t) c in
-      let k = entries_by m (left_after (start word) (all_asked server szx word t)) (call_asks server szx word t c)
+      let from = moment_from (own_of sizes t) c in
+      let k = entries_by m (left_after (start (usual word)) (all_asked server sizes word t))
+      (call_asks server sizes word t c)
       (omega (arith, before, from)) (asks_at t c) in
       let till = k.1 in
-      let same = ap (λ (s : State). s.clock) (ap (left_after (start word)) (adds_front server szx word t c)
-      ∙ left_append (start word) (call_asks server szx word t c) (all_asked server szx word t)) in
-      let here = moment_same (own_of szx t) c in
+      let same = ap (λ (s : State). s.clock) (ap (left_after (start (usual word))) (adds_front server sizes word t c)
+      ∙ left_append (start (usual word)) (call_asks server sizes word t c) (all_asked server sizes word t)) in
+      let here = moment_same (own_of sizes t) c in
       omega (arith, till, same, here)
 
-  pub adds_by : (t : List Call) (c : Call) → Every (λ (e : L.Entry). e.at ≤ moment (own_of szx t) c)
-      (call_adds server szx word t c)
+  pub adds_by : (t : List Call) (c : Call) → Every (λ (e : L.Entry). e.at ≤ moment (own_of sizes t) c)
+      (call_adds server sizes word t c)
   adds_by t c =
-      let m : ℕ = moment (own_of szx t) c in
+      let m : ℕ = moment (own_of sizes t) c in
       let before = clock_by t in
-      let from = moment_from (own_of szx t) c in
-      (entries_by m (left_after (start word) (all_asked server szx word t)) (call_asks server szx word t c)
+      let from = moment_from (own_of sizes t) c in
+      (entries_by m (left_after (start (usual word)) (all_asked server sizes word t)) (call_asks server sizes word t c)
       (omega (arith, before, from)) (asks_at t c)).0
 
   pub begins_from : (t : List Call) (c : Call) (con : Open)
-      → Ever (λ b. begun b ≡ Some con) (call_adds server szx word t c) → moment (own_of szx t) c ≤ con.first
-  begins_from t c con h = begun_from (moment (own_of szx t) c) (left_after (start word) (all_asked server szx word t))
-      (call_asks server szx word t c) con (asks_at t c) h
+      → Ever (λ b. begun b ≡ Some con) (call_adds server sizes word t c) → moment (own_of sizes t) c ≤ con.first
+  begins_from t c con h = begun_from (moment (own_of sizes t) c)
+      (left_after (start (usual word)) (all_asked server sizes word t))
+      (call_asks server sizes word t c) con (asks_at t c) h

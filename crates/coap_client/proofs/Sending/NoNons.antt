@@ -77,4 +77,4 @@ none_in server word (c ∷ t) h = elim (Ever_append AsksNon (P.lower (W.own_of s
     ]
 
 pub no_nons : (server : Endpoint) (word : ℕ) (t : List E.Call) → NoNons (W.below_of server word t)
-no_nons server word t h = none_in server word t (asked_for (S.start word) (W.lower_of server word t) h)
+no_nons server word t h = none_in server word t (asked_for (S.start (S.usual word)) (W.lower_of server word t) h)

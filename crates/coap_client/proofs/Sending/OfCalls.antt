@@ -8,9 +8,11 @@ use Rattle.coap_types.specs.MethodCode.{method_code}
 use Rattle.coap_types.specs.declared.request.Method.{Method}
 use Rattle.coap_types.specs.declared.request.Method.TheVariants.{Get, Post, Put, Delete}
 use Rattle.coap_codec.specs.Message.{Message}
+use Rattle.coap_block.specs.Sizes.{Sizes}
 use Rattle.coap_block.specs.declared.fetch_verdict.Verdict.{Verdict}
 use Rattle.coap_block.specs.declared.fetch_verdict.Verdict.TheVariants as verdict
 use Rattle.coap_block.specs.FetchStep.{FetchState}
+use Rattle.coap_block.specs.FetchStep as F
 use Rattle.coap_block.specs.UploadStep.{UploadState, more_follows, moved, continues, Continues}
 use Rattle.coap_exchange.specs.declared.asker.Event.{Event}
 use Rattle.coap_client.specs.Trace.{Request, NoIds, BadBlock, Failed, Valid, Call, Calls, Observes}
@@ -43,11 +45,11 @@ use Rattle.coap_client.proofs.Uploading.UploadSteps.{continues_is}
 -- the size of blocks stays
 
 failed_size : (u : Transfer → Bool) (report : _) (s : Own) (running : Option Operation)
-    → (failed u report s running).own.szx ≡ s.szx
+    → (failed u report s running).own.sizes ≡ s.sizes
 failed_size u report s None = refl
 failed_size u report s (Some (Calling k r t)) = by (u t && is_upload t)
   where
-    by : (b : Bool) → (cond b (record s { hold = Some s.sent }) s).szx ≡ s.szx
+    by : (b : Bool) → (cond b (record s { hold = Some s.sent }) s).sizes ≡ s.sizes
     by true = refl
     by false = refl
 failed_size u report s (Some (Registering k path)) = refl
@@ -55,7 +57,8 @@ failed_size u report s (Some (Fetching k)) = refl
 failed_size u report s (Some (Cancelling k)) = refl
 failed_size u report s (Some Dropped) = refl
 
-move_size : (s : Own) (now : ℕ) (told : Option Event) (mo : Move s now told) → (left_by s now told mo).own.szx ≡ s.szx
+move_size : (s : Own) (now : ℕ) (told : Option Event) (mo : Move s now told)
+    → (left_by s now told mo).own.sizes ≡ s.sizes
 move_size s now told (mv.rests un) = refl
 move_size s now told (mv.copies q) = refl
 move_size s now told (mv.starts_next op queue none rest first q) = refl
@@ -63,7 +66,7 @@ move_size s now told (mv.fetches k none rest q) = refl
 move_size s now told (mv.goes_on k r tr next a hears_it runs asks) = refl
 move_size s now told (mv.is_done k r tr final rep a hears_it runs ends_so) = by (not final && is_upload tr)
   where
-    by : (b : Bool) → (cond b (record s { hold = Some s.sent }) s).szx ≡ s.szx
+    by : (b : Bool) → (cond b (record s { hold = Some s.sent }) s).sizes ≡ s.sizes
     by true = refl
     by false = refl
 move_size s now told (mv.registers k path a hears_it runs note) = refl
@@ -79,65 +82,66 @@ move_size s now told (mv.is_ended o a notes found note) = refl
 move_size s now told (mv.renews o a notes found note newer) = refl
 move_size s now told (mv.passes_by o a notes found note newer) = refl
 
-turn_size : (szx : ℕ) (t : List Call) (c : Call) → Turned szx t c → (own_of szx (c ∷ t)).szx ≡ (own_of szx t).szx
-turn_size szx t c z = ap (λ (o : Own). o.szx) z.own_is ∙ by z.closes
+turn_size : (sizes : Sizes) (t : List Call) (c : Call) → Turned sizes t c
+    → (own_of sizes (c ∷ t)).sizes ≡ (own_of sizes t).sizes
+turn_size sizes t c z = ap (λ (o : Own). o.sizes) z.own_is ∙ by z.closes
   where
     m : ℕ
-    m = max (own_of szx t).clock z.now
+    m = max (own_of sizes t).clock z.now
 
     e : Effect
-    e = left_by (at z.now (own_of szx t)) m z.told z.move
+    e = left_by (at z.now (own_of sizes t)) m z.told z.move
 
-    moved_size : e.own.szx ≡ (own_of szx t).szx
-    moved_size = move_size (at z.now (own_of szx t)) m z.told z.move
+    moved_size : e.own.sizes ≡ (own_of sizes t).sizes
+    moved_size = move_size (at z.now (own_of sizes t)) m z.told z.move
 
-    by : Closing m e z.token → (closed m e e.deed z.token).own.szx ≡ (own_of szx t).szx
-    by (quiet q none own_same report_same) = ap (λ (o : Own). o.szx) own_same ∙ moved_size
-    by (goes_out op key asks given sends_it own_same report_same) = ap (λ (o : Own). o.szx) own_same ∙ moved_size
-    by (is_refused op why asks given none all) = ap (λ (x : Effect). x.own.szx) all
+    by : Closing m e z.token → (closed m e e.deed z.token).own.sizes ≡ (own_of sizes t).sizes
+    by (quiet q none own_same report_same) = ap (λ (o : Own). o.sizes) own_same ∙ moved_size
+    by (goes_out op key asks given sends_it own_same report_same) = ap (λ (o : Own). o.sizes) own_same ∙ moved_size
+    by (is_refused op why asks given none all) = ap (λ (x : Effect). x.own.sizes) all
         ∙ (failed_size has_sent NoIds e.own (Some op) ∙ moved_size)
 
-size_step : (szx : ℕ) (t : List Call) (c : Call) → (own_of szx (c ∷ t)).szx ≡ (own_of szx t).szx
-size_step szx t (Calls now r (Ok n)) = refl
-size_step szx t (Calls now r (Err why)) = refl
-size_step szx t (Observes now path (Ok n)) = refl
-size_step szx t (Observes now path (Err why)) = refl
-size_step szx t (Cancels now k None) = refl
-size_step szx t (Cancels now k (Some why)) = refl
-size_step szx t (Forgets k was true) = refl
-size_step szx t (Forgets k was false) = refl
-size_step szx t (NextOut did) = refl
-size_step szx t (NextReport did) = refl
-size_step szx t (Asked did) = refl
-size_step szx t (Feeds now from bytes w up settled event sent token was) =
-    turn_size szx t (Feeds now from bytes w up settled event sent token was)
-    (fed_turned szx t now from bytes w up settled event sent token was)
-size_step szx t (Ticks now w below turn sent token was did) =
-    turn_size szx t (Ticks now w below turn sent token was did)
-    (ticked_turned szx t now w below turn sent token was did)
+size_step : (sizes : Sizes) (t : List Call) (c : Call) → (own_of sizes (c ∷ t)).sizes ≡ (own_of sizes t).sizes
+size_step sizes t (Calls now r (Ok n)) = refl
+size_step sizes t (Calls now r (Err why)) = refl
+size_step sizes t (Observes now path (Ok n)) = refl
+size_step sizes t (Observes now path (Err why)) = refl
+size_step sizes t (Cancels now k None) = refl
+size_step sizes t (Cancels now k (Some why)) = refl
+size_step sizes t (Forgets k was true) = refl
+size_step sizes t (Forgets k was false) = refl
+size_step sizes t (NextOut did) = refl
+size_step sizes t (NextReport did) = refl
+size_step sizes t (Asked did) = refl
+size_step sizes t (Feeds now from bytes w up settled event sent token was) =
+    turn_size sizes t (Feeds now from bytes w up settled event sent token was)
+    (fed_turned sizes t now from bytes w up settled event sent token was)
+size_step sizes t (Ticks now w below turn sent token was did) =
+    turn_size sizes t (Ticks now w below turn sent token was did)
+    (ticked_turned sizes t now w below turn sent token was did)
 
-pub size_is : (szx : ℕ) (t : List Call) → (own_of szx t).szx ≡ szx
-size_is szx [] = refl
-size_is szx (c ∷ t) = size_step szx t c ∙ size_is szx t
+pub size_is : (sizes : Sizes) (t : List Call) → (own_of sizes t).sizes ≡ sizes
+size_is sizes [] = refl
+size_is sizes (c ∷ t) = size_step sizes t c ∙ size_is sizes t
 
 -- the transfer of a call, at its start and as it goes on
 
-fresh_carries : (szx : ℕ) (r : Request) (m : Method) → CarriesBody szx m r.body (transfer_of szx r m)
-fresh_carries szx r Get = tt
-fresh_carries szx r Post = record { body_is = refl; num = omega arith; size = omega arith }
-fresh_carries szx r Put = record { body_is = refl; num = omega arith; size = omega arith }
-fresh_carries szx r Delete = tt
+fresh_carries : (sizes : Sizes) (r : Request) (m : Method) → CarriesBody sizes m r.body (transfer_of sizes r m)
+fresh_carries sizes r Get = refl
+fresh_carries sizes r Post = record { body_is = refl; num = omega arith; size = omega arith }
+fresh_carries sizes r Put = record { body_is = refl; num = omega arith; size = omega arith }
+fresh_carries sizes r Delete = tt
 
-fetches_on : (szx : ℕ) (m : Method) (body : List ℕ) (f g : FetchState) → CarriesBody szx m body (Fetches f)
-    → CarriesBody szx m body (Fetches g)
-fetches_on szx Get body f g h = tt
-fetches_on szx Post body f g h = h
-fetches_on szx Put body f g h = h
-fetches_on szx Delete body f g h = h
+fetches_on : (sizes : Sizes) (m : Method) (body : List ℕ) (f g : FetchState) → F.sizes_of g ≡ F.sizes_of f
+    → CarriesBody sizes m body (Fetches f) → CarriesBody sizes m body (Fetches g)
+fetches_on sizes Get body f g same h = same ∙ h
+fetches_on sizes Post body f g same h = h
+fetches_on sizes Put body f g same h = h
+fetches_on sizes Delete body f g same h = h
 
-moved_on : (szx : ℕ) (body : List ℕ) (u : UploadState) (b : Block) → Continues u b → SendsBody szx body u
-    → SendsBody szx body (moved u b)
-moved_on szx body u b k h =
+moved_on : (sizes : Sizes) (body : List ℕ) (u : UploadState) (b : Block) → Continues u b → SendsBody sizes body u
+    → SendsBody sizes body (moved u b)
+moved_on sizes body u b k h =
     let s = h.size in
     record {
       body_is = h.body_is;
@@ -145,16 +149,16 @@ moved_on szx body u b k h =
       size = elim k.3 [ inl same ↦ omega (arith, same, s) | inr less ↦ (let l = less.1 in omega (arith, l, s)) ];
     }
 
-uploads_on : (szx : ℕ) (m : Method) (body : List ℕ) (u : UploadState) (b : Block) → Continues u b
-    → CarriesBody szx m body (Uploads u) → CarriesBody szx m body (Uploads (moved u b))
-uploads_on szx Get body u b k h = h
-uploads_on szx Post body u b k h = moved_on szx body u b k h
-uploads_on szx Put body u b k h = moved_on szx body u b k h
-uploads_on szx Delete body u b k h = h
+uploads_on : (sizes : Sizes) (m : Method) (body : List ℕ) (u : UploadState) (b : Block) → Continues u b
+    → CarriesBody sizes m body (Uploads u) → CarriesBody sizes m body (Uploads (moved u b))
+uploads_on sizes Get body u b k h = h
+uploads_on sizes Post body u b k h = moved_on sizes body u b k h
+uploads_on sizes Put body u b k h = moved_on sizes body u b k h
+uploads_on sizes Delete body u b k h = h
 
-module _ (szx : ℕ) (method : Method) (body : List ℕ) where
+module _ (sizes : Sizes) (method : Method) (body : List ℕ) where
   abbrev Carried : Transfer → Type 0
-  Carried t = CarriesBody szx method body t
+  Carried t = CarriesBody sizes method body t
 
   asked_next : (t next : Transfer) → Carried t → calls.Asks t ≡ calls.Asks next → Carried next
   asked_next t next h is = let same : t ≡ next = cc is in subst Carried same h
@@ -163,8 +167,8 @@ module _ (szx : ℕ) (method : Method) (body : List ℕ) where
       → calls.fetched f m v ≡ calls.Asks next → Carried next
   fetched_next f m (verdict.Refuse why) next h is = absurd (cc is)
   fetched_next f m verdict.Done next h is = absurd (cc is)
-  fetched_next f m verdict.Again next h is = asked_next _ next (fetches_on szx method body f _ h) is
-  fetched_next f m (verdict.Ask num size) next h is = asked_next _ next (fetches_on szx method body f _ h) is
+  fetched_next f m verdict.Again next h is = asked_next _ next (fetches_on sizes method body f _ refl h) is
+  fetched_next f m (verdict.Ask num size) next h is = asked_next _ next (fetches_on sizes method body f _ refl h) is
 
   continued_next : (u : UploadState) (o : Option Block) (next : Transfer) → Carried (Uploads u)
       → calls.continued u o ≡ calls.Asks next → Carried next
@@ -173,7 +177,7 @@ module _ (szx : ℕ) (method : Method) (body : List ℕ) where
     where
       by : (c : Bool) → continues u b ≡ c → cond c (calls.Asks (Uploads (moved u b))) (calls.Ends false BadBlock)
           ≡ calls.Asks next → Carried next
-      by true e k = asked_next _ next (uploads_on szx method body u b (continues_is u b e) h) k
+      by true e k = asked_next _ next (uploads_on sizes method body u b (continues_is u b e) h) k
       by false e k = absurd (cc k)
 
   pub carries_on : (r : Request) (old next : Transfer) (m : Message) → Carried old → answer r old m ≡ calls.Asks next
@@ -198,17 +202,18 @@ module _ (szx : ℕ) (method : Method) (body : List ℕ) where
 
 -- what waits and what runs is of a call that was taken
 
-abbrev IsTakenBy : ℕ → List Call → Operation → Type 0
-IsTakenBy szx t (Calling k r tr) = (q : Request) × WasTaken (record { number = k; request = q }) t
-    × (r ≡ record q { body = [] }) × CarriesBody szx q.method q.body tr
-IsTakenBy szx t op = Unit {0}
+abbrev pub IsTakenBy : Sizes → List Call → Operation → Type 0
+IsTakenBy sizes t (Calling k r tr) = (q : Request) × WasTaken (record { number = k; request = q }) t
+    × (r ≡ record q { body = [] }) × CarriesBody sizes q.method q.body tr
+IsTakenBy sizes t op = Unit {0}
 
-taken_later : (szx : ℕ) (t : List Call) (c : Call) (op : Operation) → IsTakenBy szx t op → IsTakenBy szx (c ∷ t) op
-taken_later szx t c (Calling k r tr) h = (h.0, inr h.1, h.2, h.3)
-taken_later szx t c (Registering k path) h = tt
-taken_later szx t c (Fetching k) h = tt
-taken_later szx t c (Cancelling k) h = tt
-taken_later szx t c Dropped h = tt
+taken_later : (sizes : Sizes) (t : List Call) (c : Call) (op : Operation) → IsTakenBy sizes t op
+    → IsTakenBy sizes (c ∷ t) op
+taken_later sizes t c (Calling k r tr) h = (h.0, inr h.1, h.2, h.3)
+taken_later sizes t c (Registering k path) h = tt
+taken_later sizes t c (Fetching k) h = tt
+taken_later sizes t c (Cancelling k) h = tt
+taken_later sizes t c Dropped h = tt
 
 -- a call that sends takes none
 sends_takes : (s : Own) (c : Call) (x : Sending) (y : Taken) → sends s c ≡ Some x → takes c ≡ Some y → ⊥
@@ -227,19 +232,27 @@ before_it : (s : Own) (c : Call) (t : List Call) (x : Sending) (y : Taken) → s
 before_it s c t x y h (inl k) = absurd (sends_takes s c x y h k)
 before_it s c t x y h (inr k) = k
 
+-- a call fetches in the client's sizes
+pub fetch_sizes : (sizes : Sizes) (m : Method) (body : List ℕ) (f : FetchState) → CarriesBody sizes m body (Fetches f)
+    → F.sizes_of f ≡ sizes
+fetch_sizes sizes Get body f h = h
+fetch_sizes sizes Post body f h = absurd h
+fetch_sizes sizes Put body f h = absurd h
+fetch_sizes sizes Delete body f h = absurd h
+
 -- the message is that of the operation
-module _ (szx : ℕ) (t : List Call) (c : Call) (x : Sending) where
+module _ (sizes : Sizes) (t : List Call) (c : Call) (x : Sending) where
   abbrev SentAs : Type 0
   SentAs = (os : List Observation) × (x.request ≡ message_of os x.operation)
 
-  sent_by_turn : Turned szx t c → sends (own_of szx t) c ≡ Some x → SentAs
+  sent_by_turn : Turned sizes t c → sends (own_of sizes t) c ≡ Some x → SentAs
   sent_by_turn z h = by z.closes
     where
       m : ℕ
-      m = max (own_of szx t).clock z.now
+      m = max (own_of sizes t).clock z.now
 
       e : Effect
-      e = left_by (at z.now (own_of szx t)) m z.told z.move
+      e = left_by (at z.now (own_of sizes t)) m z.told z.move
 
       by : Closing m e z.token → SentAs
       by (quiet q none own_same report_same) = let k : Some x ≡ None = sym h ∙ (z.sends_is ∙ none) in absurd (cc k)
@@ -249,72 +262,74 @@ module _ (szx : ℕ) (t : List Call) (c : Call) (x : Sending) where
           ∙ (sym z.sends_is ∙ h) in cc k) in
           (e.own.observations, subst (λ (y : Sending). y.request ≡ message_of e.own.observations y.operation) same refl)
 
-pub sent_as : (szx : ℕ) (t : List Call) (c : Call) (x : Sending) → sends (own_of szx t) c ≡ Some x → SentAs szx t c x
-sent_as szx t (Feeds now from bytes w up settled event sent token was) x h =
-    sent_by_turn szx t (Feeds now from bytes w up settled event sent token was) x
-    (fed_turned szx t now from bytes w up settled event sent token was) h
-sent_as szx t (Ticks now w below turn sent token was did) x h =
-    sent_by_turn szx t (Ticks now w below turn sent token was did) x
-    (ticked_turned szx t now w below turn sent token was did) h
-sent_as szx t (Calls now r did) x h = absurd (cc h)
-sent_as szx t (Observes now path did) x h = absurd (cc h)
-sent_as szx t (Cancels now k did) x h = absurd (cc h)
-sent_as szx t (Forgets k was did) x h = absurd (cc h)
-sent_as szx t (NextOut did) x h = absurd (cc h)
-sent_as szx t (NextReport did) x h = absurd (cc h)
-sent_as szx t (Asked did) x h = absurd (cc h)
+pub sent_as : (sizes : Sizes) (t : List Call) (c : Call) (x : Sending) → sends (own_of sizes t) c ≡ Some x
+    → SentAs sizes t c x
+sent_as sizes t (Feeds now from bytes w up settled event sent token was) x h =
+    sent_by_turn sizes t (Feeds now from bytes w up settled event sent token was) x
+    (fed_turned sizes t now from bytes w up settled event sent token was) h
+sent_as sizes t (Ticks now w below turn sent token was did) x h =
+    sent_by_turn sizes t (Ticks now w below turn sent token was did) x
+    (ticked_turned sizes t now w below turn sent token was did) h
+sent_as sizes t (Calls now r did) x h = absurd (cc h)
+sent_as sizes t (Observes now path did) x h = absurd (cc h)
+sent_as sizes t (Cancels now k did) x h = absurd (cc h)
+sent_as sizes t (Forgets k was did) x h = absurd (cc h)
+sent_as sizes t (NextOut did) x h = absurd (cc h)
+sent_as sizes t (NextReport did) x h = absurd (cc h)
+sent_as sizes t (Asked did) x h = absurd (cc h)
 
-module _ (szx : ℕ) where
-  abbrev IsTaken : List Call → Operation → Type 0
-  IsTaken t op = IsTakenBy szx t op
+module _ (sizes : Sizes) where
+  abbrev pub IsTaken : List Call → Operation → Type 0
+  IsTaken t op = IsTakenBy sizes t op
 
-  all_taken : (t : List Call) → AllOf (IsTaken t) (own_of szx t).queue
-  all_taken = all_wait szx IsTaken (taken_later szx) (λ t now r n. (
+  all_taken : (t : List Call) → AllOf (IsTaken t) (own_of sizes t).queue
+  all_taken = all_wait sizes IsTaken (taken_later sizes) (λ t now r n. (
     r,
     inl refl,
     refl,
-    subst (λ m. CarriesBody szx r.method r.body (transfer_of m r r.method))
-        (sym (size_is szx t)) (fresh_carries szx r r.method),
+    subst (λ m. CarriesBody sizes r.method r.body (transfer_of m r r.method))
+        (sym (size_is sizes t)) (fresh_carries sizes r r.method),
   )) (λ t now path n. tt) (λ t now n. tt)
 
-  taken_here : (t : List Call) (c : Call) (k : ℕ) (r : Request) (tr : Transfer) → Origin szx t c k r tr
-      → ((old : Transfer) → (own_of szx t).running ≡ Some (Calling k r old) → IsTaken t (Calling k r old))
+  taken_here : (t : List Call) (c : Call) (k : ℕ) (r : Request) (tr : Transfer) → Origin sizes t c k r tr
+      → ((old : Transfer) → (own_of sizes t).running ≡ Some (Calling k r old) → IsTaken t (Calling k r old))
       → IsTaken (c ∷ t) (Calling k r tr)
   taken_here t c k r tr (kept runs none) ih = let h = ih tr runs in (h.0, inr h.1, h.2, h.3)
   taken_here t c k r tr (follows old m x runs heard asks sends_it op_is) ih = let h =
-      ih old runs in (h.0, inr h.1, h.2, carries_on szx h.0.method h.0.body r old tr m h.3 asks)
+      ih old runs in (h.0, inr h.1, h.2, carries_on sizes h.0.method h.0.body r old tr m h.3 asks)
   taken_here t c k r tr (begins queue is) ih = let h : AllOf (IsTaken t) (Calling k r tr ∷ queue) =
       subst (AllOf (IsTaken t)) is (all_taken t) in let g = h.0 in (g.0, inr g.1, g.2, g.3)
 
-  running_taken : (t : List Call) (k : ℕ) (r : Request) (tr : Transfer) → (own_of szx t).running ≡ Some (Calling k r tr)
+  pub running_taken : (t : List Call) (k : ℕ) (r : Request) (tr : Transfer)
+      → (own_of sizes t).running ≡ Some (Calling k r tr)
       → IsTaken t (Calling k r tr)
   running_taken [] k r tr is = absurd (cc is)
-  running_taken (c ∷ t) k r tr is = taken_here t c k r tr (origin szx t c k r tr is)
+  running_taken (c ∷ t) k r tr is = taken_here t c k r tr (origin sizes t c k r tr is)
       (λ old runs. running_taken t k r old runs)
 
-  of_call : (t : List Call) (c : Call) (x : Sending) (number : ℕ) → sends (own_of szx t) c ≡ Some x → (op : Operation)
-      → x.operation ≡ op → call_of op ≡ Some number → IsOfCall szx number x t
+  of_call : (t : List Call) (c : Call) (x : Sending) (number : ℕ) → sends (own_of sizes t) c ≡ Some x → (op : Operation)
+      → x.operation ≡ op → call_of op ≡ Some number → IsOfCall sizes number x t
   of_call t c x number h (Registering k path) is k_is = absurd (cc k_is)
   of_call t c x number h (Fetching k) is k_is = absurd (cc k_is)
   of_call t c x number h (Cancelling k) is k_is = absurd (cc k_is)
   of_call t c x number h Dropped is k_is = absurd (cc k_is)
   of_call t c x number h (Calling k r tr) is k_is =
       let same : k ≡ number = cc k_is in
-      let g = running_taken (c ∷ t) k r tr ((sent_now szx t c x h).runs ∙ ap (λ o. Some o) is) in
-      let z = sent_as szx t c x h in
+      let g = running_taken (c ∷ t) k r tr ((sent_now sizes t c x h).runs ∙ ap (λ o. Some o) is) in
+      let z = sent_as sizes t c x h in
       let asks : Operation = Calling number (record (g.0) { body = [] }) tr in
       let op_is : Calling k r tr ≡ asks = ap (λ n. Calling n r tr) same ∙ ap (λ q. Calling number q tr) g.2 in
       record {
         request = g.0;
         taken = subst (λ n. WasTaken (record { number = n; request = g.0 }) t) same
-            (before_it (own_of szx t) c t x (record { number = k; request = g.0 }) h g.1);
+            (before_it (own_of sizes t) c t x (record { number = k; request = g.0 }) h g.1);
         transfer = tr;
         operation = is ∙ op_is;
         carries = g.3;
         message = z.1 ∙ ap (message_of z.0) (is ∙ op_is);
       }
 
-  pub are_of_calls : (t : List Call) → AreOfCalls szx t
+  pub are_of_calls : (t : List Call) → AreOfCalls sizes t
   are_of_calls [] = tt
   are_of_calls (c ∷ t) = ((λ x number h k. of_call t c x number h x.operation refl k), are_of_calls t)
 
@@ -327,10 +342,10 @@ get_by os (Fetching k) h = refl
 get_by os (Cancelling k) h = refl
 get_by os Dropped h = refl
 
-pub others_are_gets : (szx : ℕ) (t : List Call) → OthersAreGets szx t
-others_are_gets szx [] = tt
-others_are_gets szx (c ∷ t) = (
-  (λ x h k. let z = sent_as szx t c x h in ap (λ r. r.code) z.1
+pub others_are_gets : (sizes : Sizes) (t : List Call) → OthersAreGets sizes t
+others_are_gets sizes [] = tt
+others_are_gets sizes (c ∷ t) = (
+  (λ x h k. let z = sent_as sizes t c x h in ap (λ r. r.code) z.1
       ∙ get_by z.0 x.operation k),
-  others_are_gets szx t,
+  others_are_gets sizes t,
 )

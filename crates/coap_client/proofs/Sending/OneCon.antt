@@ -9,6 +9,7 @@ use Rattle.coap_types.specs.Bytes.{AreBytes}
 use Rattle.coap_codec.specs.Message.{Message, Spells}
 use Rattle.coap_codec.proofs.Facts.EveryDatagram.{one_message}
 use Rattle.coap_layer.specs.Trace as L
+use Rattle.coap_layer.specs.declared.setup.Setup.{Setup}
 use Rattle.coap_layer.specs.Trace.{with_head}
 use Rattle.coap_layer.specs.Words.{Open, begun}
 use Rattle.coap_layer.specs.Rows.{LayerLaw}
@@ -16,6 +17,7 @@ use Rattle.coap_layer.specs.Sends.{SpellsCon}
 use Rattle.coap_layer.specs.Machine.State as S
 use Rattle.coap_layer.specs.Machine.Steps.{Asked, Steps, entries}
 use Rattle.coap_layer.proofs.Facts.Laws.{spelled_begun}
+use Rattle.coap_block.specs.Sizes.{Sizes}
 use Rattle.coap_exchange.specs.declared.asker.AskRefusal.{AskRefusal}
 use Rattle.coap_exchange.specs.declared.asker.Exchange.{Exchange}
 use Rattle.coap_exchange.specs.declared.matching.Verdict.{Verdict}
@@ -209,18 +211,19 @@ token_of_con server con m x are s small h =
     (subst (λ z. Spells z whole) (sym h.bytes) (h.spelled Con con.id small)) in
     ap (λ (z : Message). z.token) same
 
-small_id : (word : ℕ) (t : List L.Entry) (con : Open) → LayerLaw word t → Ever (λ e. begun e ≡ Some con) t
+small_id : (setup : Setup) (t : List L.Entry) (con : Open) → LayerLaw setup t → Ever (λ e. begun e ≡ Some con) t
     → con.id < 65536
-small_id word t con law h = let k : SpellsCon con = spelled_begun word t con law h in let low = k.1.id in let e =
+small_id setup t con law h = let k : SpellsCon con = spelled_begun setup t con law h in let low = k.1.id in let e =
     k.3 in omega (arith, low, e)
 
-module _ (server : Endpoint) (szx word : ℕ) (a b : Open) (x y : Message) (ab : AreBytes a.bytes) (bb : AreBytes b.bytes)
+module _ (server : Endpoint) (sizes : Sizes) (word : ℕ) (a b : Open) (x y : Message) (ab : AreBytes a.bytes)
+    (bb : AreBytes b.bytes)
     (sa : Spells a.bytes x) (sb : Spells b.bytes y) (same : x.token ≡ y.token) (small_a : a.id < 65536)
     (small_b : b.id < 65536) where
   abbrev OfOne : List Call → Type 0
-  OfOne t = (a ≡ b) ⊎ (Ends server szx t a b ⊎ Ends server szx t b a)
+  OfOne t = (a ≡ b) ⊎ (Ends server sizes t a b ⊎ Ends server sizes t b a)
 
-  ends_later : (t : List Call) (c : Call) (p q : Open) → Ends server szx t p q → Ends server szx (c ∷ t) p q
+  ends_later : (t : List Call) (c : Call) (p q : Open) → Ends server sizes t p q → Ends server sizes (c ∷ t) p q
   ends_later t c p q k = record {
     first = k.first;
     second = k.second;
@@ -240,36 +243,37 @@ module _ (server : Endpoint) (szx word : ℕ) (a b : Open) (x y : Message) (ab :
   same_token u v h k = sym (token_of_con server a x u ab sa small_a h)
       ∙ (same ∙ token_of_con server b y v bb sb small_b k)
 
-  con_here : (t : List Call) (c : Call) → ClientLaw server szx word (c ∷ t)
-      → Ever (λ e. begun e ≡ Some a) (call_adds server szx word t c)
-      → Ever (λ e. begun e ≡ Some b) (call_adds server szx word t c) → a ≡ b
+  con_here : (t : List Call) (c : Call) → ClientLaw server sizes word (c ∷ t)
+      → Ever (λ e. begun e ≡ Some a) (call_adds server sizes word t c)
+      → Ever (λ e. begun e ≡ Some b) (call_adds server sizes word t c) → a ≡ b
   con_here t c law h k =
-      let z = steps_here server szx word t c law in
-      begun_once a b z.0 z.1 (call_asks server szx word t c)
-      (single_beneath server word (lower_of szx t) (lower (own_of szx t) c) (single_lower (own_of szx t) c)) z.2
+      let z = steps_here server sizes word t c law in
+      begun_once a b z.0 z.1 (call_asks server sizes word t c)
+      (single_beneath server word (lower_of sizes t) (lower (own_of sizes t) c) (single_lower (own_of sizes t) c)) z.2
       (subst (Ever (λ e. begun e ≡ Some a)) z.3 h) (subst (Ever (λ e. begun e ≡ Some b)) z.3 k)
 
-  two_cons : (t : List Call) → ClientLaw server szx word t → Ever (λ e. begun e ≡ Some a) (layer_of server szx word t)
-      → Ever (λ e. begun e ≡ Some b) (layer_of server szx word t) → OfOne t
+  two_cons : (t : List Call) → ClientLaw server sizes word t → Ever (λ e. begun e
+      ≡ Some a) (layer_of server sizes word t)
+      → Ever (λ e. begun e ≡ Some b) (layer_of server sizes word t) → OfOne t
   two_cons [] law h k = absurd h
   two_cons (c ∷ t) law h k =
-      by (Ever_append (λ e. begun e ≡ Some a) (call_adds server szx word t c) (layer_of server szx word t)
-      (subst (Ever (λ e. begun e ≡ Some a)) (layer_next server szx word t c) h))
-      (Ever_append (λ e. begun e ≡ Some b) (call_adds server szx word t c) (layer_of server szx word t)
-      (subst (Ever (λ e. begun e ≡ Some b)) (layer_next server szx word t c) k))
-      (client_back server szx word (c ∷ []) t law) (two_cons t (client_back server szx word (c ∷ []) t law))
+      by (Ever_append (λ e. begun e ≡ Some a) (call_adds server sizes word t c) (layer_of server sizes word t)
+      (subst (Ever (λ e. begun e ≡ Some a)) (layer_next server sizes word t c) h))
+      (Ever_append (λ e. begun e ≡ Some b) (call_adds server sizes word t c) (layer_of server sizes word t)
+      (subst (Ever (λ e. begun e ≡ Some b)) (layer_next server sizes word t c) k))
+      (client_back server sizes word (c ∷ []) t law) (two_cons t (client_back server sizes word (c ∷ []) t law))
     where
-      by : Ever (λ e. begun e ≡ Some a) (call_adds server szx word t c)
-          ⊎ Ever (λ e. begun e ≡ Some a) (layer_of server szx word t)
-          → Ever (λ e. begun e ≡ Some b) (call_adds server szx word t c)
-          ⊎ Ever (λ e. begun e ≡ Some b) (layer_of server szx word t)
-          → ClientLaw server szx word t → (Ever (λ e. begun e ≡ Some a) (layer_of server szx word t)
-          → Ever (λ e. begun e ≡ Some b) (layer_of server szx word t) → OfOne t) → OfOne (c ∷ t)
+      by : Ever (λ e. begun e ≡ Some a) (call_adds server sizes word t c)
+          ⊎ Ever (λ e. begun e ≡ Some a) (layer_of server sizes word t)
+          → Ever (λ e. begun e ≡ Some b) (call_adds server sizes word t c)
+          ⊎ Ever (λ e. begun e ≡ Some b) (layer_of server sizes word t)
+          → ClientLaw server sizes word t → (Ever (λ e. begun e ≡ Some a) (layer_of server sizes word t)
+          → Ever (λ e. begun e ≡ Some b) (layer_of server sizes word t) → OfOne t) → OfOne (c ∷ t)
       by (inl now) (inl here) past ih = inl (con_here t c law now here)
       by (inl now) (inr before) past ih =
-          let u = begins_now server szx word t c law a now in
-          let v = cons_are_requests server szx word t past b before in
-          let d = (own_tokens szx server word (c ∷ t) law).0 u.sending v.0 u.sends_it v.1
+          let u = begins_now server sizes word t c law a now in
+          let v = cons_are_requests server sizes word t past b before in
+          let d = (own_tokens sizes server word (c ∷ t) law).0 u.sending v.0 u.sends_it v.1
           (sym (same_token u.sending v.0 u.is v.2)) in
           inr (inr (record {
             first = v.0;
@@ -281,9 +285,9 @@ module _ (server : Endpoint) (szx word : ℕ) (a b : Open) (x y : Message) (ab :
             deregisters = d;
           }))
       by (inr before) (inl now) past ih =
-          let u = begins_now server szx word t c law b now in
-          let v = cons_are_requests server szx word t past a before in
-          let d = (own_tokens szx server word (c ∷ t) law).0 u.sending v.0 u.sends_it v.1
+          let u = begins_now server sizes word t c law b now in
+          let v = cons_are_requests server sizes word t past a before in
+          let d = (own_tokens sizes server word (c ∷ t) law).0 u.sending v.0 u.sends_it v.1
           (same_token v.0 u.sending v.2 u.is) in
           inr (inl (record {
             first = v.0;
@@ -296,9 +300,10 @@ module _ (server : Endpoint) (szx word : ℕ) (a b : Open) (x y : Message) (ab :
           }))
       by (inr p) (inr q) past ih = one_later t c (ih p q)
 
-pub one_con : (server : Endpoint) (szx word : ℕ) (t : List Call) → ClientLaw server szx word t
-    → OneConOrCancel server szx word t
-one_con server szx word t law a b h k x y ab bb sa sb same =
-    let layer = client_layer server szx word t law in
-    two_cons server szx word a b x y ab bb sa sb same (small_id word (layer_of server szx word t) a layer h)
-    (small_id word (layer_of server szx word t) b layer k) t law h k
+pub one_con : (server : Endpoint) (sizes : Sizes) (word : ℕ) (t : List Call) → ClientLaw server sizes word t
+    → OneConOrCancel server sizes word t
+one_con server sizes word t law a b h k x y ab bb sa sb same =
+    let layer = client_layer server sizes word t law in
+    two_cons server sizes word a b x y ab bb sa sb same (small_id (S.usual word)
+    (layer_of server sizes word t) a layer h)
+    (small_id (S.usual word) (layer_of server sizes word t) b layer k) t law h k

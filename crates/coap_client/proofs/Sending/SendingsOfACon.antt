@@ -13,6 +13,7 @@ use Rattle.coap_layer.specs.Trace as L
 use Rattle.coap_layer.specs.Words.{Open, begun, copies_in}
 use Rattle.coap_layer.proofs.Facts.Sendings.{copied_by}
 use Rattle.coap_layer.proofs.Facts.StepsOfLayer.{steps_split}
+use Rattle.coap_block.specs.Sizes.{Sizes}
 use Rattle.coap_exchange.specs.declared.asker.AskRefusal.{AskRefusal}
 use Rattle.coap_exchange.specs.declared.asker.Exchange.{Exchange}
 use Rattle.coap_exchange.specs.declared.asker.Turn.{Turn}
@@ -131,16 +132,17 @@ copy_ticks L.AsksFree answer to id h = absurd (cc h)
 copy_ticks L.Pass answer to id h = absurd (cc h)
 
 -- it is sent again here: the CON is outstanding, and the call a tick that copies
-pub record Copies (server : Endpoint) (szx word : ℕ) (con : Open) (past : List Call) (c : Call) : Type 0 where
-  pub is_open : IsOpen (layer_of server szx word past) con
+pub record Copies (server : Endpoint) (sizes : Sizes) (word : ℕ) (con : Open) (past : List Call)
+    (c : Call) : Type 0 where
+  pub is_open : IsOpen (layer_of server sizes word past) con
   pub copies : is_copy c ≡ true
 
-module _ (server : Endpoint) (szx word : ℕ) (con : Open) (past : List Call) (Z : L.Entry → Type 0) where
+module _ (server : Endpoint) (sizes : Sizes) (word : ℕ) (con : Open) (past : List Call) (Z : L.Entry → Type 0) where
   abbrev adds : Call → List L.Entry
-  adds c = call_adds server szx word past c
+  adds c = call_adds server sizes word past c
 
   abbrev earlier : List L.Entry
-  earlier = layer_of server szx word past
+  earlier = layer_of server sizes word past
 
   abbrev Holds : List L.Entry → L.Entry → Type 0
   Holds t e = SendsIt con t e → Z e
@@ -149,7 +151,7 @@ module _ (server : Endpoint) (szx word : ℕ) (con : Open) (past : List Call) (Z
   Begins c = (e : L.Entry) → IsIn e (adds c) → begun e ≡ Some con → Z e
 
   abbrev Again : Call → Type 0
-  Again c = (e : L.Entry) → IsIn e (adds c) → Copies server szx word con past c → Z e
+  Again c = (e : L.Entry) → IsIn e (adds c) → Copies server sizes word con past c → Z e
 
   -- entries that are no ticks
   no_ticks : (xs rest : List L.Entry) → ((e : L.Entry) → IsIn e xs → begun e ≡ Some con → Z e)
@@ -162,11 +164,11 @@ module _ (server : Endpoint) (szx word : ℕ) (con : Open) (past : List Call) (Z
       ]) before
 
   -- a call without a tick
-  quiet : (c : Call) → Begins c → Every NoTurn (lower (own_of szx past) c) → Always Holds earlier
+  quiet : (c : Call) → Begins c → Every NoTurn (lower (own_of sizes past) c) → Always Holds earlier
       → Always Holds (adds c ++ earlier)
   quiet c begins h before =
-      no_ticks (adds c) earlier begins (made_none _ (call_asks server szx word past c)
-      (asked_none server word (lower_of szx past) (lower (own_of szx past) c) h)) before
+      no_ticks (adds c) earlier begins (made_none _ (call_asks server sizes word past c)
+      (asked_none server word (lower_of sizes past) (lower (own_of sizes past) c) h)) before
 
   -- a tick: the first that it asks is the layer's, and what it asks behind that sends nothing again
   module _ (now w : ℕ) (below : L.Answer) (turn : Turn) (sent : L.Answer) (token : Result (List ℕ) AskRefusal)
@@ -175,10 +177,10 @@ module _ (server : Endpoint) (szx word : ℕ) (con : Open) (past : List Call) (Z
     call = Ticks now w below turn sent token kept answer
 
     abbrev m : ℕ
-    m = max (own_of szx past).clock now
+    m = max (own_of sizes past).clock now
 
     abbrev done : Effect
-    done = effect (own_of szx past) call
+    done = effect (own_of sizes past) call
 
     abbrev later : List E.Call
     later = deeds (close m done token).deed (close m done token).own m w sent token kept
@@ -190,7 +192,7 @@ module _ (server : Endpoint) (szx word : ℕ) (con : Open) (past : List Call) (Z
     input = E.Ticks m below turn
 
     abbrev under : List E.Call
-    under = lower_of szx past
+    under = lower_of sizes past
 
     abbrev front : List Asked
     front = asked_by_client server word (input ∷ under) (later ++ first)
@@ -198,7 +200,7 @@ module _ (server : Endpoint) (szx word : ℕ) (con : Open) (past : List Call) (Z
     abbrev tick : Asked
     tick = Q.asked m L.Ticks below
 
-    asks_is : call_asks server szx word past call ≡ front ++ tick ∷ []
+    asks_is : call_asks server sizes word past call ≡ front ++ tick ∷ []
     asks_is = ap (asked_by_client server word under) (sym (append_assoc later first (input ∷ [])))
         ∙ asked_append server word under (later ++ first) (input ∷ [])
 
@@ -208,21 +210,22 @@ module _ (server : Endpoint) (szx word : ℕ) (con : Open) (past : List Call) (Z
         (every_join NoTurn later first (deeds_none (close m done token).deed
         (close m done token).own m w sent token kept) (deeds_none done.deed done.own m w sent token kept))
 
-    module _ (law : ClientLaw server szx word (call ∷ past)) where
+    module _ (law : ClientLaw server sizes word (call ∷ past)) where
       copied : (old : S.State) → below ≡ S.answer_of old (S.moment old m L.Ticks) L.Ticks → IsOpen earlier con
-          → copies_in L.Ticks (S.made old m L.Ticks).answer con.to con.id ≡ true → Copies server szx word con past call
+          → copies_in L.Ticks (S.made old m L.Ticks).answer con.to con.id ≡ true
+          → Copies server sizes word con past call
       copied old is o h =
           let there : below ≡ L.Copied con.to con.id = is
           ∙ copied_by L.Ticks (S.made old m L.Ticks).answer con.to con.id h in
-          let right = (done_right (beneath server szx word past) later first input
+          let right = (done_right (beneath server sizes word past) later first input
           (law_front server word (later ++ (first ++ input ∷ [])) under law.exchanges.rows)).0 in
           let turned : turn ≡ turn_of.Copied = right
-          ∙ ap (R.turn_of (beneath server szx word past) (max (beneath server szx word past).clock m)) there in
+          ∙ ap (R.turn_of (beneath server sizes word past) (max (beneath server sizes word past).clock m)) there in
           record { is_open = o; copies = ap (λ z. is_copy (Ticks now w below z sent token kept answer)) turned }
 
       ticked : Begins call → Again call → Always Holds earlier → Always Holds (adds call ++ earlier)
       ticked begins again before =
-          let k = steps_here server szx word past call law in
+          let k = steps_here server sizes word past call law in
           let old : S.State = k.0 in
           let parts = steps_split old k.1 front (tick ∷ []) (subst (λ (z : List Asked). Steps old z k.1) asks_is k.2) in
           let answered : below ≡ S.answer_of old (S.moment old m L.Ticks) L.Ticks =
@@ -251,9 +254,9 @@ module _ (server : Endpoint) (szx word : ℕ) (con : Open) (past : List Call) (Z
 
   fed_none : (now : ℕ) (from : Endpoint) (bytes : List ℕ) (w : ℕ) (up : L.Answer) (settled : Bool) (event : _)
       (sent : L.Answer) (token : Result (List ℕ) AskRefusal) (kept : Bool)
-      → Every NoTurn (lower (own_of szx past) (Feeds now from bytes w up settled event sent token kept))
+      → Every NoTurn (lower (own_of sizes past) (Feeds now from bytes w up settled event sent token kept))
   fed_none now from bytes w up settled event sent token kept =
-      let s : Own = own_of szx past in
+      let s : Own = own_of sizes past in
       let e : Effect = effect s (Feeds now from bytes w up settled event sent token kept) in
       let c = close (max s.clock now) e token in
       every_join NoTurn (deeds c.deed c.own (max s.clock now) w sent token kept) _
@@ -261,7 +264,7 @@ module _ (server : Endpoint) (szx word : ℕ) (con : Open) (past : List Call) (Z
       (every_join NoTurn (deeds e.deed e.own (max s.clock now) w sent token kept) _
       (deeds_none e.deed e.own (max s.clock now) w sent token kept) (tt, tt))
 
-  each_call : (c : Call) → ClientLaw server szx word (c ∷ past) → Begins c → Again c → Always Holds earlier
+  each_call : (c : Call) → ClientLaw server sizes word (c ∷ past) → Begins c → Again c → Always Holds earlier
       → Always Holds (adds c ++ earlier)
   each_call (Ticks now w below turn sent token kept answer) law begins again before =
       ticked now w below turn sent token kept answer law begins again before
@@ -272,15 +275,15 @@ module _ (server : Endpoint) (szx word : ℕ) (con : Open) (past : List Call) (Z
   each_call (Observes now path answer) law begins again before = quiet (Observes now path answer) begins tt before
   each_call (Cancels now number answer) law begins again before = quiet (Cancels now number answer) begins tt before
   each_call (Forgets number kept true) law begins again before =
-      quiet (Forgets number kept true) begins (released (observation_of number (own_of szx past).observations)
-      (own_of szx past) L.Nothing (Ok []) kept) before
+      quiet (Forgets number kept true) begins (released (observation_of number (own_of sizes past).observations)
+      (own_of sizes past) L.Nothing (Ok []) kept) before
   each_call (Forgets number kept false) law begins again before = quiet (Forgets number kept false) begins tt before
   each_call (NextOut answer) law begins again before = quiet (NextOut answer) begins (tt, tt) before
   each_call (NextReport answer) law begins again before = quiet (NextReport answer) begins tt before
   each_call (AskedFor answer) law begins again before = quiet (AskedFor answer) begins tt before
 
   -- Each sending of the CON in what a call adds is its beginning, or a copy.
-  pub each_sending : (c : Call) → ClientLaw server szx word (c ∷ past) → Begins c → Again c → Always Holds earlier
-      → Always Holds (layer_of server szx word (c ∷ past))
-  each_sending c law begins again before = subst (Always Holds) (sym (layer_next server szx word past c))
+  pub each_sending : (c : Call) → ClientLaw server sizes word (c ∷ past) → Begins c → Again c → Always Holds earlier
+      → Always Holds (layer_of server sizes word (c ∷ past))
+  each_sending c law begins again before = subst (Always Holds) (sym (layer_next server sizes word past c))
       (each_call c law begins again before)

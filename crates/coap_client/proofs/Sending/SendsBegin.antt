@@ -6,6 +6,7 @@ use Rattle.coap_types.specs.declared.endpoint.Endpoint.{Endpoint}
 use Rattle.coap_layer.specs.Machine.Steps.{Asked, entries}
 use Rattle.coap_layer.specs.Trace as L
 use Rattle.coap_layer.specs.Words.{begun_in, open_of, sent_by}
+use Rattle.coap_block.specs.Sizes.{Sizes}
 use Rattle.coap_exchange.specs.declared.asker.AskRefusal.{AskRefusal}
 use Rattle.coap_exchange.specs.AskerTrace as E
 use Rattle.coap_exchange.specs.AskerRequests as Q
@@ -74,13 +75,13 @@ begins_to to e h =
     let is = ap (λ (c : L.Call). begun_in e.at c e.answer) h.call_is ∙ ap (open_of e.at to h.content h.word) h.sent in
     record { con = _; is = is; to_is = refl }
 
-pub sends_begin : (server : Endpoint) (szx word : ℕ) (past : List Call) (c : Call)
-    → ClientLaw server szx word (c ∷ past) → (x : Sending) → sends (own_of szx past) c ≡ Some x
-    → Ever (BeginsTo server) (call_adds server szx word past c)
-sends_begin server szx word past c law x h =
-    let k = steps_here server szx word past c law in
-    let asks = call_asks server szx word past c in
-    let there = asks_con server word x.request x.token (lower (own_of szx past) c)
-    (lower_of szx past) law.exchanges.rows (asked_if_sent (own_of szx past) c x h) in
+pub sends_begin : (server : Endpoint) (sizes : Sizes) (word : ℕ) (past : List Call) (c : Call)
+    → ClientLaw server sizes word (c ∷ past) → (x : Sending) → sends (own_of sizes past) c ≡ Some x
+    → Ever (BeginsTo server) (call_adds server sizes word past c)
+sends_begin server sizes word past c law x h =
+    let k = steps_here server sizes word past c law in
+    let asks = call_asks server sizes word past c in
+    let there = asks_con server word x.request x.token (lower (own_of sizes past) c)
+    (lower_of sizes past) law.exchanges.rows (asked_if_sent (own_of sizes past) c x h) in
     subst (Ever (BeginsTo server)) (sym k.3) (Ever_map (λ (e : L.Entry). Confirms server e.call e.answer)
     (BeginsTo server) (begins_to server) (entries k.0 asks) (entry_of (Confirms server) k.0 k.1 asks k.2 there))

@@ -7,6 +7,7 @@ use Rattle.coap_layer.specs.Sends.{IsIn, IsOpen, SendsIt, as_begun}
 use Rattle.coap_layer.specs.Trace as L
 use Rattle.coap_layer.specs.Words.{Open, begun, outstanding}
 use Rattle.coap_layer.proofs.Facts.Sendings.{some_in, was_begun}
+use Rattle.coap_block.specs.Sizes.{Sizes}
 use Rattle.coap_client.specs.Trace.{Call}
 use Rattle.coap_client.specs.Own.{Operation, Calling, Registering, Fetching, Cancelling, Dropped}
 use Rattle.coap_client.specs.Law.{ClientLaw, own_of, layer_of}
@@ -36,27 +37,27 @@ open_begun t con o =
     Ever_map (λ b. begun b ≡ Some (as_begun x.0)) (λ b. begun b ≡ Some con) (λ b h. h ∙ ap (λ (c : Open). Some c) x.2) t
     (was_begun t x.0 x.1)
 
-module _ (server : Endpoint) (szx word : ℕ) where
+module _ (server : Endpoint) (sizes : Sizes) (word : ℕ) where
   -- a datagram of this upload was sent, no earlier
   abbrev pub SentSince : ℕ → ℕ → List Call → Type 0
-  SentSince k at t = Sometime (λ earlier b. SendsOf szx k earlier b × (at ≤ moment (own_of szx earlier) b)) t
+  SentSince k at t = Sometime (λ earlier b. SendsOf sizes k earlier b × (at ≤ moment (own_of sizes earlier) b)) t
 
   pub record SentIn (con : Open) (t : List Call) (e : L.Entry) : Type 0 where
     pub sending : Sending
-    pub sent : WasSent szx sending t
+    pub sent : WasSent sizes sending t
     pub is : IsRequestOf server con sending
     pub when : (k : ℕ) → is_upload_of k (Some sending.operation) ≡ true → SentSince k e.at t
 
-  module _ (con : Open) (t : List Call) (c : Call) (law : ClientLaw server szx word (c ∷ t)) where
+  module _ (con : Open) (t : List Call) (c : Call) (law : ClientLaw server sizes word (c ∷ t)) where
     abbrev adds : List L.Entry
-    adds = call_adds server szx word t c
+    adds = call_adds server sizes word t c
 
-    till : (e : L.Entry) → IsIn e adds → e.at ≤ moment (own_of szx t) c
-    till e i = every_in (λ (x : L.Entry). x.at ≤ moment (own_of szx t) c) adds e (adds_by server szx word t c) i
+    till : (e : L.Entry) → IsIn e adds → e.at ≤ moment (own_of sizes t) c
+    till e i = every_in (λ (x : L.Entry). x.at ≤ moment (own_of sizes t) c) adds e (adds_by server sizes word t c) i
 
     first : (e : L.Entry) → IsIn e adds → begun e ≡ Some con → SentIn con (c ∷ t) e
     first e i b =
-        let k = begins_now server szx word t c law con
+        let k = begins_now server sizes word t c law con
         (Ever_map (λ y. y ≡ e) (λ y. begun y ≡ Some con) (λ y h. ap begun h ∙ b) adds i) in
         record {
           sending = k.sending;
@@ -65,10 +66,10 @@ module _ (server : Endpoint) (szx word : ℕ) where
           when = λ n h. inl (inl (ap (sends_of n) k.sends_it ∙ h), till e i);
         }
 
-    again : (e : L.Entry) → IsIn e adds → Copies server szx word con t c → SentIn con (c ∷ t) e
+    again : (e : L.Entry) → IsIn e adds → Copies server sizes word con t c → SentIn con (c ∷ t) e
     again e i h =
-        let k = open_runs server szx word con t (client_back server szx word (c ∷ []) t law)
-        (open_begun (layer_of server szx word t) con h.is_open) in
+        let k = open_runs server sizes word con t (client_back server sizes word (c ∷ []) t law)
+        (open_begun (layer_of server sizes word t) con h.is_open) in
         record {
           sending = k.sending;
           sent = inr k.sent;
@@ -86,11 +87,11 @@ module _ (server : Endpoint) (szx word : ℕ) where
     later : (e : L.Entry) → SentIn con t e → SentIn con (c ∷ t) e
     later e h = record { sending = h.sending; sent = inr h.sent; is = h.is; when = λ n u. inr (h.when n u) }
 
-  pub sent_in : (con : Open) (t : List Call) → ClientLaw server szx word t
-      → Always (λ p e. SendsIt con p e → SentIn con t e) (layer_of server szx word t)
+  pub sent_in : (con : Open) (t : List Call) → ClientLaw server sizes word t
+      → Always (λ p e. SendsIt con p e → SentIn con t e) (layer_of server sizes word t)
   sent_in con [] law = tt
   sent_in con (c ∷ t) law =
-      each_sending server szx word con t (SentIn con (c ∷ t)) c law (first con t c law) (again con t c law)
+      each_sending server sizes word con t (SentIn con (c ∷ t)) c law (first con t c law) (again con t c law)
       (always_map (λ p e. SendsIt con p e → SentIn con t e) (λ p e. SendsIt con p e → SentIn con (c ∷ t) e)
-      (λ p e f s. later con t c law e (f s)) (layer_of server szx word t)
-      (sent_in con t (client_back server szx word (c ∷ []) t law)))
+      (λ p e f s. later con t c law e (f s)) (layer_of server sizes word t)
+      (sent_in con t (client_back server sizes word (c ∷ []) t law)))

@@ -5,6 +5,7 @@ use Rattle.std.specs.List.{filter_map, cons_option}
 use Rattle.coap_types.specs.Past.{Ever}
 use Rattle.coap_types.proofs.Facts.Traces.{Ever_map, Ever_append, Ever_back}
 use Rattle.coap_types.specs.declared.endpoint.Endpoint.{Endpoint}
+use Rattle.coap_layer.specs.declared.setup.Setup.{Setup}
 use Rattle.coap_layer.specs.Trace.{Entry}
 use Rattle.coap_layer.specs.Words.{Open, left_by, begun, outstanding}
 use Rattle.coap_layer.specs.Rows.{LayerLaw}
@@ -42,33 +43,33 @@ still e old (c ∷ cs) k = go (left_by e c) refl k (λ z. still e old cs z)
     go (Some d) is (inr z) r = inr (r z)
 
 -- behind one entry
-before : (word : ℕ) (e : Entry) (past : List Entry) (old : Open) → LayerLaw word (e ∷ past)
+before : (setup : Setup) (e : Entry) (past : List Entry) (old : Open) → LayerLaw setup (e ∷ past)
     → Ever (λ b. begun b ≡ Some old) past → IsOpen (e ∷ past) old → IsOpen past old
-before word e past old law there o = ⊎_elim (λ k. still e old (outstanding past) k)
-    (λ k. absurd (begun_once word past e old law (begun_as e old k) there))
+before setup e past old law there o = ⊎_elim (λ k. still e old (outstanding past) k)
+    (λ k. absurd (begun_once setup past e old law (begun_as e old k) there))
     (Ever_append (λ y. as_begun y ≡ old) (filter_map (left_by e) (outstanding past)) (option_to_list (begun e)) o)
 
 -- behind several
-pub open_before : (word : ℕ) (later past : List Entry) (old : Open) → LayerLaw word (later ++ past)
+pub open_before : (setup : Setup) (later past : List Entry) (old : Open) → LayerLaw setup (later ++ past)
     → Ever (λ b. begun b ≡ Some old) past → IsOpen (later ++ past) old → IsOpen past old
-open_before word [] past old law there o = o
-open_before word (e ∷ later) past old law there o =
-    open_before word later past old law.1 there (before word e (later ++ past) old law
+open_before setup [] past old law there o = o
+open_before setup (e ∷ later) past old law there o =
+    open_before setup later past old law.1 there (before setup e (later ++ past) old law
     (Ever_back (λ b. begun b ≡ Some old) later past there) o)
 
-alone : (word : ℕ) (e : Entry) (past : List Entry) (old : Open) → LayerLaw word (e ∷ past) → BeginsTo old.to e
+alone : (setup : Setup) (e : Entry) (past : List Entry) (old : Open) → LayerLaw setup (e ∷ past) → BeginsTo old.to e
     → IsOpen past old → ⊥
-alone word e past old law b o =
-    (one_outstanding word (e ∷ past) law).0 b.con b.is
+alone setup e past old law b o =
+    (one_outstanding setup (e ∷ past) law).0 b.con b.is
     (Ever_map _ _ (λ (y : Open) w. place_same y.to b.con.to (ap (λ (c : Open). c.to) w ∙ sym b.to_is))
     (outstanding past) o)
 
-pub closed_by : (word : ℕ) (later past : List Entry) (old : Open) → LayerLaw word (later ++ past)
+pub closed_by : (setup : Setup) (later past : List Entry) (old : Open) → LayerLaw setup (later ++ past)
     → Ever (λ b. begun b ≡ Some old) past → Ever (BeginsTo old.to) later → IsOpen (later ++ past) old → ⊥
-closed_by word [] past old law there b o = b
-closed_by word (e ∷ later) past old law there (inl b) o =
-    alone word e (later ++ past) old law b (before word e (later ++ past) old law
+closed_by setup [] past old law there b o = b
+closed_by setup (e ∷ later) past old law there (inl b) o =
+    alone setup e (later ++ past) old law b (before setup e (later ++ past) old law
     (Ever_back (λ b. begun b ≡ Some old) later past there) o)
-closed_by word (e ∷ later) past old law there (inr b) o =
-    closed_by word later past old law.1 there b (before word e (later ++ past) old law
+closed_by setup (e ∷ later) past old law there (inr b) o =
+    closed_by setup later past old law.1 there b (before setup e (later ++ past) old law
     (Ever_back (λ b. begun b ≡ Some old) later past there) o)

@@ -5,6 +5,7 @@ use Rattle.std.specs.Prelude.{◌==◌, filter}
 use Rattle.coap_types.specs.Past.{Ever, Always}
 use Rattle.coap_types.proofs.Facts.Traces.{Ever_back, Ever_front, Ever_map}
 use Rattle.coap_types.specs.declared.endpoint.Endpoint.{Endpoint}
+use Rattle.coap_block.specs.Sizes.{Sizes}
 use Rattle.coap_exchange.specs.declared.asker.AskRefusal.{AskRefusal}
 use Rattle.coap_exchange.specs.declared.asker.Event.{Event}
 use Rattle.coap_exchange.specs.AskerTrace as E
@@ -132,7 +133,7 @@ module _ (P : ℕ → List (List ℕ) → List ℕ → Type 0) where
     live_moves (mv.goes_on k r tr next a hears runs asks) = h
     live_moves (mv.is_done k r tr final rep a hears runs ends_so) = live_held s (not final && is_upload tr) (of k rep) h
     live_moves (mv.registers k path a hears runs note) =
-        live_more s.observations (begun k path s.szx now a) h (is_new k path a hears runs)
+        live_more s.observations (begun k path s.sizes now a) h (is_new k path a hears runs)
     live_moves (mv.refuses k path a hears runs note) = h
     live_moves (mv.fetches_on k n a num size hears runs rest code asks) =
         live_changed k (λ o. record o { rest = rest_left n.sequence n.fetch a (verdict.Ask num size) })
@@ -148,7 +149,7 @@ module _ (P : ℕ → List (List ℕ) → List ℕ → Type 0) where
     live_moves (mv.renews o a notes found note newer) =
         live_changed o.number (λ p. record p {
           watch = arrived p.watch (sequence_in a) now true;
-          rest = first_rest s.szx a;
+          rest = first_rest s.sizes a;
         }) (λ p z. z) s.observations h
     live_moves (mv.passes_by o a notes found note newer) =
         live_changed o.number (λ p. record p { watch = arrived p.watch (sequence_in a) now false })
@@ -163,23 +164,25 @@ module _ (P : ℕ → List (List ℕ) → List ℕ → Type 0) where
     live_closed e token z (is_refused op why asks given none all) =
         subst (λ (c : Effect). AllLive P c.own.observations) (sym all) (live_failed e.own has_sent NoIds (Some op) z)
 
-  pub live_turned : (szx : ℕ) (t : List Call) (c : Call) (k : Turned szx t c) → AllLive P (own_of szx t).observations
-      → ((n : ℕ) (path : List (List ℕ)) (m : _) → Hears k.told m → (own_of szx t).running ≡ Some (Registering n path)
-      → P n path m.token) → AllLive P (own_of szx (c ∷ t)).observations
-  live_turned szx t c k h is_new =
-      let m : ℕ = max (own_of szx t).clock k.now in
-      let s : Own = at k.now (own_of szx t) in
+  pub live_turned : (sizes : Sizes) (t : List Call) (c : Call) (k : Turned sizes t c)
+      → AllLive P (own_of sizes t).observations
+      → ((n : ℕ) (path : List (List ℕ)) (m : _) → Hears k.told m → (own_of sizes t).running ≡ Some (Registering n path)
+      → P n path m.token) → AllLive P (own_of sizes (c ∷ t)).observations
+  live_turned sizes t c k h is_new =
+      let m : ℕ = max (own_of sizes t).clock k.now in
+      let s : Own = at k.now (own_of sizes t) in
       let e : Effect = left_by s m k.told k.move in
       subst (λ (o : Own). AllLive P o.observations) (sym k.own_is)
       (live_closed s m k.told h is_new e k.token (live_moves s m k.told h is_new k.move) k.closes)
 
-pub last_was_sent : (szx : ℕ) (t : List Call) (x : Sending) → last_sent szx t ≡ Some x → WasSent szx x t
-last_was_sent szx [] x h = absurd (cc h)
-last_was_sent szx (c ∷ t) x h = by (sends (own_of szx t) c) refl h (last_was_sent szx t x)
+pub last_was_sent : (sizes : Sizes) (t : List Call) (x : Sending) → last_sent sizes t ≡ Some x → WasSent sizes x t
+last_was_sent sizes [] x h = absurd (cc h)
+last_was_sent sizes (c ∷ t) x h = by (sends (own_of sizes t) c) refl h (last_was_sent sizes t x)
   where
-    by : (o : Option Sending) → sends (own_of szx t) c ≡ o
-        → elim o [ Some y ↦ Some y | None ↦ last_sent szx t ] ≡ Some x → (last_sent szx t ≡ Some x → WasSent szx x t)
-        → WasSent szx x (c ∷ t)
+    by : (o : Option Sending) → sends (own_of sizes t) c ≡ o
+        → elim o [ Some y ↦ Some y | None ↦ last_sent sizes t ] ≡ Some x
+        → (last_sent sizes t ≡ Some x → WasSent sizes x t)
+        → WasSent sizes x (c ∷ t)
     by (Some y) is h ih = inl (is ∙ h)
     by None is h ih = inr (ih h)
 
@@ -224,42 +227,43 @@ same_observations s now told (mv.fails e un) op h = absurd (by s.running h)
     by (Some Dropped) h = cc h
     by (Some (Cancelling k)) h = releases_none _ op h
 
-module _ (szx : ℕ) where
+module _ (sizes : Sizes) where
   -- the message of what is sent; that of a cancel has the token of its observation
   record Made (t : List Call) (x : Sending) : Type 0 where
     observations : List Observation
     request : x.request ≡ message_of observations x.operation
-    cancels : (k : ℕ) → x.operation ≡ Cancelling k → observations ≡ (own_of szx t).observations
+    cancels : (k : ℕ) → x.operation ≡ Cancelling k → observations ≡ (own_of sizes t).observations
 
-  made_by : (t : List Call) (c : Call) (x : Sending) (k : Turned szx t c) → sends (own_of szx t) c ≡ Some x → Made t x
+  made_by : (t : List Call) (c : Call) (x : Sending) (k : Turned sizes t c) → sends (own_of sizes t) c ≡ Some x
+      → Made t x
   made_by t c x k h = by k.closes
     where
-      by : Closing (max (own_of szx t).clock k.now)
-          (left_by (at k.now (own_of szx t)) (max (own_of szx t).clock k.now) k.told k.move) k.token → Made t x
+      by : Closing (max (own_of sizes t).clock k.now)
+          (left_by (at k.now (own_of sizes t)) (max (own_of sizes t).clock k.now) k.told k.move) k.token → Made t x
       by (quiet q none own_same report_same) = let e : Some x ≡ None = sym h ∙ (k.sends_is ∙ none) in absurd (cc e)
       by (is_refused op why asks given none all) = let e : Some x ≡ None = sym h ∙ (k.sends_is ∙ none) in absurd (cc e)
       by (goes_out op key asks given sends_it own_same report_same) =
-          let e = left_by (at k.now (own_of szx t)) (max (own_of szx t).clock k.now) k.told k.move in
+          let e = left_by (at k.now (own_of sizes t)) (max (own_of sizes t).clock k.now) k.told k.move in
           let same : sending_of e op key ≡ x = (let z : Some (sending_of e op key) ≡ Some x = sym sends_it
           ∙ (sym k.sends_is ∙ h) in cc z) in
           let op_is : op ≡ x.operation = ap (λ (z : Sending). z.operation) same in
           record {
             observations = e.own.observations;
             request = sym (ap (λ (z : Sending). z.request) same) ∙ ap (message_of e.own.observations) op_is;
-            cancels = λ j is. (elim (same_observations (at k.now (own_of szx t))
-                (max (own_of szx t).clock k.now) k.told k.move op asks) [
+            cancels = λ j is. (elim (same_observations (at k.now (own_of sizes t))
+                (max (own_of sizes t).clock k.now) k.told k.move op asks) [
                   | inl eq ↦ eq
                   | inr f ↦ (let z : Cancelling j ≡ Fetching f.0 = sym is ∙ (sym op_is ∙ f.1) in absurd (cc z))
                 ]);
           }
 
-  made_of : (t : List Call) (c : Call) (x : Sending) → sends (own_of szx t) c ≡ Some x → Made t x
+  made_of : (t : List Call) (c : Call) (x : Sending) → sends (own_of sizes t) c ≡ Some x → Made t x
   made_of t (Feeds now from bytes w up settled event sent token kept) x h =
       made_by t (Feeds now from bytes w up settled event sent token kept) x
-      (fed_turned szx t now from bytes w up settled event sent token kept) h
+      (fed_turned sizes t now from bytes w up settled event sent token kept) h
   made_of t (Ticks now w below turn sent token kept answer) x h =
       made_by t (Ticks now w below turn sent token kept answer) x
-      (ticked_turned szx t now w below turn sent token kept answer) h
+      (ticked_turned sizes t now w below turn sent token kept answer) h
   made_of t (Calls now r answer) x h = absurd (cc h)
   made_of t (Observes now path answer) x h = absurd (cc h)
   made_of t (Cancels now k answer) x h = absurd (cc h)
@@ -271,7 +275,7 @@ module _ (szx : ℕ) where
   -- its registration was sent, under its token
   pub record Registered (t : List Call) (number : ℕ) (path : List (List ℕ)) (token : List ℕ) : Type 0 where
     pub sending : Sending
-    pub sent : WasSent szx sending t
+    pub sent : WasSent sizes sending t
     pub operation : sending.operation ≡ Registering number path
     pub token_is : sending.token ≡ token
 
@@ -280,7 +284,7 @@ module _ (szx : ℕ) where
   registered_later t c n path token h = record
       { sending = h.sending; sent = inr h.sent; operation = h.operation; token_is = h.token_is }
 
-  fresh_of : (t : List Call) (x : Sending) → WasSent szx x t → ((k : ℕ) → x.operation ≡ Cancelling k → ⊥)
+  fresh_of : (t : List Call) (x : Sending) → WasSent sizes x t → ((k : ℕ) → x.operation ≡ Cancelling k → ⊥)
       → x.request.token ≡ None
   fresh_of [] x h apart = absurd h
   fresh_of (c ∷ t) x (inr h) apart = fresh_of t x h apart
@@ -296,11 +300,12 @@ module _ (szx : ℕ) where
       by (Cancelling k) apart = absurd (apart k refl)
 
   -- what was sent was asked of the exchanges
-  pub was_asked : (t : List Call) (x : Sending) → WasSent szx x t → Ever (AsksFor x.request x.token) (lower_of szx t)
+  pub was_asked : (t : List Call) (x : Sending) → WasSent sizes x t
+      → Ever (AsksFor x.request x.token) (lower_of sizes t)
   was_asked [] x h = absurd h
-  was_asked (c ∷ t) x (inl h) = Ever_front (AsksFor x.request x.token) (lower (own_of szx t) c) (lower_of szx t)
-      (asked_if_sent (own_of szx t) c x h)
-  was_asked (c ∷ t) x (inr h) = Ever_back (AsksFor x.request x.token) (lower (own_of szx t) c) (lower_of szx t)
+  was_asked (c ∷ t) x (inl h) = Ever_front (AsksFor x.request x.token) (lower (own_of sizes t) c) (lower_of sizes t)
+      (asked_if_sent (own_of sizes t) c x h)
+  was_asked (c ∷ t) x (inr h) = Ever_back (AsksFor x.request x.token) (lower (own_of sizes t) c) (lower_of sizes t)
       (was_asked t x h)
 
   asks_begin : (r : E.Request) (token : List ℕ) (b : E.Call) → AsksFor r token b → F.begun b ≡ Some token
@@ -314,28 +319,28 @@ module _ (szx : ℕ) where
   asks_cancels r token b h = ap F.cancels h.is
 
   module _ (server : Endpoint) (word : ℕ) where
-    new_here : (t : List Call) (c : Call) (k : Turned szx t c) → ClientLaw server szx word (c ∷ t)
-        → (n : ℕ) (path : List (List ℕ)) (m : _) → Hears k.told m → (own_of szx t).running ≡ Some (Registering n path)
+    new_here : (t : List Call) (c : Call) (k : Turned sizes t c) → ClientLaw server sizes word (c ∷ t)
+        → (n : ℕ) (path : List (List ℕ)) (m : _) → Hears k.told m → (own_of sizes t).running ≡ Some (Registering n path)
         → Registered (c ∷ t) n path m.token
     new_here t c k law n path m hears_it runs =
-        let past = law_back server word (lower (own_of szx t) c) (lower_of szx t) law.exchanges.rows in
-        let tracked : Tracked szx t (Registering n path) (beneath server szx word t).running =
-        subst (λ o. IfTracked szx t o (beneath server szx word t).running) runs
-        (all_sends szx server word t law.rows.1 past).tracked in
-        let a : Answers szx t c m = (answers_last szx server word (c ∷ t) law).0 m
+        let past = law_back server word (lower (own_of sizes t) c) (lower_of sizes t) law.exchanges.rows in
+        let tracked : Tracked sizes t (Registering n path) (beneath server sizes word t).running =
+        subst (λ o. IfTracked sizes t o (beneath server sizes word t).running) runs
+        (all_sends sizes server word t law.rows.1 past).tracked in
+        let a : Answers sizes t c m = (answers_last sizes server word (c ∷ t) law).0 m
         (k.hears_is ∙ ap heard_in hears_it) in
         let same : a.sending ≡ tracked.sending = (let z : Some a.sending ≡ Some tracked.sending = sym a.last
         ∙ tracked.last in cc z) in
         record {
           sending = a.sending;
-          sent = inr (last_was_sent szx t a.sending a.last);
+          sent = inr (last_was_sent sizes t a.sending a.last);
           operation = elim tracked.same [ inl d ↦ absurd (cc d) | inr e ↦ ap (λ (z : Sending). z.operation) same ∙ e ];
           token_is = a.token;
         }
 
-    live_step : (t : List Call) (c : Call) → ClientLaw server szx word (c ∷ t)
-        → AllLive (Registered (c ∷ t)) (own_of szx t).observations
-        → AllLive (Registered (c ∷ t)) (own_of szx (c ∷ t)).observations
+    live_step : (t : List Call) (c : Call) → ClientLaw server sizes word (c ∷ t)
+        → AllLive (Registered (c ∷ t)) (own_of sizes t).observations
+        → AllLive (Registered (c ∷ t)) (own_of sizes (c ∷ t)).observations
     live_step t (Calls now r (Ok n)) law h = h
     live_step t (Calls now r (Err why)) law h = h
     live_step t (Observes now path (Ok n)) law h = h
@@ -343,47 +348,47 @@ module _ (szx : ℕ) where
     live_step t (Cancels now k None) law h = h
     live_step t (Cancels now k (Some why)) law h = h
     live_step t (Forgets k kept true) law h = live_without (Registered (Forgets k kept true ∷ t)) k
-        (own_of szx t).observations h
+        (own_of sizes t).observations h
     live_step t (Forgets k kept false) law h = h
     live_step t (NextOut answer) law h = h
     live_step t (NextReport answer) law h = h
     live_step t (Asked answer) law h = h
     live_step t (Feeds now from bytes w up settled event sent token kept) law h =
         let c : Call = Feeds now from bytes w up settled event sent token kept in
-        let k = fed_turned szx t now from bytes w up settled event sent token kept in
-        live_turned (Registered (c ∷ t)) szx t c k h (new_here t c k law)
+        let k = fed_turned sizes t now from bytes w up settled event sent token kept in
+        live_turned (Registered (c ∷ t)) sizes t c k h (new_here t c k law)
     live_step t (Ticks now w below turn sent token kept answer) law h =
         let c : Call = Ticks now w below turn sent token kept answer in
-        let k = ticked_turned szx t now w below turn sent token kept answer in
-        live_turned (Registered (c ∷ t)) szx t c k h (new_here t c k law)
+        let k = ticked_turned sizes t now w below turn sent token kept answer in
+        live_turned (Registered (c ∷ t)) sizes t c k h (new_here t c k law)
 
-    pub live : (t : List Call) → ClientLaw server szx word t → AllLive (Registered t) (own_of szx t).observations
+    pub live : (t : List Call) → ClientLaw server sizes word t → AllLive (Registered t) (own_of sizes t).observations
     live [] law = tt
     live (c ∷ t) law = live_step t c law (live_to (Registered t) (Registered (c ∷ t)) (registered_later t c)
-        (own_of szx t).observations (live t (client_back server szx word (c ∷ []) t law)))
+        (own_of sizes t).observations (live t (client_back server sizes word (c ∷ []) t law)))
 
     -- its token was given before
-    given_before : (t : List Call) → ClientLaw server szx word t → (k : ℕ) (token : List ℕ)
-        → token_of k (own_of szx t).observations ≡ Some token → (path : List (List ℕ)) × Registered t k path token
-    given_before t law k token is = live_found (Registered t) k (own_of szx t).observations token (live t law) is
+    given_before : (t : List Call) → ClientLaw server sizes word t → (k : ℕ) (token : List ℕ)
+        → token_of k (own_of sizes t).observations ≡ Some token → (path : List (List ℕ)) × Registered t k path token
+    given_before t law k token is = live_found (Registered t) k (own_of sizes t).observations token (live t law) is
 
     registered_fresh : (t : List Call) (k : ℕ) (path : List (List ℕ)) (token : List ℕ) → Registered t k path token
-        → Ever (λ b. F.fresh b ≡ Some token) (lower_of szx t)
+        → Ever (λ b. F.fresh b ≡ Some token) (lower_of sizes t)
     registered_fresh t k path token h =
         let none = fresh_of t h.sending h.sent (λ j is.
         (let z : Cancelling j ≡ Registering k path = sym is ∙ h.operation in cc z)) in
         Ever_map (AsksFor h.sending.request h.sending.token) (λ b. F.fresh b ≡ Some token)
         (λ b a. asks_fresh h.sending.request h.sending.token b none a ∙ ap (λ z. Some z) h.token_is)
-        (lower_of szx t) (was_asked t h.sending h.sent)
+        (lower_of sizes t) (was_asked t h.sending h.sent)
 
     -- a request that has a token was asked for a live observation
-    cancel_given : (t : List Call) (c : Call) → ClientLaw server szx word (c ∷ t) → (x : Sending)
-        → sends (own_of szx t) c ≡ Some x → (token : List ℕ) → x.request.token ≡ Some token
+    cancel_given : (t : List Call) (c : Call) → ClientLaw server sizes word (c ∷ t) → (x : Sending)
+        → sends (own_of sizes t) c ≡ Some x → (token : List ℕ) → x.request.token ≡ Some token
         → (k : ℕ) × (x.operation ≡ Cancelling k) × (path : List (List ℕ)) × Registered t k path token
     cancel_given t c law x is token has =
         let m = made_of t c x is in
         let a = token_asked m.observations x.operation token (sym (ap (λ (q : E.Request). q.token) m.request) ∙ has) in
-        let g = given_before t (client_back server szx word (c ∷ []) t law) a.0 token
+        let g = given_before t (client_back server sizes word (c ∷ []) t law) a.0 token
         (ap (token_of a.0) (sym (m.cancels a.0 a.1)) ∙ a.2) in
         (a.0, a.1, g.0, g.1)
 
@@ -410,21 +415,21 @@ module _ (szx : ℕ) where
     cancel_asks (E.Release key answer) token h = absurd (cc h)
     cancel_asks (E.Take answer) token h = absurd (cc h)
 
-    given_here : (t : List Call) (c : Call) → ClientLaw server szx word (c ∷ t) → (b : E.Call)
-        → Ever (λ z. z ≡ b) (lower (own_of szx t) c) → (token : List ℕ) → F.cancels b ≡ Some token
-        → Ever (λ z. F.fresh z ≡ Some token) (lower_of szx t)
+    given_here : (t : List Call) (c : Call) → ClientLaw server sizes word (c ∷ t) → (b : E.Call)
+        → Ever (λ z. z ≡ b) (lower (own_of sizes t) c) → (token : List ℕ) → F.cancels b ≡ Some token
+        → Ever (λ z. F.fresh z ≡ Some token) (lower_of sizes t)
     given_here t c law b there token is =
         let a = cancel_asks b token is in
-        let x = sent_if_asked (own_of szx t) c a.0 a.1
+        let x = sent_if_asked (own_of sizes t) c a.0 a.1
         (Ever_map (λ z. z ≡ b) (AsksFor a.0 a.1) (λ z e. subst (AsksFor a.0 a.1) (sym e) a.2)
-        (lower (own_of szx t) c) there) in
+        (lower (own_of sizes t) c) there) in
         let g = cancel_given t c law x.sending x.sends_it token (ap (λ (q : E.Request). q.token) x.request ∙ a.3) in
         registered_fresh t g.0 g.2 token g.3
 
-    pub cancels_are_given : (t : List Call) → ClientLaw server szx word t → F.CancelsAreGiven (lower_of szx t)
+    pub cancels_are_given : (t : List Call) → ClientLaw server sizes word t → F.CancelsAreGiven (lower_of sizes t)
     cancels_are_given [] law = tt
-    cancels_are_given (c ∷ t) law = front_given (lower (own_of szx t) c) (lower_of szx t) (given_here t c law)
-        (cancels_are_given t (client_back server szx word (c ∷ []) t law))
+    cancels_are_given (c ∷ t) law = front_given (lower (own_of sizes t) c) (lower_of sizes t) (given_here t c law)
+        (cancels_are_given t (client_back server sizes word (c ∷ []) t law))
 
     -- where the request is asked, in the law of its tokens
     record AskedAt (x : Sending) (past : List E.Call) : Type 0 where
@@ -441,70 +446,71 @@ module _ (szx : ℕ) where
     asked_at x (b ∷ xs) past law given (inr h) = asked_at x xs past law.1 given.1 h
     asked_at x [] past law given h = absurd h
 
-    asked_here : (t : List Call) (c : Call) → ClientLaw server szx word (c ∷ t) → (x : Sending)
-        → sends (own_of szx t) c ≡ Some x → AskedAt x (lower_of szx t)
-    asked_here t c law x is = asked_at x (lower (own_of szx t) c) (lower_of szx t)
-        (are_tokens server word (lower_of szx (c ∷ t)) law.exchanges.rows) (cancels_are_given (c ∷ t) law)
-        (asked_if_sent (own_of szx t) c x is)
+    asked_here : (t : List Call) (c : Call) → ClientLaw server sizes word (c ∷ t) → (x : Sending)
+        → sends (own_of sizes t) c ≡ Some x → AskedAt x (lower_of sizes t)
+    asked_here t c law x is = asked_at x (lower (own_of sizes t) c) (lower_of sizes t)
+        (are_tokens server word (lower_of sizes (c ∷ t)) law.exchanges.rows) (cancels_are_given (c ∷ t) law)
+        (asked_if_sent (own_of sizes t) c x is)
 
     -- a token that is new was of no request
-    not_before : (t : List Call) (x : Sending) → AskedAt x (lower_of szx t) → x.request.token ≡ None → (y : Sending)
-        → WasSent szx y t → y.token ≡ x.token → ⊥
+    not_before : (t : List Call) (x : Sending) → AskedAt x (lower_of sizes t) → x.request.token ≡ None → (y : Sending)
+        → WasSent sizes y t → y.token ≡ x.token → ⊥
     not_before t x a none y was same =
         a.tokens.unused a.given x.token (asks_fresh x.request x.token a.call none a.asks)
-        (Ever_back (F.Begins x.token) a.front (lower_of szx t)
+        (Ever_back (F.Begins x.token) a.front (lower_of sizes t)
         (Ever_map (AsksFor y.request y.token) (F.Begins x.token)
-        (λ b k. asks_begin y.request y.token b k ∙ ap (λ z. Some z) same) (lower_of szx t) (was_asked t y was)))
+        (λ b k. asks_begin y.request y.token b k ∙ ap (λ z. Some z) same) (lower_of sizes t) (was_asked t y was)))
 
     -- a cancel that was sent runs, or is over
-    pub cancel_runs : (t : List Call) (y : Sending) (k : ℕ) → WasSent szx y t → y.operation ≡ Cancelling k
-        → ((own_of szx t).running ≡ Some (Cancelling k)) ⊎ (1 ≤ gone szx k t)
+    pub cancel_runs : (t : List Call) (y : Sending) (k : ℕ) → WasSent sizes y t → y.operation ≡ Cancelling k
+        → ((own_of sizes t).running ≡ Some (Cancelling k)) ⊎ (1 ≤ gone sizes k t)
     cancel_runs [] y k was is = absurd was
-    cancel_runs (c ∷ t) y k (inl now) is = inl ((sent_now szx t c y now).runs ∙ ap (λ o. Some o) is)
+    cancel_runs (c ∷ t) y k (inl now) is = inl ((sent_now sizes t c y now).runs ∙ ap (λ o. Some o) is)
     cancel_runs (c ∷ t) y k (inr before) is = elim (cancel_runs t y k before is) [
-      | inl runs ↦ by (fate szx t c (Cancelling k) tt runs)
+      | inl runs ↦ by (fate sizes t c (Cancelling k) tt runs)
       | inr h ↦ inr (omega (arith, h))
     ]
       where
-        by : Fate szx t c (Cancelling k) → ((own_of szx (c ∷ t)).running ≡ Some (Cancelling k))
-            ⊎ (1 ≤ gone szx k (c ∷ t))
+        by : Fate sizes t c (Cancelling k) → ((own_of sizes (c ∷ t)).running ≡ Some (Cancelling k))
+            ⊎ (1 ≤ gone sizes k (c ∷ t))
         by (runs_on run none) = inl run
         by (goes_on n r tr next m x op_is heard asks sends_it x_is run) = absurd (cc op_is)
         by (ends_it n number final none) = let e : k
-            ≡ n = cc number in inr (subst (λ j. 1 ≤ gone szx j (c ∷ t)) (sym e) (omega (arith, final)))
+            ≡ n = cc number in inr (subst (λ j. 1 ≤ gone sizes j (c ∷ t)) (sym e) (omega (arith, final)))
 
     -- a cancel is sent once
-    pub one_cancel : (t : List Call) (c : Call) → ClientLaw server szx word (c ∷ t) → (x y : Sending) (k : ℕ)
-        → sends (own_of szx t) c ≡ Some x → x.operation ≡ Cancelling k → WasSent szx y t → y.operation ≡ Cancelling k
+    pub one_cancel : (t : List Call) (c : Call) → ClientLaw server sizes word (c ∷ t) → (x y : Sending) (k : ℕ)
+        → sends (own_of sizes t) c ≡ Some x → x.operation ≡ Cancelling k → WasSent sizes y t
+        → y.operation ≡ Cancelling k
         → ⊥
     one_cancel t c law x y k is op was other = elim (cancel_runs t y k was other) [
-      | inl runs ↦ by (fate szx t c (Cancelling k) tt runs)
+      | inl runs ↦ by (fate sizes t c (Cancelling k) tt runs)
       | inr h ↦ (
-          let kn = known server szx word (c ∷ t) law.rows law.exchanges.rows in
-          let live_now : 1 ≤ in_observations k (own_of szx (c ∷ t)).observations =
-          subst (IfRuns (own_of szx (c ∷ t)).observations)
-          ((sent_now szx t c x is).runs ∙ ap (λ o. Some o) op) kn.runs_on in
-          both_one (places k (own_of szx (c ∷ t))) (gone szx k (c ∷ t)) _ (kn.one k) (omega (arith, live_now))
+          let kn = known server sizes word (c ∷ t) law.rows law.exchanges.rows in
+          let live_now : 1 ≤ in_observations k (own_of sizes (c ∷ t)).observations =
+          subst (IfRuns (own_of sizes (c ∷ t)).observations)
+          ((sent_now sizes t c x is).runs ∙ ap (λ o. Some o) op) kn.runs_on in
+          both_one (places k (own_of sizes (c ∷ t))) (gone sizes k (c ∷ t)) _ (kn.one k) (omega (arith, live_now))
           (omega (arith, h)))
     ]
       where
-        silent : sends (own_of szx t) c ≡ None → ⊥
+        silent : sends (own_of sizes t) c ≡ None → ⊥
         silent none = let k : Some x ≡ None = sym is ∙ none in cc k
 
-        by : Fate szx t c (Cancelling k) → ⊥
+        by : Fate sizes t c (Cancelling k) → ⊥
         by (runs_on run none) = silent none
         by (goes_on n r tr next m z op_is heard asks sends_it z_is run) = cc op_is
         by (ends_it n number final none) = silent none
 
-    one_of : (t : List Call) → OwnTokens szx t → OneOfToken szx t
+    one_of : (t : List Call) → OwnTokens sizes t → OneOfToken sizes t
     one_of [] own x y h k same = absurd h
     one_of (c ∷ t) own x y (inl h) (inl k) same = inl (cc (h, k))
     one_of (c ∷ t) own x y (inl h) (inr k) same = inr (inr (own.0 x y h k (sym same)))
     one_of (c ∷ t) own x y (inr h) (inl k) same = inr (inl (own.0 y x k h same))
     one_of (c ∷ t) own x y (inr h) (inr k) same = one_of t own.1 x y h k same
 
-    token_here : (t : List Call) (c : Call) → ClientLaw server szx word (c ∷ t) → OwnTokens szx t → (x y : Sending)
-        → sends (own_of szx t) c ≡ Some x → WasSent szx y t → y.token ≡ x.token → Deregisters y x
+    token_here : (t : List Call) (c : Call) → ClientLaw server sizes word (c ∷ t) → OwnTokens sizes t → (x y : Sending)
+        → sends (own_of sizes t) c ≡ Some x → WasSent sizes y t → y.token ≡ x.token → Deregisters y x
     token_here t c law own x y is was same = by x.request.token refl
       where
         by : (o : Option (List ℕ)) → x.request.token ≡ o → Deregisters y x
@@ -533,12 +539,12 @@ module _ (szx : ℕ) where
               ]
             ]
 
-    pub own_tokens : (t : List Call) → ClientLaw server szx word t → OwnTokens szx t
+    pub own_tokens : (t : List Call) → ClientLaw server sizes word t → OwnTokens sizes t
     own_tokens [] law = tt
     own_tokens (c ∷ t) law = let own = own_tokens t
-        (client_back server szx word (c ∷ []) t law) in (token_here t c law own, own)
+        (client_back server sizes word (c ∷ []) t law) in (token_here t c law own, own)
 
-    pub one_of_token : (t : List Call) → ClientLaw server szx word t → OneOfToken szx t
+    pub one_of_token : (t : List Call) → ClientLaw server sizes word t → OneOfToken sizes t
     one_of_token t law = one_of t (own_tokens t law)
 
     -- fresh tokens have eight bytes
@@ -552,28 +558,28 @@ module _ (szx : ℕ) where
     short_fresh (b ∷ calls) law token (inr h) = short_fresh calls law.1 token h
     short_fresh [] law token h = absurd h
 
-    short_here : (t : List Call) (c : Call) → ClientLaw server szx word (c ∷ t) → (x : Sending)
-        → sends (own_of szx t) c ≡ Some x → length x.token ≤ 8
+    short_here : (t : List Call) (c : Call) → ClientLaw server sizes word (c ∷ t) → (x : Sending)
+        → sends (own_of sizes t) c ≡ Some x → length x.token ≤ 8
     short_here t c law x is = by x.request.token refl
       where
         by : (o : Option (List ℕ)) → x.request.token ≡ o → length x.token ≤ 8
         by None none =
-            short_fresh (lower_of szx (c ∷ t)) (are_tokens server word (lower_of szx (c ∷ t)) law.exchanges.rows)
+            short_fresh (lower_of sizes (c ∷ t)) (are_tokens server word (lower_of sizes (c ∷ t)) law.exchanges.rows)
             x.token
             (Ever_map (AsksFor x.request x.token) (λ b. F.fresh b ≡ Some x.token)
-            (λ b a. asks_fresh x.request x.token b none a) (lower_of szx (c ∷ t)) (was_asked (c ∷ t) x (inl is)))
+            (λ b a. asks_fresh x.request x.token b none a) (lower_of sizes (c ∷ t)) (was_asked (c ∷ t) x (inl is)))
         by (Some token) has =
             let a = asked_here t c law x is in
             let g = cancel_given t c law x is token has in
             let begins = a.tokens.cancel token (asks_cancels x.request x.token a.call a.asks ∙ has) in
             let key : x.token ≡ token = (let z : Some x.token
             ≡ Some token = sym (asks_begin x.request x.token a.call a.asks) ∙ begins in cc z) in
-            let past = client_back server szx word (c ∷ []) t law in
-            subst (λ z. length z ≤ 8) (sym key) (short_fresh (lower_of szx t)
-            (are_tokens server word (lower_of szx t) past.exchanges.rows) token
+            let past = client_back server sizes word (c ∷ []) t law in
+            subst (λ z. length z ≤ 8) (sym key) (short_fresh (lower_of sizes t)
+            (are_tokens server word (lower_of sizes t) past.exchanges.rows) token
             (registered_fresh t g.0 g.2 token g.3))
 
-    pub short_tokens : (t : List Call) → ClientLaw server szx word t → ShortTokens szx t
+    pub short_tokens : (t : List Call) → ClientLaw server sizes word t → ShortTokens sizes t
     short_tokens [] law x h = absurd h
     short_tokens (c ∷ t) law x (inl h) = short_here t c law x h
-    short_tokens (c ∷ t) law x (inr h) = short_tokens t (client_back server szx word (c ∷ []) t law) x h
+    short_tokens (c ∷ t) law x (inr h) = short_tokens t (client_back server sizes word (c ∷ []) t law) x h

@@ -190,7 +190,7 @@ answered_from s at m (Some (Calling k r Single)) is = quiet_from s (Some m) _ (�
 answered_from s at m (Some (Registering k path)) is =
     quiet_from s (Some m) (registered k path s at m)
     (keeps_or_ends (is_notification m) (record s
-    { running = None; observations = s.observations ++ begun k path s.szx at m ∷ [] }) (first_value k s.szx m)
+    { running = None; observations = s.observations ++ begun k path s.sizes at m ∷ [] }) (first_value k s.sizes m)
     (of k (R.Ended m.code)) m.token s)
 answered_from s at m (Some (Fetching k)) is = fetch_from s (Some m) k (rest_of k s.observations) m
 answered_from s at m (Some (Cancelling k)) is =
@@ -289,8 +289,8 @@ registered_runs s k path at m = by (is_notification m)
   where
     by : (b : Bool) → Runs s (cond b (record {
       own =
-          record s { running = None; observations = s.observations ++ begun k path s.szx at m ∷ [] };
-      report = first_value k s.szx m;
+          record s { running = None; observations = s.observations ++ begun k path s.sizes at m ∷ [] };
+      report = first_value k s.sizes m;
       deed = Keeps m.token;
     }) (ends (of k (R.Ended m.code)) s))
     by true = ends_runs s _ refl refl

@@ -86,6 +86,7 @@ verdict_aside s from (L.Becomes (L.Request m remembered)) = tt
 verdict_aside s from (L.Becomes (L.Acked id)) = tt
 verdict_aside s from (L.Becomes (L.Reset id)) = tt
 verdict_aside s from (L.Becomes L.Dropped) = tt
+verdict_aside s from (L.Becomes (L.Unmatched id)) = tt
 verdict_aside s from (L.Becomes L.Replayed) = tt
 verdict_aside s from (L.Becomes L.Rejected) = tt
 verdict_aside s from L.Nothing = tt

@@ -1,6 +1,7 @@
 -- What runs, runs on or is over where nothing is sent.
 use Rattle.std.proofs.Common.{◌≡◌, ◌⊎◌, inl, inr, ℕ, max, true, false, Some, None, List, ◌∷◌, refl, ap, sym, subst, ◌∙◌}
 use Rattle.std.proofs.Common.{Result, Ok, Err}
+use Rattle.coap_block.specs.Sizes.{Sizes}
 use Rattle.coap_exchange.specs.declared.asker.AskRefusal.{AskRefusal}
 use Rattle.coap_client.specs.Trace.{NoIds, Call, Calls, Observes, Cancels, Forgets, Feeds, Ticks}
 use Rattle.coap_client.specs.Trace.{NextOut, NextReport, Asked}
@@ -50,26 +51,27 @@ module _ (op : Operation) (lone : IsLone op) (s : Own) (is : s.running ≡ Some 
       inr (ap (λ (z : Effect). z.own.running) all ∙ failed_over e.own o)
 
 -- whatever the call is
-pub left_running : (szx : ℕ) (t : List Call) (c : Call) (op : Operation) → IsLone op → (own_of szx t).running ≡ Some op
-    → sends (own_of szx t) c ≡ None → OnOrOver op (own_of szx (c ∷ t))
-left_running szx t (Calls now r (Ok n)) op lone is none = inl is
-left_running szx t (Calls now r (Err why)) op lone is none = inl is
-left_running szx t (Observes now path (Ok n)) op lone is none = inl is
-left_running szx t (Observes now path (Err why)) op lone is none = inl is
-left_running szx t (Cancels now k None) op lone is none = inl is
-left_running szx t (Cancels now k (Some why)) op lone is none = inl is
-left_running szx t (Forgets k kept true) op lone is none = inl (ap (dropped k) is ∙ dropped_lone k op lone)
-left_running szx t (Forgets k kept false) op lone is none = inl is
-left_running szx t (NextOut answer) op lone is none = inl is
-left_running szx t (NextReport answer) op lone is none = inl is
-left_running szx t (Asked answer) op lone is none = inl is
-left_running szx t (Feeds now from bytes w up settled event sent token kept) op lone is none =
-    let m : ℕ = max (own_of szx t).clock now in
-    let s : Own = at now (own_of szx t) in
+pub left_running : (sizes : Sizes) (t : List Call) (c : Call) (op : Operation) → IsLone op
+    → (own_of sizes t).running ≡ Some op
+    → sends (own_of sizes t) c ≡ None → OnOrOver op (own_of sizes (c ∷ t))
+left_running sizes t (Calls now r (Ok n)) op lone is none = inl is
+left_running sizes t (Calls now r (Err why)) op lone is none = inl is
+left_running sizes t (Observes now path (Ok n)) op lone is none = inl is
+left_running sizes t (Observes now path (Err why)) op lone is none = inl is
+left_running sizes t (Cancels now k None) op lone is none = inl is
+left_running sizes t (Cancels now k (Some why)) op lone is none = inl is
+left_running sizes t (Forgets k kept true) op lone is none = inl (ap (dropped k) is ∙ dropped_lone k op lone)
+left_running sizes t (Forgets k kept false) op lone is none = inl is
+left_running sizes t (NextOut answer) op lone is none = inl is
+left_running sizes t (NextReport answer) op lone is none = inl is
+left_running sizes t (Asked answer) op lone is none = inl is
+left_running sizes t (Feeds now from bytes w up settled event sent token kept) op lone is none =
+    let m : ℕ = max (own_of sizes t).clock now in
+    let s : Own = at now (own_of sizes t) in
     let e : Effect = happened s m event in
     closed_on op lone s is m e (happened_runs s m event) token none (closing m e token)
-left_running szx t (Ticks now w below turn sent token kept answer) op lone is none =
-    let m : ℕ = max (own_of szx t).clock now in
-    let s : Own = at now (own_of szx t) in
+left_running sizes t (Ticks now w below turn sent token kept answer) op lone is none =
+    let m : ℕ = max (own_of sizes t).clock now in
+    let s : Own = at now (own_of sizes t) in
     let e : Effect = passes s m turn in
     closed_on op lone s is m e (passes_runs s m turn) token none (closing m e token)

@@ -56,8 +56,8 @@ module _ (s : Own) (now : ℕ) (m : Message) where
       by : (b : Bool) → is_notification m ≡ b
           → Moved s now told (cond b (record {
             own =
-                record s { running = None; observations = s.observations ++ begun k path s.szx now m ∷ [] };
-            report = first_value k s.szx m;
+                record s { running = None; observations = s.observations ++ begun k path s.sizes now m ∷ [] };
+            report = first_value k s.sizes m;
             deed = Keeps m.token;
           }) (ends (of k (Ended m.code)) s))
       by true h = (registers k path m refl is h, refl)

@@ -3,6 +3,7 @@ use Rattle.std.proofs.Common.{◌≡◌, ℕ, max, Bool, true, false, cond, Opti
 use Rattle.std.proofs.Common.{◌∷◌, refl, ap, sym, ◌∙◌, Result, Ok, Err}
 use Rattle.std.specs.Prelude.{◌==◌}
 use Rattle.coap_codec.specs.Message.{Message}
+use Rattle.coap_block.specs.Sizes.{Sizes}
 use Rattle.coap_exchange.specs.declared.asker.AskRefusal.{AskRefusal}
 use Rattle.coap_exchange.specs.declared.asker.Event.{Event}
 use Rattle.coap_client.specs.Trace.{Request, Report, NoIds, Requested, Call, Calls, Observes, Cancels}
@@ -26,12 +27,12 @@ use Rattle.coap_client.proofs.Turning.Moves.{releases_none}
 use Rattle.coap_client.proofs.Turning.Turns.{Turned, left_with, fed_turned, ticked_turned}
 
 -- it ran before, and nothing is sent; it was the first of the queue; or it goes on
-pub data Origin (szx : ℕ) (t : List Call) (c : Call) (k : ℕ) (r : Request) (tr : Transfer) : Type 0 where
-  kept : (own_of szx t).running ≡ Some (Calling k r tr) → sends (own_of szx t) c ≡ None → Origin szx t c k r tr
-  begins : (queue : List Operation) → (own_of szx t).queue ≡ Calling k r tr ∷ queue → Origin szx t c k r tr
-  follows : (old : Transfer) (m : Message) (x : Sending) → (own_of szx t).running ≡ Some (Calling k r old)
-      → hears c ≡ Some m → answer r old m ≡ calls.Asks tr → sends (own_of szx t) c ≡ Some x
-      → x.operation ≡ Calling k r tr → Origin szx t c k r tr
+pub data Origin (sizes : Sizes) (t : List Call) (c : Call) (k : ℕ) (r : Request) (tr : Transfer) : Type 0 where
+  kept : (own_of sizes t).running ≡ Some (Calling k r tr) → sends (own_of sizes t) c ≡ None → Origin sizes t c k r tr
+  begins : (queue : List Operation) → (own_of sizes t).queue ≡ Calling k r tr ∷ queue → Origin sizes t c k r tr
+  follows : (old : Transfer) (m : Message) (x : Sending) → (own_of sizes t).running ≡ Some (Calling k r old)
+      → hears c ≡ Some m → answer r old m ≡ calls.Asks tr → sends (own_of sizes t) c ≡ Some x
+      → x.operation ≡ Calling k r tr → Origin sizes t c k r tr
 
 dropped_call : (j : ℕ) (running : Option Operation) (k : ℕ) (r : Request) (tr : Transfer)
     → dropped j running ≡ Some (Calling k r tr) → running ≡ Some (Calling k r tr)
@@ -63,22 +64,23 @@ failed_now u report o (Fetching k) other h = cc h
 failed_now u report o (Cancelling k) other h = cc h
 failed_now u report o Dropped other h = cc h
 
-module _ (szx : ℕ) (t : List Call) (c : Call) (k : ℕ) (r : Request) (tr : Transfer) (now : ℕ) (told : Option Event)
+module _ (sizes : Sizes) (t : List Call) (c : Call) (k : ℕ) (r : Request) (tr : Transfer) (now : ℕ)
+    (told : Option Event)
     (token : Result (List ℕ) AskRefusal) (request : Option Requested) where
   abbrev s : Own
-  s = at now (own_of szx t)
+  s = at now (own_of sizes t)
 
   abbrev m : ℕ
-  m = max (own_of szx t).clock now
+  m = max (own_of sizes t).clock now
 
   abbrev Runs : Type 0
-  Runs = (own_of szx (c ∷ t)).running ≡ Some (Calling k r tr)
+  Runs = (own_of sizes (c ∷ t)).running ≡ Some (Calling k r tr)
 
   -- nothing is asked for
-  still : (e : Effect) → (e.own.running ≡ Some (Calling k r tr) → (own_of szx t).running ≡ Some (Calling k r tr))
+  still : (e : Effect) → (e.own.running ≡ Some (Calling k r tr) → (own_of sizes t).running ≡ Some (Calling k r tr))
       → ((o : Operation) → e.deed ≡ Asks o → ⊥) → Closing m e token
-      → own_of szx (c ∷ t) ≡ left_with request (closed m e e.deed token)
-      → sends (own_of szx t) c ≡ sent_by e e.deed token → Runs → Origin szx t c k r tr
+      → own_of sizes (c ∷ t) ≡ left_with request (closed m e e.deed token)
+      → sends (own_of sizes t) c ≡ sent_by e e.deed token → Runs → Origin sizes t c k r tr
   still e back none (quiet q nothing own_same report_same) own sending runs =
       kept (back (sym (ap (λ (o : Own). o.running) own_same) ∙ (sym (ap (λ (o : Own). o.running) own) ∙ runs)))
       (sending ∙ nothing)
@@ -86,15 +88,15 @@ module _ (szx : ℕ) (t : List Call) (c : Call) (k : ℕ) (r : Request) (tr : Tr
   still e back none (is_refused o why asks given nothing all) own sending runs = absurd (none o asks)
 
   -- it is refused, so nothing runs
-  refused : (o : Own) (op : Operation) → own_of szx (c ∷ t) ≡ left_with request (failed has_sent NoIds o (Some op))
-      → Runs → Origin szx t c k r tr
+  refused : (o : Own) (op : Operation) → own_of sizes (c ∷ t) ≡ left_with request (failed has_sent NoIds o (Some op))
+      → Runs → Origin sizes t c k r tr
   refused o op own runs = absurd (failed_now has_sent NoIds o op (Calling k r tr)
       (sym (ap (λ (z : Own). z.running) own) ∙ runs))
 
   origin_by : (mo : Move s m told) → Closing m (left_by s m told mo) token
-      → own_of szx (c ∷ t) ≡ left_with request (closed m (left_by s m told mo) (left_by s m told mo).deed token)
-      → sends (own_of szx t) c ≡ sent_by (left_by s m told mo) (left_by s m told mo).deed token
-      → hears c ≡ heard_in told → Runs → Origin szx t c k r tr
+      → own_of sizes (c ∷ t) ≡ left_with request (closed m (left_by s m told mo) (left_by s m told mo).deed token)
+      → sends (own_of sizes t) c ≡ sent_by (left_by s m told mo) (left_by s m told mo).deed token
+      → hears c ≡ heard_in told → Runs → Origin sizes t c k r tr
   origin_by (mv.rests un) cl own sending heard runs =
       still (left_by s m told (mv.rests un)) (λ z. z) (λ o i. cc i) cl own sending runs
   origin_by (mv.copies q) cl own sending heard runs =
@@ -104,8 +106,8 @@ module _ (szx : ℕ) (t : List Call) (c : Call) (k : ℕ) (r : Request) (tr : Tr
       e : Effect
       e = left_by s m told (mv.starts_next op queue none rest first q)
 
-      by : (z : Result (List ℕ) AskRefusal) → own_of szx (c ∷ t) ≡ left_with request (closed m e (Asks op) z)
-          → Origin szx t c k r tr
+      by : (z : Result (List ℕ) AskRefusal) → own_of sizes (c ∷ t) ≡ left_with request (closed m e (Asks op) z)
+          → Origin sizes t c k r tr
       by (Ok key) own = let same : op ≡ Calling k r tr =
           (let z : Some op ≡ Some (Calling k r tr) = sym (ap (λ (o : Own). o.running) own) ∙ runs in cc z) in begins
           queue (first ∙ ap (λ o. o ∷ queue) same)
@@ -115,8 +117,9 @@ module _ (szx : ℕ) (t : List Call) (c : Call) (k : ℕ) (r : Request) (tr : Tr
       e : Effect
       e = left_by s m told (mv.fetches j none rest q)
 
-      by : (z : Result (List ℕ) AskRefusal) → own_of szx (c ∷ t) ≡ left_with request (closed m e (Asks (Fetching j)) z)
-          → Origin szx t c k r tr
+      by : (z : Result (List ℕ) AskRefusal) → own_of sizes (c ∷ t)
+          ≡ left_with request (closed m e (Asks (Fetching j)) z)
+          → Origin sizes t c k r tr
       by (Ok key) own = let z : Some (Fetching j) ≡ Some (Calling k r tr) = sym (ap (λ (o : Own). o.running) own)
           ∙ runs in absurd (cc z)
       by (Err why) own = refused e.own (Fetching j) own runs
@@ -125,9 +128,9 @@ module _ (szx : ℕ) (t : List Call) (c : Call) (k : ℕ) (r : Request) (tr : Tr
       e : Effect
       e = left_by s m told (mv.goes_on j q old next a hears_it is asks)
 
-      by : (z : Result (List ℕ) AskRefusal) → own_of szx (c ∷ t)
+      by : (z : Result (List ℕ) AskRefusal) → own_of sizes (c ∷ t)
           ≡ left_with request (closed m e (Asks (Calling j q next)) z)
-          → sends (own_of szx t) c ≡ sent_by e (Asks (Calling j q next)) z → Origin szx t c k r tr
+          → sends (own_of sizes t) c ≡ sent_by e (Asks (Calling j q next)) z → Origin sizes t c k r tr
       by (Ok key) own sending =
           let same : Calling j q next ≡ Calling k r tr =
           (let z : Some (Calling j q next) ≡ Some (Calling k r tr) = sym (ap (λ (o : Own). o.running) own)
@@ -151,8 +154,9 @@ module _ (szx : ℕ) (t : List Call) (c : Call) (k : ℕ) (r : Request) (tr : Tr
       e : Effect
       e = left_by s m told (mv.fetches_on j n a num size hears_it is rest code asks)
 
-      by : (z : Result (List ℕ) AskRefusal) → own_of szx (c ∷ t) ≡ left_with request (closed m e (Asks (Fetching j)) z)
-          → Origin szx t c k r tr
+      by : (z : Result (List ℕ) AskRefusal) → own_of sizes (c ∷ t)
+          ≡ left_with request (closed m e (Asks (Fetching j)) z)
+          → Origin sizes t c k r tr
       by (Ok key) own = let z : Some (Fetching j) ≡ Some (Calling k r tr) = sym (ap (λ (o : Own). o.running) own)
           ∙ runs in absurd (cc z)
       by (Err why) own = refused e.own (Fetching j) own runs
@@ -188,27 +192,27 @@ module _ (szx : ℕ) (t : List Call) (c : Call) (k : ℕ) (r : Request) (tr : Tr
   origin_by (mv.passes_by o a notes found note newer) cl own sending heard runs =
       still (left_by s m told (mv.passes_by o a notes found note newer)) (λ z. z) (λ z i. cc i) cl own sending runs
 
-origin_turned : (szx : ℕ) (t : List Call) (c : Call) (k : ℕ) (r : Request) (tr : Transfer) → Turned szx t c
-    → (own_of szx (c ∷ t)).running ≡ Some (Calling k r tr) → Origin szx t c k r tr
-origin_turned szx t c k r tr z = origin_by szx t c k r tr z.now z.told z.token z.request z.move z.closes z.own_is
+origin_turned : (sizes : Sizes) (t : List Call) (c : Call) (k : ℕ) (r : Request) (tr : Transfer) → Turned sizes t c
+    → (own_of sizes (c ∷ t)).running ≡ Some (Calling k r tr) → Origin sizes t c k r tr
+origin_turned sizes t c k r tr z = origin_by sizes t c k r tr z.now z.told z.token z.request z.move z.closes z.own_is
     z.sends_is z.hears_is
 
-pub origin : (szx : ℕ) (t : List Call) (c : Call) (k : ℕ) (r : Request) (tr : Transfer)
-    → (own_of szx (c ∷ t)).running ≡ Some (Calling k r tr) → Origin szx t c k r tr
-origin szx t (Calls now q (Ok n)) k r tr is = kept is refl
-origin szx t (Calls now q (Err why)) k r tr is = kept is refl
-origin szx t (Observes now path (Ok n)) k r tr is = kept is refl
-origin szx t (Observes now path (Err why)) k r tr is = kept is refl
-origin szx t (Cancels now n None) k r tr is = kept is refl
-origin szx t (Cancels now n (Some why)) k r tr is = kept is refl
-origin szx t (Forgets n was true) k r tr is = kept (dropped_call n (own_of szx t).running k r tr is) refl
-origin szx t (Forgets n was false) k r tr is = kept is refl
-origin szx t (NextOut answer) k r tr is = kept is refl
-origin szx t (NextReport answer) k r tr is = kept is refl
-origin szx t (Asked answer) k r tr is = kept is refl
-origin szx t (Feeds now from bytes w up settled event sent token was) k r tr is =
-    origin_turned szx t (Feeds now from bytes w up settled event sent token was) k r tr
-    (fed_turned szx t now from bytes w up settled event sent token was) is
-origin szx t (Ticks now w below turn sent token was answer) k r tr is =
-    origin_turned szx t (Ticks now w below turn sent token was answer) k r tr
-    (ticked_turned szx t now w below turn sent token was answer) is
+pub origin : (sizes : Sizes) (t : List Call) (c : Call) (k : ℕ) (r : Request) (tr : Transfer)
+    → (own_of sizes (c ∷ t)).running ≡ Some (Calling k r tr) → Origin sizes t c k r tr
+origin sizes t (Calls now q (Ok n)) k r tr is = kept is refl
+origin sizes t (Calls now q (Err why)) k r tr is = kept is refl
+origin sizes t (Observes now path (Ok n)) k r tr is = kept is refl
+origin sizes t (Observes now path (Err why)) k r tr is = kept is refl
+origin sizes t (Cancels now n None) k r tr is = kept is refl
+origin sizes t (Cancels now n (Some why)) k r tr is = kept is refl
+origin sizes t (Forgets n was true) k r tr is = kept (dropped_call n (own_of sizes t).running k r tr is) refl
+origin sizes t (Forgets n was false) k r tr is = kept is refl
+origin sizes t (NextOut answer) k r tr is = kept is refl
+origin sizes t (NextReport answer) k r tr is = kept is refl
+origin sizes t (Asked answer) k r tr is = kept is refl
+origin sizes t (Feeds now from bytes w up settled event sent token was) k r tr is =
+    origin_turned sizes t (Feeds now from bytes w up settled event sent token was) k r tr
+    (fed_turned sizes t now from bytes w up settled event sent token was) is
+origin sizes t (Ticks now w below turn sent token was answer) k r tr is =
+    origin_turned sizes t (Ticks now w below turn sent token was answer) k r tr
+    (ticked_turned sizes t now w below turn sent token was answer) is

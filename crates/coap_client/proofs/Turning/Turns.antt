@@ -2,6 +2,7 @@
 -- refused.
 use Rattle.std.proofs.Common.{◌≡◌, ℕ, max, Bool, Option, Some, None, List, ◌∷◌, refl, ap, sym, ◌∙◌, Result}
 use Rattle.std.proofs.Common.{Ok, Err}
+use Rattle.coap_block.specs.Sizes.{Sizes}
 use Rattle.coap_exchange.specs.declared.asker.AskRefusal.{AskRefusal}
 use Rattle.coap_exchange.specs.declared.asker.Event.{Event}
 use Rattle.coap_exchange.specs.declared.asker.Event.TheVariants as event_of
@@ -45,38 +46,41 @@ abbrev pub left_with : Option Requested → Effect → Own
 left_with request e = asking request (reporting e)
 
 -- the call is a datagram or a tick
-pub record Turned (szx : ℕ) (t : List Call) (c : Call) : Type 0 where
+pub record Turned (sizes : Sizes) (t : List Call) (c : Call) : Type 0 where
   pub now : ℕ
   pub told : Option Event
   pub token : Result (List ℕ) AskRefusal
   pub request : Option Requested
-  pub move : Move (at now (own_of szx t)) (max (own_of szx t).clock now) told
-  pub closes : Closing (max (own_of szx t).clock now)
-      (left_by (at now (own_of szx t)) (max (own_of szx t).clock now) told move) token
-  pub own_is : own_of szx (c ∷ t) ≡ left_with request
-      (closed (max (own_of szx t).clock now) (left_by (at now (own_of szx t)) (max (own_of szx t).clock now) told move)
-      (left_by (at now (own_of szx t)) (max (own_of szx t).clock now) told move).deed token)
-  pub sends_is : sends (own_of szx t) c ≡ sent_by
-      (left_by (at now (own_of szx t)) (max (own_of szx t).clock now) told move)
-      (left_by (at now (own_of szx t)) (max (own_of szx t).clock now) told move).deed token
-  pub reports_is : reports (own_of szx t) c ≡ (closed (max (own_of szx t).clock now)
-      (left_by (at now (own_of szx t)) (max (own_of szx t).clock now) told move)
-      (left_by (at now (own_of szx t)) (max (own_of szx t).clock now) told move).deed token).report
+  pub move : Move (at now (own_of sizes t)) (max (own_of sizes t).clock now) told
+  pub closes : Closing (max (own_of sizes t).clock now)
+      (left_by (at now (own_of sizes t)) (max (own_of sizes t).clock now) told move) token
+  pub own_is : own_of sizes (c ∷ t) ≡ left_with request
+      (closed (max (own_of sizes t).clock now) (left_by (at now (own_of sizes t))
+      (max (own_of sizes t).clock now) told move)
+      (left_by (at now (own_of sizes t)) (max (own_of sizes t).clock now) told move).deed token)
+  pub sends_is : sends (own_of sizes t) c ≡ sent_by
+      (left_by (at now (own_of sizes t)) (max (own_of sizes t).clock now) told move)
+      (left_by (at now (own_of sizes t)) (max (own_of sizes t).clock now) told move).deed token
+  pub reports_is : reports (own_of sizes t) c ≡ (closed (max (own_of sizes t).clock now)
+      (left_by (at now (own_of sizes t)) (max (own_of sizes t).clock now) told move)
+      (left_by (at now (own_of sizes t)) (max (own_of sizes t).clock now) told move).deed token).report
   pub hears_is : hears c ≡ heard_in told
-  pub notifies_is : notifies (own_of szx t) c ≡ taken_by (own_of szx t) (max (own_of szx t).clock now) told
+  pub notifies_is : notifies (own_of sizes t) c ≡ taken_by (own_of sizes t) (max (own_of sizes t).clock now) told
 
-module _ (szx : ℕ) (t : List Call) (c : Call) (now : ℕ) (told : Option Event) (token : Result (List ℕ) AskRefusal)
-    (request : Option Requested) (e : Effect) (move : Move (at now (own_of szx t)) (max (own_of szx t).clock now) told)
+module _ (sizes : Sizes) (t : List Call) (c : Call) (now : ℕ) (told : Option Event) (token : Result (List ℕ) AskRefusal)
+    (request : Option Requested) (e : Effect) (move : Move (at now (own_of sizes t))
+    (max (own_of sizes t).clock now) told)
   where
     abbrev m : ℕ
-    m = max (own_of szx t).clock now
+    m = max (own_of sizes t).clock now
 
     abbrev left : Effect
-    left = left_by (at now (own_of szx t)) m told move
+    left = left_by (at now (own_of sizes t)) m told move
 
-    turned_by : e ≡ left → own_of szx (c ∷ t) ≡ left_with request (closed m e e.deed token)
-        → sends (own_of szx t) c ≡ sent_by e e.deed token → reports (own_of szx t) c ≡ (closed m e e.deed token).report
-        → hears c ≡ heard_in told → notifies (own_of szx t) c ≡ taken_by (own_of szx t) m told → Turned szx t c
+    turned_by : e ≡ left → own_of sizes (c ∷ t) ≡ left_with request (closed m e e.deed token)
+        → sends (own_of sizes t) c ≡ sent_by e e.deed token → reports (own_of sizes t) c
+        ≡ (closed m e e.deed token).report
+        → hears c ≡ heard_in told → notifies (own_of sizes t) c ≡ taken_by (own_of sizes t) m told → Turned sizes t c
     turned_by is own sending report heard noted = record {
       now = now;
       told = told;
@@ -101,23 +105,23 @@ hears_same now from bytes w up settled (Some event_of.Reset) sent token kept = r
 hears_same now from bytes w up settled (Some event_of.Timeout) sent token kept = refl
 hears_same now from bytes w up settled (Some event_of.NoResponse) sent token kept = refl
 
-pub fed_turned : (szx : ℕ) (t : List Call) (now : ℕ) (from : Endpoint) (bytes : List ℕ) (w : ℕ) (up : L.Answer)
+pub fed_turned : (sizes : Sizes) (t : List Call) (now : ℕ) (from : Endpoint) (bytes : List ℕ) (w : ℕ) (up : L.Answer)
     (settled : Bool) (event : Option Event) (sent : L.Answer) (token : Result (List ℕ) AskRefusal) (kept : Bool)
-    → Turned szx t (Feeds now from bytes w up settled event sent token kept)
-fed_turned szx t now from bytes w up settled event sent token kept =
-    let s : Own = own_of szx t in
+    → Turned sizes t (Feeds now from bytes w up settled event sent token kept)
+fed_turned sizes t now from bytes w up settled event sent token kept =
+    let s : Own = own_of sizes t in
     let k = happened_moves (at now s) (max s.clock now) event in
-    turned_by szx t (Feeds now from bytes w up settled event sent token kept) now event token
+    turned_by sizes t (Feeds now from bytes w up settled event sent token kept) now event token
     (requested (happened (at now s) (max s.clock now) event).deed token)
     (happened (at now s) (max s.clock now) event) k.0 k.1 refl refl refl
     (hears_same now from bytes w up settled event sent token kept) refl
 
-pub ticked_turned : (szx : ℕ) (t : List Call) (now w : ℕ) (below : L.Answer) (turn : Turn) (sent : L.Answer)
+pub ticked_turned : (sizes : Sizes) (t : List Call) (now w : ℕ) (below : L.Answer) (turn : Turn) (sent : L.Answer)
     (token : Result (List ℕ) AskRefusal) (kept answer : Bool)
-    → Turned szx t (Ticks now w below turn sent token kept answer)
-ticked_turned szx t now w below turn sent token kept answer =
-    let s : Own = own_of szx t in
+    → Turned sizes t (Ticks now w below turn sent token kept answer)
+ticked_turned sizes t now w below turn sent token kept answer =
+    let s : Own = own_of sizes t in
     let k = passes_moves (at now s) (max s.clock now) turn in
-    turned_by szx t (Ticks now w below turn sent token kept answer) now None token
+    turned_by sizes t (Ticks now w below turn sent token kept answer) now None token
     (requested (passes (at now s) (max s.clock now) turn).deed token)
     (passes (at now s) (max s.clock now) turn) k.0 k.1 refl refl refl refl refl

@@ -9,6 +9,7 @@ use Rattle.coap_types.specs.Past.{Ever, Always}
 use Rattle.coap_types.specs.declared.endpoint.Endpoint.{Endpoint}
 use Rattle.coap_types.specs.declared.transmission.TheConstants.{MAX_LATENCY_MS as max_latency}
 use Rattle.coap_types.specs.Piece.{size_of, offset_of}
+use Rattle.coap_block.specs.Sizes.{Sizes}
 use Rattle.coap_block.specs.UploadStep.{UploadState, more_follows}
 use Rattle.coap_layer.specs.Sends.{SendsIt}
 use Rattle.coap_layer.specs.Trace as L
@@ -74,12 +75,13 @@ not_it : (x : Bool) → (x ≡ true → ⊥) → x ≡ false
 not_it true f = absurd (f refl)
 not_it false f = refl
 
-module _ (server : Endpoint) (szx word : ℕ) (t : List Call) (c : Call) (law : ClientLaw server szx word (c ∷ t))
-    (x y : Sending) (a b : Carried) (sends_it : sends (own_of szx t) c ≡ Some y) (was : WasSent szx x t)
+module _ (server : Endpoint) (sizes : Sizes) (word : ℕ) (t : List Call) (c : Call)
+    (law : ClientLaw server sizes word (c ∷ t))
+    (x y : Sending) (a b : Carried) (sends_it : sends (own_of sizes t) c ≡ Some y) (was : WasSent sizes x t)
     (x_is : carried x.operation ≡ Some a) (y_is : carried y.operation ≡ Some b) (x_long : is_longer a.upload ≡ true)
     (y_long : is_longer b.upload ≡ true) (other : a.number ≢ b.number) where
   abbrev now : ℕ
-  now = moment (own_of szx t) c
+  now = moment (own_of sizes t) c
 
   of_x : IsUpload x.operation a
   of_x = upload_of x.operation a x_is
@@ -88,37 +90,39 @@ module _ (server : Endpoint) (szx word : ℕ) (t : List Call) (c : Call) (law : 
   of_y = upload_of y.operation b y_is
 
   less : a.number < b.number
-  less = lt_of_le-ne (((are_in_order szx server word (c ∷ t) law).0).in_turn x y a.number b.number sends_it was
+  less = lt_of_le-ne (((are_in_order sizes server word (c ∷ t) law).0).in_turn x y a.number b.number sends_it was
       of_x.turn of_y.turn) other
 
-  at_now : (till : ℕ) → till ≤ now → Past szx a.number till t → Past szx a.number now t
+  at_now : (till : ℕ) → till ≤ now → Past sizes a.number till t → Past sizes a.number now t
   at_now till le p = record {
     ended = p.ended;
-    old = always_map (λ earlier d. SendsOf szx a.number earlier d → moment (own_of szx earlier) d + max_latency < till)
-        (λ earlier d. SendsOf szx a.number earlier d → moment (own_of szx earlier) d + max_latency < now)
+    old = always_map (λ earlier d. SendsOf sizes a.number earlier d
+        → moment (own_of sizes earlier) d + max_latency < till)
+        (λ earlier d. SendsOf sizes a.number earlier d → moment (own_of sizes earlier) d + max_latency < now)
         (λ earlier d f s. (let k = f s in omega (arith, k, le))) t p.old;
   }
 
-  later_block : 0 < b.upload.num → Ever (HearsBy x.token) (c ∷ t) ⊎ Past szx a.number now t
+  later_block : 0 < b.upload.num → Ever (HearsBy x.token) (c ∷ t) ⊎ Past sizes a.number now t
   later_block some =
-      let f = (are_continued server szx word (c ∷ t) law).0 y b sends_it y_is some in
+      let f = (are_continued server sizes word (c ∷ t) law).0 y b sends_it y_is some in
       let of_f = upload_of f.first.operation f.block f.carries in
       let same : call_of f.first.operation ≡ Some b.number = of_f.call ∙ ap (λ n. Some n) f.number_is in
       let not_last : is_last f.first.operation ≡ false =
-      not_it (is_last f.first.operation) (λ h. ((are_in_order szx server word (c ∷ t) law).0).none_behind f.first y
+      not_it (is_last f.first.operation) (λ h. ((are_in_order sizes server word (c ∷ t) law).0).none_behind f.first y
       b.number sends_it f.sent same of_y.call h) in
       let long : is_longer f.block.upload ≡ true =
       more_is_longer f.block.upload f.is_first (some_more f.block.upload (sym of_f.last ∙ not_last)) in
       let before : a.number < f.block.number = (let n = f.number_is in omega (arith, less, n)) in
-      elim (since_first szx server word t (client_back server szx word (c ∷ []) t law) x f.first a.number f.block f.sent
+      elim (since_first sizes server word t (client_back server sizes word
+      (c ∷ []) t law) x f.first a.number f.block f.sent
       was of_x.call f.carries long f.is_first before) [
         | inl h ↦ inl (inr h)
-        | inr g ↦ (let from = moment_from (own_of szx t) c in let till =
+        | inr g ↦ (let from = moment_from (own_of sizes t) c in let till =
             g.by in inr (at_now g.till (omega (arith, from, till)) g.past))
       ]
 
-  apart_by : (z : Bool) → (b.upload.num == 0) ≡ z → Ever (HearsBy x.token) (c ∷ t) ⊎ Past szx a.number now t
-  apart_by true e = at_first szx server word t c law x y a.number b sends_it was of_x.call y_is y_long
+  apart_by : (z : Bool) → (b.upload.num == 0) ≡ z → Ever (HearsBy x.token) (c ∷ t) ⊎ Past sizes a.number now t
+  apart_by true e = at_first sizes server word t c law x y a.number b sends_it was of_x.call y_is y_long
       (same_number b.upload.num 0 e)
   apart_by false e = later_block (lt_of_not-le
       (λ le. (let zero : b.upload.num ≡ 0 = omega (arith, le) in let yes_it : (b.upload.num == 0)
@@ -126,8 +130,8 @@ module _ (server : Endpoint) (szx word : ℕ) (t : List Call) (c : Call) (law : 
 
   -- a request is of one sending
   same_sending : (con : Open) (z : Sending) → IsRequestOf server con x → IsRequestOf server con z
-      → WasSent szx z (c ∷ t) → z ≡ x
-  same_sending con z of_it of_z z_was = elim (one_of_token szx server word (c ∷ t) law x z (inr was) z_was
+      → WasSent sizes z (c ∷ t) → z ≡ x
+  same_sending con z of_it of_z z_was = elim (one_of_token sizes server word (c ∷ t) law x z (inr was) z_was
       (token_is con.id (content_of x.token x.request) (content_of z.token z.request) (sym of_it.bytes ∙ of_z.bytes))) [
         | inl e ↦ sym e
         | inr d ↦ elim d [
@@ -136,38 +140,38 @@ module _ (server : Endpoint) (szx word : ℕ) (t : List Call) (c : Call) (law : 
         ]
       ]
 
-  quiet : Past szx a.number now t → IsQuiet server szx word t c x
+  quiet : Past sizes a.number now t → IsQuiet server sizes word t c x
   quiet p old new there of_it begins =
-      always_map (λ q e. SendsIt old q e → SentIn server szx word old (c ∷ t) e)
+      always_map (λ q e. SendsIt old q e → SentIn server sizes word old (c ∷ t) e)
       (λ q e. SendsIt old q e → e.at + max_latency < new.first) (λ q e f s. late e (f s))
-      (layer_of server szx word (c ∷ t)) (sent_in server szx word old (c ∷ t) law)
+      (layer_of server sizes word (c ∷ t)) (sent_in server sizes word old (c ∷ t) law)
     where
       from : now ≤ new.first
-      from = begins_from server szx word t c new begins
+      from = begins_from server sizes word t c new begins
 
-      older : (at : ℕ) (d : List Call) → Always (λ earlier b. SendsOf szx a.number earlier b
-          → moment (own_of szx earlier) b + max_latency < now) d → SentSince server szx word a.number at d
+      older : (at : ℕ) (d : List Call) → Always (λ earlier b. SendsOf sizes a.number earlier b
+          → moment (own_of sizes earlier) b + max_latency < now) d → SentSince server sizes word a.number at d
           → at + max_latency < new.first
       older at [] all h = absurd h
       older at (e ∷ d) all (inl h) = let k = all.0 h.0 in let le = h.1 in omega (arith, k, le, from)
       older at (e ∷ d) all (inr h) = older at d all.1 h
 
-      late : (e : L.Entry) → SentIn server szx word old (c ∷ t) e → e.at + max_latency < new.first
+      late : (e : L.Entry) → SentIn server sizes word old (c ∷ t) e → e.at + max_latency < new.first
       late e s = by (s.when a.number (subst (λ (z : Sending). is_upload_of a.number (Some z.operation) ≡ true)
           (sym (same_sending old s.sending of_it s.is s.sent)) (of_x.up x_long)))
         where
-          by : SentSince server szx word a.number e.at (c ∷ t) → e.at + max_latency < new.first
-          by (inl h) = absurd (none_behind_end szx server word t c law a.number p.ended h.0)
+          by : SentSince server sizes word a.number e.at (c ∷ t) → e.at + max_latency < new.first
+          by (inl h) = absurd (none_behind_end sizes server word t c law a.number p.ended h.0)
           by (inr h) = older e.at t p.old h
 
-  pub apart_here : Ever (HearsBy x.token) (c ∷ t) ⊎ IsQuiet server szx word t c x
+  pub apart_here : Ever (HearsBy x.token) (c ∷ t) ⊎ IsQuiet server sizes word t c x
   apart_here = elim (apart_by (b.upload.num == 0) refl) [ inl h ↦ inl h | inr p ↦ inr (quiet p) ]
 
-pub blocks_apart : (server : Endpoint) (szx word : ℕ) (t : List Call) → ClientLaw server szx word t
-    → BlocksApart server szx word t
-blocks_apart server szx word [] law = tt
-blocks_apart server szx word (c ∷ t) law = (
-  λ x y i j is was p q other. apart_here server szx word t c law x y p.block q.block is was p.carries q.carries p.longer
+pub blocks_apart : (server : Endpoint) (sizes : Sizes) (word : ℕ) (t : List Call) → ClientLaw server sizes word t
+    → BlocksApart server sizes word t
+blocks_apart server sizes word [] law = tt
+blocks_apart server sizes word (c ∷ t) law = (
+  λ x y i j is was p q other. apart_here server sizes word t c law x y p.block q.block is was p.carries q.carries p.longer
       q.longer (λ e. other (sym p.number_is ∙ (e ∙ q.number_is))),
-  blocks_apart server szx word t (client_back server szx word (c ∷ []) t law),
+  blocks_apart server sizes word t (client_back server sizes word (c ∷ []) t law),
 )

@@ -11,6 +11,7 @@ use Rattle.coap_types.specs.declared.request.Method.{Method}
 use Rattle.coap_types.specs.declared.request.Method.TheVariants.{Get, Post, Put, Delete}
 use Rattle.coap_types.specs.declared.transmission.TheConstants.{MAX_LATENCY_MS as max_latency}
 use Rattle.coap_codec.specs.Message.{Message}
+use Rattle.coap_block.specs.Sizes.{Sizes}
 use Rattle.coap_block.specs.declared.fetch_verdict.Verdict.{Verdict}
 use Rattle.coap_block.specs.declared.fetch_verdict.Verdict.TheVariants as verdict
 use Rattle.coap_block.specs.UploadStep.{UploadState, upload_start, moved, more_follows, continues}
@@ -250,16 +251,16 @@ starts_first : (n : ℕ) (u : UploadState) (y : Carried) → Some (record { numb
 starts_first n u y is = let same : ◌≡◌ {A = Carried} (record { number = n; upload = u }) y = cc is in
     ap (λ (z : Carried). nat_lt 0 z.upload.num) same
 
-first_of : (szx n : ℕ) (r q : Request) (method : Method) (t : List Call)
-    → AtFirst t (Calling n q (transfer_of szx r method))
-first_of szx n r q Get t y is = absurd (cc is)
-first_of szx n r q Post t y is = sym (starts_first n (upload_start r.body szx) y is)
-first_of szx n r q Put t y is = sym (starts_first n (upload_start r.body szx) y is)
-first_of szx n r q Delete t y is = absurd (cc is)
+first_of : (sizes : Sizes) (n : ℕ) (r q : Request) (method : Method) (t : List Call)
+    → AtFirst t (Calling n q (transfer_of sizes r method))
+first_of sizes n r q Get t y is = absurd (cc is)
+first_of sizes n r q Post t y is = sym (starts_first n (upload_start r.body sizes.szx) y is)
+first_of sizes n r q Put t y is = sym (starts_first n (upload_start r.body sizes.szx) y is)
+first_of sizes n r q Delete t y is = absurd (cc is)
 
-all_first : (szx : ℕ) (t : List Call) → AllOf (AtFirst t) (own_of szx t).queue
-all_first szx = all_wait szx AtFirst (λ t c op h. h)
-    (λ t now r n. first_of (own_of szx t).szx n r (record r { body = [] }) r.method (Calls now r (Ok n) ∷ t))
+all_first : (sizes : Sizes) (t : List Call) → AllOf (AtFirst t) (own_of sizes t).queue
+all_first sizes = all_wait sizes AtFirst (λ t c op h. h)
+    (λ t now r n. first_of (own_of sizes t).sizes n r (record r { body = [] }) r.method (Calls now r (Ok n) ∷ t))
     (λ t now path n y is. absurd (cc is)) (λ t now n y is. absurd (cc is))
 
 not_first : (t : List Call) (s : Own) (e : Effect) (k : ℕ) (r : Request) (u : UploadState)
@@ -424,17 +425,17 @@ refused_over k o (Fetching n) h = cc h
 refused_over k o (Cancelling n) h = cc h
 refused_over k o Dropped h = cc h
 
-module _ (server : Endpoint) (szx word : ℕ) where
+module _ (server : Endpoint) (sizes : Sizes) (word : ℕ) where
   abbrev own : List Call → Own
-  own t = own_of szx t
+  own t = own_of sizes t
 
   -- a datagram of it was sent, then or later
   abbrev LastOf : ℕ → ℕ → List Call → Type 0
-  LastOf k z t = Sometime (λ earlier b. SendsOf szx k earlier b × (z ≤ moment (own_of szx earlier) b)) t
+  LastOf k z t = Sometime (λ earlier b. SendsOf sizes k earlier b × (z ≤ moment (own_of sizes earlier) b)) t
 
   record CauseOf (z : ℕ) (t : List Call) : Type 0 where
     other : ℕ
-    ended : Sometime (EndsUnanswered szx other) t
+    ended : Sometime (EndsUnanswered sizes other) t
     sent : LastOf other z t
 
   record Causes (t : List Call) : Type 0 where
@@ -539,7 +540,7 @@ module _ (server : Endpoint) (szx word : ℕ) where
       let e : Effect = passes s m turn_of.Idle in
       let st : Step false s e = idle_step s m s.running (to_fetch s.observations) in
       moved_on t c now h (close m e token) false refl refl refl refl refl
-      (closed_caused false s m e token st (passes_asks t s (all_first szx t) m turn_of.Idle) e.deed refl)
+      (closed_caused false s m e token st (passes_asks t s (all_first sizes t) m turn_of.Idle) e.deed refl)
       (runs_from t c now h e refl st.sent (passes_runs s m turn_of.Idle) asks token refl e.deed refl)
   ticked t now w below (turn_of.End ev) sent token kept answer h asks =
       let c : Call = Ticks now w below (turn_of.End ev) sent token kept answer in
@@ -548,10 +549,10 @@ module _ (server : Endpoint) (szx word : ℕ) where
       let e : Effect = passes s m (turn_of.End ev) in
       let st : Step false s e = failed_step s (lapse ev) (lapse_last ev) s.running refl in
       moved_on t c now h (close m e token) false refl refl refl refl refl
-      (closed_caused false s m e token st (passes_asks t s (all_first szx t) m (turn_of.End ev)) e.deed refl)
+      (closed_caused false s m e token st (passes_asks t s (all_first sizes t) m (turn_of.End ev)) e.deed refl)
       (runs_from t c now h e refl st.sent (passes_runs s m (turn_of.End ev)) asks token refl e.deed refl)
 
-  causes : (t : List Call) → ClientRows szx t → X.AskerLaw server word (lower_of szx t) → Causes t
+  causes : (t : List Call) → ClientRows sizes t → X.AskerLaw server word (lower_of sizes t) → Causes t
   causes [] rows law = record { running = λ k up. absurd (cc up); hold = λ z is. absurd (cc is) }
   causes (Calls now r (Ok n) ∷ t) rows law = still t (Calls now r (Ok n)) refl refl (λ k up. up) (causes t rows.1 law)
   causes (Calls now r (Err why) ∷ t) rows law = still t (Calls now r (Err why)) refl refl (λ k up. up)
@@ -565,7 +566,7 @@ module _ (server : Endpoint) (szx word : ℕ) where
       (causes t rows.1 law)
   causes (Forgets n kept true ∷ t) rows law =
       still t (Forgets n kept true) refl refl (λ k up. dropped_back k n (own t).running up)
-      (causes t rows.1 (law_back server word (lower (own t) (Forgets n kept true)) (lower_of szx t) law))
+      (causes t rows.1 (law_back server word (lower (own t) (Forgets n kept true)) (lower_of sizes t) law))
   causes (Forgets n kept false ∷ t) rows law = still t (Forgets n kept false) refl refl (λ k up. up)
       (causes t rows.1 law)
   causes (NextOut answer ∷ t) rows law = still t (NextOut answer) refl refl (λ k up. up) (causes t rows.1 law.1)
@@ -573,43 +574,43 @@ module _ (server : Endpoint) (szx word : ℕ) where
   causes (Asked answer ∷ t) rows law = still t (Asked answer) refl refl (λ k up. up) (causes t rows.1 law)
   causes (Feeds now from bytes w up settled event sent token kept ∷ t) rows law =
       let c : Call = Feeds now from bytes w up settled event sent token kept in
-      let below = law_back server word (lower (own t) c) (lower_of szx t) law in
-      let k = known server szx word t rows.1 below in
+      let below = law_back server word (lower (own t) c) (lower_of sizes t) law in
+      let k = known server sizes word t rows.1 below in
       let m : ℕ = max (own t).clock now in
       let s : Own = at now (own t) in
       let e : Effect = happened s m event in
-      let g = goes_fed server szx word t now from bytes w up settled event sent token kept k law in
+      let g = goes_fed server sizes word t now from bytes w up settled event sent token kept k law in
       let h = causes t rows.1 below in
       let st : Step (final_in event) s e = happened_step s m event in
       moved_on t c now h (close m e token) (final_in event) refl refl refl refl
       (final_of_event now from bytes w up settled event sent token kept)
-      (closed_caused (final_in event) s m e token st (happened_asks t s (all_first szx t) m event) e.deed refl)
+      (closed_caused (final_in event) s m e token st (happened_asks t s (all_first sizes t) m event) e.deed refl)
       (runs_from t c now h e refl st.sent (happened_runs s m event) (λ op i. (g.asks op i).1) token refl e.deed refl)
   causes (Ticks now w below turn sent token kept answer ∷ t) rows law =
       let c : Call = Ticks now w below turn sent token kept answer in
-      let under = law_back server word (lower (own t) c) (lower_of szx t) law in
-      let k = known server szx word t rows.1 under in
-      let g = goes_ticked server szx word t now turn k in
+      let under = law_back server word (lower (own t) c) (lower_of sizes t) law in
+      let k = known server sizes word t rows.1 under in
+      let g = goes_ticked server sizes word t now turn k in
       ticked t now w below turn sent token kept answer (causes t rows.1 under) (λ op i. (g.asks op i).1)
 
   -- a hold that stands at this moment has its cause
   pub record HeldFor (t : List Call) (moment_of : ℕ) : Type 0 where
     pub other : ℕ
-    pub ended : Sometime (EndsUnanswered szx other) t
-    pub sent : Sometime (λ earlier b. SendsOf szx other earlier b
-        × (moment_of ≤ moment (own_of szx earlier) b + max_latency)) t
+    pub ended : Sometime (EndsUnanswered sizes other) t
+    pub sent : Sometime (λ earlier b. SendsOf sizes other earlier b
+        × (moment_of ≤ moment (own_of sizes earlier) b + max_latency)) t
 
   within : (k z now : ℕ) → now ≤ z + max_latency → (t : List Call) → LastOf k z t
-      → Sometime (λ earlier b. SendsOf szx k earlier b × (now ≤ moment (own_of szx earlier) b + max_latency)) t
+      → Sometime (λ earlier b. SendsOf sizes k earlier b × (now ≤ moment (own_of sizes earlier) b + max_latency)) t
   within k z now le [] h = absurd h
   within k z now le (c ∷ t) (inl h) = let b = h.1 in inl (h.0, omega (arith, b, le))
   within k z now le (c ∷ t) (inr h) = inr (within k z now le t h)
 
-  pub held_for : (t : List Call) → ClientRows szx t → X.AskerLaw server word (lower_of szx t) → (now : ℕ)
-      → is_held (own_of szx t) now ≡ true → HeldFor t now
-  held_for t rows law now held = by (own_of szx t).hold refl held
+  pub held_for : (t : List Call) → ClientRows sizes t → X.AskerLaw server word (lower_of sizes t) → (now : ℕ)
+      → is_held (own_of sizes t) now ≡ true → HeldFor t now
+  held_for t rows law now held = by (own_of sizes t).hold refl held
     where
-      by : (o : Option ℕ) → (own_of szx t).hold ≡ o
+      by : (o : Option ℕ) → (own_of sizes t).hold ≡ o
           → elim o [ None ↦ false | Some last ↦ nat_le now (last + max_latency) ] ≡ true → HeldFor t now
       by None is h = absurd (cc h)
       by (Some z) is h = let q = (causes t rows law).hold z is in record {

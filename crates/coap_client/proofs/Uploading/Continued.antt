@@ -5,6 +5,7 @@ use Rattle.std.specs.Prelude.{zero, suc}
 use Rattle.std.proofs.Math.Nat.{suc-mul}
 use Rattle.coap_types.specs.declared.endpoint.Endpoint.{Endpoint}
 use Rattle.coap_types.specs.Piece.{size_of}
+use Rattle.coap_block.specs.Sizes.{Sizes}
 use Rattle.coap_block.specs.Sent.{Sent}
 use Rattle.coap_block.specs.UploadStep.{UploadState}
 use Rattle.coap_block.proofs.Facts.Sizes.{size_some}
@@ -22,11 +23,12 @@ zero_first : (num size : ℕ) → 0 < size → num * size ≡ 0 → num ≡ 0
 zero_first zero size some h = refl
 zero_first (suc n) size some h = let e = suc-mul n size in absurd (omega (arith, some, h, e))
 
-module _ (szx : ℕ) where
+module _ (sizes : Sizes) where
   first_of : (u : UploadState) → Sent [] u → u.num ≡ 0
   first_of u h = zero_first u.num (size_of u.szx) (size_some u.szx) h.at
 
-  later : (number : ℕ) (t : List Call) (c : Call) → FirstContinued szx number t t → FirstContinued szx number t (c ∷ t)
+  later : (number : ℕ) (t : List Call) (c : Call) → FirstContinued sizes number t t
+      → FirstContinued sizes number t (c ∷ t)
   later number t c h = record {
     first = h.first;
     sent = h.sent;
@@ -37,8 +39,8 @@ module _ (szx : ℕ) where
     answered = inr h.answered;
   }
 
-  behind : (number : ℕ) (t : List Call) (c : Call) → FirstContinued szx number t (c ∷ t)
-      → FirstContinued szx number (c ∷ t) (c ∷ t)
+  behind : (number : ℕ) (t : List Call) (c : Call) → FirstContinued sizes number t (c ∷ t)
+      → FirstContinued sizes number (c ∷ t) (c ∷ t)
   behind number t c h = record {
     first = h.first;
     sent = inr h.sent;
@@ -50,14 +52,14 @@ module _ (szx : ℕ) where
   }
 
   -- at a call, by what was sent before
-  at_call : (t : List Call) (c : Call) (x : Sending) (y : Carried) → SendsPiece szx t c x y
-      → ((b : Sending) (z : Carried) → WasSent szx b t → carried b.operation ≡ Some z
-      → (z.upload.num ≡ 0) ⊎ FirstContinued szx z.number t t)
-      → (y.upload.num ≡ 0) ⊎ FirstContinued szx y.number t (c ∷ t)
+  at_call : (t : List Call) (c : Call) (x : Sending) (y : Carried) → SendsPiece sizes t c x y
+      → ((b : Sending) (z : Carried) → WasSent sizes b t → carried b.operation ≡ Some z
+      → (z.upload.num ≡ 0) ⊎ FirstContinued sizes z.number t t)
+      → (y.upload.num ≡ 0) ⊎ FirstContinued sizes y.number t (c ∷ t)
   at_call t c x y p before = elim p.follows [
     | inl none ↦ inl (first_of y.upload (subst (λ ps. Sent ps y.upload) none p.sent))
     | inr f ↦ (
-        let was = last_was_sent szx t f.before f.last in
+        let was = last_was_sent sizes t f.before f.last in
         elim (before f.before (record { number = y.number; upload = f.upload }) was f.of) [
           | inl first_is ↦ inr (record {
             first = f.before;
@@ -72,8 +74,8 @@ module _ (szx : ℕ) where
         ])
   ]
 
-  all_sent : (t : List Call) → SendsPieces szx t → (x : Sending) (y : Carried) → WasSent szx x t
-      → carried x.operation ≡ Some y → (y.upload.num ≡ 0) ⊎ FirstContinued szx y.number t t
+  all_sent : (t : List Call) → SendsPieces sizes t → (x : Sending) (y : Carried) → WasSent sizes x t
+      → carried x.operation ≡ Some y → (y.upload.num ≡ 0) ⊎ FirstContinued sizes y.number t t
   all_sent [] law x y was carries = absurd was
   all_sent (c ∷ t) law x y (inl now) carries =
       elim (at_call t c x y (law.0 x y now carries) (all_sent t law.1))
@@ -85,7 +87,7 @@ module _ (szx : ℕ) where
             (behind y.number t c (later y.number t c h))
       ]
 
-  continued : (t : List Call) → SendsPieces szx t → AreContinued szx t
+  continued : (t : List Call) → SendsPieces sizes t → AreContinued sizes t
   continued [] law = tt
   continued (c ∷ t) law = (
     λ x y is carries some.
@@ -94,6 +96,6 @@ module _ (szx : ℕ) where
     continued t law.1,
   )
 
-pub are_continued : (server : Endpoint) (szx word : ℕ) (t : List Call) → ClientLaw server szx word t
-    → AreContinued szx t
-are_continued server szx word t law = continued szx t (sends_pieces szx server word t law)
+pub are_continued : (server : Endpoint) (sizes : Sizes) (word : ℕ) (t : List Call) → ClientLaw server sizes word t
+    → AreContinued sizes t
+are_continued server sizes word t law = continued sizes t (sends_pieces sizes server word t law)

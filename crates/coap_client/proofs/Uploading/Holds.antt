@@ -6,6 +6,7 @@ use Rattle.coap_types.specs.Past.{Sometime}
 use Rattle.coap_types.specs.declared.endpoint.Endpoint.{Endpoint}
 use Rattle.coap_codec.specs.Message.{Message}
 use Rattle.coap_types.specs.declared.block.Block.{Block}
+use Rattle.coap_block.specs.Sizes.{Sizes}
 use Rattle.coap_block.specs.declared.fetch_verdict.Verdict.{Verdict}
 use Rattle.coap_block.specs.declared.fetch_verdict.Verdict.TheVariants as verdict
 use Rattle.coap_block.specs.UploadStep.{UploadState, moved, more_follows}
@@ -141,8 +142,8 @@ registered_quiet : (k : ℕ) (path : List (List ℕ)) (s : Own) (m : ℕ) (a : M
 registered_quiet k path s m a op h =
     keeps_or_ends (is_notification a) (record s {
       running = None;
-      observations = s.observations ++ begun k path s.szx m a ∷ [];
-    }) (first_value k s.szx a)
+      observations = s.observations ++ begun k path s.sizes m a ∷ [];
+    }) (first_value k s.sizes a)
     (of k (R.Ended a.code)) a.token s op h
 
 registered_later : (k : ℕ) (path : List (List ℕ)) (s : Own) (m : ℕ) (a : Message) → Later (registered k path s m a).deed
@@ -258,40 +259,40 @@ dropped_up : (other k : ℕ) (running : Option Operation) → is_upload_of other
 dropped_up other k running h = let u = up_of other running h in subst (λ r. is_upload_of other (dropped k r) ≡ true)
     (sym u.runs_it) (ap (is_upload_of other) (sym u.runs_it) ∙ h)
 
-module _ (server : Endpoint) (szx word : ℕ) where
+module _ (server : Endpoint) (sizes : Sizes) (word : ℕ) where
   abbrev own : List Call → Own
-  own t = own_of szx t
+  own t = own_of sizes t
 
   -- the exchange beneath, and the effect
   pub goes_fed : (t : List Call) (now : ℕ) (from : Endpoint) (bytes : List ℕ) (w : ℕ) (up : L.Answer) (settled : Bool)
       (event : Option Event) (sent : L.Answer) (token : Result (List ℕ) AskRefusal) (kept : Bool)
-      → Known server szx word t
-      → X.AskerLaw server word (lower_of szx (Feeds now from bytes w up settled event sent token kept ∷ t))
-      → Goes (at now (own t)) (P.after (beneath server szx word t)
+      → Known server sizes word t
+      → X.AskerLaw server word (lower_of sizes (Feeds now from bytes w up settled event sent token kept ∷ t))
+      → Goes (at now (own t)) (P.after (beneath server sizes word t)
       (E.Receive (max (own t).clock now) from bytes up settled event)).running
       (happened (at now (own t)) (max (own t).clock now) event)
   goes_fed t now from bytes w up settled event sent token kept k law =
       let m : ℕ = max (own t).clock now in
       let e : Effect = happened (at now (own t)) m event in
-      let z = sound_of server szx word t k in
+      let z = sound_of server sizes word t k in
       let i : E.Call = E.Receive m from bytes up settled event in
       let later : List E.Call = deeds (close m e token).deed (close m e token).own m w sent token kept in
       let first : List E.Call = deeds e.deed e.own m w sent token kept in
-      let right = done_right (beneath server szx word t) later first i
-      (law_front server word (later ++ (first ++ i ∷ [])) (lower_of szx t) law) in
-      happened_goes (at now (own t)) (beneath server szx word t).running _
+      let right = done_right (beneath server sizes word t) later first i
+      (law_front server word (later ++ (first ++ i ∷ [])) (lower_of sizes t) law) in
+      happened_goes (at now (own t)) (beneath server sizes word t).running _
       (record { at_most = z.at_most; waits = z.waits; runs_on = z.runs_on }) k.linked m event
-      (came (beneath server szx word t) from _ up event right.0)
+      (came (beneath server sizes word t) from _ up event right.0)
 
-  pub goes_ticked : (t : List Call) (now : ℕ) (turn : Turn) → Known server szx word t
-      → Goes (at now (own t)) (A.running_unless turn (beneath server szx word t).running)
+  pub goes_ticked : (t : List Call) (now : ℕ) (turn : Turn) → Known server sizes word t
+      → Goes (at now (own t)) (A.running_unless turn (beneath server sizes word t).running)
       (passes (at now (own t)) (max (own t).clock now) turn)
   goes_ticked t now turn k =
-      let z = sound_of server szx word t k in
-      passes_goes (at now (own t)) (beneath server szx word t).running
+      let z = sound_of server sizes word t k in
+      passes_goes (at now (own t)) (beneath server sizes word t).running
       (record { at_most = z.at_most; waits = z.waits; runs_on = z.runs_on }) k.linked (max (own t).clock now) turn
 
-  unanswered_gone : (other : ℕ) (t : List Call) → Sometime (EndsUnanswered szx other) t → 1 ≤ gone szx other t
+  unanswered_gone : (other : ℕ) (t : List Call) → Sometime (EndsUnanswered sizes other) t → 1 ≤ gone sizes other t
   unanswered_gone other [] h = absurd h
   unanswered_gone other (c ∷ t) (inr h) = let ih = unanswered_gone other t h in omega (arith, ih)
   unanswered_gone other (c ∷ t) (inl h) =
@@ -305,13 +306,14 @@ module _ (server : Endpoint) (szx word : ℕ) where
   Till z s = (h : ℕ) × (s.hold ≡ Some h) × (z ≤ h + max_latency)
 
   abbrev IsThen : ℕ → ℕ → List Call → Type 0
-  IsThen other z t = Sometime (λ earlier b. SendsOf szx other earlier b × (z ≤ moment (own earlier) b + max_latency)) t
+  IsThen other z t = Sometime (λ earlier b. SendsOf sizes other earlier b
+      × (z ≤ moment (own earlier) b + max_latency)) t
 
   -- it runs, or it is over and holds back
   abbrev Stands : ℕ → ℕ → List Call → Type 0
   Stands other z t =
       (z ≤ (own t).sent + max_latency) × ((is_upload_of other (own t).running ≡ true)
-      ⊎ ((1 ≤ gone szx other t) × (Sometime (EndsUnanswered szx other) t → Till z (own t))))
+      ⊎ ((1 ≤ gone sizes other t) × (Sometime (EndsUnanswered sizes other) t → Till z (own t))))
 
   pub record Keeping (t : List Call) : Type 0 where
     pub sent : (own t).sent ≤ (own t).clock
@@ -348,7 +350,8 @@ module _ (server : Endpoint) (szx word : ℕ) where
 
   -- an event, or a turn
   module _ (t : List Call) (c : Call) (now : ℕ) (e : Effect) (token : Result (List ℕ) AskRefusal)
-      (k : Known server szx word t) (law : X.AskerLaw server word (lower_of szx (c ∷ t))) (keeping : Keeping t) where
+      (k : Known server sizes word t) (law : X.AskerLaw server word (lower_of sizes (c ∷ t)))
+      (keeping : Keeping t) where
     abbrev m : ℕ
     m = max (own t).clock now
 
@@ -364,7 +367,7 @@ module _ (server : Endpoint) (szx word : ℕ) where
         → reports (own t) c ≡ done.report → is_final c ≡ final → Steadied s m done
         → ((other : ℕ) → is_upload_of other (own t).running ≡ true
         → IsOver final other s done ⊎ (is_upload_of other done.own.running ≡ true))
-        → ((other : ℕ) → SendsOf szx other t c → (done.own.sent ≡ m) × (is_upload_of other done.own.running ≡ true))
+        → ((other : ℕ) → SendsOf sizes other t c → (done.own.sent ≡ m) × (is_upload_of other done.own.running ≡ true))
         → Keeping (c ∷ t)
     moved_on final moment_is sent hold clock running report final_is st fate first = record {
       sent = later_sent;
@@ -379,7 +382,7 @@ module _ (server : Endpoint) (szx word : ℕ) where
                 over_gone other o,
                 λ w. elim w [
                   | inl y ↦ ((own t).sent, hold ∙ o.holds (sym final_is ∙ y.not_final), g.0)
-                  | inr y ↦ absurd (both_one (places other (own t)) (gone szx other t) _ (k.one other)
+                  | inr y ↦ absurd (both_one (places other (own t)) (gone sizes other t) _ (k.one other)
                       (up_place other (own t) up) (unanswered_gone other t y))
                 ],
               )
@@ -388,9 +391,9 @@ module _ (server : Endpoint) (szx word : ℕ) where
             | inr over ↦ (let o = over.0 in inr (
               omega (arith, o),
               λ w. elim w [
-                | inl y ↦ absurd (both_one (places y.report.number (own t)) (gone szx y.report.number t) _
-                    (k.one y.report.number) (from_place server szx word t c k law y.report y.made)
-                    (subst (λ i. 1 ≤ gone szx i t) (sym y.is) o))
+                | inl y ↦ absurd (both_one (places y.report.number (own t)) (gone sizes y.report.number t) _
+                    (k.one y.report.number) (from_place server sizes word t c k law y.report y.made)
+                    (subst (λ i. 1 ≤ gone sizes i t) (sym y.is) o))
                 | inr y ↦ elim st.hold [
                   | inl same ↦ (let q = over.1 y in (q.0, hold ∙ (same ∙ q.1), q.2))
                   | inr set ↦ ((own t).sent, hold ∙ set, g.0)
@@ -414,7 +417,7 @@ module _ (server : Endpoint) (szx word : ℕ) where
 
         over_gone : (other : ℕ) → IsOver final other s done
             → 1 ≤ final_of other (reports (own t) c) +
-            (Rattle.coap_client.specs.Follows.Places.forgotten_by other c + gone szx other t)
+            (Rattle.coap_client.specs.Follows.Places.forgotten_by other c + gone sizes other t)
         over_gone other o =
             let a : final_of other (reports (own t) c)
             ≡ final_of other (of other o.report) = ap (final_of other) (report ∙ o.made) in
@@ -456,11 +459,11 @@ module _ (server : Endpoint) (szx word : ℕ) where
   cancel_keeps None k s = (refl, refl, refl, refl)
   cancel_keeps (Some why) k s = (refl, refl, refl, refl)
 
-  pub keeping : (t : List Call) → ClientRows szx t → X.AskerLaw server word (lower_of szx t) → Keeping t
+  pub keeping : (t : List Call) → ClientRows sizes t → X.AskerLaw server word (lower_of sizes t) → Keeping t
   keeping [] rows law = record { sent = omega arith; stands = λ other z h. absurd h }
   keeping (Calls now r answer ∷ t) rows law =
       let a = answer_keeps answer
-      (λ number. Rattle.coap_client.specs.Queue.calling (own t).szx number r)
+      (λ number. Rattle.coap_client.specs.Queue.calling (own t).sizes number r)
       (at now (own t)) in
       let q = a.2 in
       plain t (Calls now r answer) refl refl refl a.0 a.1 (omega (arith, q))
@@ -478,7 +481,7 @@ module _ (server : Endpoint) (szx word : ℕ) where
   keeping (Forgets number kept true ∷ t) rows law =
       plain t (Forgets number kept true) refl refl refl refl refl (omega arith)
       (λ other h. dropped_up other number (own t).running h)
-      (keeping t rows.1 (law_back server word (lower (own t) (Forgets number kept true)) (lower_of szx t) law))
+      (keeping t rows.1 (law_back server word (lower (own t) (Forgets number kept true)) (lower_of sizes t) law))
   keeping (Forgets number kept false ∷ t) rows law =
       plain t (Forgets number kept false) refl refl refl refl refl (omega arith) (λ other h. h) (keeping t rows.1 law)
   keeping (NextOut answer ∷ t) rows law = plain t (NextOut answer) refl refl refl refl refl (omega arith) (λ other h. h)
@@ -489,8 +492,8 @@ module _ (server : Endpoint) (szx word : ℕ) where
       (keeping t rows.1 law)
   keeping (Feeds now from bytes w up settled event sent token kept ∷ t) rows law =
       let c : Call = Feeds now from bytes w up settled event sent token kept in
-      let below = law_back server word (lower (own t) c) (lower_of szx t) law in
-      let k = known server szx word t rows.1 below in
+      let below = law_back server word (lower (own t) c) (lower_of sizes t) law in
+      let k = known server sizes word t rows.1 below in
       let m : ℕ = max (own t).clock now in
       let s : Own = at now (own t) in
       let e : Effect = happened s m event in
@@ -509,8 +512,8 @@ module _ (server : Endpoint) (szx word : ℕ) where
       ])
   keeping (Ticks now w below turn sent token kept answer ∷ t) rows law =
       let c : Call = Ticks now w below turn sent token kept answer in
-      let under = law_back server word (lower (own t) c) (lower_of szx t) law in
-      let k = known server szx word t rows.1 under in
+      let under = law_back server word (lower (own t) c) (lower_of sizes t) law in
+      let k = known server sizes word t rows.1 under in
       let m : ℕ = max (own t).clock now in
       let s : Own = at now (own t) in
       let e : Effect = passes s m turn in
@@ -529,7 +532,7 @@ module _ (server : Endpoint) (szx word : ℕ) where
   -- a first block
   module _ (t : List Call) (k : Keeping t) (now : ℕ) where
     free : (other m : ℕ) → (own t).running ≡ None → is_held (at now (own t)) m ≡ false
-        → Sometime (EndsUnanswered szx other) t → IsThen other m t → ⊥
+        → Sometime (EndsUnanswered sizes other) t → IsThen other m t → ⊥
     free other m none apart ended h =
         let g = k.stands other m h in
         elim g.1 [
@@ -542,7 +545,7 @@ module _ (server : Endpoint) (szx word : ℕ) where
         ]
 
   holds_here : (t : List Call) (c : Call) → Keeping t → (x : Sending) (y : Carried) → sends (own t) c ≡ Some x
-      → carried x.operation ≡ Some y → is_longer y.upload ≡ true → y.upload.num ≡ 0 → Holds szx t c y.number
+      → carried x.operation ≡ Some y → is_longer y.upload ≡ true → y.upload.num ≡ 0 → Holds sizes t c y.number
   holds_here t (Feeds now from bytes w up settled event sent token kept) k x y h c l zero =
       let m : ℕ = max (own t).clock now in
       let e : Effect = happened (at now (own t)) m event in
@@ -560,11 +563,11 @@ module _ (server : Endpoint) (szx word : ℕ) where
   holds_here t (NextReport answer) k x y h c l zero = absurd (cc h)
   holds_here t (Asked answer) k x y h c l zero = absurd (cc h)
 
-  pub all_hold : (t : List Call) → ClientLaw server szx word t → AllHold szx t
+  pub all_hold : (t : List Call) → ClientLaw server sizes word t → AllHold sizes t
   all_hold t law = all t law.rows law.exchanges.rows
     where
-      all : (t : List Call) → ClientRows szx t → X.AskerLaw server word (lower_of szx t) → AllHold szx t
+      all : (t : List Call) → ClientRows sizes t → X.AskerLaw server word (lower_of sizes t) → AllHold sizes t
       all [] rows law = tt
       all (c ∷ t) rows law =
-          let under = law_back server word (lower (own t) c) (lower_of szx t) law in
+          let under = law_back server word (lower (own t) c) (lower_of sizes t) law in
           (λ x y h carries l zero. holds_here t c (keeping t rows.1 under) x y h carries l zero, all t rows.1 under)

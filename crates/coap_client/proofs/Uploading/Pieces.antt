@@ -7,6 +7,7 @@ use Rattle.coap_types.specs.declared.request.Method.{Method}
 use Rattle.coap_types.specs.declared.request.Method.TheVariants.{Get, Post, Put, Delete}
 use Rattle.coap_codec.specs.Message.{Message}
 use Rattle.coap_types.specs.Piece.{part_of}
+use Rattle.coap_block.specs.Sizes.{Sizes}
 use Rattle.coap_block.specs.Whole.{Part}
 use Rattle.coap_block.specs.Sent.{Sent, part_to_send}
 use Rattle.coap_block.specs.UploadStep.{UploadState, upload_start, moved}
@@ -100,12 +101,12 @@ fresh_later t c (Fetching k) h = tt
 fresh_later t c (Cancelling k) h = tt
 fresh_later t c Dropped h = tt
 
-fresh_call : (t : List Call) (now szx k : ℕ) (r : Request) (method : Method)
-    → IsFresh (Calls now r (Ok k) ∷ t) (Calling k (record r { body = [] }) (transfer_of szx r method))
-fresh_call t now szx k r Get = tt
-fresh_call t now szx k r Post = (r, szx, inl refl, refl)
-fresh_call t now szx k r Put = (r, szx, inl refl, refl)
-fresh_call t now szx k r Delete = tt
+fresh_call : (t : List Call) (now : ℕ) (sizes : Sizes) (k : ℕ) (r : Request) (method : Method)
+    → IsFresh (Calls now r (Ok k) ∷ t) (Calling k (record r { body = [] }) (transfer_of sizes r method))
+fresh_call t now sizes k r Get = tt
+fresh_call t now sizes k r Post = (r, sizes.szx, inl refl, refl)
+fresh_call t now sizes k r Put = (r, sizes.szx, inl refl, refl)
+fresh_call t now sizes k r Delete = tt
 
 -- the exchange behind what an effect asks
 module _ (x : E.Own) (e : Effect) (m w : ℕ) (sent : L.Answer) (kept : Bool) where
@@ -131,18 +132,19 @@ module _ (x : E.Own) (e : Effect) (m w : ℕ) (sent : L.Answer) (kept : Bool) wh
   key_ran (Ok k) (Asks a) right op key is given y runs = let t =
       token_sent x (message_of e.own.observations a) sent k right.0 y runs in let same : k ≡ key = cc given in t ∙ same
 
-module _ (szx : ℕ) where
+module _ (sizes : Sizes) where
   -- the blocks of the transfer that runs were sent, the last one too
   abbrev UpSent : List Call → Operation → Type 0
   UpSent t (Calling k r (Uploads u)) = (parts : List Part) × (q : Request)
-      × (blocks szx k t ≡ parts ++ part_to_send u ∷ []) × Sent parts u × WasTaken (record { number = k; request = q }) t
+      × (blocks sizes k t ≡ parts ++ part_to_send u ∷ []) × Sent parts u
+      × WasTaken (record { number = k; request = q }) t
       × (u.body ≡ q.body)
   UpSent t op = Unit {0}
 
   -- the request sent last is that of the operation that runs, under the token of the exchange
   pub record Tracked (t : List Call) (op : Operation) (x : Option Exchange) : Type 0 where
     pub sending : Sending
-    pub last : last_sent szx t ≡ Some sending
+    pub last : last_sent sizes t ≡ Some sending
     pub token : (e : Exchange) → x ≡ Some e → e.token ≡ sending.token
     pub same : (op ≡ Dropped) ⊎ (sending.operation ≡ op)
     pub up : UpSent t op
@@ -165,11 +167,11 @@ module _ (szx : ℕ) where
       by false = h
 
   -- nothing is sent
-  blocks_same : (t : List Call) (c : Call) → sends (own_of szx t) c ≡ None → (k : ℕ)
-      → blocks szx k (c ∷ t) ≡ blocks szx k t
-  blocks_same t c none k = ap (λ z. blocks szx k t ++ block_in_sending k z) none ∙ append-nil (blocks szx k t)
+  blocks_same : (t : List Call) (c : Call) → sends (own_of sizes t) c ≡ None → (k : ℕ)
+      → blocks sizes k (c ∷ t) ≡ blocks sizes k t
+  blocks_same t c none k = ap (λ z. blocks sizes k t ++ block_in_sending k z) none ∙ append-nil (blocks sizes k t)
 
-  up_later : (t : List Call) (c : Call) → sends (own_of szx t) c ≡ None → (op : Operation) → UpSent t op
+  up_later : (t : List Call) (c : Call) → sends (own_of sizes t) c ≡ None → (op : Operation) → UpSent t op
       → UpSent (c ∷ t) op
   up_later t c none (Calling k r (Uploads u)) h = (h.0, h.1, blocks_same t c none k ∙ h.2, h.3, inr h.4, h.5)
   up_later t c none (Calling k r (Fetches f)) h = tt
@@ -179,10 +181,10 @@ module _ (szx : ℕ) where
   up_later t c none (Cancelling k) h = tt
   up_later t c none Dropped h = tt
 
-  last_same : (t : List Call) (c : Call) → sends (own_of szx t) c ≡ None → last_sent szx (c ∷ t) ≡ last_sent szx t
-  last_same t c none = ap (λ z. elim z [ Some x ↦ Some x | None ↦ last_sent szx t ]) none
+  last_same : (t : List Call) (c : Call) → sends (own_of sizes t) c ≡ None → last_sent sizes (c ∷ t) ≡ last_sent sizes t
+  last_same t c none = ap (λ z. elim z [ Some x ↦ Some x | None ↦ last_sent sizes t ]) none
 
-  tracked_later : (t : List Call) (c : Call) → sends (own_of szx t) c ≡ None
+  tracked_later : (t : List Call) (c : Call) → sends (own_of sizes t) c ≡ None
       → (running : Option Operation) (x y : Option Exchange) → TokenStays x y → IfTracked t running x
       → IfTracked (c ∷ t) running y
   tracked_later t c none None x y f h = tt
@@ -196,13 +198,13 @@ module _ (szx : ℕ) where
 
   -- what was sent does not wait
   abbrev pub NoneWait : List Call → Own → Type 0
-  NoneWait t s = (k : ℕ) → (blocks szx k t ≡ []) ⊎ ((in_queue k s.queue ≡ 0) × (nat_lt k s.taken ≡ true))
+  NoneWait t s = (k : ℕ) → (blocks sizes k t ≡ []) ⊎ ((in_queue k s.queue ≡ 0) × (nat_lt k s.taken ≡ true))
 
   module _ (server : Endpoint) (word : ℕ) where
     pub record Sends (t : List Call) : Type 0 where
-      pub fresh : AllOf (IsFresh t) (own_of szx t).queue
-      pub waits : NoneWait t (own_of szx t)
-      pub tracked : IfTracked t (own_of szx t).running (beneath server szx word t).running
+      pub fresh : AllOf (IsFresh t) (own_of sizes t).queue
+      pub waits : NoneWait t (own_of sizes t)
+      pub tracked : IfTracked t (own_of sizes t).running (beneath server sizes word t).running
 
     -- what runs now is what ran, or dropped, or nothing
     abbrev Goes : Option Operation → Option Operation → Type 0
@@ -215,23 +217,24 @@ module _ (szx : ℕ) where
         subst (λ o. IfTracked t o x) (sym d.1) (dropped_tracked t d.0 before x h)
     goes_tracked t before now x (inr (inr same)) h = subst (λ o. IfTracked t o x) (sym same) h
 
-    unsent : (t : List Call) (c : Call) → sends (own_of szx t) c ≡ None
-        → Goes (own_of szx t).running (own_of szx (c ∷ t)).running
-        → TokenStays (beneath server szx word t).running (beneath server szx word (c ∷ t)).running
-        → AllOf (IsFresh (c ∷ t)) (own_of szx (c ∷ t)).queue → NoneWait t (own_of szx (c ∷ t)) → Sends t → Sends (c ∷ t)
+    unsent : (t : List Call) (c : Call) → sends (own_of sizes t) c ≡ None
+        → Goes (own_of sizes t).running (own_of sizes (c ∷ t)).running
+        → TokenStays (beneath server sizes word t).running (beneath server sizes word (c ∷ t)).running
+        → AllOf (IsFresh (c ∷ t)) (own_of sizes (c ∷ t)).queue → NoneWait t (own_of sizes (c ∷ t)) → Sends t
+        → Sends (c ∷ t)
     unsent t c none goes token fresh waits h = record {
       fresh = fresh;
       waits = λ k. elim (waits k) [ inl e ↦ inl (blocks_same t c none k ∙ e) | inr w ↦ inr w ];
-      tracked = goes_tracked (c ∷ t) (own_of szx t).running (own_of szx (c ∷ t)).running
-          (beneath server szx word (c ∷ t)).running goes
-          (tracked_later t c none (own_of szx t).running (beneath server szx word t).running
-          (beneath server szx word (c ∷ t)).running token h.tracked);
+      tracked = goes_tracked (c ∷ t) (own_of sizes t).running (own_of sizes (c ∷ t)).running
+          (beneath server sizes word (c ∷ t)).running goes
+          (tracked_later t c none (own_of sizes t).running (beneath server sizes word t).running
+          (beneath server sizes word (c ∷ t)).running token h.tracked);
     }
 
     -- a request is sent
     abbrev pub heard_by : List Call → Call → Option Message → Type 0
     heard_by t c heard = (m : Message) → heard ≡ Some m
-        → (hears c ≡ Some m) × ((e : Exchange) × ((beneath server szx word t).running ≡ Some e) × (m.token ≡ e.token))
+        → (hears c ≡ Some m) × ((e : Exchange) × ((beneath server sizes word t).running ≡ Some e) × (m.token ≡ e.token))
 
     up_op : (op : Operation) (y : Carried) → carried op ≡ Some y
         → (r : Request) × (op ≡ Calling y.number r (Uploads y.upload))
@@ -262,32 +265,32 @@ module _ (szx : ℕ) where
       pub payload_is : x.request.payload ≡ part_of y.upload.body y.upload.num y.upload.szx
       payload_is = ap (λ (q : E.Request). q.payload) request_is ∙ ap (λ o. (message_of os o).payload) operation_is
 
-      piece_starts : (e : Effect) (now : ℕ) → Starts (at now (own_of szx t)) e x.operation → SendsPiece szx t c x y
+      piece_starts : (e : Effect) (now : ℕ) → Starts (at now (own_of sizes t)) e x.operation → SendsPiece sizes t c x y
       piece_starts e now st =
-          let first : (own_of szx t).queue ≡ Calling y.number request_of (Uploads y.upload) ∷ st.rest = st.first
+          let first : (own_of sizes t).queue ≡ Calling y.number request_of (Uploads y.upload) ∷ st.rest = st.first
           ∙ ap (λ o. o ∷ st.rest) operation_is in
           let f : AllOf (IsFresh t) (Calling y.number request_of (Uploads y.upload) ∷ st.rest) =
           subst (AllOf (IsFresh t)) first h.fresh in
           let g = f.0 in
-          let none : blocks szx y.number t ≡ [] = elim (h.waits y.number) [
+          let none : blocks sizes y.number t ≡ [] = elim (h.waits y.number) [
             | inl n ↦ n
             | inr w ↦ absurd (in_first y.number request_of y.upload
-                (own_of szx t).queue st.rest first w.0)
+                (own_of sizes t).queue st.rest first w.0)
           ] in
           record {
             request = g.0;
             taken = g.2;
             body = ap (λ (u : UploadState). u.body) g.3;
-            sent = subst (λ (u : UploadState). Sent (blocks szx y.number t) u) (sym g.3)
+            sent = subst (λ (u : UploadState). Sent (blocks sizes y.number t) u) (sym g.3)
                 (subst (λ ps. Sent ps (upload_start g.0.body g.1)) (sym none) (sent_at_start g.0.body g.1));
             payload = payload_is;
             follows = inl none;
           }
 
-      piece_follows : (now : ℕ) → Follows (at now (own_of szx t)) heard x.operation → SendsPiece szx t c x y
+      piece_follows : (now : ℕ) → Follows (at now (own_of sizes t)) heard x.operation → SendsPiece sizes t c x y
       piece_follows now fo =
-          let k : Tracked t (Calling fo.number fo.request (Uploads fo.upload)) (beneath server szx word t).running =
-          subst (λ o. IfTracked t o (beneath server szx word t).running) fo.runs_it h.tracked in
+          let k : Tracked t (Calling fo.number fo.request (Uploads fo.upload)) (beneath server sizes word t).running =
+          subst (λ o. IfTracked t o (beneath server sizes word t).running) fo.runs_it h.tracked in
           let up = k.up in
           let same : Calling y.number request_of (Uploads y.upload)
           ≡ Calling fo.number fo.request (Uploads (moved fo.upload fo.block)) = sym operation_is ∙ fo.is in
@@ -296,14 +299,14 @@ module _ (szx : ℕ) where
           let fits = continues_is fo.upload fo.block fo.may in
           let sending_is : k.sending.operation ≡ Calling fo.number fo.request (Uploads fo.upload) =
           elim k.same [ inl d ↦ absurd (cc d) | inr e ↦ e ] in
-          let blocks_are : blocks szx y.number t ≡ up.0
-          ++ part_to_send fo.upload ∷ [] = ap (λ i. blocks szx i t) number_is ∙ up.2 in
+          let blocks_are : blocks sizes y.number t ≡ up.0
+          ++ part_to_send fo.upload ∷ [] = ap (λ i. blocks sizes i t) number_is ∙ up.2 in
           let heard_it = hear fo.message fo.hears_it in
           record {
             request = up.1;
             taken = subst (λ i. WasTaken (record { number = i; request = up.1 }) t) (sym number_is) up.4;
             body = ap (λ (u : UploadState). u.body) upload_is ∙ up.5;
-            sent = subst (λ (u : UploadState). Sent (blocks szx y.number t) u) (sym upload_is)
+            sent = subst (λ (u : UploadState). Sent (blocks sizes y.number t) u) (sym upload_is)
                 (subst (λ ps. Sent ps (moved fo.upload fo.block)) (sym blocks_are)
                 (sent_by_part up.0 fo.upload fo.block up.3 fits));
             payload = payload_is;
@@ -323,40 +326,40 @@ module _ (szx : ℕ) where
             });
           }
 
-      pub piece : (e : Effect) (now : ℕ) → Starts (at now (own_of szx t)) e x.operation
-          ⊎ Follows (at now (own_of szx t)) heard x.operation → SendsPiece szx t c x y
+      pub piece : (e : Effect) (now : ℕ) → Starts (at now (own_of sizes t)) e x.operation
+          ⊎ Follows (at now (own_of sizes t)) heard x.operation → SendsPiece sizes t c x y
       piece e now (inl st) = piece_starts e now st
       piece e now (inr fo) = piece_follows now fo
 
     module _ (t : List Call) (c : Call) (now : ℕ) (e : Effect) (token : Result (List ℕ) AskRefusal) (h : Sends t)
         (heard : Option Message) (hear : heard_by t c heard) where
       abbrev s : Own
-      s = at now (own_of szx t)
+      s = at now (own_of sizes t)
 
       abbrev m : ℕ
-      m = max (own_of szx t).clock now
+      m = max (own_of sizes t).clock now
 
       abbrev new : Own
-      new = own_of szx (c ∷ t)
+      new = own_of sizes (c ∷ t)
 
       abbrev Next : Deed → Result (List ℕ) AskRefusal → Type 0
-      Next d token = sends (own_of szx t) c ≡ sent_by e d token → new.running ≡ (closed m e d token).own.running
+      Next d token = sends (own_of sizes t) c ≡ sent_by e d token → new.running ≡ (closed m e d token).own.running
           → new.queue ≡ (closed m e d token).own.queue → Sends (c ∷ t)
 
-      module _ (taken_is : new.taken ≡ (own_of szx t).taken) (runs : Runs s e) (from : From s heard e)
+      module _ (taken_is : new.taken ≡ (own_of sizes t).taken) (runs : Runs s e) (from : From s heard e)
           (asks : (op : Operation) → e.deed ≡ Asks op → (e.report ≡ None) × (e.own.running ≡ Some op))
           (stays : ((op : Operation) → e.deed ≡ Asks op → ⊥)
-          → TokenStays (beneath server szx word t).running (beneath server szx word (c ∷ t)).running)
-          (now_known : Known server szx word (c ∷ t)) where
+          → TokenStays (beneath server sizes word t).running (beneath server sizes word (c ∷ t)).running)
+          (now_known : Known server sizes word (c ∷ t)) where
         fresh_now : AllOf (IsFresh (c ∷ t)) e.own.queue
         fresh_now = runs.waits (IsFresh (c ∷ t)) (map_all (IsFresh t) (IsFresh (c ∷ t)) (fresh_later t c)
-            (own_of szx t).queue h.fresh)
+            (own_of sizes t).queue h.fresh)
 
-        zero_now : (k : ℕ) → in_queue k (own_of szx t).queue ≡ 0 → in_queue k e.own.queue ≡ 0
+        zero_now : (k : ℕ) → in_queue k (own_of sizes t).queue ≡ 0 → in_queue k e.own.queue ≡ 0
         zero_now k zero = all_zero k e.own.queue (runs.waits (λ op. in_op k op ≡ 0)
-            (zero_all k (own_of szx t).queue zero))
+            (zero_all k (own_of sizes t).queue zero))
 
-        below_now : (k : ℕ) → nat_lt k (own_of szx t).taken ≡ true → nat_lt k new.taken ≡ true
+        below_now : (k : ℕ) → nat_lt k (own_of sizes t).taken ≡ true → nat_lt k new.taken ≡ true
         below_now k b = ap (nat_lt k) taken_is ∙ b
 
         none_wait : (queue : List Operation) → new.queue ≡ queue
@@ -368,7 +371,7 @@ module _ (szx : ℕ) where
         ]
 
         went : ((op : Operation) → e.deed ≡ Asks op → ⊥) → new.running ≡ e.own.running
-            → Goes (own_of szx t).running new.running
+            → Goes (own_of sizes t).running new.running
         went quiet is = elim runs.running [
           | inl none ↦ inl (is ∙ none)
           | inr b ↦ elim b [
@@ -377,7 +380,7 @@ module _ (szx : ℕ) where
           ]
         ]
 
-        quietly : ((op : Operation) → e.deed ≡ Asks op → ⊥) → sends (own_of szx t) c ≡ None
+        quietly : ((op : Operation) → e.deed ≡ Asks op → ⊥) → sends (own_of sizes t) c ≡ None
             → new.running ≡ e.own.running → new.queue ≡ e.own.queue → Sends (c ∷ t)
         quietly quiet none running queue =
             unsent t c none (went quiet running) (stays quiet) (subst (AllOf (IsFresh (c ∷ t))) (sym queue) fresh_now)
@@ -390,7 +393,7 @@ module _ (szx : ℕ) where
         failed_none (Cancelling k) = refl
         failed_none Dropped = refl
 
-        refused : (op : Operation) → sends (own_of szx t) c ≡ None → new.running ≡ None
+        refused : (op : Operation) → sends (own_of sizes t) c ≡ None → new.running ≡ None
             → new.queue ≡ (failed has_sent R.NoIds e.own (Some op)).own.queue → Sends (c ∷ t)
         refused op none running queue =
             let f = failed_runs e.own has_sent R.NoIds (Some op) in
@@ -400,20 +403,20 @@ module _ (szx : ℕ) where
             record {
               fresh = subst (AllOf (IsFresh (c ∷ t))) (sym queue) (f.waits (IsFresh (c ∷ t)) fresh_now);
               waits = λ k. elim (waits k) [ inl n ↦ inl (blocks_same t c none k ∙ n) | inr w ↦ inr w ];
-              tracked = subst (λ o. IfTracked (c ∷ t) o (beneath server szx word (c ∷ t)).running) (sym running) tt;
+              tracked = subst (λ o. IfTracked (c ∷ t) o (beneath server sizes word (c ∷ t)).running) (sym running) tt;
             }
 
         -- a request goes out
         module _ (op : Operation) (key : List ℕ) (is : e.deed ≡ Asks op)
-            (sending : sends (own_of szx t) c ≡ Some (record
+            (sending : sends (own_of sizes t) c ≡ Some (record
             { operation = op; token = key; request = message_of e.own.observations op }))
-            (key_is : (x : Exchange) → (beneath server szx word (c ∷ t)).running ≡ Some x → x.token ≡ key)
+            (key_is : (x : Exchange) → (beneath server sizes word (c ∷ t)).running ≡ Some x → x.token ≡ key)
             (running : new.running ≡ Some op) (queue : new.queue ≡ e.own.queue) where
           abbrev z : Sending
           z = record { operation = op; token = key; request = message_of e.own.observations op }
 
-          blocks_now : (k : ℕ) → blocks szx k (c ∷ t) ≡ blocks szx k t ++ block_in_sending k (Some z)
-          blocks_now k = ap (λ o. blocks szx k t ++ block_in_sending k o) sending
+          blocks_now : (k : ℕ) → blocks sizes k (c ∷ t) ≡ blocks sizes k t ++ block_in_sending k (Some z)
+          blocks_now k = ap (λ o. blocks sizes k t ++ block_in_sending k o) sending
 
           up_now : (o : Operation) → op ≡ o → UpSent (c ∷ t) o
           up_now (Calling k r (Uploads u)) same =
@@ -422,9 +425,9 @@ module _ (szx : ℕ) where
               let p = piece t c h heard hear z e.own.observations refl y carries e now (from op y is carries) in
               let block : block_in_sending k (Some z) ≡ part_to_send u ∷ [] = ap (block_of k) carries
               ∙ ap (λ b. cond b (part_to_send u ∷ []) []) (number_self k) in (
-                blocks szx k t,
+                blocks sizes k t,
                 p.request,
-                blocks_now k ∙ ap (λ ps. blocks szx k t ++ ps) block,
+                blocks_now k ∙ ap (λ ps. blocks sizes k t ++ ps) block,
                 p.sent,
                 inr p.taken,
                 p.body,
@@ -455,20 +458,20 @@ module _ (szx : ℕ) where
 
           waits_now : (o : Option Carried) → carried op ≡ o → NoneWait (c ∷ t) new
           waits_now None none k = elim (none_wait e.own.queue queue (λ i x. x) k) [
-            | inl n ↦ inl (blocks_now k ∙ (ap (λ p. blocks szx k t ++ block_of k p) none
-                ∙ (append-nil (blocks szx k t) ∙ n)))
+            | inl n ↦ inl (blocks_now k ∙ (ap (λ p. blocks sizes k t ++ block_of k p) none
+                ∙ (append-nil (blocks sizes k t) ∙ n)))
             | inr w ↦ inr w
           ]
           waits_now (Some y) carries k = by (y.number == k) refl
             where
-              by : (b : Bool) → (y.number == k) ≡ b → (blocks szx k (c ∷ t) ≡ [])
+              by : (b : Bool) → (y.number == k) ≡ b → (blocks sizes k (c ∷ t) ≡ [])
                   ⊎ ((in_queue k new.queue ≡ 0) × (nat_lt k new.taken ≡ true))
               by true e = inr (out_of_queue k (subst (λ i. in_op i op ≡ 1) (same_number y.number k e)
                   (place_of op y carries)))
               by false f = elim (none_wait e.own.queue queue (λ i x. x) k) [
-                | inl n ↦ inl (blocks_now k ∙ (ap (λ p. blocks szx k t ++ block_of k p) carries
-                    ∙ (ap (λ b. blocks szx k t ++ cond b (part_to_send y.upload ∷ []) []) f
-                    ∙ (append-nil (blocks szx k t) ∙ n))))
+                | inl n ↦ inl (blocks_now k ∙ (ap (λ p. blocks sizes k t ++ block_of k p) carries
+                    ∙ (ap (λ b. blocks sizes k t ++ cond b (part_to_send y.upload ∷ []) []) f
+                    ∙ (append-nil (blocks sizes k t) ∙ n))))
                 | inr w ↦ inr w
               ]
 
@@ -476,18 +479,19 @@ module _ (szx : ℕ) where
           goes_out = record {
             fresh = subst (AllOf (IsFresh (c ∷ t))) (sym queue) fresh_now;
             waits = waits_now (carried op) refl;
-            tracked = subst (λ o. IfTracked (c ∷ t) o (beneath server szx word (c ∷ t)).running) (sym running) (record {
-              sending = z;
-              last = ap (λ o. elim o [ Some x ↦ Some x | None ↦ last_sent szx t ]) sending;
-              token = key_is;
-              same = inr refl;
-              up = up_now op refl;
-            });
+            tracked = subst (λ o. IfTracked (c ∷ t) o (beneath server sizes word (c ∷ t)).running) (sym running)
+                (record {
+                  sending = z;
+                  last = ap (λ o. elim o [ Some x ↦ Some x | None ↦ last_sent sizes t ]) sending;
+                  token = key_is;
+                  same = inr refl;
+                  up = up_now op refl;
+                });
           }
 
         next : (d : Deed) (token : Result (List ℕ) AskRefusal) → e.deed ≡ d
             → ((op : Operation) (key : List ℕ) → d ≡ Asks op → token ≡ Ok key → (x : Exchange)
-            → (beneath server szx word (c ∷ t)).running ≡ Some x → x.token ≡ key) → Next d token
+            → (beneath server sizes word (c ∷ t)).running ≡ Some x → x.token ≡ key) → Next d token
         next Rests token is key sending running queue = quietly (λ op i. cc (i, is)) sending running queue
         next (Keeps k) token is key sending running queue = quietly (λ op i. cc (i, is)) sending running queue
         next (Releases k) token is key sending running queue = quietly (λ op i. cc (i, is)) sending running queue
@@ -498,12 +502,12 @@ module _ (szx : ℕ) where
     -- what is handed in
     module _ (t : List Call) (now w : ℕ) (sent : L.Answer) (token : Result (List ℕ) AskRefusal) (kept : Bool)
         (e : Effect) (input : E.Call) (law : X.AskerLaw server word
-        (done_for e (max (own_of szx t).clock now) w sent token kept input ++ lower_of szx t)) where
+        (done_for e (max (own_of sizes t).clock now) w sent token kept input ++ lower_of sizes t)) where
       abbrev moment : ℕ
-      moment = max (own_of szx t).clock now
+      moment = max (own_of sizes t).clock now
 
       abbrev x1 : E.Own
-      x1 = P.after (beneath server szx word t) input
+      x1 = P.after (beneath server sizes word t) input
 
       abbrev later : List E.Call
       later = deeds (close moment e token).deed (close moment e token).own moment w sent token kept
@@ -511,21 +515,21 @@ module _ (szx : ℕ) where
       abbrev first : List E.Call
       first = deeds e.deed e.own moment w sent token kept
 
-      right : P.IsRight (beneath server szx word t) input × AreRight x1 (later ++ first)
-      right = done_right (beneath server szx word t) later first input
-          (law_front server word (later ++ (first ++ input ∷ [])) (lower_of szx t) law)
+      right : P.IsRight (beneath server sizes word t) input × AreRight x1 (later ++ first)
+      right = done_right (beneath server sizes word t) later first input
+          (law_front server word (later ++ (first ++ input ∷ [])) (lower_of sizes t) law)
 
-      behind : (X.own_of server word (done_for e moment w sent token kept input ++ lower_of szx t)).running
+      behind : (X.own_of server word (done_for e moment w sent token kept input ++ lower_of sizes t)).running
           ≡ (ran x1 (later ++ first)).running
-      behind = ap (λ (y : E.Own). y.running) (own_ran server word (later ++ (first ++ input ∷ [])) (lower_of szx t)
-          ∙ done_ran (beneath server szx word t) later first input)
+      behind = ap (λ (y : E.Own). y.running) (own_ran server word (later ++ (first ++ input ∷ [])) (lower_of sizes t)
+          ∙ done_ran (beneath server sizes word t) later first input)
 
       quiet_behind : ((op : Operation) → e.deed ≡ Asks op → ⊥)
-          → (X.own_of server word (done_for e moment w sent token kept input ++ lower_of szx t)).running ≡ x1.running
+          → (X.own_of server word (done_for e moment w sent token kept input ++ lower_of sizes t)).running ≡ x1.running
       quiet_behind quiet = behind ∙ quiet_ran x1 e moment w sent kept token e.deed refl quiet
 
       key_behind : (op : Operation) (key : List ℕ) → e.deed ≡ Asks op → token ≡ Ok key → (y : Exchange)
-          → (X.own_of server word (done_for e moment w sent token kept input ++ lower_of szx t)).running ≡ Some y
+          → (X.own_of server word (done_for e moment w sent token kept input ++ lower_of sizes t)).running ≡ Some y
           → y.token ≡ key
       key_behind op key is given y runs = key_ran x1 e moment w sent kept token e.deed right.1 op key is given y
           (sym behind ∙ runs)
@@ -545,20 +549,20 @@ module _ (szx : ℕ) where
 
     module _ (t : List Call) (now : ℕ) (from : Endpoint) (bytes : List ℕ) (w : ℕ) (up : L.Answer) (settled : Bool)
         (event : Option Event) (sent : L.Answer) (token : Result (List ℕ) AskRefusal) (kept : Bool)
-        (law : X.AskerLaw server word (lower_of szx (Feeds now from bytes w up settled event sent token kept ∷ t)))
+        (law : X.AskerLaw server word (lower_of sizes (Feeds now from bytes w up settled event sent token kept ∷ t)))
       where
         abbrev feed : Call
         feed = Feeds now from bytes w up settled event sent token kept
 
         abbrev fed_effect : Effect
-        fed_effect = happened (at now (own_of szx t)) (max (own_of szx t).clock now) event
+        fed_effect = happened (at now (own_of sizes t)) (max (own_of sizes t).clock now) event
 
         abbrev fed_input : E.Call
-        fed_input = E.Receive (max (own_of szx t).clock now) from bytes up settled event
+        fed_input = E.Receive (max (own_of sizes t).clock now) from bytes up settled event
 
-        fed_came : Came (beneath server szx word t).running
-            (P.after (beneath server szx word t) fed_input).running event
-        fed_came = came (beneath server szx word t) from _ up event
+        fed_came : Came (beneath server sizes word t).running
+            (P.after (beneath server sizes word t) fed_input).running event
+        fed_came = came (beneath server sizes word t) from _ up event
             (right t now w sent token kept fed_effect fed_input law).0
 
         hears_as : (m : Message) → heard_in event ≡ Some m → hears feed ≡ Some m
@@ -576,77 +580,78 @@ module _ (szx : ℕ) where
         fed_hear : heard_by t feed (heard_in event)
         fed_hear m is = (
           hears_as m is,
-          came_heard (beneath server szx word t).running
-              (P.after (beneath server szx word t) fed_input).running event m fed_came is,
+          came_heard (beneath server sizes word t).running
+              (P.after (beneath server sizes word t) fed_input).running event m fed_came is,
         )
 
-        fed_sends : Known server szx word t → Known server szx word (feed ∷ t) → Sends t → Sends (feed ∷ t)
+        fed_sends : Known server sizes word t → Known server sizes word (feed ∷ t) → Sends t → Sends (feed ∷ t)
         fed_sends k now_known h =
             let e : Effect = fed_effect in
-            let g = goes_fed server szx word t now from bytes w up settled event sent token kept k law in
+            let g = goes_fed server sizes word t now from bytes w up settled event sent token kept k law in
             next t feed now e token h (heard_in event) fed_hear
-            (fed server szx word t now from bytes w up settled event sent token kept k law).taken_is
-            (happened_runs (at now (own_of szx t)) (max (own_of szx t).clock now) event)
-            (happened_from (at now (own_of szx t)) (max (own_of szx t).clock now) event) g.asks
+            (fed server sizes word t now from bytes w up settled event sent token kept k law).taken_is
+            (happened_runs (at now (own_of sizes t)) (max (own_of sizes t).clock now) event)
+            (happened_from (at now (own_of sizes t)) (max (own_of sizes t).clock now) event) g.asks
             (λ quiet. stays_by _ _ _ (quiet_behind t now w sent token kept e fed_input law quiet)
             (came_stays _ _ event fed_came)) now_known e.deed token refl
             (key_behind t now w sent token kept e fed_input law) refl refl refl
 
     module _ (t : List Call) (now w : ℕ) (below : L.Answer) (turn : Turn) (sent : L.Answer)
         (token : Result (List ℕ) AskRefusal) (kept answer : Bool)
-        (law : X.AskerLaw server word (lower_of szx (Ticks now w below turn sent token kept answer ∷ t))) where
+        (law : X.AskerLaw server word (lower_of sizes (Ticks now w below turn sent token kept answer ∷ t))) where
       abbrev tick : Call
       tick = Ticks now w below turn sent token kept answer
 
       no_hear : heard_by t tick None
       no_hear m is = absurd (cc is)
 
-      ticked_sends : Known server szx word t → Known server szx word (tick ∷ t) → Sends t → Sends (tick ∷ t)
+      ticked_sends : Known server sizes word t → Known server sizes word (tick ∷ t) → Sends t → Sends (tick ∷ t)
       ticked_sends k now_known h =
-          let m : ℕ = max (own_of szx t).clock now in
-          let s : Own = at now (own_of szx t) in
+          let m : ℕ = max (own_of sizes t).clock now in
+          let s : Own = at now (own_of sizes t) in
           let e : Effect = passes s m turn in
           let i : E.Call = E.Ticks m below turn in
-          let g = goes_ticked server szx word t now turn k in
-          next t tick now e token h None no_hear (ticked server szx word t now w below turn sent token kept answer k
+          let g = goes_ticked server sizes word t now turn k in
+          next t tick now e token h None no_hear (ticked server sizes word t now w below turn sent token kept answer k
           law).taken_is (passes_runs s m turn) (passes_from s m turn) g.asks
           (λ quiet. stays_by _ _ _ (quiet_behind t now w sent token kept e i law quiet)
-          (turned_stays (beneath server szx word t).running turn)) now_known e.deed token refl
+          (turned_stays (beneath server sizes word t).running turn)) now_known e.deed token refl
           (key_behind t now w sent token kept e i law) refl refl refl
 
     same_stays : (x y : Option Exchange) → y ≡ x → TokenStays x y
     same_stays x y same e is = (e, sym same ∙ is, refl)
 
     -- the number that is given next was never sent
-    given : (t : List Call) (c : Call) (op : Operation) → sends (own_of szx t) c ≡ None
-        → (own_of szx (c ∷ t)).queue ≡ (own_of szx t).queue ++ op ∷ []
-        → (own_of szx (c ∷ t)).running ≡ (own_of szx t).running
-        → beneath server szx word (c ∷ t) ≡ beneath server szx word t
-        → ((k : ℕ) → nat_lt k (own_of szx t).taken ≡ true → nat_lt k (own_of szx (c ∷ t)).taken ≡ true)
-        → ((k : ℕ) → nat_lt k (own_of szx t).taken ≡ true → in_op k op ≡ 0) → IsFresh (c ∷ t) op → Sends t
+    given : (t : List Call) (c : Call) (op : Operation) → sends (own_of sizes t) c ≡ None
+        → (own_of sizes (c ∷ t)).queue ≡ (own_of sizes t).queue ++ op ∷ []
+        → (own_of sizes (c ∷ t)).running ≡ (own_of sizes t).running
+        → beneath server sizes word (c ∷ t) ≡ beneath server sizes word t
+        → ((k : ℕ) → nat_lt k (own_of sizes t).taken ≡ true → nat_lt k (own_of sizes (c ∷ t)).taken ≡ true)
+        → ((k : ℕ) → nat_lt k (own_of sizes t).taken ≡ true → in_op k op ≡ 0) → IsFresh (c ∷ t) op → Sends t
         → Sends (c ∷ t)
     given t c op none queue running same more apart fresh h =
         unsent t c none (inr (inr running)) (same_stays _ _ (ap (λ (y : E.Own). y.running) same))
         (subst (AllOf (IsFresh (c ∷ t))) (sym queue)
-        (all_behind (IsFresh (c ∷ t)) (own_of szx t).queue op
-        (map_all (IsFresh t) (IsFresh (c ∷ t)) (fresh_later t c) (own_of szx t).queue h.fresh) fresh))
+        (all_behind (IsFresh (c ∷ t)) (own_of sizes t).queue op
+        (map_all (IsFresh t) (IsFresh (c ∷ t)) (fresh_later t c) (own_of sizes t).queue h.fresh) fresh))
         (λ k. elim (h.waits k) [
           | inl n ↦ inl n
           | inr v ↦ inr (
-            (let a = ap (in_queue k) queue in let b = in_queue_append k (own_of szx t).queue (op ∷ []) in let d =
+            (let a = ap (in_queue k) queue in let b = in_queue_append k (own_of sizes t).queue (op ∷ []) in let d =
                 v.0 in let f = apart k v.1 in omega (arith, a, b, d, f)),
             more k v.1,
           )
         ]) h
 
-    plain_sends : (t : List Call) (c : Call) → sends (own_of szx t) c ≡ None
-        → (own_of szx (c ∷ t)).queue ≡ (own_of szx t).queue → (own_of szx (c ∷ t)).running ≡ (own_of szx t).running
-        → (own_of szx (c ∷ t)).taken ≡ (own_of szx t).taken
-        → (beneath server szx word (c ∷ t)).running ≡ (beneath server szx word t).running → Sends t → Sends (c ∷ t)
+    plain_sends : (t : List Call) (c : Call) → sends (own_of sizes t) c ≡ None
+        → (own_of sizes (c ∷ t)).queue ≡ (own_of sizes t).queue
+        → (own_of sizes (c ∷ t)).running ≡ (own_of sizes t).running
+        → (own_of sizes (c ∷ t)).taken ≡ (own_of sizes t).taken
+        → (beneath server sizes word (c ∷ t)).running ≡ (beneath server sizes word t).running → Sends t → Sends (c ∷ t)
     plain_sends t c none queue running taken same h =
         unsent t c none (inr (inr running)) (same_stays _ _ same)
         (subst (AllOf (IsFresh (c ∷ t))) (sym queue)
-        (map_all (IsFresh t) (IsFresh (c ∷ t)) (fresh_later t c) (own_of szx t).queue h.fresh))
+        (map_all (IsFresh t) (IsFresh (c ∷ t)) (fresh_later t c) (own_of sizes t).queue h.fresh))
         (λ k. elim (h.waits k) [ inl n ↦ inl n | inr v ↦ inr (ap (in_queue k) queue ∙ v.0, ap (nat_lt k) taken ∙ v.1) ])
         h
 
@@ -656,18 +661,18 @@ module _ (szx : ℕ) where
 
     -- a number that was given is not that of the next
     given_apart : (t : List Call) (c : Call) (op : Operation)
-        → (own_of szx (c ∷ t)).queue ≡ (own_of szx t).queue ++ op ∷ []
-        → (own_of szx (c ∷ t)).running ≡ (own_of szx t).running
-        → (own_of szx (c ∷ t)).observations ≡ (own_of szx t).observations
-        → Known server szx word t → Known server szx word (c ∷ t) → (k : ℕ) → gone szx k t ≤ gone szx k (c ∷ t)
-        → nat_lt k (own_of szx t).taken ≡ true → in_op k op ≡ 0
+        → (own_of sizes (c ∷ t)).queue ≡ (own_of sizes t).queue ++ op ∷ []
+        → (own_of sizes (c ∷ t)).running ≡ (own_of sizes t).running
+        → (own_of sizes (c ∷ t)).observations ≡ (own_of sizes t).observations
+        → Known server sizes word t → Known server sizes word (c ∷ t) → (k : ℕ) → gone sizes k t ≤ gone sizes k (c ∷ t)
+        → nat_lt k (own_of sizes t).taken ≡ true → in_op k op ≡ 0
     given_apart t c op queue running observations before now k more b =
         let a0 = before.one k in
         let a1 = now.one k in
         let f = ap (λ x. one_if x) b in
-        let g = most_one (nat_lt k (own_of szx (c ∷ t)).taken) in
+        let g = most_one (nat_lt k (own_of sizes (c ∷ t)).taken) in
         let q = ap (in_queue k) queue in
-        let q2 = in_queue_append k (own_of szx t).queue (op ∷ []) in
+        let q2 = in_queue_append k (own_of sizes t).queue (op ∷ []) in
         let r = ap (in_running k) running in
         let o = ap (in_observations k) observations in
         omega (arith, a0, a1, f, g, q, q2, r, o, more)
@@ -679,24 +684,24 @@ module _ (szx : ℕ) where
     releases_quiet None op h = cc h
     releases_quiet (Some o) op h = cc h
 
-    pub all_sends : (t : List Call) → ClientRows szx t → X.AskerLaw server word (lower_of szx t) → Sends t
+    pub all_sends : (t : List Call) → ClientRows sizes t → X.AskerLaw server word (lower_of sizes t) → Sends t
     all_sends [] rows law = record { fresh = tt; waits = λ k. inl refl; tracked = tt }
     all_sends (Calls now r (Err why) ∷ t) rows law =
         plain_sends t (Calls now r (Err why)) refl refl refl refl refl (all_sends t rows.1 law)
     all_sends (Calls now r (Ok k) ∷ t) rows law =
         let c : Call = Calls now r (Ok k) in
-        let op : Operation = calling (own_of szx t).szx k r in
-        given t c op refl refl refl refl (λ i b. lt_next i (own_of szx t).taken b)
-        (λ i b. given_apart t c op refl refl refl (known server szx word t rows.1 law)
-        (known server szx word (c ∷ t) rows law) i (omega arith) b)
-        (fresh_call t now (own_of szx t).szx k r r.method) (all_sends t rows.1 law)
+        let op : Operation = calling (own_of sizes t).sizes k r in
+        given t c op refl refl refl refl (λ i b. lt_next i (own_of sizes t).taken b)
+        (λ i b. given_apart t c op refl refl refl (known server sizes word t rows.1 law)
+        (known server sizes word (c ∷ t) rows law) i (omega arith) b)
+        (fresh_call t now (own_of sizes t).sizes k r r.method) (all_sends t rows.1 law)
     all_sends (Observes now path (Err why) ∷ t) rows law =
         plain_sends t (Observes now path (Err why)) refl refl refl refl refl (all_sends t rows.1 law)
     all_sends (Observes now path (Ok k) ∷ t) rows law =
         let c : Call = Observes now path (Ok k) in
-        given t c (Registering k path) refl refl refl refl (λ i b. lt_next i (own_of szx t).taken b)
-        (λ i b. given_apart t c (Registering k path) refl refl refl (known server szx word t rows.1 law)
-        (known server szx word (c ∷ t) rows law) i (omega arith) b) tt (all_sends t rows.1 law)
+        given t c (Registering k path) refl refl refl refl (λ i b. lt_next i (own_of sizes t).taken b)
+        (λ i b. given_apart t c (Registering k path) refl refl refl (known server sizes word t rows.1 law)
+        (known server sizes word (c ∷ t) rows law) i (omega arith) b) tt (all_sends t rows.1 law)
     all_sends (Cancels now k (Some why) ∷ t) rows law =
         plain_sends t (Cancels now k (Some why)) refl refl refl refl refl (all_sends t rows.1 law)
     all_sends (Cancels now k None ∷ t) rows law =
@@ -706,11 +711,11 @@ module _ (szx : ℕ) where
         plain_sends t (Forgets k kept false) refl refl refl refl refl (all_sends t rows.1 law)
     all_sends (Forgets k kept true ∷ t) rows law =
         let c : Call = Forgets k kept true in
-        let s : Own = own_of szx t in
-        let h = all_sends t rows.1 (law_back server word (lower s c) (lower_of szx t) law) in
+        let s : Own = own_of sizes t in
+        let h = all_sends t rows.1 (law_back server word (lower s c) (lower_of sizes t) law) in
         let d : Deed = releases (observation_of k s.observations) in
         let same = ap (λ (y : E.Own). y.running) (own_ran server word (deeds d s 0 0 L.Nothing (Ok []) kept)
-        (lower_of szx t)) ∙ quiet_deeds 0 0 L.Nothing kept (Ok []) d s (beneath server szx word t)
+        (lower_of sizes t)) ∙ quiet_deeds 0 0 L.Nothing kept (Ok []) d s (beneath server sizes word t)
         (releases_quiet (observation_of k s.observations)) in
         unsent t c refl (inr (inl (k, refl))) (same_stays _ _ same)
         (all_uncancelled k (IsFresh (c ∷ t)) s.queue
@@ -724,34 +729,34 @@ module _ (szx : ℕ) where
         (all_sends t rows.1 law)
     all_sends (Feeds now from bytes w up settled event sent token kept ∷ t) rows law =
         let c : Call = Feeds now from bytes w up settled event sent token kept in
-        let under = law_back server word (lower (own_of szx t) c) (lower_of szx t) law in
-        fed_sends t now from bytes w up settled event sent token kept law (known server szx word t rows.1 under)
-        (known server szx word (c ∷ t) rows law) (all_sends t rows.1 under)
+        let under = law_back server word (lower (own_of sizes t) c) (lower_of sizes t) law in
+        fed_sends t now from bytes w up settled event sent token kept law (known server sizes word t rows.1 under)
+        (known server sizes word (c ∷ t) rows law) (all_sends t rows.1 under)
     all_sends (Ticks now w below turn sent token kept answer ∷ t) rows law =
         let c : Call = Ticks now w below turn sent token kept answer in
-        let under = law_back server word (lower (own_of szx t) c) (lower_of szx t) law in
-        ticked_sends t now w below turn sent token kept answer law (known server szx word t rows.1 under)
-        (known server szx word (c ∷ t) rows law) (all_sends t rows.1 under)
+        let under = law_back server word (lower (own_of sizes t) c) (lower_of sizes t) law in
+        ticked_sends t now w below turn sent token kept answer law (known server sizes word t rows.1 under)
+        (known server sizes word (c ∷ t) rows law) (all_sends t rows.1 under)
 
     -- each piece
-    piece_here : (t : List Call) (c : Call) → X.AskerLaw server word (lower_of szx (c ∷ t)) → Sends t
-        → (x : Sending) (y : Carried) → sends (own_of szx t) c ≡ Some x → carried x.operation ≡ Some y
-        → SendsPiece szx t c x y
+    piece_here : (t : List Call) (c : Call) → X.AskerLaw server word (lower_of sizes (c ∷ t)) → Sends t
+        → (x : Sending) (y : Carried) → sends (own_of sizes t) c ≡ Some x → carried x.operation ≡ Some y
+        → SendsPiece sizes t c x y
     piece_here t (Feeds now from bytes w up settled event sent token kept) law h x y is carries =
-        let m : ℕ = max (own_of szx t).clock now in
-        let e : Effect = happened (at now (own_of szx t)) m event in
+        let m : ℕ = max (own_of sizes t).clock now in
+        let e : Effect = happened (at now (own_of sizes t)) m event in
         let o = sent_of e e.deed token x is in
         piece t (Feeds now from bytes w up settled event sent token kept) h (heard_in event)
         (fed_hear t now from bytes w up settled event sent token kept law) x e.own.observations o.request y carries
         e now
-        (happened_from (at now (own_of szx t)) m event x.operation y o.asks carries)
+        (happened_from (at now (own_of sizes t)) m event x.operation y o.asks carries)
     piece_here t (Ticks now w below turn sent token kept answer) law h x y is carries =
-        let m : ℕ = max (own_of szx t).clock now in
-        let e : Effect = passes (at now (own_of szx t)) m turn in
+        let m : ℕ = max (own_of sizes t).clock now in
+        let e : Effect = passes (at now (own_of sizes t)) m turn in
         let o = sent_of e e.deed token x is in
         piece t (Ticks now w below turn sent token kept answer) h None
         (no_hear t now w below turn sent token kept answer law) x e.own.observations o.request y carries e now
-        (passes_from (at now (own_of szx t)) m turn x.operation y o.asks carries)
+        (passes_from (at now (own_of sizes t)) m turn x.operation y o.asks carries)
     piece_here t (Calls now r answer) law h x y is carries = absurd (cc is)
     piece_here t (Observes now path answer) law h x y is carries = absurd (cc is)
     piece_here t (Cancels now number answer) law h x y is carries = absurd (cc is)
@@ -760,22 +765,22 @@ module _ (szx : ℕ) where
     piece_here t (NextReport answer) law h x y is carries = absurd (cc is)
     piece_here t (Asked answer) law h x y is carries = absurd (cc is)
 
-    pub sends_pieces : (t : List Call) → ClientLaw server szx word t → SendsPieces szx t
+    pub sends_pieces : (t : List Call) → ClientLaw server sizes word t → SendsPieces sizes t
     sends_pieces t law = all t law.rows law.exchanges.rows
       where
-        all : (t : List Call) → ClientRows szx t → X.AskerLaw server word (lower_of szx t) → SendsPieces szx t
+        all : (t : List Call) → ClientRows sizes t → X.AskerLaw server word (lower_of sizes t) → SendsPieces sizes t
         all [] rows law = tt
         all (c ∷ t) rows law =
-            let under = law_back server word (lower (own_of szx t) c) (lower_of szx t) law in
+            let under = law_back server word (lower (own_of sizes t) c) (lower_of sizes t) law in
             (λ x y is carries. piece_here t c law (all_sends t rows.1 under) x y is carries, all t rows.1 under)
 
     -- what is heard answers the request that was sent last
     runs_sent : (t : List Call) (m : Message) (running : Option Operation)
-        → IfTracked t running (beneath server szx word t).running
-        → Linked running (own_of szx t).observations (beneath server szx word t).running
-        → (own_of szx t).running ≡ running
-        → (e : Exchange) → (beneath server szx word t).running ≡ Some e → m.token ≡ e.token → (c : Call)
-        → Answers szx t c m
+        → IfTracked t running (beneath server sizes word t).running
+        → Linked running (own_of sizes t).observations (beneath server sizes word t).running
+        → (own_of sizes t).running ≡ running
+        → (e : Exchange) → (beneath server sizes word t).running ≡ Some e → m.token ≡ e.token → (c : Call)
+        → Answers sizes t c m
     runs_sent t m None tracked linked is e runs token c = absurd (cc (linked, runs))
     runs_sent t m (Some op) tracked linked is e runs token c = record {
       sending = tracked.sending;
@@ -801,12 +806,12 @@ module _ (szx : ℕ) where
     heard_event now from bytes w up settled (Some event_of.NoResponse) sent token kept m h = absurd (cc h)
     heard_event now from bytes w up settled None sent token kept m h = absurd (cc h)
 
-    answer_here : (t : List Call) (c : Call) → X.AskerLaw server word (lower_of szx (c ∷ t)) → Sends t
-        → Known server szx word t → (m : Message) → hears c ≡ Some m → Answers szx t c m
+    answer_here : (t : List Call) (c : Call) → X.AskerLaw server word (lower_of sizes (c ∷ t)) → Sends t
+        → Known server sizes word t → (m : Message) → hears c ≡ Some m → Answers sizes t c m
     answer_here t (Feeds now from bytes w up settled event sent token kept) law h k m is =
         let f = fed_hear t now from bytes w up settled event sent token kept law m
         (heard_event now from bytes w up settled event sent token kept m is) in
-        runs_sent t m (own_of szx t).running h.tracked k.linked refl f.1.0 f.1.1 f.1.2
+        runs_sent t m (own_of sizes t).running h.tracked k.linked refl f.1.0 f.1.1 f.1.2
         (Feeds now from bytes w up settled event sent token kept)
     answer_here t (Ticks now w below turn sent token kept answer) law h k m is = absurd (cc is)
     answer_here t (Calls now r answer) law h k m is = absurd (cc is)
@@ -817,14 +822,14 @@ module _ (szx : ℕ) where
     answer_here t (NextReport answer) law h k m is = absurd (cc is)
     answer_here t (Asked answer) law h k m is = absurd (cc is)
 
-    pub answers_last : (t : List Call) → ClientLaw server szx word t → AnswersLast szx t
+    pub answers_last : (t : List Call) → ClientLaw server sizes word t → AnswersLast sizes t
     answers_last t law = all t law.rows law.exchanges.rows
       where
-        all : (t : List Call) → ClientRows szx t → X.AskerLaw server word (lower_of szx t) → AnswersLast szx t
+        all : (t : List Call) → ClientRows sizes t → X.AskerLaw server word (lower_of sizes t) → AnswersLast sizes t
         all [] rows law = tt
         all (c ∷ t) rows law =
-            let under = law_back server word (lower (own_of szx t) c) (lower_of szx t) law in (
-              λ m is. answer_here t c law (all_sends t rows.1 under) (known server szx word t rows.1 under) m is,
+            let under = law_back server word (lower (own_of sizes t) c) (lower_of sizes t) law in (
+              λ m is. answer_here t c law (all_sends t rows.1 under) (known server sizes word t rows.1 under) m is,
               all t rows.1 under,
             )
 
@@ -854,16 +859,18 @@ module _ (szx : ℕ) where
         let d = ap (final_of k) a.0 in
         omega (arith, p, b, d)
 
-    after_here : (t : List Call) (c : Call) → X.AskerLaw server word (lower_of szx (c ∷ t)) → Known server szx word t
-        → (x : Sending) (k : ℕ) → sends (own_of szx t) c ≡ Some x → of_call x.operation ≡ Some k
-        → 1 ≤ places k (own_of szx t)
+    after_here : (t : List Call) (c : Call) → X.AskerLaw server word (lower_of sizes (c ∷ t))
+        → Known server sizes word t
+        → (x : Sending) (k : ℕ) → sends (own_of sizes t) c ≡ Some x → of_call x.operation ≡ Some k
+        → 1 ≤ places k (own_of sizes t)
     after_here t (Feeds now from bytes w up settled event sent token kept) law kn x k is n =
-        let e : Effect = happened (at now (own_of szx t)) (max (own_of szx t).clock now) event in
-        goes_place (at now (own_of szx t)) _ e (goes_fed server szx word t now from bytes w up settled event sent token
+        let e : Effect = happened (at now (own_of sizes t)) (max (own_of sizes t).clock now) event in
+        goes_place (at now (own_of sizes t)) _ e
+        (goes_fed server sizes word t now from bytes w up settled event sent token
         kept kn law) x.operation k (sent_of e e.deed token x is).asks n
     after_here t (Ticks now w below turn sent token kept answer) law kn x k is n =
-        let e : Effect = passes (at now (own_of szx t)) (max (own_of szx t).clock now) turn in
-        goes_place (at now (own_of szx t)) _ e (goes_ticked server szx word t now turn kn) x.operation k
+        let e : Effect = passes (at now (own_of sizes t)) (max (own_of sizes t).clock now) turn in
+        goes_place (at now (own_of sizes t)) _ e (goes_ticked server sizes word t now turn kn) x.operation k
         (sent_of e e.deed token x is).asks n
     after_here t (Calls now r answer) law kn x k is n = absurd (cc is)
     after_here t (Observes now path answer) law kn x k is n = absurd (cc is)
@@ -873,15 +880,16 @@ module _ (szx : ℕ) where
     after_here t (NextReport answer) law kn x k is n = absurd (cc is)
     after_here t (Asked answer) law kn x k is n = absurd (cc is)
 
-    pub none_after : (t : List Call) → ClientLaw server szx word t → NoneAfter server szx word t
+    pub none_after : (t : List Call) → ClientLaw server sizes word t → NoneAfter server sizes word t
     none_after t law = all t law.rows law.exchanges.rows
       where
-        all : (t : List Call) → ClientRows szx t → X.AskerLaw server word (lower_of szx t) → NoneAfter server szx word t
+        all : (t : List Call) → ClientRows sizes t → X.AskerLaw server word (lower_of sizes t)
+            → NoneAfter server sizes word t
         all [] rows law = tt
         all (c ∷ t) rows law =
-            let under = law_back server word (lower (own_of szx t) c) (lower_of szx t) law in
-            let kn = known server szx word t rows.1 under in (
-              λ x k is n reported. both_one (places k (own_of szx t)) (gone szx k t) _ (kn.one k)
-                  (after_here t c law kn x k is n) (final_gone server szx word k t reported),
+            let under = law_back server word (lower (own_of sizes t) c) (lower_of sizes t) law in
+            let kn = known server sizes word t rows.1 under in (
+              λ x k is n reported. both_one (places k (own_of sizes t)) (gone sizes k t) _ (kn.one k)
+                  (after_here t c law kn x k is n) (final_gone server sizes word k t reported),
               all t rows.1 under,
             )

@@ -14,7 +14,8 @@ use Rattle.coap_layer.specs.Machine.Steps.{Asked, Steps, left_after}
 use Rattle.coap_layer.proofs.Facts.Sendable.{sendable_when_short}
 use Rattle.coap_exchange.specs.AskerLaw as X
 use Rattle.coap_client.specs.Law.{ClientLaw, ClientRows, lower_of}
-use Rattle.coap_client.specs.Examples.Histories.{server, first, second, run, continue, upload}
+use Rattle.coap_client.specs.Examples.Histories.{server, first, second, sizes, run, continue, upload}
+use Rattle.coap_client.specs.Examples.Histories.{upload_sizes}
 
 bytes_are : (bytes : List ℕ) → list_all (λ b. nat_lt b 256) bytes ≡ true → AreBytes bytes
 bytes_are [] e = AreBytes-nil
@@ -23,16 +24,16 @@ bytes_are (b ∷ bytes) e =
     AreBytes-cons b bytes (ltb-true b 256 k.0) (bytes_are bytes k.1)
 
 abbrev below : List Asked
-below = X.lower_of server 0 (lower_of 6 run)
+below = X.lower_of server 0 (lower_of sizes run)
 
-rows_of : ClientRows 6 run
+rows_of : ClientRows sizes run
 unfolding option_bytes options_bytes
 rows_of = (refl, (tt, (tt, (refl, (tt, (tt, (refl, (refl, (refl, tt)))))))))
 
-asked_of : X.AskerLaw server 0 (lower_of 6 run)
+asked_of : X.AskerLaw server 0 (lower_of sizes run)
 asked_of = (tt, (refl, (refl, (refl, (tt, (refl, (refl, (refl, tt))))))))
 
-steps_of : Steps (L.start 0) below (left_after (L.start 0) below)
+steps_of : Steps (L.start (L.usual 0)) below (left_after (L.start (L.usual 0)) below)
 unfolding decoded frame_fault body_at walk walk_of option_at nibbles_at value_at extended payload_at option_bytes
     options_bytes
 steps_of = (
@@ -81,26 +82,26 @@ steps_of = (
   record { may = tt; right = refl; new_is = refl },
 )
 
-pub witness : ClientLaw server 6 0 run
+pub witness : ClientLaw server sizes 0 run
 witness = record {
   rows = rows_of;
   exchanges =
-      record { rows = asked_of; left = left_after (L.start 0) below; layer = steps_of };
+      record { rows = asked_of; left = left_after (L.start (L.usual 0)) below; layer = steps_of };
 }
 
 -- .. and that of an upload
 
 abbrev below_upload : List Asked
-below_upload = X.lower_of server 0 (lower_of 3 upload)
+below_upload = X.lower_of server 0 (lower_of upload_sizes upload)
 
-upload_rows : ClientRows 3 upload
+upload_rows : ClientRows upload_sizes upload
 unfolding option_bytes options_bytes
 upload_rows = (tt, (tt, (tt, (refl, (refl, tt)))))
 
-upload_asked : X.AskerLaw server 0 (lower_of 3 upload)
+upload_asked : X.AskerLaw server 0 (lower_of upload_sizes upload)
 upload_asked = (tt, (refl, (refl, (tt, (refl, (refl, tt))))))
 
-upload_steps : Steps (L.start 0) below_upload (left_after (L.start 0) below_upload)
+upload_steps : Steps (L.start (L.usual 0)) below_upload (left_after (L.start (L.usual 0)) below_upload)
 unfolding decoded frame_fault body_at walk walk_of option_at nibbles_at value_at extended payload_at option_bytes
     options_bytes
 upload_steps = (
@@ -153,9 +154,9 @@ upload_steps = (
   record { may = tt; right = refl; new_is = refl },
 )
 
-pub uploads : ClientLaw server 3 0 upload
+pub uploads : ClientLaw server upload_sizes 0 upload
 uploads = record {
   rows = upload_rows;
   exchanges =
-      record { rows = upload_asked; left = left_after (L.start 0) below_upload; layer = upload_steps };
+      record { rows = upload_asked; left = left_after (L.start (L.usual 0)) below_upload; layer = upload_steps };
 }

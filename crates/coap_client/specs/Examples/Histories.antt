@@ -10,6 +10,7 @@ use Rattle.coap_types.specs.declared.request.Method.TheVariants.{Put}
 use Rattle.coap_types.specs.declared.message.Kind.TheVariants.{Con, Ack}
 use Rattle.coap_codec.specs.Message.{Message}
 use Rattle.coap_layer.specs.Trace as L
+use Rattle.coap_block.specs.Sizes.{Sizes, usual_sizes}
 use Rattle.coap_exchange.specs.declared.asker.Event.TheVariants as event
 use Rattle.coap_exchange.specs.declared.asker.Turn.TheVariants as turn
 use Rattle.coap_client.specs.Trace.{Request, Value, Reported, Call, Calls, Observes, Feeds, Ticks}
@@ -57,6 +58,10 @@ value n body = record { number = 0; report = Value n (Some (tag n)) (Some 0) bod
 abbrev pub to_server : List ℕ → L.Packet
 to_server bytes = record { to = server; bytes = bytes }
 
+-- blocks of at most 1,024 bytes
+abbrev pub sizes : Sizes
+sizes = usual_sizes 6
+
 -- the calls, the newest first
 abbrev pub run : List Call
 run =
@@ -75,6 +80,9 @@ run =
 
 -- .. and it puts a body of 200 bytes at `t` in blocks of 128, which the server makes 32 (RFC 7959, section 2.5, figure
 -- 8)
+
+abbrev pub upload_sizes : Sizes
+upload_sizes = usual_sizes 3
 
 abbrev pub body : List ℕ
 body = replicate 200 0x61

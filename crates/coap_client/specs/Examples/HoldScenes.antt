@@ -2,6 +2,7 @@
 use Rattle.std.specs.Prelude.{◌≡◌, ℕ, ◌+◌, false, Some, None, List, [], ◌∷◌, replicate}
 use Rattle.coap_types.specs.declared.request.Method.TheVariants.{Put}
 use Rattle.coap_types.specs.declared.transmission.TheConstants.{MAX_LATENCY_MS as max_latency}
+use Rattle.coap_block.specs.Sizes.{Sizes, usual_sizes}
 use Rattle.coap_exchange.specs.declared.asker.Turn.TheVariants as turn
 use Rattle.coap_client.specs.Trace.{Request}
 use Rattle.coap_client.specs.Own.{Own, start, Operation}
@@ -21,14 +22,17 @@ request body = record {
   accept = None;
 }
 
+abbrev pub sizes : Sizes
+sizes = usual_sizes 3
+
 abbrev pub holding : List Operation → Own
-holding ops = record (start 3) { queue = ops; hold = Some 45000 }
+holding ops = record (start sizes) { queue = ops; hold = Some 45000 }
 
 abbrev pub long : Operation
-long = calling 3 1 (request (replicate 300 0))
+long = calling sizes 1 (request (replicate 300 0))
 
 abbrev pub short : Operation
-short = calling 3 2 (request (replicate 10 0))
+short = calling sizes 2 (request (replicate 10 0))
 
 -- A body in several blocks is held back, and what waits behind it; a request in one message is not.
 pub record HoldScenes : Type 0 where

@@ -10,6 +10,7 @@ use Rattle.coap_types.specs.declared.message.Kind.TheVariants.{Ack}
 use Rattle.coap_types.specs.declared.request.Method.TheVariants.{Get}
 use Rattle.coap_codec.specs.Message.{Message}
 use Rattle.coap_layer.specs.Trace as L
+use Rattle.coap_block.specs.Sizes.{Sizes, usual_sizes}
 use Rattle.coap_exchange.specs.AskerTrace as E
 use Rattle.coap_exchange.specs.declared.asker.Event.{Event}
 use Rattle.coap_exchange.specs.declared.asker.Event.TheVariants as event
@@ -42,7 +43,11 @@ starts now t = Ticks now 0 L.Idle turn.Idle (L.Sent 1) (Ok t) true true
 abbrev pub tag : ℕ → CoapOption
 tag n = option etag (n ∷ [])
 
--- blocks of 16 bytes: a notification has the first of two, and the fetch the second
+-- blocks of 16 bytes
+abbrev pub sizes : Sizes
+sizes = usual_sizes 0
+
+-- a notification has the first of two, and the fetch the second
 abbrev pub first : ℕ → Message
 first n = response code.CONTENT.0 (tag n ∷ option observe (n ∷ []) ∷ option block2 (0x08 ∷ []) ∷ []) (replicate 16 0x61)
 
@@ -89,41 +94,42 @@ passes = pass 3 ++ (pass 2 ++ (pass 1 ++ (starts 0 token ∷ Calls 0 request (Ok
 
 pub record Scenes : Type 0 where
   -- the answer to the registration begins a fetch, which starts at the next tick, and asks for block 1 without Observe
-  pub waits : fetch_of 0 (own_of 0 observed).observations ≡ Some (record { num = 1; szx = 0 })
-  pub kept : lower (own_of 0 (starts 0 token ∷ Observes 0 path (Ok 0) ∷ [])) (comes 2 (event.Answer (first 1)))
+  pub waits : fetch_of 0 (own_of sizes observed).observations ≡ Some (record { num = 1; szx = 0 })
+  pub kept : lower (own_of sizes (starts 0 token ∷ Observes 0 path (Ok 0) ∷ [])) (comes 2 (event.Answer (first 1)))
       ≡ E.Keep token true ∷ E.Receive 2 server [] L.Nothing true (Some (event.Answer (first 1))) ∷ []
-  pub fetches : lower (own_of 0 observed) (starts 3 second_token)
+  pub fetches : lower (own_of sizes observed) (starts 3 second_token)
       ≡ E.Ask 3 (get None (to_path ++ option block2 (0x10 ∷ []) ∷ [])) 0 (L.Sent 1)
       (Ok second_token) ∷ E.Ticks 3 L.Idle turn.Idle ∷ []
-  pub shows : reports (own_of 0 fetching) (comes 4 (event.Answer (second 1)))
+  pub shows : reports (own_of sizes fetching) (comes 4 (event.Answer (second 1)))
       ≡ Some (record { number = 0; report = Value 1 (Some (1 ∷ [])) None (replicate 16 0x61 ++ codes "b") })
   -- another ETag: no value, and the observation stays
-  pub differs : reports (own_of 0 fetching) (comes 4 (event.Answer (second 7))) ≡ None
-  pub stays : fetch_of 0 (own_of 0 (comes 4 (event.Answer (second 7)) ∷ fetching)).observations ≡ None
-  pub drops : (own_of 0 replaced).running ≡ Some Dropped
-  pub dropped : reports (own_of 0 replaced) (comes 5 (event.Answer (second 1))) ≡ None
-  pub anew : fetch_of 0 (own_of 0 replaced).observations ≡ Some (record { num = 1; szx = 0 })
-  pub asks : lower (own_of 0 cancelled) (starts 6 token)
+  pub differs : reports (own_of sizes fetching) (comes 4 (event.Answer (second 7))) ≡ None
+  pub stays : fetch_of 0 (own_of sizes (comes 4 (event.Answer (second 7)) ∷ fetching)).observations ≡ None
+  pub drops : (own_of sizes replaced).running ≡ Some Dropped
+  pub dropped : reports (own_of sizes replaced) (comes 5 (event.Answer (second 1))) ≡ None
+  pub anew : fetch_of 0 (own_of sizes replaced).observations ≡ Some (record { num = 1; szx = 0 })
+  pub asks : lower (own_of sizes cancelled) (starts 6 token)
       ≡ E.Ask 6 (get (Some token) (option observe (1 ∷ []) ∷ to_path)) 0 (L.Sent 1)
       (Ok token) ∷ E.Ticks 6 L.Idle turn.Idle ∷ []
-  pub over : reports (own_of 0 (starts 6 token ∷ cancelled)) (comes 7 (event.Answer (response code.NOT_FOUND.0 [] [])))
+  pub over : reports (own_of sizes (starts 6 token ∷ cancelled))
+      (comes 7 (event.Answer (response code.NOT_FOUND.0 [] [])))
       ≡ Some (record { number = 0; report = Cancelled })
-  pub released : lower (own_of 0 (starts 6 token ∷ cancelled))
+  pub released : lower (own_of sizes (starts 6 token ∷ cancelled))
       (comes 7 (event.Answer (response code.NOT_FOUND.0 [] [])))
       ≡ E.Release token true ∷ E.Receive 7 server [] L.Nothing true
       (Some (event.Answer (response code.NOT_FOUND.0 [] []))) ∷ []
   -- the server ends it before the cancel starts: the cancel leaves the queue
-  pub ended : reports (own_of 0 cancelled) (comes 7 (event.Notice (response code.NOT_FOUND.0 [] [])))
+  pub ended : reports (own_of sizes cancelled) (comes 7 (event.Notice (response code.NOT_FOUND.0 [] [])))
       ≡ Some (record { number = 0; report = Ended code.NOT_FOUND.0 })
-  pub gone : (own_of 0 (comes 7 (event.Notice (response code.NOT_FOUND.0 [] [])) ∷ cancelled)).queue ≡ []
+  pub gone : (own_of sizes (comes 7 (event.Notice (response code.NOT_FOUND.0 [] [])) ∷ cancelled)).queue ≡ []
   -- forgotten while a fetch runs
-  pub forgets : (own_of 0 (Forgets 0 true true ∷ fetching)).running ≡ Some Dropped
+  pub forgets : (own_of sizes (Forgets 0 true true ∷ fetching)).running ≡ Some Dropped
   -- A GET whose ETag changes asks again without Block2, three times; the fourth difference is Changed.
-  pub again : lower (own_of 0 (comes 1 (part 1) ∷ starts 0 token ∷ Calls 0 request (Ok 0) ∷ []))
+  pub again : lower (own_of sizes (comes 1 (part 1) ∷ starts 0 token ∷ Calls 0 request (Ok 0) ∷ []))
       (comes 1 (event.Answer (second 2)))
       ≡ E.Ask 1 (record { code = code.GET.0; token = None; options = to_path; payload = [] }) 0 (L.Sent 1)
       (Ok second_token) ∷ E.Receive 1 server [] L.Nothing true (Some (event.Answer (second 2))) ∷ []
-  pub changed : reports (own_of 0 (comes 1 (part 4) ∷ passes)) (comes 1 (event.Answer (second 5)))
+  pub changed : reports (own_of sizes (comes 1 (part 4) ∷ passes)) (comes 1 (event.Answer (second 5)))
       ≡ Some (record { number = 0; report = Changed })
-  pub whole : reports (own_of 0 (comes 1 (part 4) ∷ passes)) (comes 1 (event.Answer (second 4)))
+  pub whole : reports (own_of sizes (comes 1 (part 4) ∷ passes)) (comes 1 (event.Answer (second 4)))
       ≡ Some (record { number = 0; report = Body (Some (4 ∷ [])) None (replicate 16 0x61 ++ codes "b") })

@@ -6,6 +6,7 @@ use Rattle.coap_types.specs.declared.endpoint.Moment.{Moment}
 use Rattle.coap_types.specs.declared.transmission.TheConstants.{EXCHANGE_LIFETIME_MS as exchange_lifetime}
 use Rattle.coap_types.specs.declared.transmission.TheConstants.{FAILURE_TIMEOUTS as failure_timeouts}
 use Rattle.coap_types.specs.declared.transmission.TheConstants.{MAX_LATENCY_MS as max_latency}
+use Rattle.coap_block.specs.Sizes.{Sizes}
 use Rattle.coap_exchange.specs.declared.asker.Exchange.{Exchange}
 use Rattle.coap_exchange.specs.AskerFollows.{Begun}
 use Rattle.coap_exchange.specs.AskerFollows as A
@@ -27,17 +28,18 @@ IsSentFor (Fetching number) x = x.operation ≡ Fetching number
 IsSentFor (Cancelling number) x = x.operation ≡ Cancelling number
 IsSentFor Dropped x = (number : ℕ) × (x.operation ≡ Fetching number)
 
-module _ (server : Endpoint) (szx word : ℕ) where
+module _ (server : Endpoint) (sizes : Sizes) (word : ℕ) where
   -- A call has at most one report that is final.
   pub record IsFinal (past : List Call) (c : Call) (x : Reported) : Type 0 where
-    pub made : reports (own_of szx past) c ≡ Some x
+    pub made : reports (own_of sizes past) c ≡ Some x
     pub final : is_value x.report ≡ false
 
   abbrev pub HasReport : ℕ → List Call → Type 0
   HasReport number t = Sometime (λ past c. (x : Reported) × (x.number ≡ number) × IsFinal past c x) t
 
   abbrev pub ReportedOnce : List Call → Type 0
-  ReportedOnce trace = Always (λ past c. (x : Reported) → reports (own_of szx past) c ≡ Some x → HasReport x.number past
+  ReportedOnce trace = Always (λ past c. (x : Reported) → reports (own_of sizes past) c ≡ Some x
+      → HasReport x.number past
       → ⊥) trace
 
   -- What runs is the first of the operations that are not over, or a fetch for an observation. The request that was
@@ -45,15 +47,15 @@ module _ (server : Endpoint) (szx word : ℕ) where
   -- FAILURE_TIMEOUTS initial timeouts after the request without an acknowledgement, or EXCHANGE_LIFETIME after that.
   pub record IsNotDue (t : List Call) (at : ℕ) : Type 0 where
     pub operation : Operation
-    pub runs : (own_of szx t).running ≡ Some operation
+    pub runs : (own_of sizes t).running ≡ Some operation
     pub sending : Sending
-    pub last : last_sent szx t ≡ Some sending
+    pub last : last_sent sizes t ≡ Some sending
     pub sent_for : IsSentFor operation sending
     pub exchange : Exchange
     pub token : exchange.token ≡ sending.token
-    pub running : (X.own_of server word (lower_of szx t)).running ≡ Some exchange
+    pub running : (X.own_of server word (lower_of sizes t)).running ≡ Some exchange
     pub not_due :
-        ((exchange.acked ≡ None) × ((begun : Begun) × (A.last_begun server word (lower_of szx t) ≡ Some begun)
+        ((exchange.acked ≡ None) × ((begun : Begun) × (A.last_begun server word (lower_of sizes t) ≡ Some begun)
         × (at - begun.at < begun.timeout * failure_timeouts)))
         ⊎ ((acked : Moment) × (exchange.acked ≡ Some acked) × (at - acked.0 < exchange_lifetime))
 
@@ -62,17 +64,17 @@ module _ (server : Endpoint) (szx word : ℕ) where
   pub record IsHeld (t : List Call) : Type 0 where
     pub operation : Operation
     pub queue : List Operation
-    pub first : (own_of szx t).queue ≡ operation ∷ queue
-    pub none : (own_of szx t).running ≡ None
+    pub first : (own_of sizes t).queue ≡ operation ∷ queue
+    pub none : (own_of sizes t).running ≡ None
     pub upload : is_upload_op operation ≡ true
-    pub held : is_held (own_of szx t) (own_of szx t).clock ≡ true
+    pub held : is_held (own_of sizes t) (own_of sizes t).clock ≡ true
     pub other : ℕ
-    pub ended : Sometime (EndsUnanswered szx other) t
-    pub sent : Sometime (λ earlier b. SendsOf szx other earlier b
-        × ((own_of szx t).clock ≤ moment (own_of szx earlier) b + max_latency)) t
+    pub ended : Sometime (EndsUnanswered sizes other) t
+    pub sent : Sometime (λ earlier b. SendsOf sizes other earlier b
+        × ((own_of sizes t).clock ≤ moment (own_of sizes earlier) b + max_latency)) t
 
   abbrev pub WaitsFor : List Call → Call → Type 0
-  WaitsFor past c = IsNotDue (c ∷ past) (own_of szx (c ∷ past)).clock ⊎ IsHeld (c ∷ past)
+  WaitsFor past c = IsNotDue (c ∷ past) (own_of sizes (c ∷ past)).clock ⊎ IsHeld (c ∷ past)
 
   abbrev pub IsIdleTick : Call → Type 0
   IsIdleTick c = (now w : ℕ) × (below : _) × (turn : _) × (sent : _) × (token : _) × (kept : _)
@@ -84,7 +86,7 @@ module _ (server : Endpoint) (szx word : ℕ) where
     pub none : s.running ≡ None
 
   abbrev pub AreResting : List Call → Type 0
-  AreResting trace = Always (λ past c. IsIdleTick c → WaitsFor past c ⊎ IsEmpty (own_of szx (c ∷ past))) trace
+  AreResting trace = Always (λ past c. IsIdleTick c → WaitsFor past c ⊎ IsEmpty (own_of sizes (c ∷ past))) trace
 
   abbrev pub AreAnswered : List Call → Type 0
   AreAnswered trace = Always (λ past c. IsIdleTick c → (x : Taken) → WasTaken x past → (HasReport x.number past → ⊥)
@@ -98,8 +100,8 @@ of_call (Fetching number) = Some number
 of_call (Cancelling number) = Some number
 of_call Dropped = None
 
-module _ (server : Endpoint) (szx word : ℕ) where
+module _ (server : Endpoint) (sizes : Sizes) (word : ℕ) where
   -- Nothing is sent for a number behind its last report.
   abbrev pub NoneAfter : List Call → Type 0
-  NoneAfter trace = Always (λ past c. (x : Sending) (number : ℕ) → sends (own_of szx past) c ≡ Some x
-      → of_call x.operation ≡ Some number → HasReport server szx word number past → ⊥) trace
+  NoneAfter trace = Always (λ past c. (x : Sending) (number : ℕ) → sends (own_of sizes past) c ≡ Some x
+      → of_call x.operation ≡ Some number → HasReport server sizes word number past → ⊥) trace

@@ -2,18 +2,19 @@
 use Rattle.std.specs.Prelude.{◌≡◌, ℕ, true, Some, List}
 use Rattle.coap_types.specs.Past.{Always}
 use Rattle.coap_codec.specs.Message.{Message}
+use Rattle.coap_block.specs.Sizes.{Sizes}
 use Rattle.coap_client.specs.Trace.{Call}
 use Rattle.coap_client.specs.Law.{own_of}
 use Rattle.coap_client.specs.Follows.Words.{Sending, hears, last_sent, runs_call, runs_fetch}
 
-module _ (szx : ℕ) where
+module _ (sizes : Sizes) where
   -- What is heard answers the request that was sent last, under its token, and that is one of the operation that runs.
   pub record Answers (past : List Call) (c : Call) (m : Message) : Type 0 where
     pub sending : Sending
-    pub last : last_sent szx past ≡ Some sending
+    pub last : last_sent sizes past ≡ Some sending
     pub token : sending.token ≡ m.token
-    pub number : (k : ℕ) → runs_call k (own_of szx past).running ≡ true → runs_call k (Some sending.operation) ≡ true
-    pub observation : (k : ℕ) → runs_fetch k (own_of szx past).running ≡ true
+    pub number : (k : ℕ) → runs_call k (own_of sizes past).running ≡ true → runs_call k (Some sending.operation) ≡ true
+    pub observation : (k : ℕ) → runs_fetch k (own_of sizes past).running ≡ true
         → runs_fetch k (Some sending.operation) ≡ true
 
   abbrev pub AnswersLast : List Call → Type 0

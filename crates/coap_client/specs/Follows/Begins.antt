@@ -8,6 +8,7 @@ use Rattle.coap_codec.specs.Spelling.{message_bytes}
 use Rattle.coap_layer.specs.Rows.{IsSpelled}
 use Rattle.coap_layer.specs.Trace.{with_head}
 use Rattle.coap_layer.specs.Words.{Open, begun}
+use Rattle.coap_block.specs.Sizes.{Sizes}
 use Rattle.coap_exchange.specs.AskerRequests.{content_of}
 use Rattle.coap_client.specs.Trace.{Call}
 use Rattle.coap_client.specs.Law.{own_of, layer_of}
@@ -15,8 +16,8 @@ use Rattle.coap_client.specs.Follows.Words.{Sending, sends}
 use Rattle.coap_client.specs.Follows.Adds.{call_adds}
 
 -- this request was sent for the first time
-abbrev pub WasSent : ℕ → Sending → List Call → Type 0
-WasSent szx x t = Sometime (λ past c. sends (own_of szx past) c ≡ Some x) t
+abbrev pub WasSent : Sizes → Sending → List Call → Type 0
+WasSent sizes x t = Sometime (λ past c. sends (own_of sizes past) c ≡ Some x) t
 
 -- the CON carries the request, under its token, to the server
 pub record IsRequestOf (server : Endpoint) (con : Open) (x : Sending) : Type 0 where
@@ -25,17 +26,17 @@ pub record IsRequestOf (server : Endpoint) (con : Open) (x : Sending) : Type 0 w
   pub spelled : IsSpelled (content_of x.token x.request)
 
 -- the call sends the request that the CON carries
-pub record SendsNow (server : Endpoint) (szx : ℕ) (con : Open) (past : List Call) (c : Call) : Type 0 where
+pub record SendsNow (server : Endpoint) (sizes : Sizes) (con : Open) (past : List Call) (c : Call) : Type 0 where
   pub sending : Sending
-  pub sends_it : sends (own_of szx past) c ≡ Some sending
+  pub sends_it : sends (own_of sizes past) c ≡ Some sending
   pub is : IsRequestOf server con sending
 
 -- A CON begins in the entries that the very call adds which sends its request.
-abbrev pub BeginAtOnce : Endpoint → (szx word : ℕ) → List Call → Type 0
-BeginAtOnce server szx word t = Always (λ past c. (con : Open)
-    → Ever (λ b. begun b ≡ Some con) (call_adds server szx word past c) → SendsNow server szx con past c) t
+abbrev pub BeginAtOnce : Endpoint → (sizes : Sizes) (word : ℕ) → List Call → Type 0
+BeginAtOnce server sizes word t = Always (λ past c. (con : Open)
+    → Ever (λ b. begun b ≡ Some con) (call_adds server sizes word past c) → SendsNow server sizes con past c) t
 
 -- Each CON is a request that was sent.
-abbrev pub ConsAreRequests : Endpoint → (szx word : ℕ) → List Call → Type 0
-ConsAreRequests server szx word t = (con : Open) → Ever (λ b. begun b ≡ Some con) (layer_of server szx word t)
-    → (x : Sending) × WasSent szx x t × IsRequestOf server con x
+abbrev pub ConsAreRequests : Endpoint → (sizes : Sizes) (word : ℕ) → List Call → Type 0
+ConsAreRequests server sizes word t = (con : Open) → Ever (λ b. begun b ≡ Some con) (layer_of server sizes word t)
+    → (x : Sending) × WasSent sizes x t × IsRequestOf server con x

@@ -4,9 +4,9 @@ use Rattle.std.specs.Prelude.{◌≡◌, ◌⊎◌, ◌≤◌, ℕ, ◌+◌, ◌
 use Rattle.coap_types.specs.Past.{Sometime}
 use Rattle.coap_types.specs.Piece.{size_of, offset_of}
 use Rattle.coap_types.specs.declared.block.Block.{Block}
-use Rattle.coap_types.specs.declared.limits.TheConstants.{MAX_BODY_LEN as max_body}
 use Rattle.coap_types.specs.declared.option_number.TheConstants.{BLOCK2 as block2}
 use Rattle.coap_codec.specs.Message.{Message}
+use Rattle.coap_block.specs.Sizes.{Sizes}
 use Rattle.coap_block.specs.declared.fetch_judging.TheConstants.{MAX_RESTARTS as max_restarts}
 use Rattle.coap_client.specs.Trace.{Call}
 use Rattle.coap_client.specs.Responses.{content, block_at}
@@ -14,24 +14,24 @@ use Rattle.coap_client.specs.Follows.Bodies.{HeardFor}
 use Rattle.coap_client.specs.Follows.Bounds.{max_blocks, requests}
 
 -- the requests of all passes: a body is begun anew so often
-abbrev pub all_passes : ℕ
-all_passes = (max_restarts + 1) * max_blocks
+abbrev pub all_passes : ℕ → ℕ
+all_passes limit = (max_restarts + 1) * max_blocks limit
 
 -- a block that ends where the longest body does, or behind that, and more follows
-pub record GoesBeyond (m : Message) : Type 0 where
+pub record GoesBeyond (limit : ℕ) (m : Message) : Type 0 where
   pub block : Block
   pub says : block_at block2 m ≡ Some block
   pub more : block.more ≡ true
-  pub beyond : max_body ≤ offset_of block.num block.szx + size_of block.szx
+  pub beyond : limit ≤ offset_of block.num block.szx + size_of block.szx
 
-module _ (szx : ℕ) where
+module _ (sizes : Sizes) where
   -- such a part is heard for the call
   pub record HearsBeyond (number : ℕ) (past : List Call) (c : Call) : Type 0 where
     pub message : Message
-    pub heard : HeardFor szx number message past c
+    pub heard : HeardFor sizes number message past c
     pub code : message.code ≡ content
-    pub part : GoesBeyond message
+    pub part : GoesBeyond sizes.limit message
 
   -- A call sends no more requests than that, or hears such a part.
   abbrev pub IsWithin : ℕ → List Call → Type 0
-  IsWithin number t = (requests szx number t ≤ all_passes) ⊎ Sometime (HearsBeyond number) t
+  IsWithin number t = (requests sizes number t ≤ all_passes sizes.limit) ⊎ Sometime (HearsBeyond number) t

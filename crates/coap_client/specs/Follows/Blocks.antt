@@ -4,6 +4,7 @@ use Rattle.coap_types.specs.Past.{Always}
 use Rattle.coap_codec.specs.Message.{Message}
 use Rattle.coap_types.specs.declared.block.Block.{Block}
 use Rattle.coap_types.specs.Piece.{part_of}
+use Rattle.coap_block.specs.Sizes.{Sizes}
 use Rattle.coap_block.specs.Whole.{Part}
 use Rattle.coap_block.specs.Sent.{Sent, part_to_send}
 use Rattle.coap_block.specs.UploadStep.{UploadState, Continues, moved}
@@ -32,15 +33,15 @@ abbrev pub block_in_sending : ℕ → Option Sending → List Part
 block_in_sending number None = []
 block_in_sending number (Some x) = block_of number (carried x.operation)
 
-module _ (szx : ℕ) where
+module _ (sizes : Sizes) where
   abbrev pub blocks : ℕ → List Call → List Part
   blocks number [] = []
-  blocks number (c ∷ past) = blocks number past ++ block_in_sending number (sends (own_of szx past) c)
+  blocks number (c ∷ past) = blocks number past ++ block_in_sending number (sends (own_of sizes past) c)
 
   -- the call hears the 2.31 to the block that was sent last, which lets this one be sent
   pub record FollowsContinue (past : List Call) (c : Call) (x : Carried) : Type 0 where
     pub before : Sending
-    pub last : last_sent szx past ≡ Some before
+    pub last : last_sent sizes past ≡ Some before
     pub upload : UploadState
     pub of : carried before.operation ≡ Some (record { number = x.number; upload = upload })
     pub message : Message
@@ -63,5 +64,5 @@ module _ (szx : ℕ) where
     pub follows : (blocks y.number past ≡ []) ⊎ FollowsContinue past c y
 
   abbrev pub SendsPieces : List Call → Type 0
-  SendsPieces trace = Always (λ past c. (x : Sending) (y : Carried) → sends (own_of szx past) c ≡ Some x
+  SendsPieces trace = Always (λ past c. (x : Sending) (y : Carried) → sends (own_of sizes past) c ≡ Some x
       → carried x.operation ≡ Some y → SendsPiece past c x y) trace

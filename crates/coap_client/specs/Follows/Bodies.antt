@@ -5,6 +5,7 @@ use Rattle.coap_types.specs.Past.{Always}
 use Rattle.coap_types.specs.declared.block.Block.{Block}
 use Rattle.coap_types.specs.declared.option_number.TheConstants.{BLOCK2 as block2}
 use Rattle.coap_codec.specs.Message.{Message}
+use Rattle.coap_block.specs.Sizes.{Sizes}
 use Rattle.coap_block.specs.Gathered.{part, payloads_of}
 use Rattle.coap_block.specs.Whole.{Part, Each, Whole}
 use Rattle.coap_client.specs.Trace.{Body, Call}
@@ -39,12 +40,12 @@ abbrev pub is_first : ℕ → Option Sending → Bool
 is_first number None = false
 is_first number (Some x) = is_first_of number x.operation
 
-module _ (szx : ℕ) where
+module _ (sizes : Sizes) where
   -- the message is heard as the answer to a request of the call, under its token
   pub record HeardFor (number : ℕ) (m : Message) (past : List Call) (c : Call) : Type 0 where
     pub heard : hears c ≡ Some m
     pub sending : Sending
-    pub sent : WasSent szx sending past
+    pub sent : WasSent sizes sending past
     pub of_call : call_of sending.operation ≡ Some number
     pub token : sending.token ≡ m.token
 
@@ -56,7 +57,7 @@ module _ (szx : ℕ) where
   -- the part was taken since the call asked for the first block last
   abbrev pub TookPart : ℕ → Part → List Call → Type 0
   TookPart number p [] = ⊥
-  TookPart number p (c ∷ past) = (is_first number (sends (own_of szx past) c) ≡ false)
+  TookPart number p (c ∷ past) = (is_first number (sends (own_of sizes past) c) ≡ false)
       × (TakesPart number p past c ⊎ TookPart number p past)
 
   -- The body is whole by the parts since then and the last one, which gives its ETag and its format.
@@ -71,7 +72,7 @@ module _ (szx : ℕ) where
     pub last : ComesLast parts message block
     -- The last one answers the request that was sent last; where no part is before it, so where it comes without
     -- Block2, that is the request for the first block.
-    pub asked : last_sent szx past ≡ Some heard.sending
+    pub asked : last_sent sizes past ≡ Some heard.sending
     pub alone : parts ≡ [] → is_first number (Some heard.sending) ≡ true
     pub whole : Whole (payloads_of parts block (tag_in message) message.payload) body
     pub tag_is : tag ≡ tag_in message
@@ -80,5 +81,5 @@ module _ (szx : ℕ) where
   abbrev pub BodiesAreWhole : List Call → Type 0
   BodiesAreWhole trace =
       Always (λ past c. (number : ℕ) (tag : Option (List ℕ)) (format : Option ℕ) (body : List ℕ)
-      → reports (own_of szx past) c ≡ of number (Body tag format body)
+      → reports (own_of sizes past) c ≡ of number (Body tag format body)
       → IsFetched number tag format body past c) trace

@@ -4,6 +4,7 @@ use Rattle.std.specs.Prelude.{◌≡◌, ◌≢◌, ◌≤◌, ◌⊎◌, ℕ, B
 use Rattle.coap_types.specs.Past.{Always}
 use Rattle.coap_types.specs.declared.message.TheConstants.Code as codes
 use Rattle.coap_codec.specs.Message.{Message}
+use Rattle.coap_block.specs.Sizes.{Sizes}
 use Rattle.coap_block.specs.UploadStep.{UploadState, more_follows}
 use Rattle.coap_client.specs.Trace.{Request, Done, Failed, Call}
 use Rattle.coap_client.specs.Own.{Transfer, Fetches, Uploads, Single, Operation, Calling}
@@ -36,29 +37,29 @@ Fails (Calling number r (Uploads u)) code = FailsBlock (more_follows u) u code
 Fails (Calling number r Single) code = code ≢ deleted
 Fails op code = ⊥
 
-module _ (szx : ℕ) where
+module _ (sizes : Sizes) where
   -- A response with this code is heard in this very call, as the answer to the request that was sent last, which is one
   -- of the call; and that means this for that request.
   pub record IsOfCode (Means : Operation → ℕ → Type 0) (number code : ℕ) (past : List Call) (c : Call) : Type 0 where
     pub message : Message
-    pub heard : HeardFor szx number message past c
-    pub last : last_sent szx past ≡ Some heard.sending
+    pub heard : HeardFor sizes number message past c
+    pub last : last_sent sizes past ≡ Some heard.sending
     pub code_is : message.code ≡ code
     pub means : Means heard.sending.operation code
 
   pub record ReportsCode (past : List Call) (c : Call) : Type 0 where
     -- Success and failure of a call are reported where such a response is heard,
-    pub done : (number code : ℕ) → reports (own_of szx past) c ≡ of number (Done code)
+    pub done : (number code : ℕ) → reports (own_of sizes past) c ≡ of number (Done code)
         → IsOfCode Succeeds number code past c
-    pub failed : (number code : ℕ) → reports (own_of szx past) c ≡ of number (Failed code)
+    pub failed : (number code : ℕ) → reports (own_of sizes past) c ≡ of number (Failed code)
         → IsOfCode Fails number code past c
     -- and wherever it is, for the call that runs.
     pub each_done : (number : ℕ) (r : Request) (t : Transfer) (m : Message)
-        → (own_of szx past).running ≡ Some (Calling number r t) → hears c ≡ Some m
-        → Succeeds (Calling number r t) m.code → reports (own_of szx past) c ≡ of number (Done m.code)
+        → (own_of sizes past).running ≡ Some (Calling number r t) → hears c ≡ Some m
+        → Succeeds (Calling number r t) m.code → reports (own_of sizes past) c ≡ of number (Done m.code)
     pub each_failed : (number : ℕ) (r : Request) (t : Transfer) (m : Message)
-        → (own_of szx past).running ≡ Some (Calling number r t) → hears c ≡ Some m → Fails (Calling number r t) m.code
-        → reports (own_of szx past) c ≡ of number (Failed m.code)
+        → (own_of sizes past).running ≡ Some (Calling number r t) → hears c ≡ Some m → Fails (Calling number r t) m.code
+        → reports (own_of sizes past) c ≡ of number (Failed m.code)
 
   abbrev pub ReportsCodes : List Call → Type 0
   ReportsCodes trace = Always ReportsCode trace

@@ -2,6 +2,7 @@
 use Rattle.std.specs.Prelude.{◌≡◌, ◌<◌, ℕ, Some, List, ◌∷◌}
 use Rattle.coap_types.specs.Past.{Ever, Always}
 use Rattle.coap_codec.specs.Message.{Message}
+use Rattle.coap_block.specs.Sizes.{Sizes}
 use Rattle.coap_client.specs.Trace.{Call}
 use Rattle.coap_client.specs.Follows.Blocks.{Carried, carried}
 use Rattle.coap_client.specs.Responses.{continue}
@@ -13,11 +14,11 @@ use Rattle.coap_client.specs.Follows.Begins.{WasSent}
 abbrev pub HearsContinue : List ℕ → Call → Type 0
 HearsContinue token c = (m : Message) × (hears c ≡ Some m) × (m.token ≡ token) × (m.code ≡ continue)
 
-module _ (szx : ℕ) where
+module _ (sizes : Sizes) where
   -- the first block of the call was sent, and answered with 2.31
   pub record FirstContinued (number : ℕ) (before t : List Call) : Type 0 where
     pub first : Sending
-    pub sent : WasSent szx first before
+    pub sent : WasSent sizes first before
     pub block : Carried
     pub carries : carried first.operation ≡ Some block
     pub number_is : block.number ≡ number
@@ -26,5 +27,6 @@ module _ (szx : ℕ) where
 
   abbrev pub AreContinued : List Call → Type 0
   AreContinued trace =
-      Always (λ past c. (x : Sending) (y : Carried) → sends (own_of szx past) c ≡ Some x → carried x.operation ≡ Some y
+      Always (λ past c. (x : Sending) (y : Carried) → sends (own_of sizes past) c ≡ Some x
+      → carried x.operation ≡ Some y
       → 0 < y.upload.num → FirstContinued y.number past (c ∷ past)) trace

@@ -2,6 +2,7 @@
 use Rattle.std.specs.Prelude.{◌≡◌, ℕ, Some, List}
 use Rattle.coap_types.specs.Past.{Ever, Always}
 use Rattle.coap_types.specs.declared.endpoint.Endpoint.{Endpoint}
+use Rattle.coap_block.specs.Sizes.{Sizes}
 use Rattle.coap_client.specs.Trace.{Reported, Call, NextReport}
 use Rattle.coap_client.specs.Own.{Cancelling}
 use Rattle.coap_client.specs.Steps.{reports}
@@ -16,20 +17,20 @@ use Rattle.coap_client.specs.Follows.Rising.{ShowsValue}
 abbrev pub WasForgotten : ℕ → List Call → Type 0
 WasForgotten number t = Ever (λ c. forgotten c ≡ Some number) t
 
-module _ (szx : ℕ) where
+module _ (sizes : Sizes) where
   -- its cancel was sent
   pub record WasCancelled (number : ℕ) (t : List Call) : Type 0 where
     pub sending : Sending
-    pub sent : WasSent szx sending t
+    pub sent : WasSent sizes sending t
     pub cancels : sending.operation ≡ Cancelling number
 
   module _ (server : Endpoint) (word : ℕ) where
     -- No value of it is reported any more behind its last report, its forget or the sending of its cancel; behind its
     -- forget nothing of it is reported or given.
     pub record IsOver (past : List Call) (c : Call) : Type 0 where
-      pub ended : (number : ℕ) → HasReport server szx word number past → ShowsValue szx number past c → ⊥
-      pub cancelled : (number : ℕ) → WasCancelled number past → ShowsValue szx number past c → ⊥
-      pub forgotten : (r : Reported) → WasForgotten r.number past → reports (own_of szx past) c ≡ Some r → ⊥
+      pub ended : (number : ℕ) → HasReport server sizes word number past → ShowsValue sizes number past c → ⊥
+      pub cancelled : (number : ℕ) → WasCancelled number past → ShowsValue sizes number past c → ⊥
+      pub forgotten : (r : Reported) → WasForgotten r.number past → reports (own_of sizes past) c ≡ Some r → ⊥
       pub none_given : (r : Reported) → WasForgotten r.number past → c ≡ NextReport (Some r) → ⊥
 
     abbrev pub AreOver : List Call → Type 0

@@ -3,6 +3,7 @@
 use Rattle.std.specs.Prelude.{◌≡◌, ◌⊎◌, ℕ, Bool, true, false, Option, Some, None, List, Result, Err}
 use Rattle.std.specs.Option.{option_map}
 use Rattle.coap_types.specs.Past.{Ever, Always}
+use Rattle.coap_block.specs.Sizes.{Sizes}
 use Rattle.coap_exchange.specs.declared.asker.AskRefusal.{AskRefusal}
 use Rattle.coap_exchange.specs.declared.asker.AskRefusal.TheVariants as refusal
 use Rattle.coap_exchange.specs.declared.asker.Event.TheVariants as event
@@ -62,23 +63,23 @@ unsent s c = None
 abbrev pub IsWant : AskRefusal → Type 0
 IsWant why = (why ≡ refusal.NoIds) ⊎ (why ≡ refusal.TokensSpent)
 
-module _ (szx : ℕ) where
+module _ (sizes : Sizes) where
   pub record ReportsEnds (past : List Call) (c : Call) : Type 0 where
     -- Each report is of a call or an observation that was taken.
-    pub numbered : (x : Reported) → reports (own_of szx past) c ≡ Some x
+    pub numbered : (x : Reported) → reports (own_of sizes past) c ≡ Some x
         → Ever (λ b. number_given b ≡ Some x.number) past
     -- Where the exchange of the request that was sent last ends so, that is reported, if that request is of a call, a
     -- registration or a cancel; and nothing else is reported so.
     pub each : (r : Report) → ends_as c ≡ Some r
-        → (x : Sending) × (last_sent szx past ≡ Some x)
-        × (reports (own_of szx past) c ≡ report_to r (reported_of x.operation))
-    pub only : (x : Reported) → reports (own_of szx past) c ≡ Some x → is_end x.report ≡ true
+        → (x : Sending) × (last_sent sizes past ≡ Some x)
+        × (reports (own_of sizes past) c ≡ report_to r (reported_of x.operation))
+    pub only : (x : Reported) → reports (own_of sizes past) c ≡ Some x → is_end x.report ≡ true
         → ends_as c ≡ Some x.report
     -- NoIds is reported where such a request can't be sent, for want of a Message ID or of a token, and there alone.
-    pub each_unsent : (u : Unsent) → unsent (own_of szx past) c ≡ Some u
-        → IsWant u.why × (reports (own_of szx past) c ≡ report_to NoIds (reported_of u.operation))
-    pub no_ids : (number : ℕ) → reports (own_of szx past) c ≡ Some (record { number = number; report = NoIds })
-        → (u : Unsent) × (unsent (own_of szx past) c ≡ Some u) × (reported_of u.operation ≡ Some number)
+    pub each_unsent : (u : Unsent) → unsent (own_of sizes past) c ≡ Some u
+        → IsWant u.why × (reports (own_of sizes past) c ≡ report_to NoIds (reported_of u.operation))
+    pub no_ids : (number : ℕ) → reports (own_of sizes past) c ≡ Some (record { number = number; report = NoIds })
+        → (u : Unsent) × (unsent (own_of sizes past) c ≡ Some u) × (reported_of u.operation ≡ Some number)
 
   abbrev pub AllEnds : List Call → Type 0
   AllEnds t = Always ReportsEnds t

@@ -3,6 +3,7 @@
 use Rattle.std.specs.Prelude.{◌≡◌, ◌≤◌, ◌⊎◌, ℕ, ◌+◌, ◌==◌, ◌&&◌, not, max, Bool, true, false, Option, Some, None, List}
 use Rattle.coap_types.specs.Past.{Sometime, Always}
 use Rattle.coap_types.specs.declared.transmission.TheConstants.{MAX_LATENCY_MS as max_latency}
+use Rattle.coap_block.specs.Sizes.{Sizes}
 use Rattle.coap_exchange.specs.declared.asker.Turn.TheVariants as turn
 use Rattle.coap_client.specs.Trace.{is_value, Call, Calls, Observes, Cancels, Feeds, Ticks, Reported}
 use Rattle.coap_client.specs.Own.{Operation, Own}
@@ -39,17 +40,17 @@ abbrev pub sends_of : ℕ → Option Sending → Bool
 sends_of number None = false
 sends_of number (Some x) = is_upload_of number (Some x.operation)
 
-module _ (szx : ℕ) where
+module _ (sizes : Sizes) where
   -- a datagram of the transfer is sent: a block, or a copy of one
   abbrev pub SendsOf : ℕ → List Call → Call → Type 0
   SendsOf number past c =
-      (sends_of number (sends (own_of szx past) c) ≡ true)
-      ⊎ ((is_copy c ≡ true) × (is_upload_of number (own_of szx past).running ≡ true))
+      (sends_of number (sends (own_of sizes past) c) ≡ true)
+      ⊎ ((is_copy c ≡ true) × (is_upload_of number (own_of sizes past).running ≡ true))
 
   -- the call is reported, and not by a final response
   pub record EndsUnanswered (number : ℕ) (past : List Call) (c : Call) : Type 0 where
     pub report : Reported
-    pub made : reports (own_of szx past) c ≡ Some report
+    pub made : reports (own_of sizes past) c ≡ Some report
     pub is : report.number ≡ number
     pub last : is_value report.report ≡ false
     pub not_final : is_final c ≡ false
@@ -58,10 +59,11 @@ module _ (szx : ℕ) where
     pub held :
         (other : ℕ) → Sometime (EndsUnanswered other) past
         → Sometime (λ earlier b. SendsOf other earlier b
-        × (moment (own_of szx past) c ≤ moment (own_of szx earlier) b + max_latency)) past → ⊥
+        × (moment (own_of sizes past) c ≤ moment (own_of sizes earlier) b + max_latency)) past → ⊥
 
   -- where a first block is sent
   abbrev pub AllHold : List Call → Type 0
   AllHold trace =
-      Always (λ past c. (x : Sending) (y : Carried) → sends (own_of szx past) c ≡ Some x → carried x.operation ≡ Some y
+      Always (λ past c. (x : Sending) (y : Carried) → sends (own_of sizes past) c ≡ Some x
+      → carried x.operation ≡ Some y
       → is_longer y.upload ≡ true → y.upload.num ≡ 0 → Holds past c y.number) trace

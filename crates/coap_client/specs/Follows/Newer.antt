@@ -2,6 +2,7 @@
 use Rattle.std.specs.Prelude.{◌≡◌, ℕ, ◌==◌, max, Option, Some, None, List, [], ◌∷◌, if◌then◌else◌}
 use Rattle.coap_types.specs.Past.{Always}
 use Rattle.coap_codec.specs.Message.{Message}
+use Rattle.coap_block.specs.Sizes.{Sizes}
 use Rattle.coap_exchange.specs.declared.asker.Event.{Event}
 use Rattle.coap_exchange.specs.declared.asker.Event.TheVariants as event
 use Rattle.coap_observe.specs.Newer.{Mark, IsNewer, is_newer}
@@ -45,14 +46,14 @@ abbrev pub mark_if : ℕ → Option Newly → Option Mark → Option Mark
 mark_if number None last = last
 mark_if number (Some n) last = if n.number == number then Some n.mark else last
 
-module _ (szx : ℕ) where
+module _ (sizes : Sizes) where
   -- the newest of an observation
   abbrev pub last_mark : ℕ → List Call → Option Mark
   last_mark number [] = None
-  last_mark number (c ∷ past) = mark_if number (notifies (own_of szx past) c) (last_mark number past)
+  last_mark number (c ∷ past) = mark_if number (notifies (own_of sizes past) c) (last_mark number past)
 
   -- Each that comes under the token of the observation is newer than the newest before.
   abbrev pub AreNewer : List Call → Type 0
   AreNewer trace =
-      Always (λ past c. (n : Newly) → hears c ≡ None → notifies (own_of szx past) c ≡ Some n
+      Always (λ past c. (n : Newly) → hears c ≡ None → notifies (own_of sizes past) c ≡ Some n
       → IsNewer (last_mark n.number past) n.mark.number n.mark.at) trace

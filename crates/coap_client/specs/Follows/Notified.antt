@@ -3,6 +3,7 @@
 use Rattle.std.specs.Prelude.{◌≡◌, ◌⊎◌, ℕ, ◌==◌, Bool, true, false, Option, Some, None, List, [], ◌∷◌}
 use Rattle.coap_types.specs.Past.{Always}
 use Rattle.coap_codec.specs.Message.{Message}
+use Rattle.coap_block.specs.Sizes.{Sizes}
 use Rattle.coap_exchange.specs.declared.asker.Event.TheVariants as event
 use Rattle.coap_observe.specs.Newer.{Newer}
 use Rattle.coap_client.specs.Trace.{Call, Feeds}
@@ -27,18 +28,18 @@ abbrev pub newest_if : Option Newly → Bool → Option Newly → Option Newly
 newest_if n true last = n
 newest_if n false last = last
 
-module _ (szx : ℕ) where
+module _ (sizes : Sizes) where
   -- the notification that was taken last of an observation
   abbrev pub newest : ℕ → List Call → Option Newly
   newest number [] = None
-  newest number (c ∷ past) = let n = notifies (own_of szx past) c in newest_if n (is_newly_of number n)
+  newest number (c ∷ past) = let n = notifies (own_of sizes past) c in newest_if n (is_newly_of number n)
       (newest number past)
 
   -- the observation's registration was sent, under this token
   pub record WasRegistered (number : ℕ) (token : List ℕ) (past : List Call) : Type 0 where
     pub path : List (List ℕ)
     pub sending : Sending
-    pub sent : WasSent szx sending past
+    pub sent : WasSent sizes sending past
     pub registers : sending.operation ≡ Registering number path
     pub token_is : sending.token ≡ token
 
@@ -62,4 +63,4 @@ module _ (szx : ℕ) where
     pub comes : IsFirst n past c ⊎ IsLater n past c
 
   abbrev pub AreTaken : List Call → Type 0
-  AreTaken trace = Always (λ past c. (n : Newly) → notifies (own_of szx past) c ≡ Some n → IsTaken n past c) trace
+  AreTaken trace = Always (λ past c. (n : Newly) → notifies (own_of sizes past) c ≡ Some n → IsTaken n past c) trace

@@ -5,6 +5,7 @@ use Rattle.coap_types.specs.Past.{Ever, Always}
 use Rattle.coap_types.specs.CoapOption.{option}
 use Rattle.coap_types.specs.Uint.{uint}
 use Rattle.coap_types.specs.declared.option_number.TheConstants.{OBSERVE as observe}
+use Rattle.coap_block.specs.Sizes.{Sizes}
 use Rattle.coap_block.specs.declared.fetch_progress.Asked.{Asked}
 use Rattle.coap_client.specs.Trace.{Call, Observes}
 use Rattle.coap_client.specs.Own.{Operation, Calling, Registering, Fetching, Cancelling, Dropped}
@@ -32,7 +33,7 @@ observation_for (Fetching number) = Some number
 observation_for (Cancelling number) = Some number
 observation_for op = None
 
-module _ (szx : ℕ) where
+module _ (sizes : Sizes) where
   -- A registration has Observe 0; a fetch asks for a block alone; a cancel has Observe 1, and the token of the
   -- registration.
   abbrev pub AsksFor : Operation → List (List ℕ) → Sending → List Call → Type 0
@@ -41,7 +42,7 @@ module _ (szx : ℕ) where
   AsksFor (Fetching number) path x past = (block : Asked)
       × (x.request ≡ get None (path_options path ++ block2_option (Some block)))
   AsksFor (Cancelling number) path x past = (x.request
-      ≡ get (Some x.token) (option observe (uint 1) ∷ path_options path)) × WasRegistered szx number x.token past
+      ≡ get (Some x.token) (option observe (uint 1) ∷ path_options path)) × WasRegistered sizes number x.token past
   AsksFor (Calling number r t) path x past = ⊥
   AsksFor Dropped path x past = ⊥
 
@@ -52,5 +53,5 @@ module _ (szx : ℕ) where
     pub asks : AsksFor x.operation path x past
 
   abbrev pub AreOfObservations : List Call → Type 0
-  AreOfObservations trace = Always (λ past c. (x : Sending) (number : ℕ) → sends (own_of szx past) c ≡ Some x
+  AreOfObservations trace = Always (λ past c. (x : Sending) (number : ℕ) → sends (own_of sizes past) c ≡ Some x
       → observation_for x.operation ≡ Some number → IsOfObservation number x past) trace

@@ -3,6 +3,7 @@
 use Rattle.std.specs.Prelude.{◌≡◌, ◌≤◌, ℕ, Bool, true, false, not, Option, Some, None, List, ◌∷◌}
 use Rattle.coap_types.specs.Past.{Ever, Always}
 use Rattle.coap_codec.specs.Message.{Message}
+use Rattle.coap_block.specs.Sizes.{Sizes}
 use Rattle.coap_block.specs.UploadStep.{more_follows}
 use Rattle.coap_client.specs.Trace.{Call}
 use Rattle.coap_client.specs.Own.{Fetches, Uploads, Single, Operation, Calling, Registering}
@@ -32,18 +33,18 @@ is_last op = false
 abbrev pub HearsBy : List ℕ → Call → Type 0
 HearsBy token c = (m : Message) × (hears c ≡ Some m) × (m.token ≡ token)
 
-module _ (szx : ℕ) where
+module _ (sizes : Sizes) where
   pub record InOrder (past : List Call) (c : Call) : Type 0 where
     -- Calls and registrations take their turns, in the order of their numbers.
-    pub in_turn : (x y : Sending) (i j : ℕ) → sends (own_of szx past) c ≡ Some y → WasSent szx x past
+    pub in_turn : (x y : Sending) (i j : ℕ) → sends (own_of sizes past) c ≡ Some y → WasSent sizes x past
         → turn_of x.operation ≡ Some i → turn_of y.operation ≡ Some j → i ≤ j
     -- Nothing is reported where a request is sent.
-    pub none_with : (y : Sending) → sends (own_of szx past) c ≡ Some y → reports (own_of szx past) c ≡ None
+    pub none_with : (y : Sending) → sends (own_of sizes past) c ≡ Some y → reports (own_of sizes past) c ≡ None
     -- Nothing is sent for a call behind its last request.
-    pub none_behind : (x y : Sending) (k : ℕ) → sends (own_of szx past) c ≡ Some y → WasSent szx x past
+    pub none_behind : (x y : Sending) (k : ℕ) → sends (own_of sizes past) c ≡ Some y → WasSent sizes x past
         → call_of x.operation ≡ Some k → call_of y.operation ≡ Some k → is_last x.operation ≡ true → ⊥
     -- A further request of a call is sent where each before it was answered.
-    pub one_by_one : (x y : Sending) (k : ℕ) → sends (own_of szx past) c ≡ Some y → WasSent szx x past
+    pub one_by_one : (x y : Sending) (k : ℕ) → sends (own_of sizes past) c ≡ Some y → WasSent sizes x past
         → call_of x.operation ≡ Some k → call_of y.operation ≡ Some k → Ever (HearsBy x.token) (c ∷ past)
 
   abbrev pub AreInOrder : List Call → Type 0
@@ -51,10 +52,10 @@ module _ (szx : ℕ) where
 
   -- A request of a call is answered once.
   abbrev pub HeardOnce : List Call → Type 0
-  HeardOnce trace = Always (λ past c. (x : Sending) (k : ℕ) → WasSent szx x past → call_of x.operation ≡ Some k
+  HeardOnce trace = Always (λ past c. (x : Sending) (k : ℕ) → WasSent sizes x past → call_of x.operation ≡ Some k
       → HearsBy x.token c → Ever (HearsBy x.token) past → ⊥) trace
 
   -- A call has one last request.
   abbrev pub OneLast : List Call → Type 0
-  OneLast trace = (x y : Sending) (k : ℕ) → WasSent szx x trace → WasSent szx y trace → call_of x.operation ≡ Some k
+  OneLast trace = (x y : Sending) (k : ℕ) → WasSent sizes x trace → WasSent sizes y trace → call_of x.operation ≡ Some k
       → call_of y.operation ≡ Some k → is_last x.operation ≡ true → is_last y.operation ≡ true → x ≡ y

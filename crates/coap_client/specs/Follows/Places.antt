@@ -1,6 +1,7 @@
 -- Where each number of a client is: it waits, runs or is live, or it was reported for the last time or forgotten (RFC
 -- 7252, section 5.2; RFC 7641, section 3).
 use Rattle.std.specs.Prelude.{◌≡◌, ℕ, ◌+◌, ◌==◌, nat_lt, true, Option, Some, None, List, [], ◌∷◌, if◌then◌else◌}
+use Rattle.coap_block.specs.Sizes.{Sizes}
 use Rattle.coap_client.specs.Trace.{is_value, Reported, Call, Forgets}
 use Rattle.coap_client.specs.Own.{Operation, Calling, Registering, Fetching, Cancelling, Dropped}
 use Rattle.coap_client.specs.Own.{Observation, Own}
@@ -44,11 +45,11 @@ abbrev pub forgotten_by : ℕ → Call → ℕ
 forgotten_by n (Forgets number kept true) = hit number n
 forgotten_by n c = 0
 
-module _ (szx : ℕ) where
+module _ (sizes : Sizes) where
   abbrev pub gone : ℕ → List Call → ℕ
   gone n [] = 0
-  gone n (c ∷ past) = final_of n (reports (own_of szx past) c) + (forgotten_by n c + gone n past)
+  gone n (c ∷ past) = final_of n (reports (own_of sizes past) c) + (forgotten_by n c + gone n past)
 
   -- each number that was given is in one place, and no other is in any
   abbrev pub InOnePlace : List Call → Type 0
-  InOnePlace t = (n : ℕ) → places n (own_of szx t) + gone n t ≡ (if nat_lt n (own_of szx t).taken then 1 else 0)
+  InOnePlace t = (n : ℕ) → places n (own_of sizes t) + gone n t ≡ (if nat_lt n (own_of sizes t).taken then 1 else 0)

@@ -7,6 +7,7 @@ use Rattle.coap_types.specs.Past.{Always}
 use Rattle.coap_types.specs.declared.option_number.TheConstants.{BLOCK1 as block1}
 use Rattle.coap_types.specs.declared.request.Method.{Method}
 use Rattle.coap_codec.specs.Message.{Message}
+use Rattle.coap_block.specs.Sizes.{Sizes}
 use Rattle.coap_block.specs.declared.fetch_step.FetchRefusal.TheVariants as refusal
 use Rattle.coap_block.specs.declared.fetch_verdict.Verdict.{Verdict}
 use Rattle.coap_block.specs.declared.fetch_verdict.Verdict.TheVariants as verdict
@@ -106,9 +107,9 @@ single_lines method m = line (is_success method m.code) (Done m.code)
     ∷ line (not (is_success method m.code)) (Failed m.code) ∷ []
 
 -- a notification, and the answer to a registration, where it is taken: its representation where it is whole, or the end
-abbrev pub notified_lines : ℕ → Bool → Message → List Line
-notified_lines szx taken m =
-    line (is_notification m && (taken && is_whole (part (F.start szx 0) m)))
+abbrev pub notified_lines : Sizes → Bool → Message → List Line
+notified_lines sizes taken m =
+    line (is_notification m && (taken && is_whole (part (F.start sizes 0) m)))
     (Value (sequence_in m) (tag_in m) (format_in m) m.payload)
     ∷ line (not (is_notification m)) (Ended m.code) ∷ []
 
@@ -119,14 +120,14 @@ fetched_lines (Some n) m = line ((m.code == content) && is_whole (part n.fetch m
     (Value n.sequence (tag_in m) (format_in m) (n.fetch.gathered ++ m.payload)) ∷ []
 
 -- by the operation whose request is answered; any answer to a cancel ends the observation
-abbrev pub answer_lines : ℕ → List Observation → Operation → Message → List Line
-answer_lines szx os (Calling number r (Fetches f)) m = get_lines r f m
-answer_lines szx os (Calling number r (Uploads u)) m = upload_lines r.method u m
-answer_lines szx os (Calling number r Single) m = single_lines r.method m
-answer_lines szx os (Registering number path) m = notified_lines szx true m
-answer_lines szx os (Fetching number) m = fetched_lines (rest_of number os) m
-answer_lines szx os (Cancelling number) m = line true Cancelled ∷ []
-answer_lines szx os Dropped m = []
+abbrev pub answer_lines : Sizes → List Observation → Operation → Message → List Line
+answer_lines sizes os (Calling number r (Fetches f)) m = get_lines r f m
+answer_lines sizes os (Calling number r (Uploads u)) m = upload_lines r.method u m
+answer_lines sizes os (Calling number r Single) m = single_lines r.method m
+answer_lines sizes os (Registering number path) m = notified_lines sizes true m
+answer_lines sizes os (Fetching number) m = fetched_lines (rest_of number os) m
+answer_lines sizes os (Cancelling number) m = line true Cancelled ∷ []
+answer_lines sizes os Dropped m = []
 
 -- the number that a report is of
 abbrev pub number_in : Operation → ℕ
@@ -139,22 +140,22 @@ number_in Dropped = 0
 abbrev pub reported_as : ℕ → Option Report → Option Reported
 reported_as number report = option_map (λ (r : Report). record { number = number; report = r }) report
 
-module _ (szx : ℕ) where
+module _ (sizes : Sizes) where
   pub record ReportsLines (past : List Call) (c : Call) : Type 0 where
     -- the answer to the request of what runs, unless its next request can't be sent
-    pub answer : (m : Message) (op : Operation) → hears c ≡ Some m → (own_of szx past).running ≡ Some op
-        → unsent (own_of szx past) c ≡ None
-        → reports (own_of szx past) c
-        ≡ reported_as (number_in op) (first_of (answer_lines szx (own_of szx past).observations op m))
+    pub answer : (m : Message) (op : Operation) → hears c ≡ Some m → (own_of sizes past).running ≡ Some op
+        → unsent (own_of sizes past) c ≡ None
+        → reports (own_of sizes past) c
+        ≡ reported_as (number_in op) (first_of (answer_lines sizes (own_of sizes past).observations op m))
     -- a notification under the token of a live observation; it is taken where it is newer
     pub notice : (m : Message) (o : Observation) → notes c ≡ Some m
-        → observation_with m.token (own_of szx past).observations ≡ Some o
-        → reports (own_of szx past) c ≡ reported_as o.number (first_of (notified_lines szx
-        (is_newer o.watch.mark (sequence_in m) (moment_of (own_of szx past) c)) m))
+        → observation_with m.token (own_of sizes past).observations ≡ Some o
+        → reports (own_of sizes past) c ≡ reported_as o.number (first_of (notified_lines sizes
+        (is_newer o.watch.mark (sequence_in m) (moment_of (own_of sizes past) c)) m))
     -- Where neither comes, no exchange ends and no request can't be sent, nothing is reported.
-    pub none : ((m : Message) → hears c ≡ Some m → (own_of szx past).running ≡ None)
-        → ((m : Message) → notes c ≡ Some m → observation_with m.token (own_of szx past).observations ≡ None)
-        → ends_as c ≡ None → unsent (own_of szx past) c ≡ None → reports (own_of szx past) c ≡ None
+    pub none : ((m : Message) → hears c ≡ Some m → (own_of sizes past).running ≡ None)
+        → ((m : Message) → notes c ≡ Some m → observation_with m.token (own_of sizes past).observations ≡ None)
+        → ends_as c ≡ None → unsent (own_of sizes past) c ≡ None → reports (own_of sizes past) c ≡ None
 
   abbrev pub ReportsByTable : List Call → Type 0
   ReportsByTable trace = Always ReportsLines trace

@@ -5,8 +5,8 @@ use Rattle.std.specs.Prelude.{is_some, List, [], ◌∷◌, ◌++◌, drop, filt
 use Rattle.std.specs.Prelude.{length, Result, Ok, Err, if◌then◌else◌}
 use Rattle.std.specs.Option.{option_map}
 use Rattle.coap_types.specs.Past.{Always}
-use Rattle.coap_types.specs.declared.limits.TheConstants.{MAX_BODY_LEN as max_body}
 use Rattle.coap_types.specs.declared.option_number.TheConstants.{BLOCK2 as block2}
+use Rattle.coap_block.specs.Sizes.{Sizes}
 use Rattle.coap_client.specs.declared.limits.TheConstants.{MAX_WAITING_CALLS as max_waiting}
 use Rattle.coap_client.specs.declared.limits.TheConstants.{MAX_OBSERVATIONS as max_observations}
 use Rattle.coap_client.specs.declared.refusals.CallRefusal.{CallRefusal}
@@ -88,22 +88,22 @@ abbrev pub numbers_in : List Call → ℕ
 numbers_in [] = 0
 numbers_in (c ∷ past) = (if is_some (number_given c) then 1 else 0) + numbers_in past
 
-module _ (szx : ℕ) where
+module _ (sizes : Sizes) where
   -- what waits, in the order in which it was taken
   abbrev pub waiting_in : List Call → List Waiting
   waiting_in [] = []
-  waiting_in (c ∷ past) = without (over_in (own_of szx past) c)
-      (if starts (own_of szx past) c then drop 1 (waiting_in past) else waiting_in past) ++ added c
+  waiting_in (c ∷ past) = without (over_in (own_of sizes past) c)
+      (if starts (own_of sizes past) c then drop 1 (waiting_in past) else waiting_in past) ++ added c
 
   abbrev pub next_number : List Call → Result ℕ CallRefusal
   next_number past = if numbers_in past == max_numbers then Err CallsSpent else Ok (numbers_in past)
 
-  -- A call is refused where so many wait, where its body is longer than any, where its options are too long for a
-  -- message, and where no number is left; else it has the next number. The first that holds decides.
+  -- A call is refused where so many wait, where its body is longer than the limit, where its options are too long for
+  -- a message, and where no number is left; else it has the next number. The first that holds decides.
   abbrev pub taking_of : List Call → Request → Result ℕ CallRefusal
   taking_of past r =
       if nat_le max_waiting (length (waiting_in past)) then Err QueueFull
-      else (if nat_lt max_body (length r.body) then Err BodyTooLarge
+      else (if nat_lt sizes.limit (length r.body) then Err BodyTooLarge
       else (if are_long (block_option_number r.method) (options_of r) then Err BadPath
       else next_number past))
 
@@ -112,20 +112,20 @@ module _ (szx : ℕ) where
   observing_of past path =
       if nat_le max_waiting (length (waiting_in past)) then Err QueueFull
       else (if are_long block2 (path_options path) then Err BadPath
-      else (if nat_le max_observations (observed (own_of szx past)) then Err WatchesFull
+      else (if nat_le max_observations (observed (own_of sizes past)) then Err WatchesFull
       else next_number past))
 
   -- A cancel is refused where its observation is not live or is cancelled already, and where so many wait.
   abbrev pub cancelling_of : List Call → ℕ → Option CancelRefusal
   cancelling_of past number =
-      if not (is_live number (own_of szx past)) || is_cancelled number (own_of szx past) then Some cancel.Unknown
+      if not (is_live number (own_of sizes past)) || is_cancelled number (own_of sizes past) then Some cancel.Unknown
       else (if nat_le max_waiting (length (waiting_in past)) then Some cancel.QueueFull
       else None)
 
   -- what starts is the first that waits
   pub record StartsFirst (past : List Call) (c : Call) : Type 0 where
     pub operation : Operation
-    pub asked : asked_for (own_of szx past) c ≡ Some operation
+    pub asked : asked_for (own_of sizes past) c ≡ Some operation
     pub first : Waiting
     pub is : waiting_of operation ≡ Some first
     pub rest : List Waiting
@@ -138,7 +138,7 @@ module _ (szx : ℕ) where
         → answer ≡ observing_of past path
     pub cancels : (now number : ℕ) (answer : Option CancelRefusal) → c ≡ Cancels now number answer
         → answer ≡ cancelling_of past number
-    pub in_order : starts (own_of szx past) c ≡ true → StartsFirst past c
+    pub in_order : starts (own_of sizes past) c ≡ true → StartsFirst past c
 
   abbrev pub AllTaken : List Call → Type 0
   AllTaken t = Always TakesRight t

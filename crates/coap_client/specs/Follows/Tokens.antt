@@ -6,6 +6,7 @@ use Rattle.coap_types.specs.declared.endpoint.Endpoint.{Endpoint}
 use Rattle.coap_types.specs.declared.token.TheConstants.{MAX_TOKEN_LEN as max_token_len}
 use Rattle.coap_codec.specs.Message.{Message, Spells}
 use Rattle.coap_layer.specs.Words.{Open, begun}
+use Rattle.coap_block.specs.Sizes.{Sizes}
 use Rattle.coap_client.specs.Trace.{Call}
 use Rattle.coap_client.specs.Own.{Registering, Cancelling}
 use Rattle.coap_client.specs.Law.{own_of, layer_of}
@@ -20,34 +21,34 @@ pub record Deregisters (x y : Sending) : Type 0 where
   pub cancels : y.operation ≡ Cancelling number
 
 -- What is sent has a token that no request had before, but for a cancel, which has that of its observation.
-abbrev pub OwnTokens : ℕ → List Call → Type 0
-OwnTokens szx t = Always (λ past c. (x y : Sending) → sends (own_of szx past) c ≡ Some x → WasSent szx y past
+abbrev pub OwnTokens : Sizes → List Call → Type 0
+OwnTokens sizes t = Always (λ past c. (x y : Sending) → sends (own_of sizes past) c ≡ Some x → WasSent sizes y past
     → y.token ≡ x.token → Deregisters y x) t
 
 -- So a token is that of one request, or of an observation and its cancel.
-abbrev pub OneOfToken : ℕ → List Call → Type 0
-OneOfToken szx t = (x y : Sending) → WasSent szx x t → WasSent szx y t → x.token ≡ y.token
+abbrev pub OneOfToken : Sizes → List Call → Type 0
+OneOfToken sizes t = (x y : Sending) → WasSent sizes x t → WasSent sizes y t → x.token ≡ y.token
     → (x ≡ y) ⊎ (Deregisters x y ⊎ Deregisters y x)
 
 -- It has at most 8 bytes.
-abbrev pub ShortTokens : ℕ → List Call → Type 0
-ShortTokens szx t = (x : Sending) → WasSent szx x t → length x.token ≤ max_token_len
+abbrev pub ShortTokens : Sizes → List Call → Type 0
+ShortTokens sizes t = (x : Sending) → WasSent sizes x t → length x.token ≤ max_token_len
 
 -- the second CON cancels the observation that the first registers
-pub record Ends (server : Endpoint) (szx : ℕ) (t : List Call) (a b : Open) : Type 0 where
+pub record Ends (server : Endpoint) (sizes : Sizes) (t : List Call) (a b : Open) : Type 0 where
   pub first : Sending
   pub second : Sending
-  pub first_sent : WasSent szx first t
-  pub second_sent : WasSent szx second t
+  pub first_sent : WasSent sizes first t
+  pub second_sent : WasSent sizes second t
   pub begins : IsRequestOf server a first
   pub ends : IsRequestOf server b second
   pub deregisters : Deregisters first second
 
 -- Two CONs whose messages have one token are one, or an observation and its cancel.
-abbrev pub OneConOrCancel : Endpoint → (szx word : ℕ) → List Call → Type 0
-OneConOrCancel server szx word t =
-    (a b : Open) → Ever (λ e. begun e ≡ Some a) (layer_of server szx word t)
-    → Ever (λ e. begun e ≡ Some b) (layer_of server szx word t) → (x y : Message) → AreBytes a.bytes
+abbrev pub OneConOrCancel : Endpoint → (sizes : Sizes) (word : ℕ) → List Call → Type 0
+OneConOrCancel server sizes word t =
+    (a b : Open) → Ever (λ e. begun e ≡ Some a) (layer_of server sizes word t)
+    → Ever (λ e. begun e ≡ Some b) (layer_of server sizes word t) → (x y : Message) → AreBytes a.bytes
     → AreBytes b.bytes
     → Spells a.bytes x → Spells b.bytes y → x.token ≡ y.token
-    → (a ≡ b) ⊎ (Ends server szx t a b ⊎ Ends server szx t b a)
+    → (a ≡ b) ⊎ (Ends server sizes t a b ⊎ Ends server sizes t b a)

@@ -3,6 +3,7 @@ use Rattle.std.specs.Prelude.{◌≡◌, ◌≢◌, ℕ, Option, List, []}
 use Rattle.coap_types.specs.Past.{Always}
 use Rattle.coap_types.specs.declared.request.Method.TheVariants.{Get}
 use Rattle.coap_codec.specs.Message.{Message}
+use Rattle.coap_block.specs.Sizes.{Sizes}
 use Rattle.coap_client.specs.Trace.{Request, Valid, Call}
 use Rattle.coap_client.specs.Responses.{valid, tag_in}
 use Rattle.coap_client.specs.Effects.{of}
@@ -11,7 +12,7 @@ use Rattle.coap_client.specs.Law.{own_of}
 use Rattle.coap_client.specs.Follows.Words.{Taken, WasTaken}
 use Rattle.coap_client.specs.Follows.Bodies.{HeardFor}
 
-module _ (szx : ℕ) where
+module _ (sizes : Sizes) where
   -- The call is a GET and carries ETags; what is reported is the ETag of the 2.03 that it heard, or none.
   pub record IsValidated (number : ℕ) (tag : Option (List ℕ)) (past : List Call) (c : Call) : Type 0 where
     pub request : Request
@@ -19,17 +20,17 @@ module _ (szx : ℕ) where
     pub method : request.method ≡ Get
     pub etags : request.etags ≢ []
     pub message : Message
-    pub heard : HeardFor szx number message past c
+    pub heard : HeardFor sizes number message past c
     pub code : message.code ≡ valid
     pub tag_is : tag ≡ tag_in message
 
   abbrev pub ValidOfTags : List Call → Type 0
   ValidOfTags trace = Always (λ past c. (number : ℕ) (tag : Option (List ℕ))
-      → reports (own_of szx past) c ≡ of number (Valid tag) → IsValidated number tag past c) trace
+      → reports (own_of sizes past) c ≡ of number (Valid tag) → IsValidated number tag past c) trace
 
   -- .. and wherever a GET that carries ETags hears a 2.03, as the answer to one of its requests, that is reported.
   abbrev pub EachIsValid : List Call → Type 0
   EachIsValid trace =
       Always (λ past c. (x : Taken) (m : Message) → WasTaken x past → x.request.method ≡ Get → x.request.etags ≢ []
-      → HeardFor szx x.number m past c → m.code ≡ valid
-      → reports (own_of szx past) c ≡ of x.number (Valid (tag_in m))) trace
+      → HeardFor sizes x.number m past c → m.code ≡ valid
+      → reports (own_of sizes past) c ≡ of x.number (Valid (tag_in m))) trace

@@ -4,6 +4,7 @@ use Rattle.std.specs.Prelude.{◌≡◌, ◌⊎◌, ℕ, false, Option, Some, Li
 use Rattle.coap_types.specs.Past.{Always}
 use Rattle.coap_types.specs.declared.block.Block.{Block}
 use Rattle.coap_codec.specs.Message.{Message}
+use Rattle.coap_block.specs.Sizes.{Sizes}
 use Rattle.coap_block.specs.Gathered.{payloads_of}
 use Rattle.coap_block.specs.Whole.{Part, Each, Whole}
 use Rattle.coap_client.specs.Trace.{Value, Call}
@@ -18,18 +19,18 @@ use Rattle.coap_client.specs.Follows.Bodies.{ComesAs, ComesLast}
 use Rattle.coap_client.specs.Follows.Newer.{Newly, notifies}
 use Rattle.coap_client.specs.Follows.Notified.{is_newly_of, newest}
 
-module _ (szx : ℕ) where
+module _ (sizes : Sizes) where
   -- the request was sent since the newest notification of the observation came
   abbrev pub SentSince : ℕ → Sending → List Call → Type 0
   SentSince number x [] = ⊥
-  SentSince number x (c ∷ past) = (is_newly_of number (notifies (own_of szx past) c) ≡ false)
-      × ((sends (own_of szx past) c ≡ Some x) ⊎ SentSince number x past)
+  SentSince number x (c ∷ past) = (is_newly_of number (notifies (own_of sizes past) c) ≡ false)
+      × ((sends (own_of sizes past) c ≡ Some x) ⊎ SentSince number x past)
 
   -- the message is heard as the answer to a fetch for the observation that was sent since then, under its token
   pub record HeardToFetch (number : ℕ) (m : Message) (past : List Call) (c : Call) : Type 0 where
     pub heard : hears c ≡ Some m
     pub sending : Sending
-    pub sent : WasSent szx sending past
+    pub sent : WasSent sizes sending past
     pub since : SentSince number sending past
     pub fetches : sending.operation ≡ Fetching number
     pub token : sending.token ≡ m.token
@@ -42,12 +43,12 @@ module _ (szx : ℕ) where
   -- the part was fetched since the newest notification of the observation came
   abbrev pub TookRest : ℕ → Part → List Call → Type 0
   TookRest number p [] = ⊥
-  TookRest number p (c ∷ past) = (is_newly_of number (notifies (own_of szx past) c) ≡ false)
+  TookRest number p (c ∷ past) = (is_newly_of number (notifies (own_of sizes past) c) ≡ false)
       × (TakesRest number p past c ⊎ TookRest number p past)
 
   -- The value is in one notification, which has just come ..
   pub record IsAlone (first : Newly) (parts : List Part) (last : Message) (past : List Call) (c : Call) : Type 0 where
-    pub now : notifies (own_of szx past) c ≡ Some first
+    pub now : notifies (own_of sizes past) c ≡ Some first
     pub is : last ≡ first.message
     pub none : parts ≡ []
 
@@ -66,7 +67,7 @@ module _ (szx : ℕ) where
   pub record IsObserved (number sequence : ℕ) (tag : Option (List ℕ)) (format : Option ℕ) (body : List ℕ)
       (past : List Call) (c : Call) : Type 0 where
     pub first : Newly
-    pub is_newest : newest szx number (c ∷ past) ≡ Some first
+    pub is_newest : newest sizes number (c ∷ past) ≡ Some first
     pub sequence_is : sequence ≡ sequence_in first.message
     pub last : Message
     pub code : last.code ≡ content
@@ -81,5 +82,5 @@ module _ (szx : ℕ) where
   abbrev pub ValuesAreWhole : List Call → Type 0
   ValuesAreWhole trace =
       Always (λ past c. (number sequence : ℕ) (tag : Option (List ℕ)) (format : Option ℕ) (body : List ℕ)
-      → reports (own_of szx past) c ≡ of number (Value sequence tag format body)
+      → reports (own_of sizes past) c ≡ of number (Value sequence tag format body)
       → IsObserved number sequence tag format body past c) trace

@@ -2,6 +2,7 @@
 use Rattle.std.specs.Prelude.{◌≡◌, ℕ, ◌==◌, Bool, false, Option, Some, None, List, [], ◌∷◌, Result, Ok}
 use Rattle.coap_types.specs.Past.{Ever}
 use Rattle.coap_codec.specs.Message.{Message}
+use Rattle.coap_block.specs.Sizes.{Sizes}
 use Rattle.coap_exchange.specs.declared.asker.AskRefusal.{AskRefusal}
 use Rattle.coap_exchange.specs.declared.asker.Event.TheVariants as event
 use Rattle.coap_exchange.specs.AskerTrace as E
@@ -57,8 +58,8 @@ abbrev pub runs_fetch : ℕ → Option Operation → Bool
 runs_fetch number (Some (Fetching other)) = other == number
 runs_fetch number op = false
 
-module _ (szx : ℕ) where
+module _ (sizes : Sizes) where
   -- the request that was sent last
   abbrev pub last_sent : List Call → Option Sending
   last_sent [] = None
-  last_sent (c ∷ past) = elim (sends (own_of szx past) c) [ Some x ↦ Some x | None ↦ last_sent past ]
+  last_sent (c ∷ past) = elim (sends (own_of sizes past) c) [ Some x ↦ Some x | None ↦ last_sent past ]

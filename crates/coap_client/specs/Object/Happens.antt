@@ -4,6 +4,7 @@ use Rattle.std.specs.Prelude.{if◌then◌else◌, Result}
 use Rattle.coap_types.specs.declared.endpoint.Endpoint.{Endpoint}
 use Rattle.coap_layer.specs.Trace as L
 use Rattle.coap_codec.specs.Message.{Message}
+use Rattle.coap_block.specs.Sizes.{Sizes}
 use Rattle.coap_observe.specs.Newer.{Watched as Mark}
 use Rattle.coap_exchange.specs.declared.asker.AskRefusal.{AskRefusal}
 use Rattle.coap_exchange.specs.AskerLaw as X
@@ -91,7 +92,7 @@ resting number rest s = record s { observations = with_rest number rest s.observ
 
 -- calls led to it
 abbrev pub WasLed : State → Type 0
-WasLed s = (server : Endpoint) × (szx : ℕ) × (word : ℕ) × (t : List Call) × Led server szx word t s
+WasLed s = (server : Endpoint) × (sizes : Sizes) × (word : ℕ) × (t : List Call) × Led server sizes word t s
 
 -- the observation of that number is as fresh as that ..
 abbrev pub watching : ℕ → Mark → Own → Own
@@ -107,9 +108,9 @@ renewing number w m s =
       own = record s {
         running = dropped number s.running;
         observations = map (λ (p : Observation). if p.number == number then record p
-            { watch = w; rest = first_rest s.szx m } else p) s.observations;
+            { watch = w; rest = first_rest s.sizes m } else p) s.observations;
       };
-      report = first_value number s.szx m;
+      report = first_value number s.sizes m;
       deed = Rests;
     })
 

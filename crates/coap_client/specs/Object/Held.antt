@@ -2,6 +2,7 @@
 use Rattle.std.specs.Prelude.{ℕ, Option, Some, None, map}
 use Rattle.std.specs.Option.{option_map}
 use Rattle.coap_types.specs.declared.endpoint.Moment.{Moment}
+use Rattle.coap_block.specs.Sizes.{Sizes}
 use Rattle.coap_client.specs.Own.{Own}
 use Rattle.coap_client.specs.declared.client.held.Held.{Held}
 use Rattle.coap_client.specs.Object.Shown.{shown_operation, shown_queued, shown_observation, shown_reported}
@@ -13,11 +14,14 @@ shown_hold None = None
 shown_hold (Some at) = Some at.0
 
 module _ {A : Type 0} where
+  abbrev pub sizes_of : Held A → Sizes
+  sizes_of h = record { szx = h.szx; limit = h.limit }
+
   abbrev pub own_of : Held A → Own
   own_of h =
       record {
         clock = h.clock.0;
-        szx = h.szx;
+        sizes = sizes_of h;
         taken = h.taken;
         queue = map shown_queued h.operations.queue;
         running = option_map shown_operation h.operations.running;

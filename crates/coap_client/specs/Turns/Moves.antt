@@ -81,8 +81,8 @@ left_by s now told (fetches k none rest quiet_so) = runs (Fetching k) s
 left_by s now told (goes_on k r t next m hears is asks) = runs (Calling k r next) s
 left_by s now told (is_done k r t final report m hears is ends_it) = ends (of k report) (held_by (not final) t s)
 left_by s now told (registers k path m hears is note) = record {
-  own = record s { running = None; observations = s.observations ++ begun k path s.szx now m ∷ [] };
-  report = first_value k s.szx m;
+  own = record s { running = None; observations = s.observations ++ begun k path s.sizes now m ∷ [] };
+  report = first_value k s.sizes m;
   deed = Keeps m.token;
 }
 left_by s now told (refuses k path m hears is note) = ends (of k (Ended m.code)) s

@@ -5,7 +5,7 @@ ghost use Rattle.coap_client.specs.Object.Held.{own_of};
 use crate::client::operation::ClientOperations;
 use crate::client::report::{CallId, Report};
 use coap_operations::Operations;
-use coap_types::{Moment, Szx, Token};
+use coap_types::{BodyLimit, Moment, Szx, Token};
 use std::alloc::{Allocator, Global};
 use std::collections::VecDeque;
 
@@ -16,6 +16,8 @@ pub struct Held<A: Allocator + Copy = Global> {
     pub clock: Moment,
     /// The client's block size.
     pub szx: Szx,
+    /// The longest body that it sends or joins.
+    pub limit: BodyLimit,
     /// How many numbers were given.
     pub taken: u64,
     /// What waits, what runs, and the live observations, in the order of their numbers.
@@ -32,12 +34,13 @@ pub struct Held<A: Allocator + Copy = Global> {
 
 impl<A: Allocator + Copy> Held<A> {
     /// Nothing yet.
-    pub fn new(alloc: A, szx: Szx) -> Held<A>
-        ensures { own_of result ≡ start szx }
+    pub fn new(alloc: A, szx: Szx, limit: BodyLimit) -> Held<A>
+        ensures { own_of result ≡ start (record { szx = szx; limit = limit }) }
     {
         Held {
             clock: Moment(0),
             szx,
+            limit,
             taken: 0,
             operations: Operations::new(alloc),
             sent: Moment(0),

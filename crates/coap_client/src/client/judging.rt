@@ -8,7 +8,6 @@ ghost use Rattle.coap_client.specs.Object.Held.{own_of};
 use crate::client::held::Held;
 use crate::client::observed::are_watches_full;
 use crate::{CallRefusal, MAX_WAITING_CALLS};
-use coap_block::MAX_BODY_LEN;
 use coap_types::{Path, Request};
 use std::alloc::Allocator;
 
@@ -29,7 +28,7 @@ pub(crate) fn judge_call<A: Allocator + Copy>(
     if held.operations.waiting_len() >= MAX_WAITING_CALLS {
         return Err(CallRefusal::QueueFull);
     }
-    if request.body.len() > MAX_BODY_LEN {
+    if request.body.len() > held.limit.get() {
         return Err(CallRefusal::BodyTooLarge);
     }
     if long {

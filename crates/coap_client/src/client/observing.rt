@@ -14,7 +14,7 @@ ghost use Rattle.coap_client.specs.Follows.Places.{in_observations};
 ghost use Rattle.coap_client.specs.Responses.{part, sequence_in};
 ghost use Rattle.coap_client.specs.Object.Happens.{Apart, Happens, Watched, left, renewing, resting};
 ghost use Rattle.coap_client.specs.Object.Happens.{running, watching};
-ghost use Rattle.coap_client.specs.Object.Held.{own_of};
+ghost use Rattle.coap_client.specs.Object.Held.{own_of, sizes_of};
 ghost use Rattle.coap_client.specs.Object.Shown.{reported, shown_asked, shown_rest};
 ghost use Rattle.coap_client.specs.Object.AnswerSteps.{CanTakeBack, rest_by, value_by, verdict_on};
 
@@ -35,7 +35,7 @@ use coap_block::{Fetch, Step};
 use coap_codec::View;
 use coap_exchange::Asker;
 use coap_observe::Watch;
-use coap_types::{Code, Moment, Szx, Token};
+use coap_types::{BodyLimit, Code, Moment, Szx, Token};
 use std::alloc::{AllocError, Allocator};
 use std::hash::BuildHasher;
 
@@ -65,16 +65,19 @@ pub fn take<A: Allocator + Copy>(
 pub fn first_part<A: Allocator + Copy>(
     alloc: A,
     szx: Szx,
+    limit: BodyLimit,
     sequence: u32,
     m: &View<'_>,
 ) -> Result<(Option<Notified<A>>, Option<Report<A>>), AllocError>
-    ensures rest { sequence ≡ sequence_in m.now → IfOk result (λ r. option_map shown_rest r.0 ≡ first_rest szx m.now) }
+    ensures rest { sequence ≡ sequence_in m.now
+        → IfOk result (λ r. option_map shown_rest r.0 ≡ first_rest (record { szx = szx; limit = limit }) m.now) }
     ensures value { (number : ℕ) → sequence ≡ sequence_in m.now
-        → IfOk result (λ r. reported number r.1 ≡ first_value number szx m.now) }
+        → IfOk result (λ r. reported number r.1
+        ≡ first_value number (record { szx = szx; limit = limit }) m.now) }
 {
     let mut rest = Notified {
         sequence,
-        fetch: Fetch::new(alloc, szx),
+        fetch: Fetch::with_limit(alloc, szx, limit),
     };
     match take(&mut rest, m)? {
         Part::Asks => Ok((Some(rest), None)),
@@ -133,9 +136,9 @@ fn begin<A: Allocator + Copy>(
     m: &View<'_>,
 ) -> Result<(Option<Notified<A>>, Option<Report<A>>), AllocError>
     ensures rest { sequence ≡ sequence_in m.now
-        → IfOk result (λ r. option_map shown_rest r.0 ≡ first_rest held.old.szx m.now) }
+        → IfOk result (λ r. option_map shown_rest r.0 ≡ first_rest (sizes_of held.old) m.now) }
     ensures value { (number : ℕ) → sequence ≡ sequence_in m.now
-        → IfOk result (λ r. reported number r.1 ≡ first_value number held.old.szx m.now) }
+        → IfOk result (λ r. reported number r.1 ≡ first_value number (sizes_of held.old) m.now) }
     ensures room { OnOk result (length held.new.operations.live < held.new.operations.places) }
     ensures operations { held.new.operations ≡ record held.old.operations { places = held.new.operations.places } }
     ensures reports { held.new.reports ≡ held.old.reports }
@@ -143,7 +146,7 @@ fn begin<A: Allocator + Copy>(
 {
     held.operations.reserve_live()?;
     let alloc = held.operations.allocator();
-    first_part(alloc, held.szx, sequence, m)
+    first_part(alloc, held.szx, held.limit, sequence, m)
 }
 
 // An observation that begins: the sequence number of its first notification, and what is left to be
@@ -161,13 +164,13 @@ fn live<A: Allocator + Copy>(held: &mut Held<A>, at: Moment, first: Begun<A>, m:
     requires room { length held.old.operations.live < held.old.operations.places }
     requires idle { held.old.operations.running ≡ None }
     requires spare { 0 < held.old.operations.spare }
-    requires rest { option_map shown_rest first.rest ≡ first_rest held.old.szx m.now }
+    requires rest { option_map shown_rest first.rest ≡ first_rest (sizes_of held.old) m.now }
     requires sequence { first.sequence ≡ sequence_in m.now }
     ensures token { result ≡ m.now.token }
     ensures reports { held.new.reports ≡ held.old.reports }
     ensures live { own_of held.new ≡ record (own_of held.old) {
       running = None;
-      observations = (own_of held.old).observations ++ begun first.number first.path held.old.szx at.0 m.now
+      observations = (own_of held.old).observations ++ begun first.number first.path (sizes_of held.old) at.0 m.now
           ∷ [];
     } }
 {

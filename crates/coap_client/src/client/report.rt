@@ -49,7 +49,7 @@ pub enum Report<A: Allocator = Global> {
     BadBlock,
     /// 13: one of several blocks has no entity-tag (RFC 7959, section 2.4).
     NoTag,
-    /// 14: the body has over `MAX_BODY_LEN` bytes.
+    /// 14: the body is longer than the client's limit.
     TooLarge,
     /// 15: no Message ID or no token was free (RFC 7252, section 4.4).
     NoIds,

@@ -19,7 +19,7 @@ use bytes::Bytes;
 use coap_block::{Fetch, Upload};
 use coap_codec::View;
 use coap_exchange::{Ask, Asker};
-use coap_types::{Method, Moment, Request, Szx, Token};
+use coap_types::{BodyLimit, Method, Moment, Request, Szx, Token};
 use std::alloc::{AllocError, Allocator, Global};
 use std::hash::BuildHasher;
 use std::marker::Model;
@@ -53,14 +53,15 @@ impl<A: Allocator> Model for TakenCall<A> {
 
 impl<A: Allocator + Copy> TakenCall<A> {
     /// A call of that request, which is not too long, at its start.
-    pub fn new(alloc: A, szx: Szx, mut request: Request<A>) -> TakenCall<A>
+    pub fn new(alloc: A, szx: Szx, limit: BodyLimit, mut request: Request<A>) -> TakenCall<A>
         requires short { is_long (shown_request request) ≡ false }
         ensures request { result.request ≡ record (shown_request request) { body = [] } }
-        ensures transfer { result.transfer ≡ transfer_of szx (shown_request request) request.method }
+        ensures transfer { result.transfer ≡ transfer_of (record { szx = szx; limit = limit }) (shown_request request)
+            request.method }
     {
         let body = mem::replace(&mut request.body, Bytes::new());
         let transfer = match request.method {
-            Method::Get => Transfer::Fetches(Fetch::new(alloc, szx)),
+            Method::Get => Transfer::Fetches(Fetch::with_limit(alloc, szx, limit)),
             Method::Post | Method::Put => Transfer::Uploads(Upload::new(body, szx)),
             Method::Delete => Transfer::Single,
         };

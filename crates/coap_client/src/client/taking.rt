@@ -44,7 +44,7 @@ pub fn call<A: Allocator + Copy>(
             Err(why)
         }
         Ok(number) => {
-            let call = TakenCall::new(alloc, held.szx, request);
+            let call = TakenCall::new(alloc, held.szx, held.limit, request);
             match take(held, now, Waiting::Calling(number, call)) {
                 Ok(()) => Ok(CallId(number)),
                 Err(AllocError) => Err(CallRefusal::Memory),

@@ -42,7 +42,7 @@ module _ (server : Endpoint) (word : ℕ) (calls : List A.Call) (law : ExchangeL
 
   -- one call of the layer for one of the exchanges
   single : (now : ℕ) (call : L.Call) → S.May law.left call
-      → Steps (S.start word) (asked now call (answer_by law.left now call) ∷ E.lower_of server word calls)
+      → Steps (S.start (S.usual word)) (asked now call (answer_by law.left now call) ∷ E.lower_of server word calls)
       (left_by law.left now call)
   single now call may = (law.left, law.layer, one_step law.left now call may)
 
@@ -131,7 +131,7 @@ module _ (server : Endpoint) (word : ℕ) (calls : List A.Call) (law : ExchangeL
           record {
             rows = (refl, law.rows);
             left = s.1;
-            layer = steps_join (S.start word) law.left s.1 (calls_under ++ receive)
+            layer = steps_join (S.start (S.usual word)) law.left s.1 (calls_under ++ receive)
                 (E.lower_of server word calls) law.layer inner;
           },
         )

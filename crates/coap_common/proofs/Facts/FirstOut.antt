@@ -7,6 +7,7 @@ use Rattle.coap_layer.specs.Machine.State as S
 use Rattle.coap_layer.specs.Machine.State.{Arrived, is_live, stores, made}
 use Rattle.coap_layer.specs.Machine.Steps.{Asked, Steps}
 use Rattle.coap_layer.specs.Trace as L
+use Rattle.coap_layer.specs.declared.setup.Setup.{Setup}
 use Rattle.coap_layer.specs.Words.{left_by}
 use Rattle.coap_layer.proofs.Facts.CallsOfLayer.{left_same_nil}
 
@@ -25,9 +26,9 @@ filter_again {A} f (x ∷ xs) = by (f x) refl (filter_again f xs)
         (ap (λ b. cond b (x ∷ filter f (filter f xs)) (filter f (filter f xs))) e)
     by false e rest = rest
 
-pub only_live : (word : ℕ) (calls : List Asked) (s : S.State) → Steps (S.start word) calls s → OnlyLive s
-only_live word [] s is = subst OnlyLive (sym is) refl
-only_live word (a ∷ earlier) s h =
+pub only_live : (setup : Setup) (calls : List Asked) (s : S.State) → Steps (S.start setup) calls s → OnlyLive s
+only_live setup [] s is = subst OnlyLive (sym is) refl
+only_live setup (a ∷ earlier) s h =
     let old : S.State = S.after h.0 (made h.0 a.now a.call) in
     subst OnlyLive (sym h.2.new_is) (filter_again (is_live old.clock) old.arrived)
 

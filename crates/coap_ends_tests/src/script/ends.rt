@@ -5,8 +5,9 @@ use super::{End, counted};
 use coap_ends::{CallId, Client, Report, Server};
 use coap_layer::Datagram;
 use coap_resource::{ListStore, MAX_CHANGES_PER_WINDOW, Store};
-use coap_types::{MAX_SZX, Moment, Path, Szx};
+use coap_types::{BodyLimit, DEFAULT_BODY_LIMIT, MAX_SZX, Moment, Path, Szx};
 use std::alloc::{AllocError, Allocator, Global};
+use std::hash::BuildHasherDefault;
 use std::test::Fail;
 
 /// Both ends of a script and its name, and the line that it is at.
@@ -47,7 +48,7 @@ impl<'a, A: Allocator + Copy> Ends<'a, A> {
             memory,
             wants: 0,
             client: Client::new(memory, endpoint(SERVER), szx, 0),
-            server: server(memory, MAX_CHANGES_PER_WINDOW, szx, 0)?,
+            server: server(memory, MAX_CHANGES_PER_WINDOW, BodyLimit::default(), szx, 0)?,
             taken: 0,
             client_word: 0,
             server_word: 0,
@@ -165,33 +166,47 @@ impl<'a, A: Allocator + Copy> Ends<'a, A> {
         let mut szx = MAX_SZX;
         let mut word = 0;
         let mut changes = MAX_CHANGES_PER_WINDOW;
+        let mut limit = DEFAULT_BODY_LIMIT;
         for setting in words.split(' ') {
             match cut(setting, "=") {
                 ("szx", value) => szx = value.parse()?,
                 ("word", value) => word = value.parse()?,
                 ("changes", value) => changes = value.parse()?,
+                ("limit", value) => limit = value.parse()?,
                 _ => return Err(self.wrong("no setting")),
             }
         }
-        self.begin_with(block_size(szx)?, word, changes)
+        self.begin_with(block_size(szx)?, word, changes, body_limit(limit)?)
     }
 
-    fn begin_with(&mut self, szx: Szx, word: u64, changes: u32) -> Result<(), Fail> {
+    fn begin_with(
+        &mut self,
+        szx: Szx,
+        word: u64,
+        changes: u32,
+        limit: BodyLimit,
+    ) -> Result<(), Fail> {
         match self.end {
-            End::Client => self.begin_client(szx, word),
-            End::Server => self.begin_server(szx, word, changes)?,
+            End::Client => self.begin_client(szx, word, limit),
+            End::Server => self.begin_server(szx, word, changes, limit)?,
         }
         Ok(())
     }
 
-    fn begin_client(&mut self, szx: Szx, word: u64) {
+    fn begin_client(&mut self, szx: Szx, word: u64, limit: BodyLimit) {
         self.client_word = word;
-        self.client = Client::new(self.memory, endpoint(SERVER), szx, word);
+        self.client = client(self.memory, szx, word, limit);
     }
 
-    fn begin_server(&mut self, szx: Szx, word: u64, changes: u32) -> Result<(), Fail> {
+    fn begin_server(
+        &mut self,
+        szx: Szx,
+        word: u64,
+        changes: u32,
+        limit: BodyLimit,
+    ) -> Result<(), Fail> {
         self.server_word = word;
-        self.server = server(self.memory, changes, szx, word)?;
+        self.server = server(self.memory, changes, limit, szx, word)?;
         Ok(())
     }
 
@@ -263,14 +278,27 @@ fn block_size(szx: u8) -> Result<Szx, Fail> {
     }
 }
 
+fn body_limit(bytes: usize) -> Result<BodyLimit, Fail> {
+    match BodyLimit::new(bytes) {
+        Some(limit) => Ok(limit),
+        None => Err(Fail::new("a limit is 1 to 1,048,576 bytes")),
+    }
+}
+
+fn client<A: Allocator + Copy>(memory: A, szx: Szx, word: u64, limit: BodyLimit) -> Client<A> {
+    let hasher = BuildHasherDefault::new();
+    Client::with_limit(memory, endpoint(SERVER), szx, word, limit, hasher)
+}
+
 // A server that holds nothing, where a window takes so many changes.
 fn server<A: Allocator + Copy>(
     memory: A,
     changes: u32,
+    limit: BodyLimit,
     szx: Szx,
     word: u64,
 ) -> Result<Server<ListStore<A>, A>, Fail> {
-    match ListStore::new(memory, changes) {
+    match ListStore::new_sized(memory, changes, limit) {
         Some(store) => Ok(Server::new(memory, store, szx, word)),
         None => Err(Fail::new("a window takes 1 change at least")),
     }

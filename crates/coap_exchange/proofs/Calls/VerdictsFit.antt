@@ -131,6 +131,7 @@ verdict_fits s from (L.Becomes (L.Request m remembered)) = request_fits s from _
 verdict_fits s from (L.Becomes (L.Acked id)) = acked_fits s from id (is_of_request s from id) refl
 verdict_fits s from (L.Becomes (L.Reset id)) = reset_fits s from id (is_of_request s from id) refl
 verdict_fits s from (L.Becomes L.Dropped) = tt
+verdict_fits s from (L.Becomes (L.Unmatched id)) = tt
 verdict_fits s from (L.Becomes L.Replayed) = tt
 verdict_fits s from (L.Becomes L.Rejected) = tt
 verdict_fits s from L.Nothing = tt

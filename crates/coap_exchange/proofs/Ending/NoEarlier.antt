@@ -97,7 +97,7 @@ module _ (server : Endpoint) (word : ℕ) where
               (turned_lone s (last_begun server word t) (max s.clock now) at out mid.open_cons old.lone below));
         }
 
-  pub fits : (t : List Call) → AskerLaw server word t → (h : L.State) → Steps (L.start word) (lower_of server word t) h
+  pub fits : (t : List Call) → AskerLaw server word t → (h : L.State) → Steps (L.start (L.usual word)) (lower_of server word t) h
       → IsBeneath server word t h
   fits [] law h steps = record {
     clock = ap (λ (z : L.State). z.clock) steps;
@@ -109,7 +109,7 @@ module _ (server : Endpoint) (word : ℕ) where
       (ask_opens (opening_of s r) steps.0 h now s.server (content_of (request_token s r) r) w below steps.2)
   fits (Receive now from bytes up settled answer ∷ t) law h steps =
       let s : Own = own_of server word t in
-      let parts = steps_split (L.start word) h (lower s (Receive now from bytes up settled answer))
+      let parts = steps_split (L.start (L.usual word)) h (lower s (Receive now from bytes up settled answer))
       (lower_of server word t) steps in
       received_fits t parts.0 (fits t law.1 parts.0 parts.1) h now from bytes up settled answer parts.2
   fits (Ticks now below answer ∷ t) law h steps =
@@ -132,7 +132,7 @@ module _ (server : Endpoint) (word : ℕ) where
   -- the ends
   times_out : (t : List Call) (now : ℕ) (below : T.Answer)
       → AskerLaw server word (Ticks now below (turn.End event.Timeout) ∷ t) → (h : L.State)
-      → Steps (L.start word) (lower_of server word (Ticks now below (turn.End event.Timeout) ∷ t)) h
+      → Steps (L.start (L.usual word)) (lower_of server word (Ticks now below (turn.End event.Timeout) ∷ t)) h
       → TimesOut server word t now
   times_out t now below law h steps =
       let s : Own = own_of server word t in
@@ -164,13 +164,13 @@ module _ (server : Endpoint) (word : ℕ) where
       record { exchange = f.0; runs = f.1; acked = w.0; since = w.1; late = w.2 }
 
   pub in_time : (t : List Call) → AskerLaw server word t → (h : L.State)
-      → Steps (L.start word) (lower_of server word t) h → EndInTime server word t
+      → Steps (L.start (L.usual word)) (lower_of server word t) h → EndInTime server word t
   in_time [] law h steps = tt
   in_time (c ∷ t) law h steps =
-      let parts = steps_split (L.start word) h (lower (own_of server word t) c) (lower_of server word t) steps in (
+      let parts = steps_split (L.start (L.usual word)) h (lower (own_of server word t) c) (lower_of server word t) steps in (
         record {
           timeout = λ now below is. times_out t now below (subst (λ d. AskerLaw server word (d ∷ t)) is law) h
-              (subst (λ d. Steps (L.start word) (lower_of server word (d ∷ t)) h) is steps);
+              (subst (λ d. Steps (L.start (L.usual word)) (lower_of server word (d ∷ t)) h) is steps);
           no_response = λ now below is. gives_up t now below (subst (λ d. AskerLaw server word (d ∷ t)) is law);
         },
         in_time t law.1 parts.0 parts.1,

@@ -135,6 +135,7 @@ module _ (s : Own) (b : Option Begun) (at : ℕ) (from : Endpoint) (bytes : List
   quiet_lone (T.Becomes (T.Response m)) q = plain_lone (T.Becomes (T.Response m)) (λ c. refl)
   quiet_lone (T.Becomes (T.Request m k)) q = plain_lone (T.Becomes (T.Request m k)) (λ c. refl)
   quiet_lone (T.Becomes T.Dropped) q = plain_lone (T.Becomes T.Dropped) (λ c. refl)
+  quiet_lone (T.Becomes (T.Unmatched id)) q = plain_lone (T.Becomes (T.Unmatched id)) (λ c. refl)
   quiet_lone (T.Becomes T.Replayed) q = plain_lone (T.Becomes T.Replayed) (λ c. refl)
   quiet_lone (T.Becomes T.Rejected) q = plain_lone (T.Becomes T.Rejected) (λ c. refl)
   quiet_lone T.Nothing q = plain_lone T.Nothing (λ c. refl)

@@ -128,6 +128,7 @@ module _ (server : Endpoint) (word : ℕ) where
       still_acked (T.Becomes (T.Request m k)) not_await = refl
       still_acked (T.Becomes (T.Reset id)) not_await = refl
       still_acked (T.Becomes T.Dropped) not_await = refl
+      still_acked (T.Becomes (T.Unmatched id)) not_await = refl
       still_acked (T.Becomes T.Replayed) not_await = refl
       still_acked (T.Becomes T.Rejected) not_await = refl
       still_acked T.Nothing not_await = refl
@@ -195,7 +196,7 @@ module _ (server : Endpoint) (word : ℕ) where
   -- the ends
   module _ (t : List Call) (now : ℕ) (below : T.Answer) (answer : Turn)
       (law : AskerLaw server word (Ticks now below answer ∷ t)) (h : L.State)
-      (steps : Steps (L.start word) (lower_of server word (Ticks now below answer ∷ t)) h) (x : Exchange) where
+      (steps : Steps (L.start (L.usual word)) (lower_of server word (Ticks now below answer ∷ t)) h) (x : Exchange) where
     abbrev own : Own
     own = own_of server word t
 
@@ -226,17 +227,17 @@ module _ (server : Endpoint) (word : ℕ) where
         (moment server word t now) steps.0.open_cons x runs old.lone acked heard late
 
   pub when_due : (t : List Call) → AskerLaw server word t → (h : L.State)
-      → Steps (L.start word) (lower_of server word t) h → EndWhenDue server word t
+      → Steps (L.start (L.usual word)) (lower_of server word t) h → EndWhenDue server word t
   when_due [] law h steps = tt
   when_due (c ∷ t) law h steps =
-      let parts = steps_split (L.start word) h (lower (own_of server word t) c) (lower_of server word t) steps in (
+      let parts = steps_split (L.start (L.usual word)) h (lower (own_of server word t) c) (lower_of server word t) steps in (
         record {
           unheard = λ now below answer x is runs none.
               fails_when_due t now below answer (subst (λ d. AskerLaw server word (d ∷ t)) is law) h
-              (subst (λ d. Steps (L.start word) (lower_of server word (d ∷ t)) h) is steps) x runs none;
+              (subst (λ d. Steps (L.start (L.usual word)) (lower_of server word (d ∷ t)) h) is steps) x runs none;
           heard = λ now below answer x acked is runs heard late.
               gives_up_when_due t now below answer (subst (λ d. AskerLaw server word (d ∷ t)) is law) h
-              (subst (λ d. Steps (L.start word) (lower_of server word (d ∷ t)) h) is steps) x acked runs heard late;
+              (subst (λ d. Steps (L.start (L.usual word)) (lower_of server word (d ∷ t)) h) is steps) x acked runs heard late;
           acked = since t law.1;
         },
         when_due t law.1 parts.0 parts.1,

@@ -123,6 +123,8 @@ module _ (at : ℕ) (out : List T.Packet) (xs : List Separate) (cs : List Open) 
       same_mirrors (T.Receive from bytes) (T.Becomes (T.Request n k)) (λ c. refl) refl
   arrival_mirrors from bytes (T.Becomes T.Dropped) =
       same_mirrors (T.Receive from bytes) (T.Becomes T.Dropped) (λ c. refl) refl
+  arrival_mirrors from bytes (T.Becomes (T.Unmatched id)) =
+      same_mirrors (T.Receive from bytes) (T.Becomes (T.Unmatched id)) (λ c. refl) refl
   arrival_mirrors from bytes (T.Becomes T.Replayed) =
       same_mirrors (T.Receive from bytes) (T.Becomes T.Replayed) (λ c. refl) refl
   arrival_mirrors from bytes (T.Becomes T.Rejected) =
@@ -186,12 +188,12 @@ room_mirrors now (Some d) room old new xs h m =
     still h.0 new now (T.Room d.asked.from) (T.Is room) xs h.2 (λ at out c. refl) (λ at. refl)
     (subst (λ (z : L.State). Mirrors xs z.open_cons) (sym h.1) m)
 
-pub mirrors : (word : ℕ) (t : List Call) (h : L.State) → Steps (L.start word) (lower_of t) h
+pub mirrors : (word : ℕ) (t : List Call) (h : L.State) → Steps (L.start (L.usual word)) (lower_of t) h
     → Mirrors (own_of t).separate h.open_cons
 mirrors word [] h steps = subst (λ (z : L.State). Mirrors [] z.open_cons) (sym steps) tt
 mirrors word (Incoming now from bytes up answer ∷ t) h steps =
     let s : Own = own_of t in
-    let parts = steps_split (L.start word) h (lower s (Incoming now from bytes up answer)) (lower_of t) steps in
+    let parts = steps_split (L.start (L.usual word)) h (lower s (Incoming now from bytes up answer)) (lower_of t) steps in
     let more = steps_split parts.0 h (replying from (id_in up) (reject_by up))
     (asked now (T.Receive from bytes) up ∷ []) parts.2 in
     let mid : L.State = more.1.0 in
@@ -209,7 +211,7 @@ mirrors word (Answers a r below ∷ t) h steps =
     (mirrors word t steps.0 steps.1)
 mirrors word (Defers now a delay answer ∷ t) h steps =
     let s : Own = own_of t in
-    let parts = steps_split (L.start word) h (lower s (Defers now a delay answer)) (lower_of t) steps in
+    let parts = steps_split (L.start (L.usual word)) h (lower s (Defers now a delay answer)) (lower_of t) steps in
     let more = steps_split parts.0 h (deferring (may_defer s.deferred) a) (asked now T.Pass T.Nothing ∷ []) parts.2 in
     let old : Mirrors s.separate more.1.0.open_cons =
     subst (λ (z : L.State). Mirrors s.separate z.open_cons) (sym more.1.1) (mirrors word t parts.0 parts.1) in
@@ -217,7 +219,7 @@ mirrors word (Defers now a delay answer ∷ t) h steps =
     (still more.1.0 more.0 now T.Pass T.Nothing s.separate more.1.2 (λ at out c. refl) (λ at. refl) old)
 mirrors word (Ticks now below room answer ∷ t) h steps =
     let s : Own = own_of t in
-    let parts = steps_split (L.start word) h (lower s (Ticks now below room answer)) (lower_of t) steps in
+    let parts = steps_split (L.start (L.usual word)) h (lower s (Ticks now below room answer)) (lower_of t) steps in
     let more = steps_split parts.0 h (asking_room now (ready_if below (ready_at s now)) room)
     (asked now T.Ticks below ∷ []) parts.2 in
     let mid : L.State = more.1.0 in
@@ -257,6 +259,6 @@ mirrors word (Take answer ∷ t) h steps = still steps.0 h 0 T.Take (T.Gives ans
 pub waits : (word : ℕ) (t : List Call) (law : ResponseLaw word t) → WaitsForOutstanding word t law
 waits word t law to = busy_mirrors to (own_of t).separate law.left.open_cons (mirrors word t law.left law.layer)
 
-pub waits_for : (word : ℕ) (t : List Call) (h : L.State) → Steps (L.start word) (lower_of t) h
+pub waits_for : (word : ℕ) (t : List Call) (h : L.State) → Steps (L.start (L.usual word)) (lower_of t) h
     → (to : Endpoint) (id : ℕ) → list_any (goes_to to id) (own_of t).separate ≡ is_outstanding to id h.open_cons
 waits_for word t h steps to id = outstanding_mirrors to id (own_of t).separate h.open_cons (mirrors word t h steps)

@@ -18,6 +18,7 @@ none_ended from (T.Becomes (T.Request m k)) p xs e = refl
 none_ended from (T.Becomes (T.Response m)) p xs e = refl
 none_ended from (T.Becomes (T.Acked id)) p xs e = refl
 none_ended from (T.Becomes T.Dropped) p xs e = refl
+none_ended from (T.Becomes (T.Unmatched id)) p xs e = refl
 none_ended from (T.Becomes T.Replayed) p xs e = refl
 none_ended from (T.Becomes T.Rejected) p xs e = refl
 none_ended from T.Nothing p xs e = refl

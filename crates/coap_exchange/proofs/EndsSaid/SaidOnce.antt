@@ -69,6 +69,7 @@ module _ (x : Ended) (ys : List Separate) where
   arrival_fewer from (L.Becomes (L.Response m)) = omega arith
   arrival_fewer from (L.Becomes (L.Request m k)) = omega arith
   arrival_fewer from (L.Becomes L.Dropped) = omega arith
+  arrival_fewer from (L.Becomes (L.Unmatched id)) = omega arith
   arrival_fewer from (L.Becomes L.Replayed) = omega arith
   arrival_fewer from (L.Becomes L.Rejected) = omega arith
   arrival_fewer from L.Nothing = omega arith

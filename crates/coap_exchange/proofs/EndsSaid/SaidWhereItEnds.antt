@@ -213,6 +213,7 @@ arrives t now from bytes answer (T.Becomes (T.Acked id)) last some =
 arrives t now from bytes answer (T.Becomes (T.Response m)) last some = (refl, last)
 arrives t now from bytes answer (T.Becomes (T.Request m k)) last some = (refl, last)
 arrives t now from bytes answer (T.Becomes T.Dropped) last some = (refl, last)
+arrives t now from bytes answer (T.Becomes (T.Unmatched id)) last some = (refl, last)
 arrives t now from bytes answer (T.Becomes T.Replayed) last some = (refl, last)
 arrives t now from bytes answer (T.Becomes T.Rejected) last some = (refl, last)
 arrives t now from bytes answer T.Nothing last some = (refl, last)
@@ -257,14 +258,14 @@ module _ (word : ℕ) (t : List Call) (rows : AnswererLaw t) (last : AllLast t (
       → is_waited_for x.to xs ≡ false → AllLast (c ∷ t) (xs ++ x ∷ [])
   begun_on c x is sent idle = last_with (c ∷ t) xs x (begun_last c x.to is t xs idle last) (inl sent)
 
-  on : (c : Call) (h : L.State) → Steps (L.start word) (lower_of (c ∷ t)) h → On c
+  on : (c : Call) (h : L.State) → Steps (L.start (L.usual word)) (lower_of (c ∷ t)) h → On c
   on (Incoming now from bytes up answer) h steps =
       let s : Own = own_of t in
-      let parts = steps_split (L.start word) h (lower s (Incoming now from bytes up answer)) (lower_of t) steps in
+      let parts = steps_split (L.start (L.usual word)) h (lower s (Incoming now from bytes up answer)) (lower_of t) steps in
       let more = steps_split parts.0 h (replying from (id_in up) (reject_by up))
       (asked now (T.Receive from bytes) up ∷ []) parts.2 in
-      let under : Steps (L.start word) (lower_of t) more.1.0 =
-      subst (Steps (L.start word) (lower_of t)) (sym more.1.1) parts.1 in
+      let under : Steps (L.start (L.usual word)) (lower_of t) more.1.0 =
+      subst (Steps (L.start (L.usual word)) (lower_of t)) (sym more.1.1) parts.1 in
       let k = arrives t now from bytes answer up last (λ id e. waits_for word t more.1.0 under from id
       ∙ reset_open more.1.0 (max more.1.0.clock now) from id (arrival_at bytes)
       (became (answer_to more.1.0 (max more.1.0.clock now) from (arrival_at bytes)) (T.Reset id)
@@ -272,11 +273,11 @@ module _ (word : ℕ) (t : List Call) (rows : AnswererLaw t) (last : AllLast t (
       (k.0, still_last (Incoming now from bytes up answer) refl t (separate_after from up xs) k.1)
   on (Ticks now below room answer) h steps =
       let s : Own = own_of t in
-      let parts = steps_split (L.start word) h (lower s (Ticks now below room answer)) (lower_of t) steps in
+      let parts = steps_split (L.start (L.usual word)) h (lower s (Ticks now below room answer)) (lower_of t) steps in
       let more = steps_split parts.0 h (asking_room now (ready_if below (ready_at s now)) room)
       (asked now T.Ticks below ∷ []) parts.2 in
-      let under : Steps (L.start word) (lower_of t) more.1.0 =
-      subst (Steps (L.start word) (lower_of t)) (sym more.1.1) parts.1 in
+      let under : Steps (L.start (L.usual word)) (lower_of t) more.1.0 =
+      subst (Steps (L.start (L.usual word)) (lower_of t)) (sym more.1.1) parts.1 in
       let k = passes t now room answer below last (λ to id e. waits_for word t more.1.0 under to id
       ∙ failed_open (max more.1.0.clock now) to id more.1.0.open_cons (sym more.1.2.right ∙ e)) in
       (k.0, still_last (Ticks now below room answer) refl t (separate_unless below xs) k.1)
@@ -299,11 +300,11 @@ module _ (word : ℕ) (t : List Call) (rows : AnswererLaw t) (last : AllLast t (
   on (Ready now to answer) h steps = (refl, still_last (Ready now to answer) refl t xs last)
   on (Take answer) h steps = (refl, still_last (Take answer) refl t xs last)
 
-told_so : (word : ℕ) (t : List Call) → AnswererLaw t → (h : L.State) → Steps (L.start word) (lower_of t) h
+told_so : (word : ℕ) (t : List Call) → AnswererLaw t → (h : L.State) → Steps (L.start (L.usual word)) (lower_of t) h
     → EndsTold t × AllLast t (own_of t).separate
 told_so word [] rows h steps = (tt, tt)
 told_so word (c ∷ t) rows h steps =
-    let parts = steps_split (L.start word) h (lower (own_of t) c) (lower_of t) steps in
+    let parts = steps_split (L.start (L.usual word)) h (lower (own_of t) c) (lower_of t) steps in
     let earlier = told_so word t rows.1 parts.0 parts.1 in
     let here = on word t rows.1 earlier.1 c h steps in
     ((here.0, earlier.0), here.1)

@@ -36,45 +36,45 @@ module _ (server : Endpoint) (word : ℕ) (past : List Call) where
 
   -- one call of the layer beneath
   single : (now : ℕ) (call : T.Call) (a b : T.Answer) (h k : L.State)
-      → Steps (L.start word) (asked now call a ∷ below_past) h → Steps (L.start word) (asked now call b ∷ below_past) k
+      → Steps (L.start (L.usual word)) (asked now call a ∷ below_past) h → Steps (L.start (L.usual word)) (asked now call b ∷ below_past) k
       → a ≡ b
   single now call a b h k p q = one_answer p.0 q.0 h k now call a b
-      (one_left (L.start word) below_past p.0 q.0 p.1 q.1) p.2 q.2
+      (one_left (L.start (L.usual word)) below_past p.0 q.0 p.1 q.1) p.2 q.2
 
   module _ (now : ℕ) (from : Endpoint) (bytes : List ℕ) (settled ended : Bool) where
     received : (up other : T.Answer) (h k : L.State)
-        → Steps (L.start word) ((acts s from up settled (verdict_on s from up)
+        → Steps (L.start (L.usual word)) ((acts s from up settled (verdict_on s from up)
         ++ asked now (T.Receive from bytes) up ∷ []) ++ below_past) h
-        → Steps (L.start word) ((acts s from other ended (verdict_on s from other)
+        → Steps (L.start (L.usual word)) ((acts s from other ended (verdict_on s from other)
         ++ asked now (T.Receive from bytes) other ∷ []) ++ below_past) k → up ≡ other
     received up other h k p q =
-        let a = steps_split (L.start word) h (acts s from up settled (verdict_on s from up)
+        let a = steps_split (L.start (L.usual word)) h (acts s from up settled (verdict_on s from up)
         ++ asked now (T.Receive from bytes) up ∷ []) below_past p in
-        let b = steps_split (L.start word) k (acts s from other ended (verdict_on s from other)
+        let b = steps_split (L.start (L.usual word)) k (acts s from other ended (verdict_on s from other)
         ++ asked now (T.Receive from bytes) other ∷ []) below_past q in
         let c = steps_split a.0 h (acts s from up settled (verdict_on s from up))
         (asked now (T.Receive from bytes) up ∷ []) a.2 in
         let d = steps_split b.0 k (acts s from other ended (verdict_on s from other))
         (asked now (T.Receive from bytes) other ∷ []) b.2 in
         one_answer c.1.0 d.1.0 c.0 d.0 now (T.Receive from bytes) up other
-        (c.1.1 ∙ (one_left (L.start word) below_past a.0 b.0 a.1 b.1 ∙ sym d.1.1)) c.1.2 d.1.2
+        (c.1.1 ∙ (one_left (L.start (L.usual word)) below_past a.0 b.0 a.1 b.1 ∙ sym d.1.1)) c.1.2 d.1.2
 
-    lowered : (up : T.Answer) (h k : L.State) → Steps (L.start word)
+    lowered : (up : T.Answer) (h k : L.State) → Steps (L.start (L.usual word))
         ((acts s from up settled (verdict_on s from up) ++ asked now (T.Receive from bytes) up ∷ []) ++ below_past) h
-        → Steps (L.start word) ((acts s from up ended (verdict_on s from up)
+        → Steps (L.start (L.usual word)) ((acts s from up ended (verdict_on s from up)
         ++ asked now (T.Receive from bytes) up ∷ []) ++ below_past) k
         → acts s from up settled (verdict_on s from up) ≡ acts s from up ended (verdict_on s from up)
     lowered up h k p q =
         let v = verdict_on s from up in
         let first : List Asked = asked now (T.Receive from bytes) up ∷ [] in
         let replies : List Asked = replying from (id_in up) (reply_by v (id_in up)) in
-        let a = steps_split (L.start word) h (acts s from up settled v ++ first) below_past p in
-        let b = steps_split (L.start word) k (acts s from up ended v ++ first) below_past q in
+        let a = steps_split (L.start (L.usual word)) h (acts s from up settled v ++ first) below_past p in
+        let b = steps_split (L.start (L.usual word)) k (acts s from up ended v ++ first) below_past q in
         let c = steps_split a.0 h (acts s from up settled v) first a.2 in
         let d = steps_split b.0 k (acts s from up ended v) first b.2 in
         let e = steps_split c.0 h (settling (settles v) s.server s.running settled) replies c.2 in
         let f = steps_split d.0 k (settling (settles v) s.server s.running ended) replies d.2 in
-        let start_same : a.0 ≡ b.0 = one_left (L.start word) below_past a.0 b.0 a.1 b.1 in
+        let start_same : a.0 ≡ b.0 = one_left (L.start (L.usual word)) below_past a.0 b.0 a.1 b.1 in
         let first_same : c.0 ≡ d.0 = one_left a.0 first c.0 d.0 c.1
         (subst (λ x. Steps x first d.0) (sym start_same) d.1) in
         let reply_same : e.0 ≡ f.0 = one_left c.0 replies e.0 f.0 e.1
@@ -90,7 +90,7 @@ module _ (server : Endpoint) (word : ℕ) (past : List Call) where
         subst (λ o. lower s (Receive now from bytes up settled answer)
         ≡ lower s (Receive now from bytes o ended another)) e
         (ap (λ x. x ++ asked now (T.Receive from bytes) up ∷ [])
-        (lowered up p.left q.left p.layer (subst (λ o. Steps (L.start word)
+        (lowered up p.left q.left p.layer (subst (λ o. Steps (L.start (L.usual word))
         ((acts s from o ended (verdict_on s from o) ++ asked now (T.Receive from bytes) o ∷ []) ++ below_past)
         q.left) (sym e) q.layer)))
 

@@ -71,7 +71,7 @@ token_running (Some x) token h = refl
 module _ (server : Endpoint) (word : ℕ) where
   module _ (t : List Call) (now w : ℕ) (r : Request) (below : T.Answer) (answer : Result (List ℕ) AskRefusal)
       (law : AskerLaw server word (Ask now r w below answer ∷ t)) (h : L.State)
-      (steps : Steps (L.start word) (lower_of server word (Ask now r w below answer ∷ t)) h) where
+      (steps : Steps (L.start (L.usual word)) (lower_of server word (Ask now r w below answer ∷ t)) h) where
     abbrev s : Own
     s = own_of server word t
 
@@ -98,17 +98,17 @@ module _ (server : Endpoint) (word : ℕ) where
         (token_running s.running token ((known server word t law.1).1.runs.runs_it token open_now))
 
   pub refused : (t : List Call) → AskerLaw server word t → (h : L.State)
-      → Steps (L.start word) (lower_of server word t) h → AreRefused t
+      → Steps (L.start (L.usual word)) (lower_of server word t) h → AreRefused t
   refused [] law h steps = tt
   refused (c ∷ t) law h steps =
-      let parts = steps_split (L.start word) h (lower (own_of server word t) c) (lower_of server word t) steps in (
+      let parts = steps_split (L.start (L.usual word)) h (lower (own_of server word t) c) (lower_of server word t) steps in (
         record {
           runs = λ now w r below is.
               runs_if_told t now w r below (Err refusal.Running) (subst (λ d. AskerLaw server word (d ∷ t)) is law) h
-              (subst (λ d. Steps (L.start word) (lower_of server word (d ∷ t)) h) is steps) refl;
+              (subst (λ d. Steps (L.start (L.usual word)) (lower_of server word (d ∷ t)) h) is steps) refl;
           told = λ now w r below answer token is open_now.
               told_if_runs t now w r below answer (subst (λ d. AskerLaw server word (d ∷ t)) is law) h
-              (subst (λ d. Steps (L.start word) (lower_of server word (d ∷ t)) h) is steps) token open_now;
+              (subst (λ d. Steps (L.start (L.usual word)) (lower_of server word (d ∷ t)) h) is steps) token open_now;
         },
         refused t law.1 parts.0 parts.1,
       )

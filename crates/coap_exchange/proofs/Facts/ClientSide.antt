@@ -14,6 +14,7 @@ pub use Rattle.coap_exchange.proofs.Exact.ClientExactly.{exact}
 pub use Rattle.coap_exchange.proofs.Telling.FromServer.{came_from, server_is}
 pub use Rattle.coap_exchange.proofs.Telling.ResponsesMatch.{matched}
 pub use Rattle.coap_exchange.proofs.Ending.WhenDue.{when_due}
+pub use Rattle.coap_exchange.proofs.Resting.ClientRests.{rests_led, turns_led}
 
 pub are_exchanges : (server : Endpoint) (word : ℕ) (t : List Call) → AskerLaw server word t → AreExchanges t
 are_exchanges server word t law = (known server word t law).0

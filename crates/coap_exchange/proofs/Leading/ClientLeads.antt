@@ -17,12 +17,12 @@ use Rattle.coap_layer.proofs.Facts.StepsOfLayer.{steps_join}
 pub led_call : (server : Endpoint) (word : ℕ) (t : List Call) (c : Call) (old new : State) → Led server word t old
     → Step old c new → Led server word (c ∷ t) new
 led_call server word t c old new led step = above_call IsRight after lower Steps (start server word)
-    (L.start word) steps_join t c old new led step
+    (L.start (L.usual word)) steps_join t c old new led step
 
 pub led_exchanged : (server : Endpoint) (word : ℕ) (t calls : List Call) (old new : State) → Led server word t old
     → Exchanged old calls new → Led server word (calls ++ t) new
 led_exchanged server word t calls old new led h =
-    above_chain IsRight after lower Steps (start server word) (L.start word) steps_join t calls old new led h
+    above_chain IsRight after lower Steps (start server word) (L.start (L.usual word)) steps_join t calls old new led h
 
 pub exchanged_join : (old mid new : State) (later earlier : List Call) → Exchanged old earlier mid
     → Exchanged mid later new → Exchanged old (later ++ earlier) new
@@ -45,8 +45,8 @@ pub led_start : (server : Endpoint) (word : ℕ) → Led server word [] (fresh_s
 led_start server word = record { rows = tt; own_is = refl; layer = refl }
 
 pub layer_stands : (server : Endpoint) (word : ℕ) (t : List Call) → ExchangeLaw server word t
-    → LayerLaw word (below_of server word t)
+    → LayerLaw (L.usual word) (below_of server word t)
 layer_stands server word t law =
-    subst (LayerLaw word) (append-nil (below_of server word t))
-    (led_steps word [] (L.start word) law.left (lower_of server word t)
+    subst (LayerLaw (L.usual word)) (append-nil (below_of server word t))
+    (led_steps (L.usual word) [] (L.start (L.usual word)) law.left (lower_of server word t)
     (record { law = tt; kept = refl }) law.layer).law

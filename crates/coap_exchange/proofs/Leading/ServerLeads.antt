@@ -19,12 +19,12 @@ led_start word = record { rows = tt; own_is = refl; layer = refl }
 pub led_call : (word : ℕ) (t : List Call) (c : Call) (old new : State) → Led word t old → Step old c new
     → Led word (c ∷ t) new
 led_call word t c old new led step = above_call IsRight after lower Steps start
-    (L.start word) steps_join t c old new led step
+    (L.start (L.usual word)) steps_join t c old new led step
 
 pub led_exchanged : (word : ℕ) (t calls : List Call) (old new : State) → Led word t old → Exchanged old calls new
     → Led word (calls ++ t) new
 led_exchanged word t calls old new led h = above_chain IsRight after lower Steps start
-    (L.start word) steps_join t calls old new led h
+    (L.start (L.usual word)) steps_join t calls old new led h
 
 pub exchanged_join : (old mid new : State) (later earlier : List Call) → Exchanged old earlier mid
     → Exchanged mid later new → Exchanged old (later ++ earlier) new
@@ -42,6 +42,6 @@ exchanged_own = chain_own IsRight after lower Steps
 pub led_law : (word : ℕ) (t : List Call) (s : State) → Led word t s → ResponseLaw word t
 led_law word t s led = record { rows = led.rows; left = s.layer; layer = led.layer }
 
-pub layer_stands : (word : ℕ) (t : List Call) → ResponseLaw word t → LayerLaw word (below_of word t)
-layer_stands word t law = subst (LayerLaw word) (append-nil (below_of word t))
-    (led_steps word [] (L.start word) law.left (lower_of t) (record { law = tt; kept = refl }) law.layer).law
+pub layer_stands : (word : ℕ) (t : List Call) → ResponseLaw word t → LayerLaw (L.usual word) (below_of word t)
+layer_stands word t law = subst (LayerLaw (L.usual word)) (append-nil (below_of word t))
+    (led_steps (L.usual word) [] (L.start (L.usual word)) law.left (lower_of t) (record { law = tt; kept = refl }) law.layer).law

@@ -53,6 +53,7 @@ rejects from bytes now (T.Becomes (T.Request m kept)) = refl
 rejects from bytes now (T.Becomes (T.Acked id)) = refl
 rejects from bytes now (T.Becomes (T.Reset id)) = refl
 rejects from bytes now (T.Becomes T.Dropped) = refl
+rejects from bytes now (T.Becomes (T.Unmatched id)) = refl
 rejects from bytes now (T.Becomes T.Replayed) = refl
 rejects from bytes now (T.Becomes T.Rejected) = refl
 rejects from bytes now T.Nothing = refl

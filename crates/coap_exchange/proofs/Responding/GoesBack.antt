@@ -12,6 +12,7 @@ use Rattle.coap_layer.specs.Machine.State.{made}
 use Rattle.coap_layer.specs.Machine.Steps.{Asked as Below, Steps, left_after}
 use Rattle.coap_layer.specs.Trace as T
 use Rattle.coap_layer.specs.Trace.{with_head, Entry, Content}
+use Rattle.coap_layer.specs.declared.setup.Setup.{Setup}
 use Rattle.coap_layer.specs.Words.{numbers}
 use Rattle.coap_layer.proofs.Facts.Laws.{small}
 use Rattle.coap_layer.proofs.Facts.Calls.{steps_left}
@@ -28,24 +29,24 @@ use Rattle.coap_exchange.proofs.Responding.OneResponse.{counted}
 use Rattle.coap_layer.proofs.Facts.StepsOfLayer.{steps_split}
 
 -- a CON that was sent, and a NON
-module _ (word : ℕ) (past : List Entry) (e : Entry) (to : Endpoint) (content : Content) (id : ℕ)
-    (here : Stands word past e) (told : e.answer ≡ T.Sent id) where
+module _ (setup : Setup) (past : List Entry) (e : Entry) (to : Endpoint) (content : Content) (id : ℕ)
+    (here : Stands setup past e) (told : e.answer ≡ T.Sent id) where
   abbrev Goes : Kind → Type 0
   Goes kind = SendsThere e to (with_head kind id content)
 
   confirmed : (w : ℕ) → e.call ≡ T.Confirm to content w → Goes Con × (Busy past to → ⊥)
   confirmed w is = go row.1
     where
-      row : IsSpelled content × Confirms word past e to content
-      row = subst (Row word past e) is here.row
+      row : IsSpelled content × Confirms setup past e to content
+      row = subst (Row setup past e) is here.row
 
-      go : Confirms word past e to content → Goes Con × (Busy past to → ⊥)
+      go : Confirms setup past e to content → Goes Con × (Busy past to → ⊥)
       go (inl r) = let k = r.answer in absurd (cc (k, told))
       go (inr (f, inl r)) = let k = r.answer in absurd (cc (k, told))
       go (inr (f, inr r)) =
           let same : r.id ≡ id = let k = r.answer in cc (k, told) in
           let bound : id < 65536 = let k = r.gives.next in let l =
-          small word (numbers past) in omega (arith, same, k, l) in (
+          small setup.word (numbers past) in omega (arith, same, k, l) in (
             record {
               bytes = _;
               out = subst (λ n. e.out
@@ -58,15 +59,15 @@ module _ (word : ℕ) (past : List Entry) (e : Entry) (to : Endpoint) (content :
   plained : e.call ≡ T.Plain to content → Goes Non
   plained is = go row.1
     where
-      row : IsSpelled content × Plains word past e to content
-      row = subst (Row word past e) is here.row
+      row : IsSpelled content × Plains setup past e to content
+      row = subst (Row setup past e) is here.row
 
-      go : Plains word past e to content → Goes Non
+      go : Plains setup past e to content → Goes Non
       go (inl r) = let k = r.answer in absurd (cc (k, told))
       go (inr r) =
           let same : r.id ≡ id = let k = r.answer in cc (k, told) in
           let bound : id < 65536 = let k = r.gives.next in let l =
-          small word (numbers past) in omega (arith, same, k, l) in
+          small setup.word (numbers past) in omega (arith, same, k, l) in
           record {
             bytes = _;
             out = subst (λ n. e.out
@@ -93,14 +94,14 @@ small_id a (Incoming now from bytes up None ∷ t) (inl h) came = absurd (cc h)
 small_id a (Answers b r below ∷ t) (inl h) came = absurd (cc h)
 small_id a (Defers now b delay answer ∷ t) (inl h) came = absurd (cc h)
 small_id a (Ticks now below room answer ∷ t) (inl h) came = absurd (cc h)
-small_id a (Responds now b r word id ∷ t) (inl h) came = absurd (cc h)
+small_id a (Responds now b r setup id ∷ t) (inl h) came = absurd (cc h)
 small_id a (Ready now to answer ∷ t) (inl h) came = absurd (cc h)
-small_id a (Notifies now to token r word id ∷ t) (inl h) came = absurd (cc h)
+small_id a (Notifies now to token r setup id ∷ t) (inl h) came = absurd (cc h)
 small_id a (Take answer ∷ t) (inl h) came = absurd (cc h)
 small_id a (c ∷ t) (inr h) came = small_id a t h came.1
 
 -- an answer, by the type of its request
-module _ (word : ℕ) (past : List Entry) (s : Own) (a : Asked) (r : Response) (below : T.Answer) (old : L.State)
+module _ (setup : Setup) (past : List Entry) (s : Own) (a : Asked) (r : Response) (below : T.Answer) (old : L.State)
     (right : IsResponse a r) (bound : a.id.0 < 65536) where
   abbrev Entered : Kind → Entry
   Entered kind = made old s.clock (answering s kind a r)
@@ -113,18 +114,18 @@ module _ (word : ℕ) (past : List Entry) (s : Own) (a : Asked) (r : Response) (
       → Back kind
   not_con kind n f = (λ e. absurd (n e), λ m. f)
 
-  answered : (kind : Kind) → IsSentAs kind below → (Entered kind).answer ≡ below → Stands word past (Entered kind)
+  answered : (kind : Kind) → IsSentAs kind below → (Entered kind).answer ≡ below → Stands setup past (Entered kind)
       → Back kind
   answered Con sent told here = (
     λ e. record { bytes = _; out = refl; spells = right.spelled Ack a.id.0 bound },
     λ n. absurd (n refl),
   )
   answered Non sent told here = not_con Non (λ e. cc e)
-      (sent.0, plained word past (Entered Non) a.from (content_of a r) sent.0 here (told ∙ sent.1) refl)
+      (sent.0, plained setup past (Entered Non) a.from (content_of a r) sent.0 here (told ∙ sent.1) refl)
   answered Ack sent told here = not_con Ack (λ e. cc e)
-      (sent.0, plained word past (Entered Ack) a.from (content_of a r) sent.0 here (told ∙ sent.1) refl)
+      (sent.0, plained setup past (Entered Ack) a.from (content_of a r) sent.0 here (told ∙ sent.1) refl)
   answered Rst sent told here = not_con Rst (λ e. cc e)
-      (sent.0, plained word past (Entered Rst) a.from (content_of a r) sent.0 here (told ∙ sent.1) refl)
+      (sent.0, plained setup past (Entered Rst) a.from (content_of a r) sent.0 here (told ∙ sent.1) refl)
 
 -- each call
 module _ (word : ℕ) (t : List Call) (law : AnswererLaw t) (came : AreRequests t) (h : L.State) where
@@ -135,17 +136,17 @@ module _ (word : ℕ) (t : List Call) (law : AnswererLaw t) (came : AreRequests 
   Here c = GoesBack word t c × IfSome (begins c) (λ to. Busy past to → ⊥)
 
   abbrev entered : ℕ → T.Call → Entry
-  entered now call = made (left_after (L.start word) (lower_of t)) now call
+  entered now call = made (left_after (L.start (L.usual word)) (lower_of t)) now call
 
-  pub here : (c : Call) → IsRight (own_of t) c → Steps (L.start word) (lower_of (c ∷ t)) h
-      → LayerLaw word (below_of word (c ∷ t)) → Here c
+  pub here : (c : Call) → IsRight (own_of t) c → Steps (L.start (L.usual word)) (lower_of (c ∷ t)) h
+      → LayerLaw (L.usual word) (below_of word (c ∷ t)) → Here c
   here (Incoming now from bytes up answer) right steps stands = (tt, tt)
   here (Answers a r below) right steps stands =
       let s : Own = own_of t in
       let call : T.Call = answering s a.kind a r in
       let bound = small_id a t ((counted t law).1.pending a right.0) came in
-      let k = answered word past s a r below (left_after (L.start word) (lower_of t)) right.1 bound a.kind right.2
-      (told_by (L.start word) steps.0 h (lower_of t) s.clock call below steps.1 steps.2) stands.0 in (
+      let k = answered (L.usual word) past s a r below (left_after (L.start (L.usual word)) (lower_of t)) right.1 bound a.kind right.2
+      (told_by (L.start (L.usual word)) steps.0 h (lower_of t) s.clock call below steps.1 steps.2) stands.0 in (
         (
           λ e. record { entry = entered s.clock call; makes = refl; sends = k.0 e },
           λ n. let l = k.1 n in (l.0, record { entry = entered s.clock call; makes = refl; sends = l.1 }),
@@ -156,22 +157,22 @@ module _ (word : ℕ) (t : List Call) (law : AnswererLaw t) (came : AreRequests 
   here (Ticks now below room answer) right steps stands = (tt, tt)
   here (Responds now a r w id) right steps stands =
       let call : T.Call = T.Confirm a.from (content_of a r) w in
-      let k = confirmed word past (entered now call) a.from (content_of a r) id stands.0
-      (told_by (L.start word) steps.0 h (lower_of t) now call (T.Sent id) steps.1 steps.2) w refl in
+      let k = confirmed (L.usual word) past (entered now call) a.from (content_of a r) id stands.0
+      (told_by (L.start (L.usual word)) steps.0 h (lower_of t) now call (T.Sent id) steps.1 steps.2) w refl in
       (record { entry = entered now call; makes = refl; sends = k.0 }, k.1)
   here (Ready now to answer) right steps stands = (tt, tt)
   here (Notifies now to token r w id) right steps stands =
       let call : T.Call = T.Confirm to (content_with token r) w in
-      let k = confirmed word past (entered now call) to (content_with token r) id stands.0
-      (told_by (L.start word) steps.0 h (lower_of t) now call (T.Sent id) steps.1 steps.2) w refl in
+      let k = confirmed (L.usual word) past (entered now call) to (content_with token r) id stands.0
+      (told_by (L.start (L.usual word)) steps.0 h (lower_of t) now call (T.Sent id) steps.1 steps.2) w refl in
       (record { entry = entered now call; makes = refl; sends = k.0 }, k.1)
   here (Take answer) right steps stands = (tt, tt)
 
-pub sends_so : (word : ℕ) (t : List Call) → AnswererLaw t → (h : L.State) → Steps (L.start word) (lower_of t) h
+pub sends_so : (word : ℕ) (t : List Call) → AnswererLaw t → (h : L.State) → Steps (L.start (L.usual word)) (lower_of t) h
     → AllGoBack word t × BeginAlone word t
 sends_so word [] law h steps = (tt, tt)
 sends_so word (c ∷ t) law h steps =
-    let parts = steps_split (L.start word) h (lower (own_of t) c) (lower_of t) steps in
+    let parts = steps_split (L.start (L.usual word)) h (lower (own_of t) c) (lower_of t) steps in
     let earlier = sends_so word t law.1 parts.0 parts.1 in
     let k = here word t law.1 (came_in word t law.1 parts.0 parts.1) h c law.0 steps
     (layer_stands word (c ∷ t) (record { rows = law; left = h; layer = steps })) in

@@ -30,6 +30,7 @@ pair_of from (T.Becomes (T.Response n)) a m h = absurd (cc h)
 pair_of from (T.Becomes (T.Acked id)) a m h = absurd (cc h)
 pair_of from (T.Becomes (T.Reset id)) a m h = absurd (cc h)
 pair_of from (T.Becomes T.Dropped) a m h = absurd (cc h)
+pair_of from (T.Becomes (T.Unmatched id)) a m h = absurd (cc h)
 pair_of from (T.Becomes T.Replayed) a m h = absurd (cc h)
 pair_of from (T.Becomes T.Rejected) a m h = absurd (cc h)
 pair_of from T.Nothing a m h = absurd (cc h)
@@ -44,24 +45,24 @@ pair_of from (T.Gives packet) a m h = absurd (cc h)
 
 came : (word : ℕ) (t : List Call) (now : ℕ) (from : Endpoint) (bytes : List ℕ) (up : T.Answer) (a : Asked) (m : Message)
     → AnswererLaw (Incoming now from bytes up (Some (a, m)) ∷ t)
-    → (h : L.State) → Steps (L.start word) (lower_of (Incoming now from bytes up (Some (a, m)) ∷ t)) h
+    → (h : L.State) → Steps (L.start (L.usual word)) (lower_of (Incoming now from bytes up (Some (a, m)) ∷ t)) h
     → (a ≡ asked_of from m) × Spells bytes m
 came word t now from bytes up a m law h steps =
     let s : Own = own_of t in
-    let parts = steps_split (L.start word) h (lower s (Incoming now from bytes up (Some (a, m)))) (lower_of t) steps in
+    let parts = steps_split (L.start (L.usual word)) h (lower s (Incoming now from bytes up (Some (a, m)))) (lower_of t) steps in
     let first = steps_split parts.0 h (replying from (id_in up) (reject_by up))
     (asked now (T.Receive from bytes) up ∷ []) parts.2 in
     let p = pair_of from up a m law.0 in
     (p.0, spelled first.1.0 first.0 now from bytes up m first.1.2 p.1)
 
-pub came_in : (word : ℕ) (t : List Call) → AnswererLaw t → (h : L.State) → Steps (L.start word) (lower_of t) h
+pub came_in : (word : ℕ) (t : List Call) → AnswererLaw t → (h : L.State) → Steps (L.start (L.usual word)) (lower_of t) h
     → AreRequests t
 came_in word [] law h steps = tt
 came_in word (c ∷ t) law h steps =
-    let parts = steps_split (L.start word) h (lower (own_of t) c) (lower_of t) steps in (
+    let parts = steps_split (L.start (L.usual word)) h (lower (own_of t) c) (lower_of t) steps in (
       record {
         came = λ now from bytes up a m is. came word t now from bytes up a m (subst (λ d. AnswererLaw (d ∷ t)) is law) h
-            (subst (λ d. Steps (L.start word) (lower_of (d ∷ t)) h) is steps);
+            (subst (λ d. Steps (L.start (L.usual word)) (lower_of (d ∷ t)) h) is steps);
       },
       came_in word t law.1 parts.0 parts.1,
     )

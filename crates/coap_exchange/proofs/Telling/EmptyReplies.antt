@@ -193,6 +193,7 @@ replied_by s from (T.Becomes (T.Request m kept)) answer right = (
 replied_by s from (T.Becomes (T.Acked id)) answer right = ap (packets from) (none_acked (is_of_request s from id) 0)
 replied_by s from (T.Becomes (T.Reset id)) answer right = ap (packets from) (none_reset (is_of_request s from id) 0)
 replied_by s from (T.Becomes T.Dropped) answer right = refl
+replied_by s from (T.Becomes (T.Unmatched id)) answer right = refl
 replied_by s from (T.Becomes T.Replayed) answer right = refl
 replied_by s from (T.Becomes T.Rejected) answer right = refl
 replied_by s from T.Nothing answer right = refl

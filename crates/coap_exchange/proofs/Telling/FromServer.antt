@@ -74,12 +74,12 @@ module _ (s : Own) (now : ℕ) (from : Endpoint) (bytes : List ℕ) (up : T.Answ
 module _ (server : Endpoint) (word : ℕ) where
   came : (t : List Call) (now : ℕ) (from : Endpoint) (bytes : List ℕ) (up : T.Answer) (settled : Bool)
       (answer : Option Event) (m : Message) → AskerLaw server word (Receive now from bytes up settled answer ∷ t)
-      → (h : L.State) → Steps (L.start word) (lower_of server word (Receive now from bytes up settled answer ∷ t)) h
+      → (h : L.State) → Steps (L.start (L.usual word)) (lower_of server word (Receive now from bytes up settled answer ∷ t)) h
       → carried (Receive now from bytes up settled answer) ≡ Some m
       → (same_endpoint from server ≡ true) × Spells bytes m
   came t now from bytes up settled answer m law h steps told_is =
       let s : Own = own_of server word t in
-      let parts = steps_split (L.start word) h (lower s (Receive now from bytes up settled answer))
+      let parts = steps_split (L.start (L.usual word)) h (lower s (Receive now from bytes up settled answer))
       (lower_of server word t) steps in
       let first = steps_split parts.0 h (acts s from up settled (verdict_on s from up))
       (asked now (T.Receive from bytes) up ∷ []) parts.2 in
@@ -90,14 +90,14 @@ module _ (server : Endpoint) (word : ℕ) where
       )
 
   pub came_from : (t : List Call) → AskerLaw server word t → (h : L.State)
-      → Steps (L.start word) (lower_of server word t) h → AreFromServer server t
+      → Steps (L.start (L.usual word)) (lower_of server word t) h → AreFromServer server t
   came_from [] law h steps = tt
   came_from (c ∷ t) law h steps =
-      let parts = steps_split (L.start word) h (lower (own_of server word t) c) (lower_of server word t) steps in (
+      let parts = steps_split (L.start (L.usual word)) h (lower (own_of server word t) c) (lower_of server word t) steps in (
         record {
           came = λ now from bytes up settled answer m is told_is.
               came t now from bytes up settled answer m (subst (λ d. AskerLaw server word (d ∷ t)) is law) h
-              (subst (λ d. Steps (L.start word) (lower_of server word (d ∷ t)) h) is steps)
+              (subst (λ d. Steps (L.start (L.usual word)) (lower_of server word (d ∷ t)) h) is steps)
               (sym (ap carried is) ∙ told_is);
         },
         came_from t law.1 parts.0 parts.1,

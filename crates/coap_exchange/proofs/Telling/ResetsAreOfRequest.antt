@@ -146,11 +146,11 @@ of_reset s from up Notice f h = let k : is_told (told Notice up)
 module _ (server : Endpoint) (word : ℕ) where
   rejects : (t : List Call) (now : ℕ) (from : Endpoint) (bytes : List ℕ) (up : T.Answer) (settled : Bool)
       → AskerLaw server word (Receive now from bytes up settled (Some event.Reset) ∷ t)
-      → (h : L.State) → Steps (L.start word) (lower_of server word
+      → (h : L.State) → Steps (L.start (L.usual word)) (lower_of server word
       (Receive now from bytes up settled (Some event.Reset) ∷ t)) h → Rejects server word t from bytes
   rejects t now from bytes up settled law h steps =
       let s : Own = own_of server word t in
-      let parts = steps_split (L.start word) h (lower s (Receive now from bytes up settled (Some event.Reset)))
+      let parts = steps_split (L.start (L.usual word)) h (lower s (Receive now from bytes up settled (Some event.Reset)))
       (lower_of server word t) steps in
       let first = steps_split parts.0 h (acts s from up settled (verdict_on s from up))
       (asked now (T.Receive from bytes) up ∷ []) parts.2 in
@@ -168,12 +168,12 @@ module _ (server : Endpoint) (word : ℕ) where
       }
 
   pub rejected : (t : List Call) → AskerLaw server word t → (h : L.State)
-      → Steps (L.start word) (lower_of server word t) h → AreRejected server word t
+      → Steps (L.start (L.usual word)) (lower_of server word t) h → AreRejected server word t
   rejected [] law h steps = tt
   rejected (c ∷ t) law h steps =
-      let parts = steps_split (L.start word) h (lower (own_of server word t) c) (lower_of server word t) steps in (
+      let parts = steps_split (L.start (L.usual word)) h (lower (own_of server word t) c) (lower_of server word t) steps in (
         (λ now from bytes up settled is.
             rejects t now from bytes up settled (subst (λ d. AskerLaw server word (d ∷ t)) is law) h
-            (subst (λ d. Steps (L.start word) (lower_of server word (d ∷ t)) h) is steps)),
+            (subst (λ d. Steps (L.start (L.usual word)) (lower_of server word (d ∷ t)) h) is steps)),
         rejected t law.1 parts.0 parts.1,
       )

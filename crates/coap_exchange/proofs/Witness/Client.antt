@@ -9,7 +9,7 @@ use Rattle.coap_exchange.specs.ClientExample.{server, run}
 abbrev below : List Asked
 below = lower_of server 0 run
 
-runs : Steps (L.start 0) below (left_after (L.start 0) below)
+runs : Steps (L.start (L.usual 0)) below (left_after (L.start (L.usual 0)) below)
 runs = (
   _,
   (
@@ -41,4 +41,4 @@ runs = (
 )
 
 pub witness : ExchangeLaw server 0 run
-witness = record { rows = (refl, (refl, (refl, (refl, tt)))); left = left_after (L.start 0) below; layer = runs }
+witness = record { rows = (refl, (refl, (refl, (refl, tt)))); left = left_after (L.start (L.usual 0)) below; layer = runs }

@@ -75,7 +75,7 @@ notification_spelled = (sendable_when_short _
       short = refl;
     }) (omega arith)).spelled
 
-runs : Steps (L.start 0) below (left_after (L.start 0) below)
+runs : Steps (L.start (L.usual 0)) below (left_after (L.start (L.usual 0)) below)
 unfolding decoded frame_fault body_at walk walk_of option_at nibbles_at value_at extended payload_at
 runs = (
   _,
@@ -123,6 +123,6 @@ witness = record {
       ),
     ),
   );
-  left = left_after (L.start 0) below;
+  left = left_after (L.start (L.usual 0)) below;
   layer = runs;
 }

@@ -1,7 +1,7 @@
 use super::path_of;
 use crate::{ListStore, MAX_PATHS, MapStore, Store, StoreRefusal, rate_law, served_law};
 use StoreRefusal::{RateExceeded, TooLarge, TooManyPaths};
-use coap_types::{Moment, Path};
+use coap_types::{BodyLimit, Moment, Path};
 use std::alloc::{AllocError, AllocGlobal, Global};
 use std::process::Abort;
 
@@ -101,6 +101,35 @@ fn a_window_of_256_s_takes_so_many_changes(rt: HostRuntime) -> Result<(), AllocE
     served_law();
     check_rate::<HostRuntime, ListStore>(&rt)?;
     check_rate::<HostRuntime, MapStore>(&rt)
+}
+
+// A store of bodies of at most 64 bytes.
+fn check_limit<R: Abort + AllocGlobal, S: Store<Global>>(rt: &R) -> Result<(), AllocError> {
+    let path = path_of(rt.alloc(), b"t")?;
+    let full = Vec::from_elem(rt.alloc(), 7u8, 64)?;
+    let large = Vec::from_elem(rt.alloc(), 7u8, 65)?;
+    let limit = BodyLimit::new(64).expect(rt, "in range");
+    let mut store: S = S::new_sized(rt.alloc(), 4_194_303, limit).expect(rt, "in range");
+    let rows = [
+        Change::Put(&full, Ok(1)),
+        Change::Put(&large, Err(TooLarge)),
+        Change::Append(b"a", Err(TooLarge)),
+    ];
+    for change in rows {
+        takes(rt, &mut store, &path, 0, change);
+    }
+    holds(rt, &store, &path, &full, 1);
+    assert_eq!(rt; store.limit(), limit);
+    let usual: S = store_of(rt, 1);
+    assert_eq!(rt; usual.limit(), BodyLimit::default());
+    Ok(())
+}
+
+#[test]
+fn a_body_is_no_longer_than_the_limit(rt: HostRuntime) -> Result<(), AllocError> {
+    assert_eq!(rt; TooLarge.number(), 2);
+    check_limit::<HostRuntime, ListStore>(&rt)?;
+    check_limit::<HostRuntime, MapStore>(&rt)
 }
 
 // As many paths as a store has.

@@ -22,6 +22,7 @@ use Rattle.coap_block.specs.declared.block_verdict.BlockVerdict.TheVariants.{Ref
 use Rattle.coap_resource.specs.Content.{Content}
 use Rattle.coap_resource.specs.RequestOptions.{block_said}
 use Rattle.coap_resource.specs.Serves.{Question}
+use Rattle.coap_resource.specs.Limits.{Limits}
 use Rattle.coap_exchange.specs.declared.answerer.Asked.{Asked}
 use Rattle.coap_exchange.specs.AnswererSteps.{may_defer}
 use Rattle.coap_server.specs.Trace.{Own, Handling, Silent, Replies, Serves, Waits, Notifies, Call}
@@ -109,36 +110,37 @@ by_verdict (Uploads q b) s a h k = by_block (Uploads q b) (ruling_of s.uploads s
 one_came : {X : Type 0} (x y : X) → Some x ≡ Some y → x ≡ y
 one_came x y h = cc h
 
-module _ (limit szx word : ℕ) where
+module _ (limits : Limits) (szx word : ℕ) where
   abbrev Attended : List Call → Call → Asked × Message → Type 0
-  Attended t c p = AnswersIt limit szx t c p.0 ⊎ (WaitsToAsk limit szx t c p ⊎ IsIgnored p.1)
+  Attended t c p = AnswersIt limits szx t c p.0 ⊎ (WaitsToAsk limits szx t c p ⊎ IsIgnored p.1)
 
   fed : (t : List Call) (now : ℕ) (from : Endpoint) (bytes : List ℕ) (w : ℕ) (up : L.Answer) (p : Asked × Message)
       (h : Handling) (below : L.Answer)
-      → ServerLaw limit szx word (Feeds now from bytes w up (Some p) h below ∷ t)
+      → ServerLaw limits szx word (Feeds now from bytes w up (Some p) h below ∷ t)
       → Attended t (Feeds now from bytes w up (Some p) h below) p
   fed t now from bytes w up p Silent below law =
-      let s : Own = heard (own_of limit szx t) now (incoming (own_of limit szx t) now from bytes up (Some p)) in
+      let s : Own = heard (own_of limits szx t) now (incoming (own_of limits szx t) now from bytes up (Some p)) in
       inr (inr (is_ignored s.szx p.1 (by_verdict (verdict_on s.szx p.1) s p.0 Silent law.rows.0)))
   fed t now from bytes w up p (Replies r) below law = inl (inl refl)
   fed t now from bytes w up p (Serves q reply left) below law = inl (inl refl)
   fed t now from bytes w up p (Waits q d) below law =
-      let s : Own = heard (own_of limit szx t) now (incoming (own_of limit szx t) now from bytes up (Some p)) in
+      let s : Own = heard (own_of limits szx t) now (incoming (own_of limits szx t) now from bytes up (Some p)) in
       let v : Verdict = verdict_on s.szx p.1 in
       let k = waits_so s p.0 (Waits q d) v law.rows.0 in
-      let asks = asks_by limit szx word t now from bytes w up p (Waits q d) below v q refl law.rows.0 refl in
-      let waits : WaitsToAsk limit szx t (Feeds now from bytes w up (Some p) (Waits q d) below) p = record {
+      let asks = asks_by limits szx word t now from bytes w up p (Waits q d) below v q refl law.rows.0 refl in
+      let waits : WaitsToAsk limits szx t (Feeds now from bytes w up (Some p) (Waits q d) below) p = record {
         question = q;
-        asks = subst (λ n. AsksBy limit szx t (Feeds now from bytes w up (Some p) (Waits q d) below) p.0 q
-            (verdict_on n p.1)) (szx_is limit szx t) asks;
+        asks = subst (λ n. AsksBy limits szx t (Feeds now from bytes w up (Some p) (Waits q d) below) p.0 q
+            (verdict_on n p.1)) (szx_is limits szx t) asks;
         waits = record { delay = d; has_to = record { kind = k.0; has_delay = k.1; place = k.2 }; behind = refl };
       } in
       inr (inl waits)
   fed t now from bytes w up p (Notifies o reply) below law =
-      absurd (never_notifies (heard (own_of limit szx t) now (incoming (own_of limit szx t) now from bytes up (Some p)))
+      absurd (never_notifies (heard (own_of limits szx t) now
+      (incoming (own_of limits szx t) now from bytes up (Some p)))
       p o reply law.rows.0)
 
-  here : (t : List Call) (c : Call) → ServerLaw limit szx word (c ∷ t) → (p : Asked × Message) → came_in c ≡ Some p
+  here : (t : List Call) (c : Call) → ServerLaw limits szx word (c ∷ t) → (p : Asked × Message) → came_in c ≡ Some p
       → Attended t c p
   here t (Feeds now from bytes w up (Some q) h below) law p is =
       subst (Attended t (Feeds now from bytes w up (Some q) h below)) (one_came q p is)
@@ -152,6 +154,6 @@ module _ (limit szx word : ℕ) where
   here t (Gets path answer) law p is = absurd (cc is)
   here t (TellsApplied answer) law p is = absurd (cc is)
 
-  pub all_attended : (t : List Call) → ServerLaw limit szx word t → AllAttended limit szx t
+  pub all_attended : (t : List Call) → ServerLaw limits szx word t → AllAttended limits szx t
   all_attended [] law = tt
-  all_attended (c ∷ t) law = (here t c law, all_attended t (server_back limit szx word c t law))
+  all_attended (c ∷ t) law = (here t c law, all_attended t (server_back limits szx word c t law))

@@ -4,13 +4,15 @@ use Rattle.std.proofs.Common.{◌∙◌}
 use Rattle.coap_types.specs.declared.endpoint.Endpoint.{Endpoint}
 use Rattle.coap_types.specs.declared.message.Kind.TheVariants.{Con, Non, Ack, Rst}
 use Rattle.coap_codec.specs.Message.{Message}
+use Rattle.coap_layer.specs.declared.setup.Setup.{Setup}
 use Rattle.coap_layer.specs.Arrivals.{Arrival, Unreadable, Faulted, Whole}
 use Rattle.coap_layer.specs.Machine.State as S
-use Rattle.coap_layer.specs.Rows.{Arrives, Sorts, rejects, drops, takes_ack, takes_reset, takes_answer, replays}
-use Rattle.coap_layer.specs.Rows.{hands_over, Withholds}
+use Rattle.coap_layer.specs.Rows.{Arrives, Sorts, rejects, drops, takes_ack, takes_reset, passes_reset, takes_answer}
+use Rattle.coap_layer.specs.Rows.{replays, hands_over, Withholds}
 use Rattle.coap_layer.specs.Trace as L
 use Rattle.coap_layer.specs.Words.{Incoming, clock}
 use Rattle.coap_layer.specs.Machine.Steps.{left_after}
+use Rattle.coap_resource.specs.Limits.{Limits}
 use Rattle.coap_exchange.specs.declared.answerer.Asked.{Asked}
 use Rattle.coap_exchange.specs.AnswererTrace as E
 use Rattle.coap_exchange.specs.AnswererLaw as W
@@ -43,16 +45,17 @@ not_let_go a m d n h k = let z : true ≡ false = sym (ap is_let_go (let_go a m 
 one_message : (m n : Message) → L.Request m false ≡ L.Request n false → m ≡ n
 one_message m n h = cc h
 
-module _ (word : ℕ) (past : List L.Entry) (e : L.Entry) (m : Message)
+module _ (setup : Setup) (past : List L.Entry) (e : L.Entry) (m : Message)
     (is : e.answer ≡ L.Becomes (L.Request m false)) where
   abbrev Held : Type 0
-  Held = (m.kind ≡ Non) × Withholds word past e.at
+  Held = (m.kind ≡ Non) × Withholds setup past e.at
 
-  sorted : (i : Incoming) → Sorts word past e i → Held
+  sorted : (i : Incoming) → Sorts setup past e i → Held
   sorted i (rejects k) = not_let_go e.answer m L.Rejected refl is k.answer
   sorted i (drops k) = not_let_go e.answer m L.Dropped refl is k.answer
   sorted i (takes_ack k) = not_let_go e.answer m (L.Acked i.message.id) refl is k.answer
   sorted i (takes_reset k) = not_let_go e.answer m (L.Reset i.message.id) refl is k.answer
+  sorted i (passes_reset k) = not_let_go e.answer m (L.Unmatched i.message.id) refl is k.answer
   sorted i (takes_answer k) = not_let_go e.answer m (L.Response i.message) refl is k.answer
   sorted i (replays k) = not_let_go e.answer m L.Replayed refl is k.answer
   sorted i (hands_over k) =
@@ -68,7 +71,7 @@ module _ (word : ℕ) (past : List L.Entry) (e : L.Entry) (m : Message)
         ]
       ]
 
-  arrived : (from : Endpoint) (what : Arrival) → Arrives word past e from what → Held
+  arrived : (from : Endpoint) (what : Arrival) → Arrives setup past e from what → Held
   arrived from Unreadable k = not_let_go e.answer m L.Dropped refl is k.0
   arrived from (Faulted Con id) k = not_let_go e.answer m L.Rejected refl is k.0
   arrived from (Faulted Non id) k = not_let_go e.answer m L.Dropped refl is k.0
@@ -76,54 +79,57 @@ module _ (word : ℕ) (past : List L.Entry) (e : L.Entry) (m : Message)
   arrived from (Faulted Rst id) k = not_let_go e.answer m L.Dropped refl is k.0
   arrived from (Whole n) k = sorted (record { from = from; message = n }) k
 
-module _ (limit szx word : ℕ) where
+module _ (limits : Limits) (szx word : ℕ) where
   fed : (t : List Call) (now : ℕ) (from : Endpoint) (bytes : List ℕ) (w : ℕ) (m : Message) (kept : Bool)
       (came : Option (Asked × Message)) (h : Handling) (below : L.Answer)
-      → ServerLaw limit szx word (Feeds now from bytes w (L.Becomes (L.Request m kept)) came h below ∷ t)
-      → HandedOn limit szx word t now from m kept came
+      → ServerLaw limits szx word (Feeds now from bytes w (L.Becomes (L.Request m kept)) came h below ∷ t)
+      → HandedOn limits szx word t now from m kept came
   fed t now from bytes w m kept came h below law = by kept law
     where
       s : Own
-      s = own_of limit szx t
+      s = own_of limits szx t
 
       at : ℕ
       at = max s.clock now
 
       calls : List E.Call
-      calls = lower_of limit szx t
+      calls = lower_of limits szx t
 
       first : Bool → E.Call
       first b = E.Incoming at from bytes (L.Becomes (L.Request m b)) came
 
-      first_law : (b : Bool) → ServerLaw limit szx word
+      first_law : (b : Bool) → ServerLaw limits szx word
           (Feeds now from bytes w (L.Becomes (L.Request m b)) came h below ∷ t) → ResponseLaw word (first b ∷ calls)
       first_law b law =
           let asks : List E.Call = answering (heard s now (first b)) came h below in
           back word asks (first b ∷ calls) (subst (ResponseLaw word) (joined asks (first b) calls) law.exchanges)
 
-      by : (b : Bool) → ServerLaw limit szx word (Feeds now from bytes w (L.Becomes (L.Request m b)) came h below ∷ t)
-          → HandedOn limit szx word t now from m b came
+      by : (b : Bool) → ServerLaw limits szx word (Feeds now from bytes w (L.Becomes (L.Request m b)) came h below ∷ t)
+          → HandedOn limits szx word t now from m b came
       by true law = (first_law true law).rows.0
       by false law =
           let one = first_law false law in
           let stands = (layer_stands word (first false ∷ calls) one).0 in
-          let step = last_step (S.start word) one.left (asked at (L.Receive from bytes) (L.Becomes (L.Request m false)))
+          let step = last_step (S.start (S.usual word)) one.left
+          (asked at (L.Receive from bytes) (L.Becomes (L.Request m false)))
           (W.lower_of calls) one.layer in
           let before = back word (first false ∷ []) calls one in
-          let clocks : (left_after (S.start word) (W.lower_of calls)).clock ≡ clock (W.below_of word calls) =
-          ap (λ (z : S.State). z.clock) (sym (left_is (S.start word) before.left (W.lower_of calls) before.layer)
+          let clocks : (left_after (S.start (S.usual word)) (W.lower_of calls)).clock ≡ clock (W.below_of word calls) =
+          ap (λ (z : S.State). z.clock) (sym
+          (left_is (S.start (S.usual word)) before.left (W.lower_of calls) before.layer)
           ∙ (layer_led word calls before).kept) in
-          let held = arrived word (W.below_of word calls) _ m (sym step.right) from stands.row.1.0 stands.row.1.2 in
-          (held.0, subst (λ n. Withholds word (W.below_of word calls) (max n at)) clocks held.1)
+          let held = arrived (S.usual word) (W.below_of word calls) _ m
+          (sym step.right) from stands.row.1.0 stands.row.1.2 in
+          (held.0, subst (λ n. Withholds (S.usual word) (W.below_of word calls) (max n at)) clocks held.1)
 
-  here : (t : List Call) (c : Call) → ServerLaw limit szx word (c ∷ t)
+  here : (t : List Call) (c : Call) → ServerLaw limits szx word (c ∷ t)
       → (now : ℕ) (from : Endpoint) (bytes : List ℕ) (w : ℕ) (m : Message) (kept : Bool)
       (came : Option (Asked × Message)) (h : Handling) (below : L.Answer)
       → c ≡ Feeds now from bytes w (L.Becomes (L.Request m kept)) came h below
-      → HandedOn limit szx word t now from m kept came
+      → HandedOn limits szx word t now from m kept came
   here t c law now from bytes w m kept came h below is =
-      fed t now from bytes w m kept came h below (subst (λ z. ServerLaw limit szx word (z ∷ t)) is law)
+      fed t now from bytes w m kept came h below (subst (λ z. ServerLaw limits szx word (z ∷ t)) is law)
 
-  pub all_handed_on : (t : List Call) → ServerLaw limit szx word t → AllHandedOn limit szx word t
+  pub all_handed_on : (t : List Call) → ServerLaw limits szx word t → AllHandedOn limits szx word t
   all_handed_on [] law = tt
-  all_handed_on (c ∷ t) law = (here t c law, all_handed_on t (server_back limit szx word c t law))
+  all_handed_on (c ∷ t) law = (here t c law, all_handed_on t (server_back limits szx word c t law))

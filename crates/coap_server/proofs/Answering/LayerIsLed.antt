@@ -9,7 +9,8 @@ use Rattle.coap_exchange.specs.AnswererLaw as W
 use Rattle.coap_exchange.specs.AnswererLaw.{ResponseLaw}
 
 pub layer_led : (word : ℕ) (calls : List E.Call) (law : ResponseLaw word calls)
-    → LayerLed word (W.below_of word calls) law.left
+    → LayerLed (S.usual word) (W.below_of word calls) law.left
 layer_led word calls law =
-    subst (λ t. LayerLed word t law.left) (append-nil (W.below_of word calls))
-    (led_steps word [] (S.start word) law.left (W.lower_of calls) (record { law = tt; kept = refl }) law.layer)
+    subst (λ t. LayerLed (S.usual word) t law.left) (append-nil (W.below_of word calls))
+    (led_steps (S.usual word) [] (S.start (S.usual word)) law.left (W.lower_of calls)
+    (record { law = tt; kept = refl }) law.layer)

@@ -4,6 +4,7 @@ use Rattle.std.proofs.Common.{sym, subst, ◌∙◌, arith}
 use Rattle.coap_types.specs.Past.{Ever}
 use Rattle.coap_types.specs.declared.endpoint.Endpoint.{Endpoint}
 use Rattle.coap_types.specs.SameEndpoint.{same_endpoint}
+use Rattle.coap_layer.specs.declared.setup.Setup.{Setup}
 use Rattle.coap_layer.specs.Ids as ids
 use Rattle.coap_layer.specs.Machine.State as S
 use Rattle.coap_layer.specs.Machine.Steps.{Asked, Steps, entries, left_after}
@@ -20,30 +21,31 @@ apart : (last : Option ℕ) (now : ℕ) → ids.IsRested last now → ids.IsHeld
 apart None now rested held = held
 apart (Some last) now rested held = absurd (omega (arith, rested, held))
 
-pub never_both : (word : ℕ) (past : List L.Entry) (now : ℕ) → MayGive word past now → Withholds word past now → ⊥
-never_both word past now may held = apart _ now (may held.spent) held.held
+pub never_both : (setup : Setup) (past : List L.Entry) (now : ℕ) → MayGive setup past now → Withholds setup past now
+    → ⊥
+never_both setup past now may held = apart _ now (may held.spent) held.held
 
 -- what is said where these calls came before, at this moment
 module _ (word : ℕ) (base : List Asked) (at : ℕ) where
   abbrev pub past : List L.Entry
-  past = entries (S.start word) base
+  past = entries (S.start (S.usual word)) base
 
   abbrev pub then : ℕ
   then = max (clock past) at
 
   abbrev pub Says : Endpoint → Bool → Type 0
-  Says to true = (Busy past to → ⊥) × MayGive word past then
-  Says to false = Busy past to ⊎ Withholds word past then
+  Says to true = (Busy past to → ⊥) × MayGive (S.usual word) past then
+  Says to false = Busy past to ⊎ Withholds (S.usual word) past then
 
   -- further calls that send and hear nothing
   pub record Quiet (more : List Asked) : Type 0 where
-    pub opens : outstanding (entries (S.start word) more) ≡ outstanding past
-    pub issued : numbers (entries (S.start word) more) ≡ numbers past
-    pub clock_is : max (left_after (S.start word) more).clock at ≡ then
+    pub opens : outstanding (entries (S.start (S.usual word)) more) ≡ outstanding past
+    pub issued : numbers (entries (S.start (S.usual word)) more) ≡ numbers past
+    pub clock_is : max (left_after (S.start (S.usual word)) more).clock at ≡ then
 
   abbrev room_at : (more : List Asked) (to : Endpoint) → L.Answer → L.Entry
   room_at more to u = record {
-    at = S.moment (left_after (S.start word) more) at (L.Room to);
+    at = S.moment (left_after (S.start (S.usual word)) more) at (L.Room to);
     call = L.Room to;
     answer = u;
     out = [];
@@ -53,55 +55,60 @@ module _ (word : ℕ) (base : List Asked) (at : ℕ) where
     pub quiet_room : Quiet (asked at (L.Room to) (L.Is b) ∷ more)
     quiet_room =
         record {
-          opens = left_same_nil (S.made (left_after (S.start word) more) at (L.Room to)) (λ c. refl)
-              (outstanding (entries (S.start word) more)) ∙ q.opens;
+          opens = left_same_nil (S.made (left_after (S.start (S.usual word)) more) at (L.Room to)) (λ c. refl)
+              (outstanding (entries (S.start (S.usual word)) more)) ∙ q.opens;
           issued = q.issued;
           clock_is = (let c = q.clock_is in omega (arith, c));
         }
 
-    busy_there : Busy (entries (S.start word) more) to → Busy past to
+    busy_there : Busy (entries (S.start (S.usual word)) more) to → Busy past to
     busy_there k = subst (λ cs. Ever (λ (c : Open). same_endpoint c.to to ≡ true) cs) q.opens k
 
-    busy_here : Busy past to → Busy (entries (S.start word) more) to
+    busy_here : Busy past to → Busy (entries (S.start (S.usual word)) more) to
     busy_here k = subst (λ cs. Ever (λ (c : Open). same_endpoint c.to to ≡ true) cs) (sym q.opens) k
 
-    withheld_there : Withholds word (entries (S.start word) more) (max (left_after (S.start word) more).clock at)
-        → Withholds word past then
+    withheld_there : Withholds (S.usual word) (entries (S.start (S.usual word)) more)
+        (max (left_after (S.start (S.usual word)) more).clock at)
+        → Withholds (S.usual word) past then
     withheld_there k = subst (λ n. ids.Withholds word n then) q.issued
-        (subst (λ n. Withholds word (entries (S.start word) more) n) q.clock_is k)
+        (subst (λ n. Withholds (S.usual word) (entries (S.start (S.usual word)) more) n) q.clock_is k)
 
-    may_there : MayGive word (entries (S.start word) more) (max (left_after (S.start word) more).clock at)
-        → MayGive word past then
+    may_there : MayGive (S.usual word) (entries (S.start (S.usual word)) more)
+        (max (left_after (S.start (S.usual word)) more).clock at)
+        → MayGive (S.usual word) past then
     may_there k = subst (λ n. ids.MayGive word n then) q.issued
-        (subst (λ n. MayGive word (entries (S.start word) more) n) q.clock_is k)
+        (subst (λ n. MayGive (S.usual word) (entries (S.start (S.usual word)) more) n) q.clock_is k)
 
-    said : (u : Bool) → AsksRoom word (entries (S.start word) more) (room_at more to (L.Is u)) to → Says to u
+    said : (u : Bool) → AsksRoom (S.usual word) (entries (S.start (S.usual word)) more) (room_at more to (L.Is u)) to
+        → Says to u
     said true (inl (free, may, is), out) = (λ k. free (busy_here k), may_there may)
     said true (inr (k, is), out) = let z : L.Is true ≡ L.Is false = is in absurd (cc z)
     said false (inl (free, may, is), out) = let z : L.Is false ≡ L.Is true = is in absurd (cc z)
     said false (inr (inl busy, is), out) = inl (busy_there busy)
     said false (inr (inr held, is), out) = inr (withheld_there held)
 
-    pub room_says : (left : S.State) → Steps (S.start word) (asked at (L.Room to) (L.Is b) ∷ more) left
-        → LayerLaw word (entries (S.start word) (asked at (L.Room to) (L.Is b) ∷ more)) → Says to b
+    pub room_says : (left : S.State) → Steps (S.start (S.usual word)) (asked at (L.Room to) (L.Is b) ∷ more) left
+        → LayerLaw (S.usual word) (entries (S.start (S.usual word)) (asked at (L.Room to) (L.Is b) ∷ more)) → Says to b
     room_says left steps law =
-        let step = last_step (S.start word) left (asked at (L.Room to) (L.Is b)) more steps in
-        said b (subst (λ u. AsksRoom word (entries (S.start word) more) (room_at more to u) to) (sym step.right)
+        let step = last_step (S.start (S.usual word)) left (asked at (L.Room to) (L.Is b)) more steps in
+        said b (subst (λ u. AsksRoom (S.usual word) (entries (S.start (S.usual word)) more) (room_at more to u) to)
+        (sym step.right)
         law.0.row)
 
   -- a tick that did nothing
   abbrev tick_at : L.Answer → L.Entry
   tick_at u = record {
-    at = S.moment (left_after (S.start word) base) at L.Ticks;
+    at = S.moment (left_after (S.start (S.usual word)) base) at L.Ticks;
     call = L.Ticks;
     answer = u;
-    out = S.out_of (left_after (S.start word) base) (S.moment (left_after (S.start word) base) at L.Ticks) L.Ticks;
+    out = S.out_of (left_after (S.start (S.usual word)) base)
+        (S.moment (left_after (S.start (S.usual word)) base) at L.Ticks) L.Ticks;
   }
 
-  pub quiet_tick : (left : S.State) → Steps (S.start word) (asked at L.Ticks L.Idle ∷ base) left
-      → (left_after (S.start word) base).clock ≡ clock past → Quiet (asked at L.Ticks L.Idle ∷ base)
+  pub quiet_tick : (left : S.State) → Steps (S.start (S.usual word)) (asked at L.Ticks L.Idle ∷ base) left
+      → (left_after (S.start (S.usual word)) base).clock ≡ clock past → Quiet (asked at L.Ticks L.Idle ∷ base)
   quiet_tick left steps same =
-      let step = last_step (S.start word) left (asked at L.Ticks L.Idle) base steps in
+      let step = last_step (S.start (S.usual word)) left (asked at L.Ticks L.Idle) base steps in
       record {
         opens = subst (λ u. outstanding (tick_at u ∷ past) ≡ outstanding past) step.right
             (left_same_nil (tick_at L.Idle) (λ c. refl) (outstanding past));

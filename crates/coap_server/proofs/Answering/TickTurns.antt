@@ -10,6 +10,7 @@ use Rattle.coap_layer.specs.Words.{Open, clock}
 use Rattle.coap_observe.specs.Observers.{Observer}
 use Rattle.coap_resource.specs.Content.{Content}
 use Rattle.coap_resource.specs.Serves.{Question, Reply}
+use Rattle.coap_resource.specs.Limits.{Limits}
 use Rattle.coap_exchange.specs.declared.answerer.Asked.{Asked}
 use Rattle.coap_exchange.specs.declared.answerer.Due.{Due}
 use Rattle.coap_exchange.specs.declared.answerer.Due.TheVariants as due
@@ -86,15 +87,15 @@ served_asks (Some x) q store at p reply left h k =
     same ∙ one
 served_asks None q store at p reply left h k = absurd (cc h)
 
-module _ (limit szx word : ℕ) (t : List Call) (now w : ℕ) where
+module _ (limits : Limits) (szx word : ℕ) (t : List Call) (now w : ℕ) where
   abbrev own : Own
-  own = own_of limit szx t
+  own = own_of limits szx t
 
   abbrev at : ℕ
   at = max own.clock now
 
   abbrev calls : List E.Call
-  calls = lower_of limit szx t
+  calls = lower_of limits szx t
 
   abbrev base : List Below
   base = W.lower_of calls
@@ -107,7 +108,7 @@ module _ (limit szx word : ℕ) (t : List Call) (now w : ℕ) where
 
   -- the call of the exchanges, and what is asked of them behind it
   module _ (below : L.Answer) (room : Bool) (d : Due) (passed : ℕ) (h : Handling) (id : ℕ) (answer : Bool)
-      (law : ServerLaw limit szx word (Ticks now w below room d passed h id answer ∷ t)) where
+      (law : ServerLaw limits szx word (Ticks now w below room d passed h id answer ∷ t)) where
     abbrev first : E.Call
     first = E.Ticks at below room d
 
@@ -120,8 +121,8 @@ module _ (limit szx word : ℕ) (t : List Call) (now w : ℕ) where
     one_law : ResponseLaw word (first ∷ calls)
     one_law = back word asks (first ∷ calls) all_law
 
-    pub earlier : ServerLaw limit szx word t
-    earlier = server_back limit szx word (Ticks now w below room d passed h id answer) t law
+    pub earlier : ServerLaw limits szx word t
+    earlier = server_back limits szx word (Ticks now w below room d passed h id answer) t law
 
     pub due_is : d ≡ P.due_of below (P.ready_at (W.own_of calls) at) room
     due_is = one_law.rows.0
@@ -130,7 +131,8 @@ module _ (limit szx word : ℕ) (t : List Call) (now w : ℕ) where
     pub was_idle : d ≡ due.Idle → below ≡ L.Idle
     was_idle is =
         let ready : Option Deferred = P.ready_if below (P.ready_at (W.own_of calls) at) in
-        let c = steps_split (S.start word) one_law.left (P.asking_room at ready room ++ asked at L.Ticks below ∷ [])
+        let c = steps_split (S.start (S.usual word)) one_law.left
+        (P.asking_room at ready room ++ asked at L.Ticks below ∷ [])
         base one_law.layer in
         let e = steps_split c.0 one_law.left (P.asking_room at ready room) (asked at L.Ticks below ∷ []) c.2 in
         let right = e.1.2.right in
@@ -143,28 +145,28 @@ module _ (limit szx word : ℕ) (t : List Call) (now w : ℕ) where
 
   -- an idle layer
   module _ (room : Bool) (d : Due) (passed : ℕ) (h : Handling) (id : ℕ) (answer : Bool)
-      (law : ServerLaw limit szx word (Ticks now w L.Idle room d passed h id answer ∷ t)) where
+      (law : ServerLaw limits szx word (Ticks now w L.Idle room d passed h id answer ∷ t)) where
     abbrev one : ResponseLaw word (E.Ticks at L.Idle room d ∷ calls)
     one = one_law L.Idle room d passed h id answer law
 
-    abbrev before : ServerLaw limit szx word t
+    abbrev before : ServerLaw limits szx word t
     before = earlier L.Idle room d passed h id answer law
 
-    clocks : (left_after (S.start word) base).clock ≡ clock (layer_of limit szx word t)
+    clocks : (left_after (S.start (S.usual word)) base).clock ≡ clock (layer_of limits szx word t)
     clocks = ap (λ (z : S.State). z.clock)
-        (sym (left_is (S.start word) before.exchanges.left base before.exchanges.layer)
+        (sym (left_is (S.start (S.usual word)) before.exchanges.left base before.exchanges.layer)
         ∙ (layer_led word calls before.exchanges).kept)
 
     steps_by : (o : Option Deferred) → P.ready_at (W.own_of calls) at ≡ o
-        → Steps (S.start word) (asking o room) one.left
-    steps_by o is = subst (λ z. Steps (S.start word) (asking z room) one.left) is one.layer
+        → Steps (S.start (S.usual word)) (asking o room) one.left
+    steps_by o is = subst (λ z. Steps (S.start (S.usual word)) (asking z room) one.left) is one.layer
 
     stands_by : (o : Option Deferred) → P.ready_at (W.own_of calls) at ≡ o
-        → LayerLaw word (entries (S.start word) (asking o room))
-    stands_by o is = subst (λ z. LayerLaw word (entries (S.start word) (asking z room))) is
+        → LayerLaw (S.usual word) (entries (S.start (S.usual word)) (asking o room))
+    stands_by o is = subst (λ z. LayerLaw (S.usual word) (entries (S.start (S.usual word)) (asking z room))) is
         (layer_stands word (E.Ticks at L.Idle room d ∷ calls) one)
 
-    quiet_by : (o : Option Deferred) → Steps (S.start word) (asking o room) one.left
+    quiet_by : (o : Option Deferred) → Steps (S.start (S.usual word)) (asking o room) one.left
         → Quiet word base at (asking o room)
     quiet_by None steps = quiet_tick word base at one.left steps clocks
     quiet_by (Some x) steps = quiet_room word base at (asked at L.Ticks L.Idle ∷ base)
@@ -180,14 +182,14 @@ module _ (limit szx word : ℕ) (t : List Call) (now w : ℕ) where
         x.asked.from room one.left steps (stands_by (Some x) is)
 
     found_at : (x : Deferred) → P.ready_at (W.own_of calls) at ≡ Some x
-        → Found limit szx word t now before own.waiting x
-    found_at x is = first_found limit szx word t now before own.waiting x
-        (sym (ready_is limit szx word t now before) ∙ is)
+        → Found limits szx word t now before own.waiting x
+    found_at x is = first_found limits szx word t now before own.waiting x
+        (sym (ready_is limits szx word t now before) ∙ is)
 
   -- the first that can be answered, where a request is ready
   pub ready_first : (room : Bool) (a : Asked) (passed : ℕ) (h : Handling) (id : ℕ) (answer : Bool)
-      → (law : ServerLaw limit szx word (Ticks now w L.Idle room (due.Ready a) passed h id answer ∷ t))
-      → Found limit szx word t now (before room (due.Ready a) passed h id answer law) own.waiting
+      → (law : ServerLaw limits szx word (Ticks now w L.Idle room (due.Ready a) passed h id answer ∷ t))
+      → Found limits szx word t now (before room (due.Ready a) passed h id answer law) own.waiting
       (found_ready L.Idle (P.ready_at (W.own_of calls) at) room a
       (due_is L.Idle room (due.Ready a) passed h id answer law)).deferred
   ready_first room a passed h id answer law =
@@ -201,9 +203,9 @@ module _ (limit szx word : ℕ) (t : List Call) (now w : ℕ) where
     abbrev responding_call : L.Answer → Call
     responding_call u = Ticks now w u room (due.Ready a) passed (Serves q reply left) id answer
 
-    ready_next : (r : Bool) → ServerLaw limit szx word
+    ready_next : (r : Bool) → ServerLaw limits szx word
         (Ticks now w L.Idle r (due.Ready a) passed (Serves q reply left) id answer ∷ t)
-        → IsNextResponse limit szx word t (Ticks now w L.Idle r (due.Ready a) passed (Serves q reply left) id answer)
+        → IsNextResponse limits szx word t (Ticks now w L.Idle r (due.Ready a) passed (Serves q reply left) id answer)
         now a
     ready_next false law =
         let h : Handling = Serves q reply left in
@@ -229,39 +231,40 @@ module _ (limit szx word : ℕ) (t : List Call) (now w : ℕ) where
           asks = (
             refl,
             served_asks (question_of at a own.waiting) g.request.question own.store at q reply left
-                (asks_first limit szx word t now a g.request own.waiting whose g.first) law.rows.0.0,
+                (asks_first limits szx word t now a g.request own.waiting whose g.first) law.rows.0.0,
           );
         }
 
-    pub response_next : (below : L.Answer) → ServerLaw limit szx word (responding_call below ∷ t)
-        → IsNextResponse limit szx word t (responding_call below) now a
+    pub response_next : (below : L.Answer) → ServerLaw limits szx word (responding_call below ∷ t)
+        → IsNextResponse limits szx word t (responding_call below) now a
     response_next below law =
         let f = found_ready below (P.ready_at (W.own_of calls) at) room a
         (due_is below room (due.Ready a) passed (Serves q reply left) id answer law) in
-        subst (λ u. IsNextResponse limit szx word t (responding_call u) now a) (sym f.idle)
-        (ready_next room (subst (λ u. ServerLaw limit szx word (responding_call u ∷ t)) f.idle law))
+        subst (λ u. IsNextResponse limits szx word t (responding_call u) now a) (sym f.idle)
+        (ready_next room (subst (λ u. ServerLaw limits szx word (responding_call u ∷ t)) f.idle law))
 
   -- nothing is ready, or no Message ID is free
   module _ (room : Bool) (passed : ℕ) (h : Handling) (id : ℕ) (answer : Bool)
-      (law : ServerLaw limit szx word (Ticks now w L.Idle room due.Idle passed h id answer ∷ t)) where
-    pub none_ready : NoId limit szx word t now ⊎ NoneToAnswer limit szx word t now
+      (law : ServerLaw limits szx word (Ticks now w L.Idle room due.Idle passed h id answer ∷ t)) where
+    pub none_ready : NoId limits szx word t now ⊎ NoneToAnswer limits szx word t now
     none_ready = by (P.ready_at (W.own_of calls) at) refl
       where
         busy_no : (x : Deferred) → P.ready_at (W.own_of calls) at ≡ Some x → (r : Bool)
             → Says word base at x.asked.from r
             → due.Idle ≡ P.due_if (Some x) r
-            → NoId limit szx word t now ⊎ NoneToAnswer limit szx word t now
+            → NoId limits szx word t now ⊎ NoneToAnswer limits szx word t now
         busy_no x is true says e = absurd (cc e)
         busy_no x is false (inr held) e = inl held
         busy_no x is false (inl busy) e =
             let g = found_at room due.Idle passed h id answer law x is in
-            let can = first_holds (λ y. CanAnswer limit szx word t now y) g.request own.waiting g.first in
-            absurd (can.alone (subst (λ (y : Deferred). Busy (layer_of limit szx word t) y.asked.from) (sym g.is) busy))
+            let can = first_holds (λ y. CanAnswer limits szx word t now y) g.request own.waiting g.first in
+            absurd (can.alone (subst (λ (y : Deferred). Busy (layer_of limits szx word t) y.asked.from)
+            (sym g.is) busy))
 
         by : (o : Option Deferred) → P.ready_at (W.own_of calls) at ≡ o
-            → NoId limit szx word t now ⊎ NoneToAnswer limit szx word t now
-        by None is = inr (none_found limit szx word t now (before room due.Idle passed h id answer law) own.waiting
-            (sym (ready_is limit szx word t now (before room due.Idle passed h id answer law)) ∙ is))
+            → NoId limits szx word t now ⊎ NoneToAnswer limits szx word t now
+        by None is = inr (none_found limits szx word t now (before room due.Idle passed h id answer law) own.waiting
+            (sym (ready_is limits szx word t now (before room due.Idle passed h id answer law)) ∙ is))
         by (Some x) is = busy_no x is room (room_there room due.Idle passed h id answer law x is)
             (due_is L.Idle room due.Idle passed h id answer law ∙ ap (λ o. P.due_of L.Idle o room) is)
 
@@ -273,33 +276,33 @@ module _ (limit szx word : ℕ) (t : List Call) (now w : ℕ) where
 
   -- a notification
   pub notice_next : (room : Bool) (passed : ℕ) (o : Observer) (reply : Reply) (id : ℕ) (answer : Bool)
-      → ServerLaw limit szx word (Ticks now w L.Idle room due.Idle passed (Notifies o reply) id answer ∷ t)
-      → IsNextNotice limit szx word t now o
+      → ServerLaw limits szx word (Ticks now w L.Idle room due.Idle passed (Notifies o reply) id answer ∷ t)
+      → IsNextNotice limits szx word t now o
   notice_next room passed o reply id answer law =
       let h : Handling = Notifies o reply in
       let all = all_law L.Idle room due.Idle passed h id answer law in
       let v = walked room passed h id answer law (one_back word _ _ all) in
       let found = next_notifies (behind passed (marked own.observers)) own.store o reply law.rows.0.0 in
-      let may = gives limit szx word t now passed (marked own.observers) o found v in
+      let may = gives limits szx word t now passed (marked own.observers) o found v in
       record {
         none = elim (none_ready room passed h id answer law) [
-          | inl held ↦ absurd (never_both word (layer_of limit szx word t) _ may held)
+          | inl held ↦ absurd (never_both (S.usual word) (layer_of limits szx word t) _ may held)
           | inr none ↦ none
         ];
-        first = first_notified limit szx word t now may passed own.observers o found v;
+        first = first_notified limits szx word t now may passed own.observers o found v;
         id = may;
       }
 
   -- nothing
   pub nothing_left : (room : Bool) (passed : ℕ) (id : ℕ) (answer : Bool)
-      → ServerLaw limit szx word (Ticks now w L.Idle room due.Idle passed Silent id answer ∷ t)
-      → NoId limit szx word t now ⊎ (NoneToAnswer limit szx word t now × NoneToNotify limit szx word t)
+      → ServerLaw limits szx word (Ticks now w L.Idle room due.Idle passed Silent id answer ∷ t)
+      → NoId limits szx word t now ⊎ (NoneToAnswer limits szx word t now × NoneToNotify limits szx word t)
   nothing_left room passed id answer law =
       let v = walked room passed Silent id answer law (all_law L.Idle room due.Idle passed Silent id answer law) in
       let found = next_silent (behind passed (marked own.observers)) own.store law.rows.0.0 in
       elim (none_ready room passed Silent id answer law) [
         | inl held ↦ inl held
-        | inr none ↦ elim (none_notified limit szx word t now passed own.observers found v) [
+        | inr none ↦ elim (none_notified limits szx word t now passed own.observers found v) [
           | inl held ↦ inl held
           | inr rest ↦ inr (none, rest)
         ]

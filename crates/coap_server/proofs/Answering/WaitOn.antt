@@ -5,6 +5,7 @@ use Rattle.coap_types.specs.Past.{Ever}
 use Rattle.coap_types.proofs.Facts.Traces.{Ever_front}
 use Rattle.coap_codec.specs.Message.{Message}
 use Rattle.coap_layer.specs.Trace as L
+use Rattle.coap_resource.specs.Limits.{Limits}
 use Rattle.coap_exchange.specs.declared.answerer.Asked.{Asked}
 use Rattle.coap_exchange.specs.declared.answerer.Due.TheVariants as due
 use Rattle.coap_server.specs.Deferring.{is_of, without_waiting}
@@ -47,28 +48,28 @@ behind at (Some p) (Serves q reply left) x ws k = k
 behind at (Some p) (Waits q delay) x ws k = Ever_front (λ y. y ≡ x) ws _ k
 behind at (Some p) (Notifies o reply) x ws k = k
 
-module _ (limit szx word : ℕ) where
+module _ (limits : Limits) (szx word : ℕ) where
   -- the one that is ready is answered
   ready_sends : (t : List Call) (now w : ℕ) (below : L.Answer) (room : Bool) (a : Asked) (passed : ℕ) (h : Handling)
       (id : ℕ) (answer : Bool)
-      → ServerLaw limit szx word (Ticks now w below room (due.Ready a) passed h id answer ∷ t) → (b : Asked) → a ≡ b
-      → AnswersIt limit szx t (Ticks now w below room (due.Ready a) passed h id answer) b
+      → ServerLaw limits szx word (Ticks now w below room (due.Ready a) passed h id answer ∷ t) → (b : Asked) → a ≡ b
+      → AnswersIt limits szx t (Ticks now w below room (due.Ready a) passed h id answer) b
   ready_sends t now w below room a passed (Serves q reply left) id answer law b same = inl (ap (λ x. Some x) same)
   ready_sends t now w below room a passed Silent id answer law b same = let k =
-      (ready_are_served limit szx word (Ticks now w below room (due.Ready a) passed Silent id answer ∷ t) law).0 a refl
+      (ready_are_served limits szx word (Ticks now w below room (due.Ready a) passed Silent id answer ∷ t) law).0 a refl
       in let no = k.1 in absurd (cc no)
   ready_sends t now w below room a passed (Replies r) id answer law b same = let k =
-      (ready_are_served limit szx word (Ticks now w below room (due.Ready a) passed (Replies r) id answer ∷ t) law).0 a
+      (ready_are_served limits szx word (Ticks now w below room (due.Ready a) passed (Replies r) id answer ∷ t) law).0 a
       refl in let no = k.1 in absurd (cc no)
   ready_sends t now w below room a passed (Waits q e) id answer law b same = let k =
-      (ready_are_served limit szx word (Ticks now w below room (due.Ready a) passed (Waits q e) id answer ∷ t) law).0 a
+      (ready_are_served limits szx word (Ticks now w below room (due.Ready a) passed (Waits q e) id answer ∷ t) law).0 a
       refl in let no = k.1 in absurd (cc no)
   ready_sends t now w below room a passed (Notifies o reply) id answer law b same = let k =
-      (ready_are_served limit szx word (Ticks now w below room (due.Ready a) passed (Notifies o reply) id answer ∷ t)
+      (ready_are_served limits szx word (Ticks now w below room (due.Ready a) passed (Notifies o reply) id answer ∷ t)
       law).0 a refl in let no = k.1 in absurd (cc no)
 
-  here : (t : List Call) (c : Call) → ServerLaw limit szx word (c ∷ t) → (x : Waiting) → WaitsStill limit szx x t
-      → WaitsStill limit szx x (c ∷ t) ⊎ AnswersIt limit szx t c x.asked
+  here : (t : List Call) (c : Call) → ServerLaw limits szx word (c ∷ t) → (x : Waiting) → WaitsStill limits szx x t
+      → WaitsStill limits szx x (c ∷ t) ⊎ AnswersIt limits szx t c x.asked
   here t (Sets now path format body answer left) law x k = inl k
   here t (Removes now path answer left) law x k = inl k
   here t (Delays path ms answer) law x k = inl k
@@ -76,14 +77,14 @@ module _ (limit szx word : ℕ) where
   here t (Gets path answer) law x k = inl k
   here t (TellsApplied answer) law x k = inl k
   here t (Feeds now from bytes w up came h below) law x k =
-      inl (behind (max (own_of limit szx t).clock now) came h x (own_of limit szx t).waiting k)
+      inl (behind (max (own_of limits szx t).clock now) came h x (own_of limits szx t).waiting k)
   here t (Ticks now w below room due.Idle passed h id answer) law x k = inl k
   here t (Ticks now w below room due.Copied passed h id answer) law x k = inl k
   here t (Ticks now w below room due.Expired passed h id answer) law x k = inl k
   here t (Ticks now w below room (due.Ready a) passed h id answer) law x k =
       ⊎_elim (λ e. inl e) (λ e. inr (ready_sends t now w below room a passed h id answer law x.asked e))
-      (taken_out (max (own_of limit szx t).clock now) a x (own_of limit szx t).waiting k)
+      (taken_out (max (own_of limits szx t).clock now) a x (own_of limits szx t).waiting k)
 
-  pub wait_on : (t : List Call) → ServerLaw limit szx word t → WaitOn limit szx t
+  pub wait_on : (t : List Call) → ServerLaw limits szx word t → WaitOn limits szx t
   wait_on [] law = tt
-  wait_on (c ∷ t) law = (here t c law, wait_on t (server_back limit szx word c t law))
+  wait_on (c ∷ t) law = (here t c law, wait_on t (server_back limits szx word c t law))

@@ -9,6 +9,7 @@ use Rattle.coap_layer.specs.Rows.{Busy, MayGive, Withholds}
 use Rattle.coap_layer.specs.Words.{outstanding}
 use Rattle.coap_block.specs.Whole.{Each}
 use Rattle.coap_observe.specs.Observers.{Observer}
+use Rattle.coap_resource.specs.Limits.{Limits}
 use Rattle.coap_exchange.specs.declared.answerer.Asked.{Asked}
 use Rattle.coap_exchange.specs.declared.separate.Deferred.{Deferred}
 use Rattle.coap_exchange.specs.AnswererTrace as E
@@ -81,24 +82,24 @@ module _ (word : ℕ) (calls : List E.Call) (at : ℕ) where
         walk next (quiet_room word (W.lower_of calls) at (W.lower_of more) q o.to false) n os all,
       )
 
-module _ (limit szx word : ℕ) (t : List Call) (now : ℕ) where
+module _ (limits : Limits) (szx word : ℕ) (t : List Call) (now : ℕ) where
   abbrev own : Own
-  own = own_of limit szx t
+  own = own_of limits szx t
 
   abbrev at : ℕ
   at = max own.clock now
 
   abbrev calls : List E.Call
-  calls = lower_of limit szx t
+  calls = lower_of limits szx t
 
   abbrev Can : Waiting → Type 0
-  Can x = CanAnswer limit szx word t now x
+  Can x = CanAnswer limits szx word t now x
 
   abbrev May : Type 0
-  May = MayGive word (layer_of limit szx word t) (then word (W.lower_of calls) at)
+  May = MayGive (S.usual word) (layer_of limits szx word t) (then word (W.lower_of calls) at)
 
   abbrev Held : Type 0
-  Held = Withholds word (layer_of limit szx word t) (then word (W.lower_of calls) at)
+  Held = Withholds (S.usual word) (layer_of limits szx word t) (then word (W.lower_of calls) at)
 
   -- who is notified, and who is left
 
@@ -108,7 +109,7 @@ module _ (limit szx word : ℕ) (t : List Call) (now : ℕ) where
   gives (suc n) (x ∷ os) o h w = gives n os o h w.1
 
   abbrev Notified : Observer → List Observer → Type 0
-  Notified o os = IsFirst (CanNotify limit szx word t) o os
+  Notified o os = IsFirst (CanNotify limits szx word t) o os
 
   abbrev Found_from : Observer → List Observer → Type 0
   Found_from o os = (n : ℕ) → behind n (marked os) ≡ Some o → Walked word calls at n (marked os) → Notified o os
@@ -119,7 +120,7 @@ module _ (limit szx word : ℕ) (t : List Call) (now : ℕ) where
   marked_first may (suc n) x os o is f h w = inr (
     (λ can. elim w.0 [
       | inl busy ↦ can.alone busy
-      | inr held ↦ never_both word (layer_of limit szx word t) (then word (W.lower_of calls) at) may held
+      | inr held ↦ never_both (S.usual word) (layer_of limits szx word t) (then word (W.lower_of calls) at) may held
     ]),
     f n h w.1,
   )
@@ -135,7 +136,7 @@ module _ (limit szx word : ℕ) (t : List Call) (now : ℕ) where
       by true is k v f = marked_first may n x os o is f k v
 
   abbrev Nobody : List Observer → Type 0
-  Nobody os = Held ⊎ Each (λ o. CanNotify limit szx word t o → ⊥) os
+  Nobody os = Held ⊎ Each (λ o. CanNotify limits szx word t o → ⊥) os
 
   abbrev Nobody_from : List Observer → Type 0
   Nobody_from os = (n : ℕ) → behind n (marked os) ≡ None → Walked word calls at n (marked os) → Nobody os
@@ -162,20 +163,20 @@ module _ (limit szx word : ℕ) (t : List Call) (now : ℕ) where
       by true is k v f = marked_none n x os f k v
 
   -- what is answered, and what is left
-  module _ (law : ServerLaw limit szx word t) where
-    opens : law.exchanges.left.open_cons ≡ outstanding (layer_of limit szx word t)
+  module _ (law : ServerLaw limits szx word t) where
+    opens : law.exchanges.left.open_cons ≡ outstanding (layer_of limits szx word t)
     opens = ap (λ (z : S.State). z.open_cons) (layer_led word calls law.exchanges).kept
 
     same_busy : (to : Endpoint) → is_waited_for to own.exchanges.separate
-        ≡ is_busy to (outstanding (layer_of limit szx word t))
-    same_busy to = ap (λ (z : E.Own). is_waited_for to z.separate) (exchanges_kept limit szx t)
+        ≡ is_busy to (outstanding (layer_of limits szx word t))
+    same_busy to = ap (λ (z : E.Own). is_waited_for to z.separate) (exchanges_kept limits szx t)
         ∙ (waits word calls law.exchanges to ∙ ap (is_busy to) opens)
 
-    waited : (to : Endpoint) → Busy (layer_of limit szx word t) to → is_waited_for to own.exchanges.separate ≡ true
-    waited to b = same_busy to ∙ ever_busy to (outstanding (layer_of limit szx word t)) b
+    waited : (to : Endpoint) → Busy (layer_of limits szx word t) to → is_waited_for to own.exchanges.separate ≡ true
+    waited to b = same_busy to ∙ ever_busy to (outstanding (layer_of limits szx word t)) b
 
-    unwaited : (to : Endpoint) → is_waited_for to own.exchanges.separate ≡ true → Busy (layer_of limit szx word t) to
-    unwaited to k = busy_ever to (outstanding (layer_of limit szx word t)) (sym (same_busy to) ∙ k)
+    unwaited : (to : Endpoint) → is_waited_for to own.exchanges.separate ≡ true → Busy (layer_of limits szx word t) to
+    unwaited to k = busy_ever to (outstanding (layer_of limits szx word t)) (sym (same_busy to) ∙ k)
 
     abbrev ready : Waiting → Bool
     ready y = is_ready at own.exchanges.separate (deferred_as y)
@@ -203,8 +204,8 @@ module _ (limit szx word : ℕ) (t : List Call) (now : ℕ) where
     pub ready_is : P.ready_at (W.own_of calls) at
         ≡ first_ready at own.exchanges.separate (map deferred_as own.waiting)
     ready_is =
-        let m = mirrors limit szx word t law in
-        let kept : own.exchanges ≡ W.own_of calls = exchanges_kept limit szx t in
+        let m = mirrors limits szx word t law in
+        let kept : own.exchanges ≡ W.own_of calls = exchanges_kept limits szx t in
         let c = m.clock in
         let same : max own.exchanges.clock at ≡ at = omega (arith, c) in
         sym (ap (λ (z : E.Own). P.ready_at z at) kept)
@@ -266,5 +267,5 @@ module _ (limit szx word : ℕ) (t : List Call) (now : ℕ) where
           let can = first_holds Can w ws h in
           absurd (other (record {
             passed = leb-true x.delay (at - x.at) parts.1;
-            alone = λ b. can.alone (subst (λ (y : Asked). Busy (layer_of limit szx word t) y.from) (sym one) b);
+            alone = λ b. can.alone (subst (λ (y : Asked). Busy (layer_of limits szx word t) y.from) (sym one) b);
           }))

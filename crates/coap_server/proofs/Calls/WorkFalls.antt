@@ -5,6 +5,7 @@ use Rattle.coap_layer.specs.Trace as L
 use Rattle.coap_resource.specs.Content.{Content}
 use Rattle.coap_resource.specs.declared.refusal.StoreRefusal.{StoreRefusal}
 use Rattle.coap_resource.specs.declared.refusal.StoreRefusal.TheVariants as store_refusals
+use Rattle.coap_resource.specs.Limits.{Limits}
 use Rattle.coap_exchange.specs.declared.answerer.Due.{Due}
 use Rattle.coap_server.specs.Trace.{Handling, Call, Ticks}
 use Rattle.coap_server.specs.Led.{State, Led, Step}
@@ -15,24 +16,24 @@ use Rattle.coap_server.specs.declared.server.delaying.DelayRefusal.TheVariants a
 use Rattle.coap_server.specs.Object.Shown.{Kept, state_of}
 use Rattle.coap_server.specs.Turns.Work.{work, WasLed}
 
-module _ (limit szx word : ℕ) where
-  work_is : (now : ℕ) (t : List Call) (s : State) → Led limit szx word t s → work s now ≡ size limit szx word now t
-  work_is now t s led = ap (λ z. work z now) (led_state limit szx word t s led) ∙ sym (size_is limit szx word now t)
+module _ (limits : Limits) (szx word : ℕ) where
+  work_is : (now : ℕ) (t : List Call) (s : State) → Led limits szx word t s → work s now ≡ size limits szx word now t
+  work_is now t s led = ap (λ z. work z now) (led_state limits szx word t s led) ∙ sym (size_is limits szx word now t)
 
 module _ (old new : State) (now w : ℕ) (below : L.Answer) (room : Bool) (d : Due) (passed : ℕ) (h : Handling)
     (id : ℕ) where
   pub work_falls : WasLed old → Step old (Ticks now w below room d passed h id true) new → work new now < work old now
-  work_falls (limit, szx, word, t, led) step =
+  work_falls (limits, szx, word, t, led) step =
       let c : Call = Ticks now w below room d passed h id true in
-      let on = led_further limit szx word t c old new led step in
-      let falls = less limit szx word now w t below room d passed h id (led_lawful limit szx word (c ∷ t) new on) in
-      subst (λ n. n < work old now) (sym (work_is limit szx word now (c ∷ t) new on))
-      (subst (λ n. size limit szx word now (c ∷ t) < n) (sym (work_is limit szx word now t old led)) falls)
+      let on = led_further limits szx word t c old new led step in
+      let falls = less limits szx word now w t below room d passed h id (led_lawful limits szx word (c ∷ t) new on) in
+      subst (λ n. n < work old now) (sym (work_is limits szx word now (c ∷ t) new on))
+      (subst (λ n. size limits szx word now (c ∷ t) < n) (sym (work_is limits szx word now t old led)) falls)
 
 -- .. and what was led is led on by each call
 pub led_on : (c : Call) (old new : State) → WasLed old → Step old c new → WasLed new
-led_on c old new (limit, szx, word, t, led) step =
-    (limit, szx, word, c ∷ t, led_further limit szx word t c old new led step)
+led_on c old new (limits, szx, word, t, led) step =
+    (limits, szx, word, c ∷ t, led_further limits szx word t c old new led step)
 
 pub if_ok : {X Y : Type 0} {P Q : X → Type 0} (r : Result X Y) → ((x : X) → P x → Q x) → IfOk r P → IfOk r Q
 if_ok (Ok x) f p = f x p

@@ -25,7 +25,7 @@ joined (x ∷ xs) c calls = ap (λ z. x ∷ z) (joined xs c calls)
 module _ (word : ℕ) where
   pub one_back : (c : E.Call) (calls : List E.Call) → ResponseLaw word (c ∷ calls) → ResponseLaw word calls
   one_back c calls law =
-      let k = steps_split (S.start word) law.left (P.lower (W.own_of calls) c) (W.lower_of calls) law.layer in
+      let k = steps_split (S.start (S.usual word)) law.left (P.lower (W.own_of calls) c) (W.lower_of calls) law.layer in
       record { rows = law.rows.1; left = k.0; layer = k.1 }
 
   pub back : (xs calls : List E.Call) → ResponseLaw word (xs ++ calls) → ResponseLaw word calls
@@ -70,16 +70,16 @@ module _ (word : ℕ) where
 
     -- whether there is room, where that is asked
     rooms_alike : (o : Option Deferred) (room space : Bool) (left other : S.State)
-        → Steps (S.start word) ((P.asking_room at o room ++ tick) ++ before) left
-        → Steps (S.start word) ((P.asking_room at o space ++ tick) ++ before) other
+        → Steps (S.start (S.usual word)) ((P.asking_room at o room ++ tick) ++ before) left
+        → Steps (S.start (S.usual word)) ((P.asking_room at o space ++ tick) ++ before) other
         → P.asking_room at o room ≡ P.asking_room at o space
     rooms_alike None room space left other p q = refl
     rooms_alike (Some x) room space left other p q =
-        let c = steps_split (S.start word) left (P.asking_room at (Some x) room ++ tick) before p in
-        let e = steps_split (S.start word) other (P.asking_room at (Some x) space ++ tick) before q in
+        let c = steps_split (S.start (S.usual word)) left (P.asking_room at (Some x) room ++ tick) before p in
+        let e = steps_split (S.start (S.usual word)) other (P.asking_room at (Some x) space ++ tick) before q in
         let f = steps_split c.0 left (P.asking_room at (Some x) room) tick c.2 in
         let g = steps_split e.0 other (P.asking_room at (Some x) space) tick e.2 in
-        let first : c.0 ≡ e.0 = one_left (S.start word) before c.0 e.0 c.1 e.1 in
+        let first : c.0 ≡ e.0 = one_left (S.start (S.usual word)) before c.0 e.0 c.1 e.1 in
         let after : f.0 ≡ g.0 = one_left c.0 tick f.0 g.0 f.1 (subst (λ z. Steps z tick g.0) (sym first) g.1) in
         let same = one_answer f.2.0 g.2.0 left other at (L.Room x.asked.from) (L.Is room) (L.Is space)
         (f.2.1 ∙ (after ∙ sym g.2.1)) f.2.2 g.2.2 in
@@ -115,6 +115,6 @@ module _ (word : ℕ) where
         record {
           rows = rows_moved xs room space p.rows q.rows;
           left = q.left;
-          layer = subst (λ z. Steps (S.start word) z q.left)
+          layer = subst (λ z. Steps (S.start (S.usual word)) z q.left)
               (sym (lower_same xs room space p (back xs (ticked space) q))) q.layer;
         }

@@ -6,6 +6,7 @@ use Rattle.coap_codec.specs.Message.{Message}
 use Rattle.coap_layer.specs.Trace as L
 use Rattle.coap_resource.specs.Content.{put_refusal}
 use Rattle.coap_resource.specs.Rate.{rate_refusal}
+use Rattle.coap_resource.specs.Limits.{Limits}
 use Rattle.coap_exchange.specs.declared.answerer.Asked.{Asked}
 use Rattle.coap_exchange.specs.declared.answerer.Due.{Due}
 use Rattle.coap_exchange.specs.declared.answerer.Due.TheVariants as due
@@ -122,31 +123,31 @@ module _ (word : ℕ) (s : Own) where
     turn_alike due.Copied passed skipped h k id number room a b p q = (a ∙ sym b, refl)
     turn_alike due.Expired passed skipped h k id number room a b p q = (a ∙ sym b, refl)
 
-module _ (limit szx word : ℕ) (past : List Call) where
+module _ (limits : Limits) (szx word : ℕ) (past : List Call) where
   abbrev own : Own
-  own = own_of limit szx past
+  own = own_of limits szx past
 
   abbrev calls : List E.Call
-  calls = lower_of limit szx past
+  calls = lower_of limits szx past
 
   abbrev Law : Call → Type 0
-  Law c = ServerLaw limit szx word (c ∷ past)
+  Law c = ServerLaw limits szx word (c ∷ past)
 
   abbrev Alike : Call → Call → Type 0
-  Alike c d = LeaveAlike limit szx past c d
+  Alike c d = LeaveAlike limits szx past c d
 
   -- of equal arrivals that are handled alike
   module _ (now : ℕ) (from : Endpoint) (bytes : List ℕ) (w : ℕ) (up : L.Answer) (came : Option (Asked × Message))
       (h : Handling) (below beyond : L.Answer) where
     abbrev FedAlike : L.Answer → Option (Asked × Message) → Handling → Type 0
-    FedAlike u c k = (answering (fed limit szx past now from bytes up came) came h below
-        ≡ answering (fed limit szx past now from bytes u c) c k beyond)
+    FedAlike u c k = (answering (fed limits szx past now from bytes up came) came h below
+        ≡ answering (fed limits szx past now from bytes u c) c k beyond)
         × Alike (Feeds now from bytes w up came h below) (Feeds now from bytes w u c k beyond)
 
     fed_alike : Law (Feeds now from bytes w up came h below) → Law (Feeds now from bytes w up came h beyond)
         → FedAlike up came h
     fed_alike p q =
-        let s : Own = fed limit szx past now from bytes up came in
+        let s : Own = fed limits szx past now from bytes up came in
         let first : E.Call = E.Incoming s.clock from bytes up came in
         let asks = answering_alike word s first calls came h below beyond p.exchanges q.exchanges in (
           asks,
@@ -160,12 +161,12 @@ module _ (limit szx word : ℕ) (past : List Call) where
       (came come : Option (Asked × Message)) (h k : Handling) (below beyond : L.Answer)
       → Law (Feeds now from bytes w up came h below)
       → Law (Feeds now from bytes w other come k beyond)
-      → (up ≡ other) × (came ≡ come) × (h ≡ k) × (answering (fed limit szx past now from bytes up came) came h below
-      ≡ answering (fed limit szx past now from bytes other come) come k beyond)
+      → (up ≡ other) × (came ≡ come) × (h ≡ k) × (answering (fed limits szx past now from bytes up came) came h below
+      ≡ answering (fed limits szx past now from bytes other come) come k beyond)
       × Alike (Feeds now from bytes w up came h below) (Feeds now from bytes w other come k beyond)
   heard_alike now from bytes w up other came come h k below beyond p q =
-      let s : Own = fed limit szx past now from bytes up came in
-      let t : Own = fed limit szx past now from bytes other come in
+      let s : Own = fed limits szx past now from bytes up came in
+      let t : Own = fed limits szx past now from bytes other come in
       let first : E.Call = E.Incoming s.clock from bytes up came in
       let second : E.Call = E.Incoming t.clock from bytes other come in
       let a = back word (answering s came h below) (first ∷ calls)
@@ -188,14 +189,14 @@ module _ (limit szx word : ℕ) (past : List Call) where
       (id number : ℕ) (answer another : Bool) where
     abbrev TickAlike : L.Answer → Due → Type 0
     TickAlike b t =
-        (h ≡ k) × (responding (turned limit szx past now below room d) d passed h w id
-        ≡ responding (turned limit szx past now b space t) t skipped k w number) × (answer ≡ another)
+        (h ≡ k) × (responding (turned limits szx past now below room d) d passed h w id
+        ≡ responding (turned limits szx past now b space t) t skipped k w number) × (answer ≡ another)
         × Alike (Ticks now w below room d passed h id answer) (Ticks now w b space t skipped k number another)
 
     tick_alike : Law (Ticks now w below room d passed h id answer)
         → Law (Ticks now w below space d skipped k number another) → TickAlike below d
     tick_alike p q =
-        let s : Own = turned limit szx past now below room d in
+        let s : Own = turned limits szx past now below room d in
         let xs : List E.Call = responding s d passed h w id in
         let ys : List E.Call = responding s d skipped k w number in
         let a : ResponseLaw word (xs ++ ticked word s.clock below d calls room) =
@@ -222,12 +223,12 @@ module _ (limit szx word : ℕ) (past : List Call) where
   turns_alike : (now w : ℕ) (below other : L.Answer) (room space : Bool) (d t : Due) (passed skipped : ℕ)
       (h k : Handling) (id number : ℕ) (answer another : Bool) → Law (Ticks now w below room d passed h id answer)
       → Law (Ticks now w other space t skipped k number another)
-      → (below ≡ other) × (d ≡ t) × (h ≡ k) × (responding (turned limit szx past now below room d) d passed h w id
-      ≡ responding (turned limit szx past now other space t) t skipped k w number) × (answer ≡ another)
+      → (below ≡ other) × (d ≡ t) × (h ≡ k) × (responding (turned limits szx past now below room d) d passed h w id
+      ≡ responding (turned limits szx past now other space t) t skipped k w number) × (answer ≡ another)
       × Alike (Ticks now w below room d passed h id answer) (Ticks now w other space t skipped k number another)
   turns_alike now w below other room space d t passed skipped h k id number answer another p q =
-      let x : Own = turned limit szx past now below room d in
-      let y : Own = turned limit szx past now other space t in
+      let x : Own = turned limits szx past now below room d in
+      let y : Own = turned limits szx past now other space t in
       let xs : List E.Call = responding x d passed h w id in
       let ys : List E.Call = responding y t skipped k w number in
       let a = back word xs (E.Ticks x.clock below room d ∷ calls)
@@ -242,7 +243,7 @@ module _ (limit szx word : ℕ) (past : List Call) where
       (subst (λ z. TickAlike now w below room space d passed skipped h k id number answer another below z) e.1 r) in
       (e.0, e.1, f.0, f.1, f.2, f.3)
 
-  pub is_exact : IsExact limit szx word past
+  pub is_exact : IsExact limits szx word past
   is_exact = record {
     sets = λ now path format body answer another left other p q.
         set_alike (put_refusal own.store (max own.clock now) path (length body)) own.store

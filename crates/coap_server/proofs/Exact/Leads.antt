@@ -4,6 +4,7 @@ use Rattle.coap_layer.specs.Machine.State as S
 use Rattle.coap_layer.specs.Machine.Steps as G
 use Rattle.coap_layer.specs.Machine.Steps.{Steps}
 use Rattle.coap_layer.proofs.Facts.Calls.{steps_left}
+use Rattle.coap_resource.specs.Limits.{Limits}
 use Rattle.coap_exchange.specs.AnswererTrace as E
 use Rattle.coap_exchange.specs.AnswererLaw as X
 use Rattle.coap_exchange.specs.AnswererSteps as P
@@ -27,71 +28,72 @@ pub kept_behind : (s : E.Own) (first : E.Call) (asks past : List E.Call) → s �
 kept_behind s first asks past e = ap (λ z. exchanges_after (P.after z first) asks) e
     ∙ (calls_kept asks (first ∷ past) ∙ ap X.own_of (sym (joined asks first past)))
 
-pub exchanges_kept : (limit szx : ℕ) (t : List Call) → (own_of limit szx t).exchanges ≡ X.own_of (lower_of limit szx t)
-exchanges_kept limit szx [] = refl
-exchanges_kept limit szx (Sets now path format body answer left ∷ t) = exchanges_kept limit szx t
-exchanges_kept limit szx (Removes now path answer left ∷ t) = exchanges_kept limit szx t
-exchanges_kept limit szx (Delays path ms answer ∷ t) = exchanges_kept limit szx t
-exchanges_kept limit szx (Gets path answer ∷ t) = exchanges_kept limit szx t
-exchanges_kept limit szx (TellsApplied answer ∷ t) = exchanges_kept limit szx t
-exchanges_kept limit szx (Feeds now from bytes word up came h below ∷ t) =
-    let s : Own = own_of limit szx t in
+pub exchanges_kept : (limits : Limits) (szx : ℕ) (t : List Call)
+    → (own_of limits szx t).exchanges ≡ X.own_of (lower_of limits szx t)
+exchanges_kept limits szx [] = refl
+exchanges_kept limits szx (Sets now path format body answer left ∷ t) = exchanges_kept limits szx t
+exchanges_kept limits szx (Removes now path answer left ∷ t) = exchanges_kept limits szx t
+exchanges_kept limits szx (Delays path ms answer ∷ t) = exchanges_kept limits szx t
+exchanges_kept limits szx (Gets path answer ∷ t) = exchanges_kept limits szx t
+exchanges_kept limits szx (TellsApplied answer ∷ t) = exchanges_kept limits szx t
+exchanges_kept limits szx (Feeds now from bytes word up came h below ∷ t) =
+    let s : Own = own_of limits szx t in
     let first : E.Call = incoming s now from bytes up came in
-    kept_behind s.exchanges first (answering (heard s now first) came h below) (lower_of limit szx t)
-    (exchanges_kept limit szx t)
-exchanges_kept limit szx (Ticks now word below room d passed h id answer ∷ t) =
-    let s : Own = own_of limit szx t in
+    kept_behind s.exchanges first (answering (heard s now first) came h below) (lower_of limits szx t)
+    (exchanges_kept limits szx t)
+exchanges_kept limits szx (Ticks now word below room d passed h id answer ∷ t) =
+    let s : Own = own_of limits szx t in
     let first : E.Call = ticking s now below room d in
-    kept_behind s.exchanges first (responding (heard s now first) d passed h word id) (lower_of limit szx t)
-    (exchanges_kept limit szx t)
-exchanges_kept limit szx (NextOut answer ∷ t) = ap (λ s. P.after s (E.Take answer)) (exchanges_kept limit szx t)
+    kept_behind s.exchanges first (responding (heard s now first) d passed h word id) (lower_of limits szx t)
+    (exchanges_kept limits szx t)
+exchanges_kept limits szx (NextOut answer ∷ t) = ap (λ s. P.after s (E.Take answer)) (exchanges_kept limits szx t)
 
-module _ (limit szx word : ℕ) where
-  pub led_empty : Led limit szx word [] (fresh_state limit szx word)
+module _ (limits : Limits) (szx word : ℕ) where
+  pub led_empty : Led limits szx word [] (fresh_state limits szx word)
   led_empty = record { rows = tt; own_is = refl; exchanges = led_start word }
 
-  pub led_further : (t : List Call) (c : Call) (old new : State) → Led limit szx word t old → Step old c new
-      → Led limit szx word (c ∷ t) new
+  pub led_further : (t : List Call) (c : Call) (old new : State) → Led limits szx word t old → Step old c new
+      → Led limits szx word (c ∷ t) new
   led_further t c old new led step =
       record {
         rows = (subst (λ s. IsRight s c) led.own_is step.right, led.rows);
         own_is = step.own_is ∙ ap (λ s. after s c) led.own_is;
-        exchanges = led_exchanged word (lower_of limit szx t) (lower (own_of limit szx t) c) (exchanges_of old)
+        exchanges = led_exchanged word (lower_of limits szx t) (lower (own_of limits szx t) c) (exchanges_of old)
             (exchanges_of new) led.exchanges
             (subst (λ s. X.Exchanged (exchanges_of old) (lower s c) (exchanges_of new)) led.own_is step.under);
       }
 
-  pub led_lawful : (t : List Call) (s : State) → Led limit szx word t s → ServerLaw limit szx word t
+  pub led_lawful : (t : List Call) (s : State) → Led limits szx word t s → ServerLaw limits szx word t
   led_lawful t s led = record {
     rows = led.rows;
-    exchanges = led_law word (lower_of limit szx t) (exchanges_of s) led.exchanges;
+    exchanges = led_law word (lower_of limits szx t) (exchanges_of s) led.exchanges;
   }
 
   -- the calls lead to this state, and to no other
 
   abbrev asks : List Call → List G.Asked
-  asks t = X.lower_of (lower_of limit szx t)
+  asks t = X.lower_of (lower_of limits szx t)
 
-  pub led_state : (t : List Call) (s : State) → Led limit szx word t s → s ≡ state_left limit szx word t
+  pub led_state : (t : List Call) (s : State) → Led limits szx word t s → s ≡ state_left limits szx word t
   led_state t s led = ap (λ (o : Own). record { own = o; layer = s.layer }) led.own_is
-      ∙ ap (λ (l : S.State). record { own = own_of limit szx t; layer = l })
-      (steps_left (S.start word) (asks t) s.layer led.exchanges.layer)
+      ∙ ap (λ (l : S.State). record { own = own_of limits szx t; layer = l })
+      (steps_left (S.start (S.usual word)) (asks t) s.layer led.exchanges.layer)
 
-  leads_there : (t : List Call) → ServerLaw limit szx word t → Led limit szx word t (state_left limit szx word t)
+  leads_there : (t : List Call) → ServerLaw limits szx word t → Led limits szx word t (state_left limits szx word t)
   leads_there t law = record {
     rows = law.rows;
     own_is = refl;
     exchanges = record {
       rows = law.exchanges.rows;
-      own_is = exchanges_kept limit szx t;
-      layer = subst (Steps (S.start word) (asks t))
-          (steps_left (S.start word) (asks t) law.exchanges.left law.exchanges.layer) law.exchanges.layer;
+      own_is = exchanges_kept limits szx t;
+      layer = subst (Steps (S.start (S.usual word)) (asks t))
+          (steps_left (S.start (S.usual word)) (asks t) law.exchanges.left law.exchanges.layer) law.exchanges.layer;
     };
   }
 
-  pub one_state : (t : List Call) → ServerLaw limit szx word t → (s : State)
-      → Led limit szx word t s ↔ (s ≡ state_left limit szx word t)
+  pub one_state : (t : List Call) → ServerLaw limits szx word t → (s : State)
+      → Led limits szx word t s ↔ (s ≡ state_left limits szx word t)
   one_state t law s = (
     led_state t s,
-    λ same. subst (Led limit szx word t) (sym same) (leads_there t law),
+    λ same. subst (Led limits szx word t) (sym same) (leads_there t law),
   )

@@ -4,6 +4,8 @@ use Rattle.std.proofs.Common.{ℕ, List, ◌++◌}
 use Rattle.coap_types.specs.Past.{Always}
 use Rattle.coap_layer.specs.Channel.{RepliesSo}
 use Rattle.coap_layer.specs.Rows.{LayerLaw}
+use Rattle.coap_layer.specs.Machine.State.{usual}
+use Rattle.coap_resource.specs.Limits.{Limits}
 use Rattle.coap_exchange.proofs.Facts.ServerSide as E
 use Rattle.coap_server.specs.Trace.{Call}
 use Rattle.coap_server.specs.Law.{ServerLaw, lower_of, layer_of}
@@ -50,7 +52,7 @@ use Rattle.coap_server.proofs.Serving.Brought.{servers_back}
 use Rattle.coap_server.proofs.Serving.Reads.{verdicts_read}
 use Rattle.coap_server.proofs.Serving.Waiting.{ready_are_served}
 use Rattle.coap_server.proofs.Telling.ResponsesGoOut.{all_go_out}
-pub use Rattle.coap_server.proofs.Holding.Holds.{version_is, held_is, all_served, holds_changes}
+pub use Rattle.coap_server.proofs.Holding.Holds.{version_is, held_is, limits_are, all_served, holds_changes}
 
 pub reads : VerdictsRead
 reads = verdicts_read
@@ -58,91 +60,91 @@ reads = verdicts_read
 pub questions : VerdictsAsk
 questions = verdicts_ask
 
-module _ (limit szx word : ℕ) where
-  pub back : (calls t : List Call) → ServerLaw limit szx word (calls ++ t) → ServerLaw limit szx word t
-  back calls t law = servers_back limit szx word calls t law
+module _ (limits : Limits) (szx word : ℕ) where
+  pub back : (calls t : List Call) → ServerLaw limits szx word (calls ++ t) → ServerLaw limits szx word t
+  back calls t law = servers_back limits szx word calls t law
 
-  module _ (t : List Call) (law : ServerLaw limit szx word t) where
-    pub layer : LayerLaw word (layer_of limit szx word t)
-    layer = E.layer_stands word (lower_of limit szx t) law.exchanges
+  module _ (t : List Call) (law : ServerLaw limits szx word t) where
+    pub layer : LayerLaw (usual word) (layer_of limits szx word t)
+    layer = E.layer_stands word (lower_of limits szx t) law.exchanges
 
-    pub goes : GoesOn limit szx word t
-    goes = goes_on limit szx word t law
+    pub goes : GoesOn limits szx word t
+    goes = goes_on limits szx word t law
 
-    pub rests : ComesToRest limit szx word t
-    rests = comes_to_rest limit szx word t law
+    pub rests : ComesToRest limits szx word t
+    rests = comes_to_rest limits szx word t law
 
-    pub replies : Always RepliesSo (layer_of limit szx word t)
-    replies = replies_at_once limit szx word t law
+    pub replies : Always RepliesSo (layer_of limits szx word t)
+    replies = replies_at_once limits szx word t law
 
-    pub handed : AreHandedUp limit szx word t
-    handed = handed_up limit szx word t law
+    pub handed : AreHandedUp limits szx word t
+    handed = handed_up limits szx word t law
 
-    pub blocks : BlocksCome limit szx word t
-    blocks = blocks_come limit szx word t law
+    pub blocks : BlocksCome limits szx word t
+    blocks = blocks_come limits szx word t law
 
-    pub attended : AllAttended limit szx t
-    attended = all_attended limit szx word t law
+    pub attended : AllAttended limits szx t
+    attended = all_attended limits szx word t law
 
-    pub answered : FirstIsAnswered limit szx word t
-    answered = first_answered limit szx word t law
+    pub answered : FirstIsAnswered limits szx word t
+    answered = first_answered limits szx word t law
 
-    pub ready : ReadyAreServed limit szx t
-    ready = ready_are_served limit szx word t law
+    pub ready : ReadyAreServed limits szx t
+    ready = ready_are_served limits szx word t law
 
-    pub counts : Counted limit szx word t
-    counts = counted limit szx word t law
+    pub counts : Counted limits szx word t
+    counts = counted limits szx word t law
 
-    pub served : ServedOnce limit szx t
-    served = served_once limit szx t (E.are_responses (lower_of limit szx t) law.exchanges.rows)
+    pub served : ServedOnce limits szx t
+    served = served_once limits szx t (E.are_responses (lower_of limits szx t) law.exchanges.rows)
 
-    pub right : AllServed limit szx t
-    right = H.all_served limit szx t law.rows
+    pub right : AllServed limits szx t
+    right = H.all_served limits szx t law.rows
 
-    pub stamped : AreStamped limit szx t
-    stamped = are_stamped limit szx t law.rows
+    pub stamped : AreStamped limits szx t
+    stamped = are_stamped limits szx t law.rows
 
-    pub tags : OneTag limit szx t
-    tags = one_tag limit szx t law.rows
+    pub tags : OneTag limits szx t
+    tags = one_tag limits szx t law.rows
 
-    pub gives : SentResponses limit szx word t
-    gives = sent_responses limit szx word t law
+    pub gives : SentResponses limits szx word t
+    gives = sent_responses limits szx word t law
 
-    pub continues : NoneContinues limit szx t
-    continues = none_continues limit szx word t law
+    pub continues : NoneContinues limits szx t
+    continues = none_continues limits szx word t law
 
-    pub follows : Follows limit szx t
-    follows = O.follows limit szx word t law
+    pub follows : Follows limits szx t
+    follows = O.follows limits szx word t law
 
-    pub methods : AllMethods limit szx t
-    methods = all_methods limit szx t law.rows
+    pub methods : AllMethods limits szx t
+    methods = all_methods limits szx t law.rows
 
-    pub uploads : AllUploads limit szx t
-    uploads = all_uploads limit szx t law.rows
+    pub uploads : AllUploads limits szx t
+    uploads = all_uploads limits szx t law.rows
 
-    pub registers : AllRegister limit szx t
-    registers = all_register limit szx word t law
+    pub registers : AllRegister limits szx t
+    registers = all_register limits szx word t law
 
-    pub marks : AllMark limit szx t
-    marks = all_mark limit szx word t law
+    pub marks : AllMark limits szx t
+    marks = all_mark limits szx word t law
 
-    pub stays_due : StayDue limit szx t
-    stays_due = stay_due limit szx t law.rows
+    pub stays_due : StayDue limits szx t
+    stays_due = stay_due limits szx t law.rows
 
-    pub current : AreCurrent limit szx t
-    current = are_current limit szx word t law
+    pub current : AreCurrent limits szx t
+    current = are_current limits szx word t law
 
-    pub waits_on : WaitOn limit szx t
-    waits_on = wait_on limit szx word t law
+    pub waits_on : WaitOn limits szx t
+    waits_on = wait_on limits szx word t law
 
-    pub goes_out : AllGoOut limit szx word t
-    goes_out = all_go_out limit szx word t law
+    pub goes_out : AllGoOut limits szx word t
+    goes_out = all_go_out limits szx word t law
 
-    pub none_left : NoneLeft limit szx word t
-    none_left = N.none_left limit szx word t law
+    pub none_left : NoneLeft limits szx word t
+    none_left = N.none_left limits szx word t law
 
-    pub notified : FirstIsNotified limit szx word t
-    notified = N.first_is_notified limit szx word t law
+    pub notified : FirstIsNotified limits szx word t
+    notified = N.first_is_notified limits szx word t law
 
-    pub begins : AllBeginNext limit szx word t
-    begins = N.all_begin_next limit szx word t law
+    pub begins : AllBeginNext limits szx word t
+    begins = N.all_begin_next limits szx word t law

@@ -1,5 +1,5 @@
--- The versions of a server's changes are 1, 2, 3 and so on; a path holds its last change; what is served is served
--- right.
+-- The versions of a server's changes are 1, 2, 3 and so on; a path holds its last change; the limits stay; what is
+-- served is served right.
 use Rattle.std.proofs.Common.{◌≡◌, inl, inr, ℕ, ◌+◌, ◌==◌, max, Bool, true, false, Option, Some, None, List, [], ◌∷◌}
 use Rattle.std.proofs.Common.{refl, ap, sym, subst, ◌∙◌, cond, arith, length}
 use Rattle.std.specs.Cmp.{unsigned_Decides}
@@ -9,6 +9,7 @@ use Rattle.coap_resource.specs.Content.{Content, put_refusal}
 use Rattle.coap_resource.specs.Rate.{rate_refusal}
 use Rattle.coap_resource.specs.Serves.{Question}
 use Rattle.coap_resource.specs.Serves as R
+use Rattle.coap_resource.specs.Limits.{Limits}
 use Rattle.coap_exchange.specs.declared.answerer.Due.TheVariants as due
 use Rattle.coap_server.specs.Trace.{Own, Silent, Replies, Serves, Waits, Notifies, Call, Sets, Removes}
 use Rattle.coap_server.specs.Trace.{Delays, Feeds, Ticks, NextOut, Gets, TellsApplied}
@@ -89,6 +90,7 @@ one_changed path old left k = ap (λ b. cond b None (Some (some_change path left
 -- the change that a call makes of the store, and what is held then
 pub record Moves (old left : Content) (x : Option Change) : Type 0 where
   pub version : left.tally.version ≡ counted x + old.tally.version
+  pub limits : left.tally.limits ≡ old.tally.limits
   pub held : (path : List (List ℕ)) → left.holds path ≡ held_then path x (old.holds path)
   pub new : (y : Change) → x ≡ Some y → y.version ≡ old.tally.version + 1
 
@@ -104,6 +106,7 @@ moves path old left (inl k) =
     subst (Moves old left) (sym (none_kept path old left k))
     (record {
       version = (let v = k.version in omega (arith, v));
+      limits = k.limits;
       held = λ p. ap (λ f. f p) k.holds;
       new = λ y h. absurd (cc h);
     })
@@ -111,13 +114,14 @@ moves path old left (inr k) =
     subst (Moves old left) (sym (one_changed path old left k)) (
     record {
       version = (let v = k.version in omega (arith, v));
+      limits = k.limits;
       held = λ p. held_by path p old left k (same_path path p) refl;
       new = λ y h. (let same : ◌≡◌ {A = Change} (some_change path left) y = cc h in let e : left.tally.version
           ≡ y.version = ap (λ (z : Change). z.version) same in let v = k.version in omega (arith, e, v));
     })
 
 stays : (s : Own) → Moves s.store s.store None
-stays s = record { version = omega arith; held = λ path. refl; new = λ y h. absurd (cc h) }
+stays s = record { version = omega arith; limits = refl; held = λ path. refl; new = λ y h. absurd (cc h) }
 
 serving_moves : (s : Own) (c : Call) → IsRight s c → (x : Serving) → serving s c ≡ Some x
     → Moves x.old x.left (change_of x.question.path x.old x.left)
@@ -172,24 +176,28 @@ moves_by s (Ticks now word below room (due.Ready a) passed (Replies r) id answer
 moves_by s (Ticks now word below room (due.Ready a) passed (Waits q e) id answer) right = stays s
 moves_by s (Ticks now word below room (due.Ready a) passed (Notifies o reply) id answer) right = stays s
 
-module _ (limit szx : ℕ) where
-  pub version_is : (t : List Call) → ServerRows limit szx t
-      → (own_of limit szx t).store.tally.version ≡ changes limit szx t
+module _ (limits : Limits) (szx : ℕ) where
+  pub version_is : (t : List Call) → ServerRows limits szx t
+      → (own_of limits szx t).store.tally.version ≡ changes limits szx t
   version_is [] law = refl
-  version_is (c ∷ t) law = (moves_by (own_of limit szx t) c law.0).version
-      ∙ ap (λ n. counted (change (own_of limit szx t) c) + n) (version_is t law.1)
+  version_is (c ∷ t) law = (moves_by (own_of limits szx t) c law.0).version
+      ∙ ap (λ n. counted (change (own_of limits szx t) c) + n) (version_is t law.1)
 
-  pub held_is : (t : List Call) → ServerRows limit szx t → (path : List (List ℕ))
-      → (own_of limit szx t).store.holds path ≡ held_at limit szx path t
+  pub limits_are : (t : List Call) → ServerRows limits szx t → (own_of limits szx t).store.tally.limits ≡ limits
+  limits_are [] law = refl
+  limits_are (c ∷ t) law = (moves_by (own_of limits szx t) c law.0).limits ∙ limits_are t law.1
+
+  pub held_is : (t : List Call) → ServerRows limits szx t → (path : List (List ℕ))
+      → (own_of limits szx t).store.holds path ≡ held_at limits szx path t
   held_is [] law path = refl
-  held_is (c ∷ t) law path = (moves_by (own_of limit szx t) c law.0).held path
-      ∙ ap (held_then path (change (own_of limit szx t) c)) (held_is t law.1 path)
+  held_is (c ∷ t) law path = (moves_by (own_of limits szx t) c law.0).held path
+      ∙ ap (held_then path (change (own_of limits szx t) c)) (held_is t law.1 path)
 
-  pub holds_changes : (t : List Call) → ServerRows limit szx t → HoldsChanges limit szx t
+  pub holds_changes : (t : List Call) → ServerRows limits szx t → HoldsChanges limits szx t
   holds_changes [] law = tt
   holds_changes (c ∷ t) law = (
     record {
-      version = λ x h. (moves_by (own_of limit szx t) c law.0).new x h ∙ ap (λ n. n + 1) (version_is t law.1);
+      version = λ x h. (moves_by (own_of limits szx t) c law.0).new x h ∙ ap (λ n. n + 1) (version_is t law.1);
       held = held_is t law.1;
     },
     holds_changes t law.1,
@@ -218,13 +226,13 @@ applied_by s c right x y h k =
       | inr good ↦ good
     ]
 
-pub all_served : (limit szx : ℕ) (t : List Call) → ServerRows limit szx t → AllServed limit szx t
-all_served limit szx [] law = tt
-all_served limit szx (c ∷ t) law = (
+pub all_served : (limits : Limits) (szx : ℕ) (t : List Call) → ServerRows limits szx t → AllServed limits szx t
+all_served limits szx [] law = tt
+all_served limits szx (c ∷ t) law = (
   record {
-    serves = λ x h. (let k = serves_right (own_of limit szx t) c law.0 x h in (k.0, k.2));
-    applied = λ x h yes. (let k = serves_right (own_of limit szx t) c law.0 x h in applied_whole x k.0 k.2 yes);
-    changes_by = λ x y h k. applied_by (own_of limit szx t) c law.0 x y h k;
+    serves = λ x h. (let k = serves_right (own_of limits szx t) c law.0 x h in (k.0, k.2));
+    applied = λ x h yes. (let k = serves_right (own_of limits szx t) c law.0 x h in applied_whole x k.0 k.2 yes);
+    changes_by = λ x y h k. applied_by (own_of limits szx t) c law.0 x y h k;
   },
-  all_served limit szx t law.1,
+  all_served limits szx t law.1,
 )

@@ -8,6 +8,7 @@ use Rattle.coap_resource.specs.Serves.{Question, Reply, got, ServesUnless}
 use Rattle.coap_resource.specs.Serves as R
 use Rattle.coap_resource.proofs.Facts.Served.{content_law}
 use Rattle.coap_resource.proofs.Facts.Served.{part_law}
+use Rattle.coap_resource.specs.Limits.{Limits}
 use Rattle.coap_exchange.specs.declared.answerer.Due.TheVariants as due
 use Rattle.coap_common.specs.SuccessCodes.{content}
 use Rattle.coap_server.specs.Trace.{Own, Silent, Replies, Serves, Waits, Notifies, Call, Sets, Removes}
@@ -94,40 +95,40 @@ notice_so store o = by (store.holds o.path) refl
 one_notice : (a b : Observer × Reply) → Some a ≡ Some b → a ≡ b
 one_notice a b h = cc h
 
-module _ (limit szx : ℕ) where
-  shown_now : (t : List Call) (c : Call) → ServerRows limit szx (c ∷ t) → (x : Serving)
-      → serving (own_of limit szx t) c ≡ Some x → x.reply.code ≡ content
-      → Shows limit szx x.question.path x.reply (c ∷ t)
+module _ (limits : Limits) (szx : ℕ) where
+  shown_now : (t : List Call) (c : Call) → ServerRows limits szx (c ∷ t) → (x : Serving)
+      → serving (own_of limits szx t) c ≡ Some x → x.reply.code ≡ content
+      → Shows limits szx x.question.path x.reply (c ∷ t)
   shown_now t c rows x is code =
-      let right = serves_right (own_of limit szx t) c rows.0 x is in
+      let right = serves_right (own_of limits szx t) c rows.0 x is in
       let w = tells_so x.old x.left right.0 x.question x.reply right.2 code in
       let same = (content_law x.old x.left right.0 x.question x.reply right.2 code).same in
-      let now : (own_of limit szx (c ∷ t)).store.holds x.question.path
-      ≡ Some w.held = ap (λ (s : Content). s.holds x.question.path) (left_is (own_of limit szx t) c x is ∙ same)
+      let now : (own_of limits szx (c ∷ t)).store.holds x.question.path
+      ≡ Some w.held = ap (λ (s : Content). s.holds x.question.path) (left_is (own_of limits szx t) c x is ∙ same)
       ∙ w.is_held in
       record {
         held = w.held;
-        is_held = sym (held_is limit szx (c ∷ t) rows x.question.path) ∙ now;
+        is_held = sym (held_is limits szx (c ∷ t) rows x.question.path) ∙ now;
         tag = w.tag;
         format = w.format;
         part = w.part;
       }
 
-  pub shows_held : (t : List Call) → ServerRows limit szx t → ShowsHeld limit szx t
+  pub shows_held : (t : List Call) → ServerRows limits szx t → ShowsHeld limits szx t
   shows_held [] rows = tt
   shows_held (c ∷ t) rows = (shown_now t c rows, shows_held t rows.1)
 
   abbrev Noticed : List Call → Call → Observer × Reply → Type 0
-  Noticed t c p = Shows limit szx p.0.path p.1 (c ∷ t)
-      ⊎ ((held_at limit szx p.0.path (c ∷ t) ≡ None) × (p.1 ≡ R.bare 132 0))
+  Noticed t c p = Shows limits szx p.0.path p.1 (c ∷ t)
+      ⊎ ((held_at limits szx p.0.path (c ∷ t) ≡ None) × (p.1 ≡ R.bare 132 0))
 
-  told_now : (t : List Call) (c : Call) (o : Observer) (reply : Reply) → ServerRows limit szx (c ∷ t)
-      → (own_of limit szx (c ∷ t)).store ≡ (own_of limit szx t).store → reply ≡ told (own_of limit szx t).store o
+  told_now : (t : List Call) (c : Call) (o : Observer) (reply : Reply) → ServerRows limits szx (c ∷ t)
+      → (own_of limits szx (c ∷ t)).store ≡ (own_of limits szx t).store → reply ≡ told (own_of limits szx t).store o
       → Noticed t c (o, reply)
   told_now t c o reply rows kept is =
-      let store : Content = (own_of limit szx t).store in
-      let there : store.holds o.path ≡ held_at limit szx o.path (c ∷ t) =
-      sym (ap (λ (s : Content). s.holds o.path) kept) ∙ held_is limit szx (c ∷ t) rows o.path in
+      let store : Content = (own_of limits szx t).store in
+      let there : store.holds o.path ≡ held_at limits szx o.path (c ∷ t) =
+      sym (ap (λ (s : Content). s.holds o.path) kept) ∙ held_is limits szx (c ∷ t) rows o.path in
       elim (subst (Notice store o) (sym is) (notice_so store o)) [
         | inl w ↦ inl (record {
           held = w.held;
@@ -139,10 +140,10 @@ module _ (limit szx : ℕ) where
         | inr w ↦ inr (sym there ∙ w.0, w.1)
       ]
 
-  notice_here : (t : List Call) (c : Call) → ServerRows limit szx (c ∷ t) → (p : Observer × Reply)
+  notice_here : (t : List Call) (c : Call) → ServerRows limits szx (c ∷ t) → (p : Observer × Reply)
       → notice_in c ≡ Some p → Noticed t c p
   notice_here t (Ticks now word below room due.Idle passed (Notifies o reply) id answer) rows p is =
-      let s : Own = heard (own_of limit szx t) now (ticking (own_of limit szx t) now below room due.Idle) in
+      let s : Own = heard (own_of limits szx t) now (ticking (own_of limits szx t) now below room due.Idle) in
       let c : Call = Ticks now word below room due.Idle passed (Notifies o reply) id answer in
       subst (Noticed t c) (one_notice (o, reply) p is)
       (told_now t c o reply rows refl (next_told (behind passed (marked s.observers)) s.store o reply rows.0.0))
@@ -151,7 +152,7 @@ module _ (limit szx : ℕ) where
   notice_here t (Ticks now word below room due.Expired passed (Notifies o reply) id answer) rows p is = let e =
       rows.0.0 in absurd (cc e)
   notice_here t (Ticks now word below room (due.Ready a) passed (Notifies o reply) id answer) rows p is =
-      let s : Own = heard (own_of limit szx t) now (ticking (own_of limit szx t) now below room (due.Ready a)) in
+      let s : Own = heard (own_of limits szx t) now (ticking (own_of limits szx t) now below room (due.Ready a)) in
       absurd (never_notifies_ready (question_of s.clock a s.waiting) s.store s.clock o reply rows.0.0)
   notice_here t (Ticks now word below room d passed Silent id answer) rows p is = absurd (cc is)
   notice_here t (Ticks now word below room d passed (Replies r) id answer) rows p is = absurd (cc is)
@@ -165,6 +166,6 @@ module _ (limit szx : ℕ) where
   notice_here t (Gets path answer) rows p is = absurd (cc is)
   notice_here t (TellsApplied answer) rows p is = absurd (cc is)
 
-  pub notices_show : (t : List Call) → ServerRows limit szx t → NoticesShow limit szx t
+  pub notices_show : (t : List Call) → ServerRows limits szx t → NoticesShow limits szx t
   notices_show [] rows = tt
   notices_show (c ∷ t) rows = (notice_here t c rows, notices_show t rows.1)

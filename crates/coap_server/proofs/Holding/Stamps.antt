@@ -14,6 +14,7 @@ use Rattle.coap_resource.specs.RequestOptions.{precondition_fails}
 use Rattle.coap_resource.specs.Serves.{Question, Reply, PutBy, JoinBy, PostBy, RemoveBy, DeleteBy, ServesMethod}
 use Rattle.coap_resource.specs.Serves.{ServesUnless}
 use Rattle.coap_resource.specs.Serves as R
+use Rattle.coap_resource.specs.Limits.{Limits}
 use Rattle.coap_server.specs.Trace.{Own, Call, Sets, Removes, Delays, Feeds, Ticks, NextOut, Gets}
 use Rattle.coap_server.specs.Trace.{TellsApplied}
 use Rattle.coap_server.specs.Local.{SetsBy, RemovesBy}
@@ -39,7 +40,8 @@ Stamps path old left = IsKept old left ⊎ IsStamp path old left
 
 -- the tests that a change passes
 rate_room : (old : Content) (at : ℕ) → rate_refusal old.tally at ≡ None → old.tally.version ≡ greatest → ⊥
-rate_room old at none is = by (nat_le old.tally.limit (used old.tally at)) (old.tally.version == greatest) refl none
+rate_room old at none is = by (nat_le old.tally.limits.changes (used old.tally at))
+    (old.tally.version == greatest) refl none
   where
     by : (a b : Bool) → (old.tally.version == greatest) ≡ b
         → cond a (Some RateExceeded) (cond b (Some VersionsSpent) None) ≡ None → ⊥
@@ -50,7 +52,8 @@ rate_room old at none is = by (nat_le old.tally.limit (used old.tally at)) (old.
 
 put_room : (old : Content) (at : ℕ) (path : List (List ℕ)) (len : ℕ) → put_refusal old at path len ≡ None
     → old.tally.version ≡ greatest → ⊥
-put_room old at path len none = by (nat_lt 65536 len) (not (is_some (old.holds path)) && nat_le 256 old.paths) none
+put_room old at path len none = by (nat_lt old.tally.limits.body len)
+    (not (is_some (old.holds path)) && nat_le 256 old.paths) none
   where
     by : (a b : Bool) → cond a (Some TooLarge) (cond b (Some TooManyPaths) (rate_refusal old.tally at)) ≡ None
         → old.tally.version ≡ greatest → ⊥
@@ -60,7 +63,7 @@ put_room old at path len none = by (nat_lt 65536 len) (not (is_some (old.holds p
 
 append_room : (old : Content) (at : ℕ) (was : Held) (len : ℕ) → append_refusal old at was len ≡ None
     → old.tally.version ≡ greatest → ⊥
-append_room old at was len none = by (nat_lt 65536 (length was.body + len)) none
+append_room old at was len none = by (nat_lt old.tally.limits.body (length was.body + len)) none
   where
     by : (a : Bool) → cond a (Some TooLarge) (rate_refusal old.tally at) ≡ None → old.tally.version ≡ greatest → ⊥
     by true h = absurd (cc h)
@@ -210,7 +213,7 @@ stamps s (Ticks now word below room d passed w id answer) x right h =
     served_stamp s (Ticks now word below room d passed w id answer) x
     (serving s (Ticks now word below room d passed w id answer)) right refl h
 
-module _ (limit szx : ℕ) where
+module _ (limits : Limits) (szx : ℕ) where
   next_fits : (s : Own) (c : Call) (o : Option Change) → change s c ≡ o → IsRight s c → s.store.tally.version < 2 ^ 64
       → counted o + s.store.tally.version < 2 ^ 64
   next_fits s c None is right fits = omega (arith, fits)
@@ -219,25 +222,25 @@ module _ (limit szx : ℕ) where
       next : (n : ℕ) → n < 2 ^ 64 → (n ≡ greatest → ⊥) → 1 + n < 2 ^ 64
       next n fits room = omega arith
 
-  version_fits : (t : List Call) → ServerRows limit szx t → (own_of limit szx t).store.tally.version < 2 ^ 64
+  version_fits : (t : List Call) → ServerRows limits szx t → (own_of limits szx t).store.tally.version < 2 ^ 64
   version_fits [] law = omega arith
   version_fits (c ∷ t) law =
-      let s = own_of limit szx t in
+      let s = own_of limits szx t in
       let e = (moves_by s c law.0).version in
       let f = next_fits s c (change s c) refl law.0 (version_fits t law.1) in
       omega (arith, e, f)
 
-  pub are_stamped : (t : List Call) → ServerRows limit szx t → AreStamped limit szx t
+  pub are_stamped : (t : List Call) → ServerRows limits szx t → AreStamped limits szx t
   are_stamped [] law = tt
   are_stamped (c ∷ t) law = (
     record {
       version = λ x h. (
-          let s = own_of limit szx t in
+          let s = own_of limits szx t in
           let e = (moves_by s c law.0).new x h in
           let f = next_fits s c (Some x) h law.0 (version_fits t law.1) in
           omega (arith, e, f)
           );
-      held = λ x held h k. (stamps (own_of limit szx t) c x law.0 h).held held k;
+      held = λ x held h k. (stamps (own_of limits szx t) c x law.0 h).held held k;
     },
     are_stamped t law.1,
   )

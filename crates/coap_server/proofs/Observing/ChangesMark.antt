@@ -9,6 +9,7 @@ use Rattle.coap_observe.specs.declared.observers.TheConstants.{MAX_OBSERVERS as 
 use Rattle.coap_resource.specs.Content.{Content}
 use Rattle.coap_resource.specs.RequestOptions.{block_of, szx_by}
 use Rattle.coap_resource.specs.Serves.{Question, Reply}
+use Rattle.coap_resource.specs.Limits.{Limits}
 use Rattle.coap_exchange.specs.declared.answerer.Asked.{Asked}
 use Rattle.coap_common.specs.SuccessCodes.{content}
 use Rattle.coap_server.specs.Trace.{Own, Call, Sets, Removes, Delays, Feeds, Ticks, NextOut, Gets, TellsApplied}
@@ -52,21 +53,21 @@ registers_none a q reply os h =
     (cond (observes 1 q) (removed a.from a.token os) os)) zero
     ∙ ap (λ b. cond b (removed a.from a.token os) os) (not_a_get q 1 h)
 
-module _ (limit szx word : ℕ) where
+module _ (limits : Limits) (szx word : ℕ) where
   abbrev own : List Call → Own
-  own t = own_of limit szx t
+  own t = own_of limits szx t
 
   abbrev Marked : List Call → Call → Change → Type 0
   Marked t c x = (own (c ∷ t)).observers ≡ changed_at x.path (own t).observers
 
   -- by a request that is served
-  served : (t : List Call) (c : Call) → ServerLaw limit szx word (c ∷ t) → (x : Change) → (o : Option Serving)
+  served : (t : List Call) (c : Call) → ServerLaw limits szx word (c ∷ t) → (x : Change) → (o : Option Serving)
       → serving (own t) c ≡ o → changed_by o ≡ Some x → Marked t c x
   served t c law x None is h = absurd (cc h)
   served t c law x (Some y) is h = by (is_get y.question.method) refl
     where
-      s : ServesAt limit szx word t c y
-      s = served_at limit szx word t c law y is
+      s : ServesAt limits szx word t c y
+      s = served_at limits szx word t c law y is
 
       by : (b : Bool) → is_get y.question.method ≡ b → Marked t c x
       by true e =
@@ -80,7 +81,7 @@ module _ (limit szx word : ℕ) where
           ∙ marks y.question.path (own t).store y.left (own t).observers x
           (ap (λ z. change_of y.question.path z y.left) (sym s.old) ∙ h))
 
-  here : (t : List Call) (c : Call) → ServerLaw limit szx word (c ∷ t) → (x : Change) → change (own t) c ≡ Some x
+  here : (t : List Call) (c : Call) → ServerLaw limits szx word (c ∷ t) → (x : Change) → change (own t) c ≡ Some x
       → Marked t c x
   here t (Sets now path format body answer left) law x h = marks path (own t).store left (own t).observers x h
   here t (Removes now path answer left) law x h = marks path (own t).store left (own t).observers x h
@@ -93,6 +94,6 @@ module _ (limit szx word : ℕ) where
   here t (TellsApplied answer) law x h = absurd (cc h)
   here t (NextOut answer) law x h = absurd (cc h)
 
-  pub all_mark : (t : List Call) → ServerLaw limit szx word t → AllMark limit szx t
+  pub all_mark : (t : List Call) → ServerLaw limits szx word t → AllMark limits szx t
   all_mark [] law = tt
-  all_mark (c ∷ t) law = (λ x h. here t c law x h, all_mark t (server_back limit szx word c t law))
+  all_mark (c ∷ t) law = (λ x h. here t c law x h, all_mark t (server_back limits szx word c t law))

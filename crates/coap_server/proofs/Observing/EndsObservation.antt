@@ -7,6 +7,7 @@ use Rattle.coap_observe.specs.Observers.{Observer, registration, removed}
 use Rattle.coap_observe.proofs.Facts.Registrations.{registration-removed}
 use Rattle.coap_resource.specs.Serves.{Question, Reply}
 use Rattle.coap_resource.specs.Serves as R
+use Rattle.coap_resource.specs.Limits.{Limits}
 use Rattle.coap_exchange.specs.declared.answerer.Asked.{Asked}
 use Rattle.coap_exchange.specs.declared.answerer.Due.{Due}
 use Rattle.coap_exchange.specs.declared.answerer.Due.TheVariants as due
@@ -75,9 +76,9 @@ removes_it e x os is o =
     ∙ (ap (λ b. registration x.to x.token (cond b (removed x.to x.token os) os)) o
     ∙ registration-removed x.to x.token os)
 
-module _ (limit szx word : ℕ) where
+module _ (limits : Limits) (szx word : ℕ) where
   abbrev own : List Call → Own
-  own t = own_of limit szx t
+  own t = own_of limits szx t
 
   silent_fed : (t : List Call) (now : ℕ) (from : Endpoint) (bytes : List ℕ) (w : ℕ) (up : L.Answer)
       (came : Option (Asked × Message)) (h : Handling) (below : L.Answer) → came ≡ None
@@ -93,7 +94,7 @@ module _ (limit szx word : ℕ) where
   silent_fed t now from bytes w up (Some p) h below e right x is o = absurd (cc e)
 
   silent_ticked : (t : List Call) (now w : ℕ) (below : L.Answer) (room : Bool) (d : Due) (passed : ℕ) (h : Handling)
-      (id : ℕ) (answer : Bool) → d ≡ due.Expired → ServerLaw limit szx word
+      (id : ℕ) (answer : Bool) → d ≡ due.Expired → ServerLaw limits szx word
       (Ticks now w below room d passed h id answer ∷ t)
       → (x : Ended) → failed_by below (own t).exchanges.separate ≡ Some x → x.observe ≡ true
       → registration x.to x.token (own (Ticks now w below room d passed h id answer ∷ t)).observers ≡ None
@@ -111,22 +112,22 @@ module _ (limit szx word : ℕ) where
   silent_ticked t now w below room due.Copied passed h id answer e law x is o = absurd (cc e)
   silent_ticked t now w below room (due.Ready a) passed h id answer e law x is o = absurd (cc e)
 
-  ends_here : (t : List Call) (c : Call) → ServerLaw limit szx word (c ∷ t) → (x : Ended) → ends_in (own t) c ≡ Some x
+  ends_here : (t : List Call) (c : Call) → ServerLaw limits szx word (c ∷ t) → (x : Ended) → ends_in (own t) c ≡ Some x
       → x.observe ≡ true → registration x.to x.token (own (c ∷ t)).observers ≡ None
   ends_here t (Feeds now from bytes w up came h below) law x is o =
       let s : Own = own t in
       let first : E.Call = incoming s now from bytes up came in
       let row = first_row word (answering (heard s now first) came h below) first
-      (lower_of limit szx t) law.exchanges in
+      (lower_of limits szx t) law.exchanges in
       silent_fed t now from bytes w up came h below
       (reset_came from up came s.exchanges.separate x row is) law.rows.0 x is o
   ends_here t (Ticks now w below room d passed h id answer) law x is o =
       let s : Own = own t in
       let first : E.Call = ticking s now below room d in
       let row = first_row word (responding (heard s now first) d passed h w id) first
-      (lower_of limit szx t) law.exchanges in
+      (lower_of limits szx t) law.exchanges in
       silent_ticked t now w below room d passed h id answer
-      (failed_due below d (P.ready_at (W.own_of (lower_of limit szx t)) (max s.clock now)) room s.exchanges.separate
+      (failed_due below d (P.ready_at (W.own_of (lower_of limits szx t)) (max s.clock now)) room s.exchanges.separate
       x row is) law x is o
   ends_here t (Sets now path format body answer left) law x is o = absurd (cc is)
   ends_here t (Removes now path answer left) law x is o = absurd (cc is)
@@ -135,15 +136,15 @@ module _ (limit szx word : ℕ) where
   ends_here t (TellsApplied answer) law x is o = absurd (cc is)
   ends_here t (NextOut answer) law x is o = absurd (cc is)
 
-  pub ends_observation : (t : List Call) → ServerLaw limit szx word t → EndsObservation limit szx t
+  pub ends_observation : (t : List Call) → ServerLaw limits szx word t → EndsObservation limits szx t
   ends_observation [] law = tt
   ends_observation (c ∷ t) law = (
     λ x is o. ends_here t c law x is o,
-    ends_observation t (server_back limit szx word c t law),
+    ends_observation t (server_back limits szx word c t law),
   )
 
   -- what is served, the store served
-  pub serves_right : (t : List Call) (c : Call) → ServerLaw limit szx word (c ∷ t) → (x : Serving)
+  pub serves_right : (t : List Call) (c : Call) → ServerLaw limits szx word (c ∷ t) → (x : Serving)
       → serving (own t) c ≡ Some x → (at : ℕ) × R.Serves x.old at x.question x.reply x.left
   serves_right t (Feeds now from bytes w up (Some p) (Serves q reply left) below) law x h =
       let s : Own = heard (own t) now (incoming (own t) now from bytes up (Some p)) in
@@ -174,9 +175,9 @@ module _ (limit szx word : ℕ) where
   serves_right t (TellsApplied answer) law x e = absurd (cc e)
   serves_right t (NextOut answer) law x e = absurd (cc e)
 
-  pub none_continues : (t : List Call) → ServerLaw limit szx word t → NoneContinues limit szx t
+  pub none_continues : (t : List Call) → ServerLaw limits szx word t → NoneContinues limits szx t
   none_continues [] law = tt
   none_continues (c ∷ t) law = (
     λ x is. (let k = serves_right t c law x is in never_continues x.old k.0 x.question x.reply x.left k.1),
-    none_continues t (server_back limit szx word c t law),
+    none_continues t (server_back limits szx word c t law),
   )

@@ -10,6 +10,7 @@ use Rattle.coap_observe.specs.declared.observers.TheConstants.{MAX_OBSERVERS as 
 use Rattle.coap_resource.specs.Content.{Content}
 use Rattle.coap_resource.specs.RequestOptions.{block_of, szx_by}
 use Rattle.coap_resource.specs.Serves.{Question}
+use Rattle.coap_resource.specs.Limits.{Limits}
 use Rattle.coap_common.specs.SuccessCodes.{content}
 use Rattle.coap_server.specs.Trace.{Own, Call}
 use Rattle.coap_server.specs.Observers.{is_get, is_number, observes, registers, observers_with, marked_if, sequence_if}
@@ -34,21 +35,21 @@ unmarked path old left os h =
     (ap (λ (s : Content). s.tally.version == old.tally.version) h
     ∙ (unsigned_Decides old.tally.version old.tally.version).1 refl)
 
-module _ (limit szx word : ℕ) where
+module _ (limits : Limits) (szx word : ℕ) where
   abbrev own : List Call → Own
-  own t = own_of limit szx t
+  own t = own_of limits szx t
 
-  registers_here : (t : List Call) (x : Serving) → CanObserve limit szx t x
+  registers_here : (t : List Call) (x : Serving) → CanObserve limits szx t x
       → registers x.asked x.question x.reply (own t).observers ≡ true
   registers_here t x can =
       all_so _ _ _ _ can.observe ((unsigned_Decides x.reply.code content).1 can.code)
       ((unsigned_Decides x.reply.offset 0).1 can.offset)
       (lt-ltb (length (removed x.asked.from x.asked.token (own t).observers)) max_observers can.place)
 
-  here : (t : List Call) (c : Call) → ServerLaw limit szx word (c ∷ t) → (x : Serving) → serving (own t) c ≡ Some x
-      → CanObserve limit szx t x → IsRegistered limit szx t c x
+  here : (t : List Call) (c : Call) → ServerLaw limits szx word (c ∷ t) → (x : Serving) → serving (own t) c ≡ Some x
+      → CanObserve limits szx t x → IsRegistered limits szx t c x
   here t c law x is can =
-      let s : ServesAt limit szx word t c x = served_at limit szx word t c law x is in
+      let s : ServesAt limits szx word t c x = served_at limits szx word t c law x is in
       let so = registers_here t x can in
       let same = get_same x.old s.serves.0 x.question x.reply x.left (a_get 0 x.question can.observe) s.serves.1 in
       record {
@@ -65,9 +66,9 @@ module _ (limit szx word : ℕ) where
         says = s.says ∙ ap (λ b. sequence_if b ((own t).store.holds x.question.path)) so;
       }
 
-  pub all_register : (t : List Call) → ServerLaw limit szx word t → AllRegister limit szx t
+  pub all_register : (t : List Call) → ServerLaw limits szx word t → AllRegister limits szx t
   all_register [] law = tt
   all_register (c ∷ t) law = (
     λ x is can. here t c law x is can,
-    all_register t (server_back limit szx word c t law),
+    all_register t (server_back limits szx word c t law),
   )

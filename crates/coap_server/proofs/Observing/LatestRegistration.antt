@@ -13,6 +13,7 @@ use Rattle.coap_observe.proofs.Facts.Registrations.{is_of-decides}
 use Rattle.coap_resource.specs.Content.{Content, Held}
 use Rattle.coap_resource.specs.RequestOptions.{block_of, szx_by}
 use Rattle.coap_resource.specs.Serves.{Question, Reply}
+use Rattle.coap_resource.specs.Limits.{Limits}
 use Rattle.coap_exchange.specs.declared.answerer.Asked.{Asked}
 use Rattle.coap_exchange.specs.declared.answerer.Due.{Due}
 use Rattle.coap_exchange.specs.declared.answerer.Due.TheVariants as due
@@ -69,21 +70,21 @@ module _ (Q : Observer → Type 0) where
       by true = each_removed x.to x.token os h
       by false = h
 
-module _ (limit szx : ℕ) where
+module _ (limits : Limits) (szx : ℕ) where
   abbrev own : List Call → Own
-  own t = own_of limit szx t
+  own t = own_of limits szx t
 
   abbrev pair : Endpoint → List ℕ → Option Pair
   pair to token = Some (record { to = to; token = token })
 
   -- the call that a trace ends with
   made_now : (c : Call) (t : List Call) (to : Endpoint) (token : List ℕ) (path : List (List ℕ))
-      → MadeBy limit szx to token path t c → LatestMade limit szx (c ∷ t) to token path
+      → MadeBy limits szx to token path t c → LatestMade limits szx (c ∷ t) to token path
   made_now c t to token path made = record { newer = []; call = c; older = t; split = refl; made = made; latest = tt }
 
   made_before : (c : Call) (t : List Call) (to : Endpoint) (token : List ℕ) (path : List (List ℕ))
-      → (registering (own t) c ≡ pair to token → ⊥) → LatestMade limit szx t to token path
-      → LatestMade limit szx (c ∷ t) to token path
+      → (registering (own t) c ≡ pair to token → ⊥) → LatestMade limits szx t to token path
+      → LatestMade limits szx (c ∷ t) to token path
   made_before c t to token path none k = record {
     newer = c ∷ k.newer;
     call = k.call;
@@ -95,15 +96,15 @@ module _ (limit szx : ℕ) where
 
   module _ (t : List Call) where
     abbrev Now : Call → List Observer → Type 0
-    Now c os = Each (IsLatest limit szx (c ∷ t)) os
+    Now c os = Each (IsLatest limits szx (c ∷ t)) os
 
     abbrev Before : List Observer → Type 0
-    Before os = Each (IsLatest limit szx t) os
+    Before os = Each (IsLatest limits szx t) os
 
     -- a call that makes no registration
     later : (c : Call) → registering (own t) c ≡ None → (os : List Observer) → Before os → Now c os
     later c none os h =
-        each_to (IsLatest limit szx t) (IsLatest limit szx (c ∷ t))
+        each_to (IsLatest limits szx t) (IsLatest limits szx (c ∷ t))
         (λ o k. made_before c t o.to o.token o.path
         (λ is. absurd (let e : None ≡ pair o.to o.token = sym none ∙ is in cc e)) k) os h
 
@@ -113,12 +114,13 @@ module _ (limit szx : ℕ) where
       where
         by : (b : Bool) → Now c (cond b os (changed_at path os))
         by true = h
-        by false = each_map (IsLatest limit szx (c ∷ t)) (marked_by path) (λ o k. k) os h
+        by false = each_map (IsLatest limits szx (c ∷ t)) (marked_by path) (λ o k. k) os h
 
     notified_now : (c : Call) (held : Option Held) (o : Observer) (os : List Observer) → Now c os
         → Now c (notified held o os)
-    notified_now c None o os h = each_removed (IsLatest limit szx (c ∷ t)) o.to o.token os h
-    notified_now c (Some held) o os h = each_map (IsLatest limit szx (c ∷ t)) (unmarked_by o.to o.token) (λ x k. k) os h
+    notified_now c None o os h = each_removed (IsLatest limits szx (c ∷ t)) o.to o.token os h
+    notified_now c (Some held) o os h = each_map (IsLatest limits szx (c ∷ t)) (unmarked_by o.to o.token)
+        (λ x k. k) os h
 
     -- a request that is served may make one
     module _ (c : Call) (s : Own) (a : Asked) (q : Question) (reply : Reply) (left : Content) where
@@ -126,7 +128,7 @@ module _ (limit szx : ℕ) where
           → Before s.observers → Now c (observers_with a q reply s.observers)
       served is here h = by (registers a q reply s.observers) refl (observes 1 q)
         where
-          made : registers a q reply s.observers ≡ true → MadeBy limit szx a.from a.token q.path t c
+          made : registers a q reply s.observers ≡ true → MadeBy limits szx a.from a.token q.path t c
           made so =
               let x = and_parts (observes 0 q) ((reply.code == content)
               && ((reply.offset == 0) && nat_lt (length (removed a.from a.token s.observers)) max_observers)) so in
@@ -162,11 +164,11 @@ module _ (limit szx : ℕ) where
               → Now c (cond b (registered a.from a.token q.path (szx_by (block_of q.options) q.szx) s.observers)
               (cond m (removed a.from a.token s.observers) s.observers))
           by true so m =
-              each_with (IsLatest limit szx (c ∷ t)) (removed a.from a.token s.observers) _
-              (each_chosen (IsLatest limit szx t) (IsLatest limit szx (c ∷ t)) (λ o. not (is_of a.from a.token o))
+              each_with (IsLatest limits szx (c ∷ t)) (removed a.from a.token s.observers) _
+              (each_chosen (IsLatest limits szx t) (IsLatest limits szx (c ∷ t)) (λ o. not (is_of a.from a.token o))
               (λ o stays k. made_before c t o.to o.token o.path (other so o stays) k) s.observers h)
               (made_now c t a.from a.token q.path (made so))
-          by false so true = each_removed (IsLatest limit szx (c ∷ t)) a.from a.token s.observers
+          by false so true = each_removed (IsLatest limits szx (c ∷ t)) a.from a.token s.observers
               (later c (none so) s.observers h)
           by false so false = later c (none so) s.observers h
 
@@ -233,12 +235,12 @@ module _ (limit szx : ℕ) where
           marked_now c q.path s.store left (observers_with a q reply s.observers)
           (served c s a q reply left refl refl g)
 
-  pub are_latest : (t : List Call) → AreLatest limit szx t
+  pub are_latest : (t : List Call) → AreLatest limits szx t
   are_latest [] = tt
   are_latest (c ∷ t) = by c (are_latest t)
     where
-      by : (c : Call) → Each (IsLatest limit szx t) (own t).observers
-          → Each (IsLatest limit szx (c ∷ t)) (own (c ∷ t)).observers
+      by : (c : Call) → Each (IsLatest limits szx t) (own t).observers
+          → Each (IsLatest limits szx (c ∷ t)) (own (c ∷ t)).observers
       by (Sets now path format body answer left) g =
           marked_now t (Sets now path format body answer left) path (own t).store left (own t).observers
           (later t _ refl _ g)
@@ -249,9 +251,9 @@ module _ (limit szx : ℕ) where
       by (TellsApplied answer) g = later t _ refl _ g
       by (NextOut answer) g = later t _ refl _ g
       by (Feeds now from bytes w up came h below) g =
-          fed t now from bytes w up below came h (each_ended (IsLatest limit szx t)
+          fed t now from bytes w up below came h (each_ended (IsLatest limits szx t)
           (P.after (own t).exchanges (incoming (own t) now from bytes up came)).ended (own t).observers g)
       by (Ticks now w below room d passed h id answer) g =
           ticked t now w below room passed id answer d h
-          (each_ended (IsLatest limit szx t) (P.after (own t).exchanges (ticking (own t) now below room d)).ended
+          (each_ended (IsLatest limits szx t) (P.after (own t).exchanges (ticking (own t) now below room d)).ended
           (own t).observers g)

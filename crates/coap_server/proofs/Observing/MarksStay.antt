@@ -10,6 +10,7 @@ use Rattle.coap_observe.proofs.Facts.Registrations.{registration-changed_at, oth
 use Rattle.coap_resource.specs.Content.{Content, Held}
 use Rattle.coap_resource.specs.RequestOptions.{block_of, szx_by}
 use Rattle.coap_resource.specs.Serves.{Question, Reply}
+use Rattle.coap_resource.specs.Limits.{Limits}
 use Rattle.coap_exchange.specs.declared.answerer.Asked.{Asked}
 use Rattle.coap_exchange.specs.declared.answerer.Due.{Due}
 use Rattle.coap_exchange.specs.declared.answerer.Due.TheVariants as due
@@ -99,12 +100,12 @@ module _ (to : Endpoint) (token : List ℕ) where
       by true e = elim (removed_on x.to x.token os d) [ inl k ↦ inl k | inr p ↦ inr (x, refl, e, p) ]
       by false e = inl d
 
-  module _ (limit szx : ℕ) where
+  module _ (limits : Limits) (szx : ℕ) where
     abbrev own : List Call → Own
-    own t = own_of limit szx t
+    own t = own_of limits szx t
 
     abbrev On : List Call → Call → List Observer → Type 0
-    On t c os = Due_in os ⊎ TakesMark limit szx to token t c
+    On t c os = Due_in os ⊎ TakesMark limits szx to token t c
 
     told_on : (t : List Call) (c : Call) (e : Option Ended) → ends_in (own t) c ≡ e → (os : List Observer) → Due_in os
         → On t c (unless_ended e os)
@@ -159,7 +160,7 @@ module _ (to : Endpoint) (token : List ℕ) where
 
     fed : (t : List Call) (now : ℕ) (from : Endpoint) (bytes : List ℕ) (w : ℕ) (up : L.Answer)
         (came : Option (Asked × Message)) (h : Handling) (below : L.Answer)
-        → ServerRows limit szx (Feeds now from bytes w up came h below ∷ t)
+        → ServerRows limits szx (Feeds now from bytes w up came h below ∷ t)
         → Due_in (heard (own t) now (incoming (own t) now from bytes up came)).observers
         → On t (Feeds now from bytes w up came h below) (own (Feeds now from bytes w up came h below ∷ t)).observers
     fed t now from bytes w up None Silent below rows d = inl d
@@ -210,7 +211,7 @@ module _ (to : Endpoint) (token : List ℕ) where
     ticked t now w below room due.Expired passed (Serves q reply left) id answer k = inl k
     ticked t now w below room due.Expired passed (Waits q e) id answer k = inl k
 
-    on : (t : List Call) (c : Call) → ServerRows limit szx (c ∷ t) → Due_in (own t).observers
+    on : (t : List Call) (c : Call) → ServerRows limits szx (c ∷ t) → Due_in (own t).observers
         → On t c (own (c ∷ t)).observers
     on t (Feeds now from bytes w up came h below) rows d =
         elim (told_on t (Feeds now from bytes w up came h below) _ refl (own t).observers d) [
@@ -229,15 +230,15 @@ module _ (to : Endpoint) (token : List ℕ) where
     on t (TellsApplied answer) rows d = inl d
     on t (NextOut answer) rows d = inl d
 
-module _ (limit szx : ℕ) where
-  here : (t : List Call) (c : Call) → ServerRows limit szx (c ∷ t) → (to : Endpoint) (token : List ℕ)
-      → IsDue limit szx to token t → IsDue limit szx to token (c ∷ t) ⊎ TakesMark limit szx to token t c
+module _ (limits : Limits) (szx : ℕ) where
+  here : (t : List Call) (c : Call) → ServerRows limits szx (c ∷ t) → (to : Endpoint) (token : List ℕ)
+      → IsDue limits szx to token t → IsDue limits szx to token (c ∷ t) ⊎ TakesMark limits szx to token t c
   here t c rows to token d =
-      elim (on to token limit szx t c rows (record { observer = d.observer; there = d.there; marked = d.marked })) [
+      elim (on to token limits szx t c rows (record { observer = d.observer; there = d.there; marked = d.marked })) [
         | inl k ↦ inl (record { observer = k.observer; there = k.there; marked = k.marked })
         | inr k ↦ inr k
       ]
 
-  pub stay_due : (t : List Call) → ServerRows limit szx t → StayDue limit szx t
+  pub stay_due : (t : List Call) → ServerRows limits szx t → StayDue limits szx t
   stay_due [] rows = tt
   stay_due (c ∷ t) rows = (λ to token d. here t c rows to token d, stay_due t rows.1)

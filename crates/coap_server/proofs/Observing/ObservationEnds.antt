@@ -12,6 +12,7 @@ use Rattle.coap_observe.proofs.Facts.Registrations.{registration-removed, regist
 use Rattle.coap_resource.specs.Content.{Content, Held}
 use Rattle.coap_resource.specs.RequestOptions.{block_of, szx_by}
 use Rattle.coap_resource.specs.Serves.{Question, Reply, got}
+use Rattle.coap_resource.specs.Limits.{Limits}
 use Rattle.coap_exchange.specs.declared.answerer.Asked.{Asked}
 use Rattle.coap_exchange.specs.declared.answerer.Due.{Due}
 use Rattle.coap_exchange.specs.declared.answerer.Due.TheVariants as due
@@ -83,9 +84,9 @@ told_by (Some x) o store reply h =
     let is : reply ≡ told store x = cc h in
     record { is = is ∙ ap (told store) (sym same) }
 
-module _ (limit szx : ℕ) where
+module _ (limits : Limits) (szx : ℕ) where
   abbrev own : List Call → Own
-  own t = own_of limit szx t
+  own t = own_of limits szx t
 
   abbrev Over : List Call → Call → Serving → Type 0
   Over t c x = registration x.asked.from x.asked.token (own (c ∷ t)).observers ≡ None
@@ -126,14 +127,14 @@ module _ (limit szx : ℕ) where
   ends_here t (TellsApplied answer) x e k = absurd (cc e)
   ends_here t (NextOut answer) x e k = absurd (cc e)
 
-  pub ends_on_request : (t : List Call) → EndsOnRequest limit szx t
+  pub ends_on_request : (t : List Call) → EndsOnRequest limits szx t
   ends_on_request [] = tt
   ends_on_request (c ∷ t) = (ends_here t c, ends_on_request t)
 
   pub told_here : (t : List Call) (now w : ℕ) (below : L.Answer) (room : Bool) (d : Due) (passed : ℕ) (o : Observer)
-      (reply : Reply) (id : ℕ) (answer : Bool) → ServerRows limit szx
+      (reply : Reply) (id : ℕ) (answer : Bool) → ServerRows limits szx
       (Ticks now w below room d passed (Notifies o reply) id answer ∷ t)
-      → EndsWith limit szx t (Ticks now w below room d passed (Notifies o reply) id answer)
+      → EndsWith limits szx t (Ticks now w below room d passed (Notifies o reply) id answer)
       (record { observer = o; reply = reply })
   told_here t now w below room due.Idle passed o reply id answer rows =
       let s : Own = heard (own t) now (ticking (own t) now below room due.Idle) in
@@ -149,11 +150,11 @@ module _ (limit szx : ℕ) where
       let s : Own = heard (own t) now (ticking (own t) now below room (due.Ready a)) in
       absurd (never_notifies_ready (question_of s.clock a s.waiting) s.store s.clock o reply rows.0.0)
 
-  notice_here : (t : List Call) (c : Call) → ServerRows limit szx (c ∷ t) → (x : Notice) → notice c ≡ Some x
-      → EndsWith limit szx t c x
+  notice_here : (t : List Call) (c : Call) → ServerRows limits szx (c ∷ t) → (x : Notice) → notice c ≡ Some x
+      → EndsWith limits szx t c x
   notice_here t (Ticks now w below room d passed (Notifies o reply) id answer) rows x e =
       let same : ◌≡◌ {A = Notice} (record { observer = o; reply = reply }) x = cc e in
-      subst (EndsWith limit szx t (Ticks now w below room d passed (Notifies o reply) id answer)) same
+      subst (EndsWith limits szx t (Ticks now w below room d passed (Notifies o reply) id answer)) same
       (told_here t now w below room d passed o reply id answer rows)
   notice_here t (Ticks now w below room d passed Silent id answer) rows x e = absurd (cc e)
   notice_here t (Ticks now w below room d passed (Replies r) id answer) rows x e = absurd (cc e)
@@ -167,6 +168,6 @@ module _ (limit szx : ℕ) where
   notice_here t (TellsApplied answer) rows x e = absurd (cc e)
   notice_here t (NextOut answer) rows x e = absurd (cc e)
 
-  pub ends_on_notice : (t : List Call) → ServerRows limit szx t → EndsOnNotice limit szx t
+  pub ends_on_notice : (t : List Call) → ServerRows limits szx t → EndsOnNotice limits szx t
   ends_on_notice [] rows = tt
   ends_on_notice (c ∷ t) rows = (notice_here t c rows, ends_on_notice t rows.1)

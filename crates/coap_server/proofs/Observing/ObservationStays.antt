@@ -12,6 +12,7 @@ use Rattle.coap_observe.proofs.Facts.Registrations.{registration-sent_to, others
 use Rattle.coap_resource.specs.Content.{Content, Held}
 use Rattle.coap_resource.specs.RequestOptions.{block_of, szx_by}
 use Rattle.coap_resource.specs.Serves.{Question, Reply}
+use Rattle.coap_resource.specs.Limits.{Limits}
 use Rattle.coap_exchange.specs.declared.answerer.Asked.{Asked}
 use Rattle.coap_exchange.specs.declared.answerer.Due.{Due}
 use Rattle.coap_exchange.specs.declared.answerer.Due.TheVariants as due
@@ -113,12 +114,12 @@ module _ (to : Endpoint) (token : List ℕ) where
       by true e k = elim (removed_back x.to x.token os k) [ inl z ↦ inl z | inr p ↦ inr (x, refl, e, p) ]
       by false e k = inl k
 
-  module _ (limit szx : ℕ) where
+  module _ (limits : Limits) (szx : ℕ) where
     abbrev own : List Call → Own
-    own t = own_of limit szx t
+    own t = own_of limits szx t
 
     abbrev Over : List Call → Call → Type 0
-    Over t c = Ends limit szx to token t c
+    Over t c = Ends limits szx to token t c
 
     abbrev Back : List Call → Call → List Observer → Type 0
     Back t c os = None_in os ⊎ Over t c
@@ -153,21 +154,21 @@ module _ (to : Endpoint) (token : List ℕ) where
 
     notice_over : (t : List Call) (now w : ℕ) (below : L.Answer) (room : Bool) (d : Due) (passed : ℕ) (o : Observer)
         (reply : Reply) (id : ℕ) (answer : Bool) (os : List Observer)
-        → ServerRows limit szx (Ticks now w below room d passed (Notifies o reply) id answer ∷ t)
+        → ServerRows limits szx (Ticks now w below room d passed (Notifies o reply) id answer ∷ t)
         → None_in (notified ((own t).store.holds o.path) o os)
         → Back t (Ticks now w below room d passed (Notifies o reply) id answer) os
     notice_over t now w below room d passed o reply id answer os rows h =
         elim (notified_back ((own t).store.holds o.path) o os h) [
           | inl k ↦ inl k
           | inr k ↦ (
-              let code = (told_here limit szx t now w below room d passed o reply id answer rows).gone k.0 in
+              let code = (told_here limits szx t now w below room d passed o reply id answer rows).gone k.0 in
               inr (is_gone (record { observer = o; reply = reply }) refl
               (λ e. (let no = sym code ∙ e in cc no)) k.1.0 k.1.1))
         ]
 
     fed : (t : List Call) (now : ℕ) (from : Endpoint) (bytes : List ℕ) (w : ℕ) (up : L.Answer)
         (came : Option (Asked × Message)) (h : Handling) (below : L.Answer)
-        → ServerRows limit szx (Feeds now from bytes w up came h below ∷ t)
+        → ServerRows limits szx (Feeds now from bytes w up came h below ∷ t)
         → None_in (own (Feeds now from bytes w up came h below ∷ t)).observers
         → Back t (Feeds now from bytes w up came h below)
         (heard (own t) now (incoming (own t) now from bytes up came)).observers
@@ -186,7 +187,7 @@ module _ (to : Endpoint) (token : List ℕ) where
         absurd (never_notifies (heard (own t) now (incoming (own t) now from bytes up (Some p))) p o reply rows.0)
 
     ticked : (t : List Call) (now w : ℕ) (below : L.Answer) (room : Bool) (d : Due) (passed : ℕ) (h : Handling) (id : ℕ)
-        (answer : Bool) → ServerRows limit szx (Ticks now w below room d passed h id answer ∷ t)
+        (answer : Bool) → ServerRows limits szx (Ticks now w below room d passed h id answer ∷ t)
         → None_in (own (Ticks now w below room d passed h id answer ∷ t)).observers
         → Back t (Ticks now w below room d passed h id answer)
         (heard (own t) now (ticking (own t) now below room d)).observers
@@ -221,7 +222,7 @@ module _ (to : Endpoint) (token : List ℕ) where
     ticked t now w below room due.Copied passed (Serves q reply left) id answer rows h = inl h
     ticked t now w below room due.Expired passed (Serves q reply left) id answer rows h = inl h
 
-    back : (t : List Call) (c : Call) → ServerRows limit szx (c ∷ t) → None_in (own (c ∷ t)).observers
+    back : (t : List Call) (c : Call) → ServerRows limits szx (c ∷ t) → None_in (own (c ∷ t)).observers
         → Back t c (own t).observers
     back t (Feeds now from bytes w up came h below) rows none =
         elim (fed t now from bytes w up came h below rows none) [
@@ -241,16 +242,16 @@ module _ (to : Endpoint) (token : List ℕ) where
     back t (TellsApplied answer) rows none = inl none
     back t (NextOut answer) rows none = inl none
 
-module _ (limit szx : ℕ) where
-  ends_so_here : (t : List Call) (c : Call) → ServerRows limit szx (c ∷ t)
-      → (to : Endpoint) (token : List ℕ) (o : Observer) → registration to token (own_of limit szx t).observers ≡ Some o
-      → registration to token (own_of limit szx (c ∷ t)).observers ≡ None
-      → Ends limit szx to token t c
-  ends_so_here t c rows to token o is none = elim (back to token limit szx t c rows none) [
+module _ (limits : Limits) (szx : ℕ) where
+  ends_so_here : (t : List Call) (c : Call) → ServerRows limits szx (c ∷ t)
+      → (to : Endpoint) (token : List ℕ) (o : Observer) → registration to token (own_of limits szx t).observers ≡ Some o
+      → registration to token (own_of limits szx (c ∷ t)).observers ≡ None
+      → Ends limits szx to token t c
+  ends_so_here t c rows to token o is none = elim (back to token limits szx t c rows none) [
     | inl k ↦ (let no = sym k ∙ is in absurd (cc no))
     | inr over ↦ over
   ]
 
-  pub ends_so : (t : List Call) → ServerRows limit szx t → EndsSo limit szx t
+  pub ends_so : (t : List Call) → ServerRows limits szx t → EndsSo limits szx t
   ends_so [] rows = tt
   ends_so (c ∷ t) rows = (ends_so_here t c rows, ends_so t rows.1)

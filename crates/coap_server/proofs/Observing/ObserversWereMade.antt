@@ -16,6 +16,7 @@ use Rattle.coap_observe.proofs.Facts.Registrations.{registrations-removed, regis
 use Rattle.coap_resource.specs.Content.{Content, Held}
 use Rattle.coap_resource.specs.RequestOptions.{block_of, szx_by}
 use Rattle.coap_resource.specs.Serves.{Question, Reply}
+use Rattle.coap_resource.specs.Limits.{Limits}
 use Rattle.coap_exchange.specs.declared.answerer.Asked.{Asked}
 use Rattle.coap_exchange.specs.declared.answerer.Due.{Due}
 use Rattle.coap_exchange.specs.declared.answerer.Due.TheVariants as due
@@ -79,16 +80,16 @@ registers_so a q reply os h =
       room = ltb-true (length (removed a.from a.token os)) 64 z.1;
     }
 
-module _ (limit szx : ℕ) (t : List Call) where
+module _ (limits : Limits) (szx : ℕ) (t : List Call) where
   pub record Good (os : List Observer) : Type 0 where
     pub registrations : AreRegistrations os
-    pub made : Each (WasMade limit szx t) os
+    pub made : Each (WasMade limits szx t) os
 
   good_removed : (to : Endpoint) (token : List ℕ) (os : List Observer) → Good os → Good (removed to token os)
   good_removed to token os g =
       record {
         registrations = registrations-removed to token os g.registrations;
-        made = each_kept (WasMade limit szx t) (λ o. not (is_of to token o)) os g.made;
+        made = each_kept (WasMade limits szx t) (λ o. not (is_of to token o)) os g.made;
       }
 
   pub good_ended : (e : Option Ended) (os : List Observer) → Good os → Good (unless_ended e os)
@@ -107,7 +108,7 @@ module _ (limit szx : ℕ) (t : List Call) where
       by true = g
       by false = record {
         registrations = registrations-changed path os g.registrations;
-        made = each_map (WasMade limit szx t) (marked_by path) (λ o h. h) os g.made;
+        made = each_map (WasMade limits szx t) (marked_by path) (λ o h. h) os g.made;
       }
 
   good_notified : (held : Option Held) (o : Observer) (os : List Observer) → Good os → Good (notified held o os)
@@ -115,11 +116,11 @@ module _ (limit szx : ℕ) (t : List Call) where
   good_notified (Some h) o os g =
       record {
         registrations = registrations-sent o.to o.token os g.registrations;
-        made = each_map (WasMade limit szx t) (unmarked_by o.to o.token) (λ x h. h) os g.made;
+        made = each_map (WasMade limits szx t) (unmarked_by o.to o.token) (λ x h. h) os g.made;
       }
 
   good_with : (a : Asked) (q : Question) (reply : Reply) (os : List Observer)
-      → (Registers a q reply os → Sometime (MadeWith limit szx a.from a.token q.path
+      → (Registers a q reply os → Sometime (MadeWith limits szx a.from a.token q.path
       (szx_by (block_of q.options) q.szx)) t) → Good os → Good (observers_with a q reply os)
   good_with a q reply os new g = by (registers a q reply os) refl (observes 1 q)
     where
@@ -131,51 +132,51 @@ module _ (limit szx : ℕ) (t : List Call) where
           record {
             registrations = registrations-registered a.from a.token q.path
                 (szx_by (block_of q.options) q.szx) os g.registrations k.room;
-            made = each_with (WasMade limit szx t) (removed a.from a.token os) _
-                (each_kept (WasMade limit szx t) (λ o. not (is_of a.from a.token o)) os g.made) (new k);
+            made = each_with (WasMade limits szx t) (removed a.from a.token os) _
+                (each_kept (WasMade limits szx t) (λ o. not (is_of a.from a.token o)) os g.made) (new k);
           }
       by false e true = good_removed a.from a.token os g
       by false e false = g
 
   good_served : (old : Content) (a : Asked) (q : Question) (reply : Reply) (left : Content) (os : List Observer)
-      → (Registers a q reply os → Sometime (MadeWith limit szx a.from a.token q.path
+      → (Registers a q reply os → Sometime (MadeWith limits szx a.from a.token q.path
       (szx_by (block_of q.options) q.szx)) t) → Good os → Good (observers_served old a q reply left os)
   good_served old a q reply left os new g = good_marked q.path old left (observers_with a q reply os)
       (good_with a q reply os new g)
 
-module _ (limit szx : ℕ) where
+module _ (limits : Limits) (szx : ℕ) where
   abbrev own : List Call → Own
-  own t = own_of limit szx t
+  own t = own_of limits szx t
 
-  good_later : (c : Call) (t : List Call) (os : List Observer) → Good limit szx t os → Good limit szx (c ∷ t) os
+  good_later : (c : Call) (t : List Call) (os : List Observer) → Good limits szx t os → Good limits szx (c ∷ t) os
   good_later c t os g = record { registrations = g.registrations; made = go os g.made }
     where
-      go : (os : List Observer) → Each (WasMade limit szx t) os → Each (WasMade limit szx (c ∷ t)) os
+      go : (os : List Observer) → Each (WasMade limits szx t) os → Each (WasMade limits szx (c ∷ t)) os
       go [] h = tt
       go (o ∷ os) h = (inr h.0, go os h.1)
 
   module _ (t : List Call) (now : ℕ) (from : Endpoint) (bytes : List ℕ) (w : ℕ) (up : L.Answer) (below : L.Answer) where
     fed : (came : Option (Asked × Message)) (h : Handling)
-        → Good limit szx (Feeds now from bytes w up came h below ∷ t)
+        → Good limits szx (Feeds now from bytes w up came h below ∷ t)
         (heard (own t) now (incoming (own t) now from bytes up came)).observers
-        → Good limit szx (Feeds now from bytes w up came h below ∷ t)
+        → Good limits szx (Feeds now from bytes w up came h below ∷ t)
         (own (Feeds now from bytes w up came h below ∷ t)).observers
     fed None Silent g = g
     fed None (Replies r) g = g
     fed None (Serves q reply left) g = g
     fed None (Waits q d) g = g
     fed None (Notifies o reply) g =
-        let s : Own = heard (own t) now (incoming (own t) now from bytes up None) in good_notified limit szx
+        let s : Own = heard (own t) now (incoming (own t) now from bytes up None) in good_notified limits szx
         (Feeds now from bytes w up None (Notifies o reply) below ∷ t) (s.store.holds o.path) o s.observers g
     fed (Some p) Silent g = g
     fed (Some p) (Replies r) g = g
     fed (Some p) (Waits q d) g = g
     fed (Some p) (Notifies o reply) g =
-        let s : Own = heard (own t) now (incoming (own t) now from bytes up (Some p)) in good_notified limit szx
+        let s : Own = heard (own t) now (incoming (own t) now from bytes up (Some p)) in good_notified limits szx
         (Feeds now from bytes w up (Some p) (Notifies o reply) below ∷ t) (s.store.holds o.path) o s.observers g
     fed (Some p) (Serves q reply left) g =
         let s : Own = heard (own t) now (incoming (own t) now from bytes up (Some p)) in
-        good_served limit szx (Feeds now from bytes w up (Some p) (Serves q reply left) below ∷ t) s.store p.0 q reply
+        good_served limits szx (Feeds now from bytes w up (Some p) (Serves q reply left) below ∷ t) s.store p.0 q reply
         left s.observers
         (λ k. inl (record {
           made = record {
@@ -198,22 +199,22 @@ module _ (limit szx : ℕ) where
     abbrev stage : Due → Own
     stage d = heard (own t) now (ticking (own t) now below room d)
 
-    ended_ticks : (d : Due) (h : Handling) → ready_in d ≡ None → Good limit szx (call d h ∷ t) (stage d).observers
-        → Good limit szx (call d h ∷ t) (observers_after (stage d).store (ready_in d) h (stage d).observers)
-    ended_ticks d h none g = subst (λ a. Good limit szx (call d h ∷ t)
+    ended_ticks : (d : Due) (h : Handling) → ready_in d ≡ None → Good limits szx (call d h ∷ t) (stage d).observers
+        → Good limits szx (call d h ∷ t) (observers_after (stage d).store (ready_in d) h (stage d).observers)
+    ended_ticks d h none g = subst (λ a. Good limits szx (call d h ∷ t)
         (observers_after (stage d).store a h (stage d).observers)) (sym none) (by h g)
       where
-        by : (k : Handling) → Good limit szx (call d h ∷ t) (stage d).observers
-            → Good limit szx (call d h ∷ t) (observers_after (stage d).store None k (stage d).observers)
+        by : (k : Handling) → Good limits szx (call d h ∷ t) (stage d).observers
+            → Good limits szx (call d h ∷ t) (observers_after (stage d).store None k (stage d).observers)
         by Silent g = g
         by (Replies r) g = g
         by (Serves q reply left) g = g
         by (Waits q e) g = g
-        by (Notifies o reply) g = good_notified limit szx (call d h ∷ t) ((stage d).store.holds o.path) o
+        by (Notifies o reply) g = good_notified limits szx (call d h ∷ t) ((stage d).store.holds o.path) o
             (stage d).observers g
 
-    ticked : (d : Due) (h : Handling) → Good limit szx (call d h ∷ t) (stage d).observers
-        → Good limit szx (call d h ∷ t) (own (call d h ∷ t)).observers
+    ticked : (d : Due) (h : Handling) → Good limits szx (call d h ∷ t) (stage d).observers
+        → Good limits szx (call d h ∷ t) (own (call d h ∷ t)).observers
     ticked due.Idle h g = ended_ticks due.Idle h refl g
     ticked due.Copied h g = ended_ticks due.Copied h refl g
     ticked due.Expired h g = ended_ticks due.Expired h refl g
@@ -221,11 +222,11 @@ module _ (limit szx : ℕ) where
     ticked (due.Ready a) (Replies r) g = g
     ticked (due.Ready a) (Waits q d) g = g
     ticked (due.Ready a) (Notifies o reply) g =
-        let s : Own = stage (due.Ready a) in good_notified limit szx (call (due.Ready a) (Notifies o reply) ∷ t)
+        let s : Own = stage (due.Ready a) in good_notified limits szx (call (due.Ready a) (Notifies o reply) ∷ t)
         (s.store.holds o.path) o s.observers g
     ticked (due.Ready a) (Serves q reply left) g =
         let s : Own = stage (due.Ready a) in
-        good_served limit szx (call (due.Ready a) (Serves q reply left) ∷ t) s.store a q reply left s.observers
+        good_served limits szx (call (due.Ready a) (Serves q reply left) ∷ t) s.store a q reply left s.observers
         (λ k. inl (record {
           made = record {
             request = serving_of s a q reply left;
@@ -240,26 +241,26 @@ module _ (limit szx : ℕ) where
           size_is = refl;
         })) g
 
-  pub good : (t : List Call) → Good limit szx t (own t).observers
+  pub good : (t : List Call) → Good limits szx t (own t).observers
   good [] = record { registrations = record { few = omega arith; distinct = tt }; made = tt }
   good (c ∷ t) = by c (good_later c t (own t).observers (good t))
     where
-      by : (c : Call) → Good limit szx (c ∷ t) (own t).observers → Good limit szx (c ∷ t) (own (c ∷ t)).observers
+      by : (c : Call) → Good limits szx (c ∷ t) (own t).observers → Good limits szx (c ∷ t) (own (c ∷ t)).observers
       by (Sets now path format body answer left) g =
-          good_marked limit szx (Sets now path format body answer left ∷ t) path (own t).store left (own t).observers g
-      by (Removes now path answer left) g = good_marked limit szx (Removes now path answer left ∷ t) path
+          good_marked limits szx (Sets now path format body answer left ∷ t) path (own t).store left (own t).observers g
+      by (Removes now path answer left) g = good_marked limits szx (Removes now path answer left ∷ t) path
           (own t).store left (own t).observers g
       by (Delays path ms answer) g = g
       by (Gets path answer) g = g
       by (TellsApplied answer) g = g
       by (Feeds now from bytes w up came h below) g =
-          fed t now from bytes w up below came h (good_ended limit szx (Feeds now from bytes w up came h below ∷ t)
+          fed t now from bytes w up below came h (good_ended limits szx (Feeds now from bytes w up came h below ∷ t)
           (P.after (own t).exchanges (incoming (own t) now from bytes up came)).ended (own t).observers g)
       by (Ticks now w below room d passed h id answer) g =
           ticked t now w below room passed id answer d h
-          (good_ended limit szx (Ticks now w below room d passed h id answer ∷ t)
+          (good_ended limits szx (Ticks now w below room d passed h id answer ∷ t)
           (P.after (own t).exchanges (ticking (own t) now below room d)).ended (own t).observers g)
       by (NextOut answer) g = g
 
-  pub are_observers : (t : List Call) → AreObservers limit szx t
+  pub are_observers : (t : List Call) → AreObservers limits szx t
   are_observers t = let g = good t in record { registrations = g.registrations; made = g.made }

@@ -4,6 +4,7 @@ use Rattle.std.proofs.Common.{true, false, cond}
 use Rattle.coap_resource.specs.Content.{Content}
 use Rattle.coap_resource.specs.Serves.{Question, Reply}
 use Rattle.coap_resource.specs.Serves as R
+use Rattle.coap_resource.specs.Limits.{Limits}
 use Rattle.coap_exchange.specs.declared.answerer.Asked.{Asked}
 use Rattle.coap_exchange.specs.declared.answerer.Due.TheVariants as due
 use Rattle.coap_exchange.specs.AnswererTrace as E
@@ -31,9 +32,9 @@ tells_same false s r a q con e = refl
 abbrev pub pair_if : Bool → Asked → Option Pair
 pair_if b a = cond b (Some (record { to = a.from; token = a.token })) None
 
-module _ (limit szx word : ℕ) where
+module _ (limits : Limits) (szx word : ℕ) where
   abbrev own : List Call → Own
-  own t = own_of limit szx t
+  own t = own_of limits szx t
 
   -- by the observers that there were before the call
   pub record ServesAt (t : List Call) (c : Call) (x : Serving) : Type 0 where
@@ -70,12 +71,12 @@ module _ (limit szx word : ℕ) where
         serves = serves;
       }
 
-  pub served_at : (t : List Call) (c : Call) → ServerLaw limit szx word (c ∷ t) → (x : Serving)
+  pub served_at : (t : List Call) (c : Call) → ServerLaw limits szx word (c ∷ t) → (x : Serving)
       → serving (own t) c ≡ Some x → ServesAt t c x
   served_at t (Feeds now from bytes w up (Some p) (Serves q reply left) below) law x h =
       let first : E.Call = incoming (own t) now from bytes up (Some p) in
       let s : Own = heard (own t) now first in
-      let row = first_row word (answering s (Some p) (Serves q reply left) below) first (lower_of limit szx t)
+      let row = first_row word (answering s (Some p) (Serves q reply left) below) first (lower_of limits szx t)
       law.exchanges in
       let none = none_ended from up p (own t).exchanges.separate row in
       let same : ◌≡◌ {A = Serving} (serving_of s p.0 q reply left) x = cc h in
@@ -83,13 +84,13 @@ module _ (limit szx word : ℕ) where
       subst (ServesAt t c) same
       (staged t c s p.0 q reply left (ap (λ e. unless_ended e (own t).observers) none) refl refl refl
       (None, tells_same (registers p.0 q reply s.observers) s (own t) p.0 q None refl)
-      (serves_right limit szx word t c law (serving_of s p.0 q reply left) refl))
+      (serves_right limits szx word t c law (serving_of s p.0 q reply left) refl))
   served_at t (Ticks now w below room (due.Ready a) passed (Serves q reply left) id answer) law x h =
       let first : E.Call = ticking (own t) now below room (due.Ready a) in
       let s : Own = heard (own t) now first in
       let row = first_row word (responding s (due.Ready a) passed (Serves q reply left) w id) first
-      (lower_of limit szx t) law.exchanges in
-      let idle = (found_ready below (P.ready_at (W.own_of (lower_of limit szx t)) (max (own t).clock now)) room a
+      (lower_of limits szx t) law.exchanges in
+      let idle = (found_ready below (P.ready_at (W.own_of (lower_of limits szx t)) (max (own t).clock now)) room a
       row).idle in
       let same : ◌≡◌ {A = Serving} (serving_of s a q reply left) x = cc h in
       let c : Call = Ticks now w below room (due.Ready a) passed (Serves q reply left) id answer in
@@ -97,7 +98,7 @@ module _ (limit szx word : ℕ) where
       (staged t c s a q reply left
       (ap (λ u. unless_ended (P.failed_by u (own t).exchanges.separate) (own t).observers) idle) refl refl refl
       (Some id, tells_same (registers a q reply s.observers) s (own t) a q (Some id) refl)
-      (serves_right limit szx word t c law (serving_of s a q reply left) refl))
+      (serves_right limits szx word t c law (serving_of s a q reply left) refl))
   served_at t (Feeds now from bytes w up None h below) law x e = absurd (cc e)
   served_at t (Feeds now from bytes w up (Some p) Silent below) law x e = absurd (cc e)
   served_at t (Feeds now from bytes w up (Some p) (Replies r) below) law x e = absurd (cc e)

@@ -17,10 +17,12 @@ use Rattle.coap_server.specs.Observers.{is_get}
 pub record IsKept (old left : Content) : Type 0 where
   pub holds : left.holds ≡ old.holds
   pub version : left.tally.version ≡ old.tally.version
+  pub limits : left.tally.limits ≡ old.tally.limits
 
 pub record IsChanged (path : List (List ℕ)) (old left : Content) : Type 0 where
   pub others : (other : List (List ℕ)) → other ≢ path → left.holds other ≡ old.holds other
   pub version : left.tally.version ≡ old.tally.version + 1
+  pub limits : left.tally.limits ≡ old.tally.limits
   pub stamp : (held : Held) → left.holds path ≡ Some held → held.version ≡ old.tally.version + 1
 
 abbrev pub Effect : List (List ℕ) → Content → Content → Type 0
@@ -30,12 +32,14 @@ pub kept_by : (old left : Content) → left ≡ old → IsKept old left
 kept_by old left h = record {
   holds = ap (λ (s : Content). s.holds) h;
   version = ap (λ (s : Content). s.tally.version) h;
+  limits = ap (λ (s : Content). s.tally.limits) h;
 }
 
 pub unchanged_by : (old left : Content) (at : ℕ) → left ≡ later old at → IsKept old left
 unchanged_by old left at h = record {
   holds = ap (λ (s : Content). s.holds) h;
   version = ap (λ (s : Content). s.tally.version) h;
+  limits = ap (λ (s : Content). s.tally.limits) h;
 }
 
 abbrev version_in : Option Held → ℕ → ℕ
@@ -49,6 +53,7 @@ changed_to path old left at held e c =
     record {
       others = c.others;
       version = ap (λ t. t.version) c.tally;
+      limits = ap (λ t. t.limits) c.tally;
       stamp = λ h k. ap (λ (o : Option Held). version_in o (old.tally.version + 1)) (sym k ∙ c.there) ∙ e;
     }
 

@@ -16,6 +16,7 @@ use Rattle.coap_resource.specs.Content.{Content, Held}
 use Rattle.coap_resource.specs.RequestOptions.{block_of, szx_by}
 use Rattle.coap_resource.specs.Serves.{Question, Reply}
 use Rattle.coap_resource.specs.Serves as R
+use Rattle.coap_resource.specs.Limits.{Limits}
 use Rattle.coap_exchange.specs.declared.answerer.Asked.{Asked}
 use Rattle.coap_exchange.specs.declared.answerer.Due.TheVariants as due
 use Rattle.coap_exchange.specs.declared.answerer.Ended.{Ended}
@@ -114,9 +115,9 @@ ends_as : (to : Endpoint) (id : ℕ) (token : List ℕ) (r : E.Response) → has
     → ended_as (separate_of to id token r) ≡ record { to = to; token = token; observe = true }
 ends_as to id token r e = ap {B = Ended} (λ b. record { to = to; token = token; observe = b }) e
 
-module _ (limit szx word : ℕ) where
+module _ (limits : Limits) (szx word : ℕ) where
   abbrev own : List Call → Own
-  own t = own_of limit szx t
+  own t = own_of limits szx t
 
   -- the observer that is notified is there, and marked
   record Told (t : List Call) (s : Own) (o : Observer) : Type 0 where
@@ -134,23 +135,23 @@ module _ (limit szx word : ℕ) where
     abbrev asks : List E.Call
     asks = readies stage.clock passed (marked stage.observers)
 
-    told_here : ServerLaw limit szx word (call ∷ t) → Told t stage o
+    told_here : ServerLaw limits szx word (call ∷ t) → Told t stage o
     told_here law =
         let is = next_is (behind passed (marked stage.observers)) stage.store o reply law.rows.0.0 in
         let k = marked_there stage.observers o (behind_there passed (marked stage.observers) o is) in
-        let g = good_ended limit szx t (P.after (own t).exchanges (ticking (own t) now below room due.Idle)).ended
-        (own t).observers (good limit szx t) in
+        let g = good_ended limits szx t (P.after (own t).exchanges (ticking (own t) now below room due.Idle)).ended
+        (own t).observers (good limits szx t) in
         record { is = there_is stage.observers o g.registrations.distinct k.0; marked_is = k.1 }
 
     -- none to its endpoint is outstanding
-    free : ServerLaw limit szx word (call ∷ t) → is_waited_for o.to (exchanges_after stage.exchanges asks).separate
+    free : ServerLaw limits szx word (call ∷ t) → is_waited_for o.to (exchanges_after stage.exchanges asks).separate
         ≡ false
     free law =
         let first : E.Call = ticking (own t) now below room due.Idle in
-        let older : List E.Call = lower_of limit szx t in
+        let older : List E.Call = lower_of limits szx t in
         let calls : List E.Call = (asks ++ first ∷ []) ++ older in
         ap (λ (z : E.Own). is_waited_for o.to z.separate)
-        (kept_behind (own t).exchanges first asks older (exchanges_kept limit szx t))
+        (kept_behind (own t).exchanges first asks older (exchanges_kept limits szx t))
         ∙ alone word stage.clock o.to o.token (notification stage.store o reply) w id calls law.exchanges
 
     abbrev notice : Held → Telling
@@ -165,12 +166,12 @@ module _ (limit szx word : ℕ) where
 
   module _ (older : List Call) (x : Telling) where
     abbrev Begins : Call → Type 0
-    Begins c = At x limit szx word (c ∷ older) []
+    Begins c = At x limits szx word (c ∷ older) []
 
     -- the answer that registers
     answers_fed : (now : ℕ) (from : Endpoint) (bytes : List ℕ) (w : ℕ) (up : L.Answer) (p : Asked × Message)
         (q : Question) (reply : Reply) (left : Content) (below : L.Answer)
-        → ServerLaw limit szx word (Feeds now from bytes w up (Some p) (Serves q reply left) below ∷ older)
+        → ServerLaw limits szx word (Feeds now from bytes w up (Some p) (Serves q reply left) below ∷ older)
         → telling (own older) (Feeds now from bytes w up (Some p) (Serves q reply left) below) ≡ Some x
         → Begins (Feeds now from bytes w up (Some p) (Serves q reply left) below)
     answers_fed now from bytes w up p q reply left below law h = by (registers p.0 q reply s.observers) refl h
@@ -184,10 +185,10 @@ module _ (limit szx word : ℕ) where
         held_by e None is k = absurd (cc k)
         held_by e (Some held) is k =
             let same : answer_of s p.0 q held None ≡ x = one _ x k in
-            subst (λ (y : Telling). At y limit szx word
+            subst (λ (y : Telling). At y limits szx word
             (Feeds now from bytes w up (Some p) (Serves q reply left) below ∷ older) []) same
             (registered_lives s p.0 q reply left held None (Unit {0}) e is (serves_came s p q reply left law.rows.0)
-            (are_low limit szx word older (server_back limit szx word _ older law)) tt)
+            (are_low limits szx word older (server_back limits szx word _ older law)) tt)
 
         by : (b : Bool) → registers p.0 q reply s.observers ≡ b → tells_if b s p.0 q None ≡ Some x
             → Begins (Feeds now from bytes w up (Some p) (Serves q reply left) below)
@@ -196,7 +197,8 @@ module _ (limit szx word : ℕ) where
 
     answers_ready : (now w : ℕ) (below : L.Answer) (room : Bool) (a : Asked) (passed : ℕ) (q : Question) (reply : Reply)
         (left : Content) (id : ℕ) (answer : Bool)
-        → ServerLaw limit szx word (Ticks now w below room (due.Ready a) passed (Serves q reply left) id answer ∷ older)
+        → ServerLaw limits szx word (Ticks now w below room (due.Ready a) passed
+        (Serves q reply left) id answer ∷ older)
         → telling (own older) (Ticks now w below room (due.Ready a) passed (Serves q reply left) id answer) ≡ Some x
         → Begins (Ticks now w below room (due.Ready a) passed (Serves q reply left) id answer)
     answers_ready now w below room a passed q reply left id answer law h = by (registers a q reply s.observers) refl h
@@ -210,8 +212,8 @@ module _ (limit szx word : ℕ) where
         idle : is_waited_for a.from s.exchanges.separate ≡ false
         idle =
             let first : E.Call = ticking (own older) now below room (due.Ready a) in
-            ap (λ (z : E.Own). is_waited_for a.from (P.after z first).separate) (exchanges_kept limit szx older)
-            ∙ alone_later word s.clock a r w id (first ∷ lower_of limit szx older) law.exchanges
+            ap (λ (z : E.Own). is_waited_for a.from (P.after z first).separate) (exchanges_kept limits szx older)
+            ∙ alone_later word s.clock a r w id (first ∷ lower_of limits szx older) law.exchanges
 
         held_by : registers a q reply s.observers ≡ true → (o : Option Held) → s.store.holds q.path ≡ o
             → tells a.from a.token q.path (Some id) true o ≡ Some x
@@ -219,11 +221,11 @@ module _ (limit szx word : ℕ) where
         held_by e None is k = absurd (cc k)
         held_by e (Some held) is k =
             let same : answer_of s a q held (Some id) ≡ x = one _ x k in
-            subst (λ (y : Telling). At y limit szx word
+            subst (λ (y : Telling). At y limits szx word
             (Ticks now w below room (due.Ready a) passed (Serves q reply left) id answer ∷ older) []) same
             (registered_lives s a q reply left held (Some id) _ e is
             (serves_waited (question_of s.clock a s.waiting) s.store s.clock q reply left law.rows.0.0)
-            (are_low limit szx word older (server_back limit szx word _ older law))
+            (are_low limits szx word older (server_back limits szx word _ older law))
             (inl (begins a.from id a.token s.exchanges.separate r idle
             (ends_as a.from id a.token r (response_observes s a q reply held e is)))))
 
@@ -235,7 +237,7 @@ module _ (limit szx word : ℕ) where
     -- a notification
     notifies : (now w : ℕ) (below : L.Answer) (room : Bool) (passed id : ℕ) (answer : Bool) (o : Observer)
         (reply : Reply)
-        → ServerLaw limit szx word (Ticks now w below room due.Idle passed (Notifies o reply) id answer ∷ older)
+        → ServerLaw limits szx word (Ticks now w below room due.Idle passed (Notifies o reply) id answer ∷ older)
         → telling (own older) (Ticks now w below room due.Idle passed (Notifies o reply) id answer) ≡ Some x
         → Begins (Ticks now w below room due.Idle passed (Notifies o reply) id answer)
     notifies now w below room passed id answer o reply law h = by (s.store.holds o.path) refl h
@@ -263,16 +265,16 @@ module _ (limit szx word : ℕ) where
               entry = record o { marked = false };
               is = registration-sent_to o.to o.token s.observers ∙ ap (option_map (unmark o.to o.token)) told.is;
               path = refl;
-              low = are_low limit szx word older (server_back limit szx word _ older law) o.path held is;
+              low = are_low limits szx word older (server_back limits szx word _ older law) o.path held is;
               fresh = λ m z e. absurd (cc m);
               flies = inl (begins o.to id o.token xs r (free older now w below room passed id answer o reply law)
                   (ends_as o.to id o.token r (notification_observes s.store o reply held is)));
             } in
-            subst (λ (z : Telling). At z limit szx word (c ∷ older) []) same
+            subst (λ (z : Telling). At z limits szx word (c ∷ older) []) same
             (subst (Lives y (FlightOf y (Some id) (xs ++ separate_of o.to id o.token r ∷ []) []) s.store) (sym left)
             (inr first))
 
-    begins_at : (c : Call) → ServerLaw limit szx word (c ∷ older) → telling (own older) c ≡ Some x → Begins c
+    begins_at : (c : Call) → ServerLaw limits szx word (c ∷ older) → telling (own older) c ≡ Some x → Begins c
     begins_at (Feeds now from bytes w up (Some p) (Serves q reply left) below) law h =
         answers_fed now from bytes w up p q reply left below law h
     begins_at (Ticks now w below room (due.Ready a) passed (Serves q reply left) id answer) law h =
@@ -302,14 +304,14 @@ module _ (limit szx word : ℕ) where
     begins_at (NextOut answer) law e = absurd (cc e)
 
   -- the later of the two
-  module _ (t after : List Call) (x y : Telling) (lives : At x limit szx word t after) (to : y.to ≡ x.to)
+  module _ (t after : List Call) (x y : Telling) (lives : At x limits szx word t after) (to : y.to ≡ x.to)
       (token : y.token ≡ x.token) where
     next : (now w : ℕ) (below : L.Answer) (room : Bool) (passed id : ℕ) (answer : Bool) (o : Observer) (reply : Reply)
-        → ServerLaw limit szx word (Ticks now w below room due.Idle passed (Notifies o reply) id answer ∷ t)
+        → ServerLaw limits szx word (Ticks now w below room due.Idle passed (Notifies o reply) id answer ∷ t)
         → telling (own t) (Ticks now w below room due.Idle passed (Notifies o reply) id answer) ≡ Some y
         → FollowsOn after x y
     next now w below room passed id answer o reply law h =
-        by (s.store.holds o.path) refl h (heard_ticked x limit szx word t after now w below room passed id answer
+        by (s.store.holds o.path) refl h (heard_ticked x limits szx word t after now w below room passed id answer
         due.Idle lives)
       where
         s : Own
@@ -376,7 +378,7 @@ module _ (limit szx word : ℕ) where
     not_first first true s a q con e = not_held first a q con (s.store.holds q.path) e
     not_first first false s a q con e = cc e
 
-    follows_at : (d : Call) → ServerLaw limit szx word (d ∷ t) → telling (own t) d ≡ Some y → y.registers ≡ false
+    follows_at : (d : Call) → ServerLaw limits szx word (d ∷ t) → telling (own t) d ≡ Some y → y.registers ≡ false
         → FollowsOn after x y
     follows_at (Ticks now w below room due.Idle passed (Notifies o reply) id answer) law h first =
         next now w below room passed id answer o reply law h
@@ -408,14 +410,14 @@ module _ (limit szx word : ℕ) where
     follows_at (TellsApplied answer) law e first = absurd (cc e)
     follows_at (NextOut answer) law e first = absurd (cc e)
 
-  behind_back : (after base : List Call) → ServerLaw limit szx word (after ++ base) → ServerLaw limit szx word base
+  behind_back : (after base : List Call) → ServerLaw limits szx word (after ++ base) → ServerLaw limits szx word base
   behind_back [] base law = law
-  behind_back (c ∷ after) base law = behind_back after base (server_back limit szx word c (after ++ base) law)
+  behind_back (c ∷ after) base law = behind_back after base (server_back limits szx word c (after ++ base) law)
 
-  pub follows : (t : List Call) → ServerLaw limit szx word t → Follows limit szx t
+  pub follows : (t : List Call) → ServerLaw limits szx word t → Follows limits szx t
   follows t law after older c d x y split is next_is later to token none =
-      let here : ServerLaw limit szx word (d ∷ (after ++ c ∷ older)) = subst (ServerLaw limit szx word) split law in
-      let past = server_back limit szx word d (after ++ c ∷ older) here in
+      let here : ServerLaw limits szx word (d ∷ (after ++ c ∷ older)) = subst (ServerLaw limits szx word) split law in
+      let past = server_back limits szx word d (after ++ c ∷ older) here in
       let first = begins_at older x c (behind_back after (c ∷ older) past) is in
-      follows_at (after ++ c ∷ older) after x y (steps x limit szx word after (c ∷ older) past none first) to token d
+      follows_at (after ++ c ∷ older) after x y (steps x limits szx word after (c ∷ older) past none first) to token d
       here next_is later

@@ -12,6 +12,7 @@ use Rattle.coap_resource.specs.Content.{Content, put_refusal}
 use Rattle.coap_resource.specs.Rate.{rate_refusal}
 use Rattle.coap_resource.specs.RequestOptions.{block_of, szx_by}
 use Rattle.coap_resource.proofs.Facts.Served.{content_law}
+use Rattle.coap_resource.specs.Limits.{Limits}
 use Rattle.coap_exchange.specs.declared.answerer.Asked.{Asked}
 use Rattle.coap_exchange.specs.declared.answerer.Due.{Due}
 use Rattle.coap_exchange.specs.declared.answerer.Due.TheVariants as due
@@ -39,12 +40,12 @@ use Rattle.coap_server.proofs.Serving.Brought.{server_back}
 use Rattle.coap_server.proofs.Observing.CurrentLists.{Good, ended_good, marked_good, none_or, notified_good}
 use Rattle.coap_server.proofs.Observing.CurrentLists.{registered_good, removed_good}
 
-module _ (to : Endpoint) (token : List ℕ) (limit szx word : ℕ) where
+module _ (to : Endpoint) (token : List ℕ) (limits : Limits) (szx word : ℕ) where
   abbrev own : List Call → Own
-  own t = own_of limit szx t
+  own t = own_of limits szx t
 
   abbrev last_of : List Call → Option Telling
-  last_of t = told_last limit szx to token t
+  last_of t = told_last limits szx to token t
 
   abbrev Fine : List Call → Type 0
   Fine t = Good to token (last_of t) (own t).store.holds (own t).observers
@@ -55,7 +56,7 @@ module _ (to : Endpoint) (token : List ℕ) (limit szx word : ℕ) where
   abbrev size_of : Serving → ℕ
   size_of x = szx_by (block_of x.question.options) x.question.szx
 
-  served_good : (t : List Call) (c : Call) → ServerLaw limit szx word (c ∷ t) → (x : Serving)
+  served_good : (t : List Call) (c : Call) → ServerLaw limits szx word (c ∷ t) → (x : Serving)
       → serving (own t) c ≡ Some x → (own (c ∷ t)).store ≡ x.left → Fine t → Fine (c ∷ t)
   served_good t c law x is left_is g =
       subst (λ os. Good to token (last_of (c ∷ t)) (own (c ∷ t)).store.holds os) (sym s.observers)
@@ -66,8 +67,8 @@ module _ (to : Endpoint) (token : List ℕ) (limit szx word : ℕ) where
       (marked_if x.question.path (own t).store x.left (observers_with x.asked x.question x.reply (obs t))))
       (sym s.tells_so.1) (by (registers x.asked x.question x.reply (obs t)) refl (observes 1 x.question))))
     where
-      s : ServesAt limit szx word t c x
-      s = served_at limit szx word t c law x is
+      s : ServesAt limits szx word t c x
+      s = served_at limits szx word t c law x is
 
       effect : Effect x.question.path (own t).store x.left
       effect = subst (λ z. Effect x.question.path z x.left) s.old
@@ -103,7 +104,7 @@ module _ (to : Endpoint) (token : List ℕ) (limit szx word : ℕ) where
 
   fed : (t : List Call) (now : ℕ) (from : Endpoint) (bytes : List ℕ) (w : ℕ) (up : L.Answer)
       (came : Option (Asked × Message)) (h : Handling) (below : L.Answer)
-      → ServerLaw limit szx word (Feeds now from bytes w up came h below ∷ t) → Fine t
+      → ServerLaw limits szx word (Feeds now from bytes w up came h below ∷ t) → Fine t
       → Fine (Feeds now from bytes w up came h below ∷ t)
   fed t now from bytes w up None Silent below law g =
       ended_good to token (last_of t) (own t).store.holds _ (own t).observers g
@@ -124,7 +125,7 @@ module _ (to : Endpoint) (token : List ℕ) (limit szx word : ℕ) where
       absurd (never_notifies (heard (own t) now (incoming (own t) now from bytes up (Some p))) p o reply law.rows.0)
 
   idled : (t : List Call) (now w : ℕ) (below : L.Answer) (room : Bool) (passed : ℕ) (h : Handling) (id : ℕ)
-      (answer : Bool) → ServerLaw limit szx word (Ticks now w below room due.Idle passed h id answer ∷ t) → Fine t
+      (answer : Bool) → ServerLaw limits szx word (Ticks now w below room due.Idle passed h id answer ∷ t) → Fine t
       → Fine (Ticks now w below room due.Idle passed h id answer ∷ t)
   idled t now w below room passed Silent id answer law g =
       ended_good to token (last_of t) (own t).store.holds _ (own t).observers g
@@ -141,14 +142,14 @@ module _ (to : Endpoint) (token : List ℕ) (limit szx word : ℕ) where
       let s : Own = heard (own t) now (ticking (own t) now below room due.Idle) in
       let found = next_notifies (behind passed (marked s.observers)) s.store o reply law.rows.0.0 in
       let there = (marked_there s.observers o (behind_there passed (marked s.observers) o found)).0 in
-      let distinct = (good_ended limit szx t
+      let distinct = (good_ended limits szx t
       (P.after (own t).exchanges (ticking (own t) now below room due.Idle)).ended (own t).observers
-      (good limit szx t)).registrations.distinct in
+      (good limits szx t)).registrations.distinct in
       notified_good to token (last_of t) (own t).store o id s.observers distinct (there_is s.observers o distinct there)
       (ended_good to token (last_of t) (own t).store.holds _ (own t).observers g) ((own t).store.holds o.path) refl
 
   ticked : (t : List Call) (now w : ℕ) (below : L.Answer) (room : Bool) (d : Due) (passed : ℕ) (h : Handling)
-      (id : ℕ) (answer : Bool) → ServerLaw limit szx word (Ticks now w below room d passed h id answer ∷ t)
+      (id : ℕ) (answer : Bool) → ServerLaw limits szx word (Ticks now w below room d passed h id answer ∷ t)
       → Fine t → Fine (Ticks now w below room d passed h id answer ∷ t)
   ticked t now w below room due.Idle passed h id answer law g = idled t now w below room passed h id answer law g
   ticked t now w below room due.Copied passed Silent id answer law g =
@@ -180,11 +181,11 @@ module _ (to : Endpoint) (token : List ℕ) (limit szx word : ℕ) where
       let s : Own = heard (own t) now (ticking (own t) now below room (due.Ready a)) in
       absurd (never_notifies_ready (question_of s.clock a s.waiting) s.store s.clock o reply law.rows.0.0)
 
-  fine : (t : List Call) → ServerLaw limit szx word t → Fine t
+  fine : (t : List Call) → ServerLaw limits szx word t → Fine t
   fine [] law = λ o h m. none_or h
-  fine (c ∷ t) law = on c law (fine t (server_back limit szx word c t law))
+  fine (c ∷ t) law = on c law (fine t (server_back limits szx word c t law))
     where
-      on : (c : Call) → ServerLaw limit szx word (c ∷ t) → Fine t → Fine (c ∷ t)
+      on : (c : Call) → ServerLaw limits szx word (c ∷ t) → Fine t → Fine (c ∷ t)
       on (Feeds now from bytes w up came h below) law g = fed t now from bytes w up came h below law g
       on (Ticks now w below room d passed h id answer) law g = ticked t now w below room d passed h id answer law g
       on (Sets now path format body answer left) law g =
@@ -200,14 +201,15 @@ module _ (to : Endpoint) (token : List ℕ) (limit szx word : ℕ) where
       on (TellsApplied answer) law g = g
       on (NextOut answer) law g = g
 
-pub are_current : (limit szx word : ℕ) (t : List Call) → ServerLaw limit szx word t → AreCurrent limit szx t
-are_current limit szx word t law to token o is unmarked =
-    let c = fine to token limit szx word t law o is unmarked in
+pub are_current : (limits : Limits) (szx word : ℕ) (t : List Call) → ServerLaw limits szx word t
+    → AreCurrent limits szx t
+are_current limits szx word t law to token o is unmarked =
+    let c = fine to token limits szx word t law o is unmarked in
     record {
       told = c.told;
       last = c.last_is;
       path_is = c.path_is;
       held = c.held;
-      is_held = sym (held_is limit szx t law.rows o.path) ∙ c.is_held;
+      is_held = sym (held_is limits szx t law.rows o.path) ∙ c.is_held;
       version = c.version;
     }

@@ -16,6 +16,7 @@ use Rattle.coap_resource.specs.Rate.{rate_refusal}
 use Rattle.coap_resource.specs.RequestOptions.{block_of, szx_by}
 use Rattle.coap_resource.specs.Serves.{Question, Reply}
 use Rattle.coap_resource.specs.Serves as R
+use Rattle.coap_resource.specs.Limits.{Limits}
 use Rattle.coap_exchange.specs.declared.answerer.Asked.{Asked}
 use Rattle.coap_exchange.specs.declared.answerer.Due.{Due}
 use Rattle.coap_exchange.specs.declared.answerer.Due.TheVariants as due
@@ -76,16 +77,16 @@ pub next_is : (o : Option Observer) (s : Content) (x : Observer) (reply : Reply)
 next_is None s x reply h = absurd (cc h)
 next_is (Some y) s x reply h = let e : y ≡ x = cc h in ap (λ z. Some z) e
 
-module _ (limit szx : ℕ) where
+module _ (limits : Limits) (szx : ℕ) where
   abbrev own : List Call → Own
-  own t = own_of limit szx t
+  own t = own_of limits szx t
 
   serve_low : (old : Content) (q : Question) (reply : Reply) (left : Content) → (at : ℕ) × R.Serves old at q reply left
       → AreLow old → AreLow left
   serve_low old q reply left k low = low_by q.path old left (served_effect old k.0 q reply left k.1)
       (path_or q.path) low
 
-  low_after : (word : ℕ) (t : List Call) (c : Call) → ServerLaw limit szx word (c ∷ t) → AreLow (own t).store
+  low_after : (word : ℕ) (t : List Call) (c : Call) → ServerLaw limits szx word (c ∷ t) → AreLow (own t).store
       → AreLow (own (c ∷ t)).store
   low_after word t (Sets now path format body answer left) law low =
       let at : ℕ = max (own t).clock now in
@@ -124,9 +125,9 @@ module _ (limit szx : ℕ) where
   low_after word t (Ticks now w below room d passed (Waits q e) id answer) law low = low
   low_after word t (Ticks now w below room d passed (Notifies o reply) id answer) law low = low
 
-  pub are_low : (word : ℕ) (t : List Call) → ServerLaw limit szx word t → AreLow (own t).store
+  pub are_low : (word : ℕ) (t : List Call) → ServerLaw limits szx word t → AreLow (own t).store
   are_low word [] law = λ path held h. absurd (cc h)
-  are_low word (c ∷ t) law = low_after word t c law (are_low word t (server_back limit szx word c t law))
+  are_low word (c ∷ t) law = low_after word t c law (are_low word t (server_back limits szx word c t law))
 
 -- members
 
@@ -308,13 +309,13 @@ module _ (x : Telling) where
   notified_turn None s o os = removed_turn x.to x.token s o.to o.token os
   notified_turn (Some h) s o os = sent_turn x.to x.token s o.to o.token os
 
-  module _ (limit szx word : ℕ) where
+  module _ (limits : Limits) (szx word : ℕ) where
     abbrev pub At : List Call → List Call → Type 0
-    At t after = Lives x (FlightOf x.con (own_of limit szx t).exchanges.separate after) (own_of limit szx t).store
-        (own_of limit szx t).observers
+    At t after = Lives x (FlightOf x.con (own_of limits szx t).exchanges.separate after) (own_of limits szx t).store
+        (own_of limits szx t).observers
 
     abbrev NotNew : List Call → Call → Type 0
-    NotNew t c = registering (own_of limit szx t) c ≡ Some (record { to = x.to; token = x.token }) → ⊥
+    NotNew t c = registering (own_of limits szx t) c ≡ Some (record { to = x.to; token = x.token }) → ⊥
 
     -- an arrival
     module _ (t after : List Call) (now : ℕ) (from : Endpoint) (bytes : List ℕ) (w : ℕ) (up : L.Answer)
@@ -323,13 +324,13 @@ module _ (x : Telling) where
       fed_call came h = Feeds now from bytes w up came h below
 
       abbrev fed_stage : Option (Asked × Message) → Own
-      fed_stage came = heard (own limit szx t) now (incoming (own limit szx t) now from bytes up came)
+      fed_stage came = heard (own limits szx t) now (incoming (own limits szx t) now from bytes up came)
 
       heard_fed : (came : Option (Asked × Message)) (h : Handling) → At t after
           → Lives x (FlightOf x.con (fed_stage came).exchanges.separate (fed_call came h ∷ after))
           (fed_stage came).store (fed_stage came).observers
       heard_fed came h l =
-          let s : Own = own limit szx t in
+          let s : Own = own limits szx t in
           heard_lives (reset_by from up s.exchanges.separate) s.store s.observers
           (flight_fed x.con from up s.exchanges.separate after (fed_call came h)
           (λ id e k. record {
@@ -374,12 +375,12 @@ module _ (x : Telling) where
       tick_call d h = Ticks now w below room d passed h id answer
 
       abbrev tick_stage : Due → Own
-      tick_stage d = heard (own limit szx t) now (ticking (own limit szx t) now below room d)
+      tick_stage d = heard (own limits szx t) now (ticking (own limits szx t) now below room d)
 
       pub heard_ticked : (d : Due) → At t after → Lives x (FlightOf x.con (tick_stage d).exchanges.separate after)
           (tick_stage d).store (tick_stage d).observers
       heard_ticked d l =
-          let s : Own = own limit szx t in
+          let s : Own = own limits szx t in
           heard_lives (failed_by below s.exchanges.separate) s.store s.observers
           (flight_ticked x.con below s.exchanges.separate after) l
 
@@ -406,7 +407,7 @@ module _ (x : Telling) where
           (readies it.clock passed (marked it.observers)) s os
           (λ n. readies_later n it.clock passed (marked it.observers)) l
 
-      tick_step : (d : Due) (h : Handling) → ServerLaw limit szx word (tick_call d h ∷ t) → NotNew t (tick_call d h)
+      tick_step : (d : Due) (h : Handling) → ServerLaw limits szx word (tick_call d h ∷ t) → NotNew t (tick_call d h)
           → At t after → At (tick_call d h ∷ t) (tick_call d h ∷ after)
       tick_step due.Copied Silent law none l = tock due.Copied Silent l
       tick_step due.Copied (Replies r) law none l = let e = law.rows.0.0 in absurd (cc e)
@@ -447,10 +448,10 @@ module _ (x : Telling) where
           (with_asks (due.Ready a) (Serves q reply left) cs s.store s.observers (λ n. (tt, tt))
           (tock (due.Ready a) (Serves q reply left) l))
 
-    step : (t after : List Call) (c : Call) → ServerLaw limit szx word (c ∷ t) → NotNew t c → At t after
+    step : (t after : List Call) (c : Call) → ServerLaw limits szx word (c ∷ t) → NotNew t c → At t after
         → At (c ∷ t) (c ∷ after)
     step t after (Sets now path format body answer left) law none l =
-        let s : Own = own limit szx t in
+        let s : Own = own limits szx t in
         let at : ℕ = max s.clock now in
         turned x _ s.store left s.observers (marked_if path s.store left s.observers)
         (marked_turn x.to x.token path s.store left s.observers
@@ -458,7 +459,7 @@ module _ (x : Telling) where
         (map_lives s.store s.observers (flight_more x.con s.exchanges.separate after
         (Sets now path format body answer left)) l)
     step t after (Removes now path answer left) law none l =
-        let s : Own = own limit szx t in
+        let s : Own = own limits szx t in
         let at : ℕ = max s.clock now in
         turned x _ s.store left s.observers (marked_if path s.store left s.observers)
         (marked_turn x.to x.token path s.store left s.observers
@@ -466,20 +467,20 @@ module _ (x : Telling) where
         law.rows.0))
         (map_lives s.store s.observers (flight_more x.con s.exchanges.separate after (Removes now path answer left)) l)
     step t after (Delays path ms answer) law none l =
-        map_lives _ _ (flight_more x.con (own limit szx t).exchanges.separate after (Delays path ms answer)) l
+        map_lives _ _ (flight_more x.con (own limits szx t).exchanges.separate after (Delays path ms answer)) l
     step t after (Gets path answer) law none l =
-        map_lives _ _ (flight_more x.con (own limit szx t).exchanges.separate after (Gets path answer)) l
+        map_lives _ _ (flight_more x.con (own limits szx t).exchanges.separate after (Gets path answer)) l
     step t after (TellsApplied answer) law none l =
-        map_lives _ _ (flight_more x.con (own limit szx t).exchanges.separate after (TellsApplied answer)) l
+        map_lives _ _ (flight_more x.con (own limits szx t).exchanges.separate after (TellsApplied answer)) l
     step t after (NextOut answer) law none l = map_lives _ _
-        (flight_more x.con (own limit szx t).exchanges.separate after (NextOut answer)) l
+        (flight_more x.con (own limits szx t).exchanges.separate after (NextOut answer)) l
     step t after (Feeds now from bytes w up came h below) law none l =
         fed_step t after now from bytes w up below came h law.rows.0 none l
     step t after (Ticks now w below room d passed h id answer) law none l =
         tick_step t after now w below room passed id answer d h law none l
 
-    pub steps : (after base : List Call) → ServerLaw limit szx word (after ++ base)
-        → NoneMade limit szx x.to x.token after base → At base [] → At (after ++ base) after
+    pub steps : (after base : List Call) → ServerLaw limits szx word (after ++ base)
+        → NoneMade limits szx x.to x.token after base → At base [] → At (after ++ base) after
     steps [] base law none l = l
     steps (c ∷ after) base law none l = step (after ++ base) after c law none.0
-        (steps after base (server_back limit szx word c (after ++ base) law) none.1 l)
+        (steps after base (server_back limits szx word c (after ++ base) law) none.1 l)

@@ -55,7 +55,7 @@ module _ (word : ℕ) (calls : List E.Call) (law : ResponseLaw word calls) where
       law_of = record {
         rows = (sym none, law.rows);
         left = first;
-        layer = subst (λ o. Steps (S.start word) ((replying from (id_in up) o ++ asked at arrives up ∷ [])
+        layer = subst (λ o. Steps (S.start (S.usual word)) ((replying from (id_in up) o ++ asked at arrives up ∷ [])
             ++ W.lower_of calls) first) (sym quiet) (left, law.layer, received up right);
       };
       takes_it = λ p h. absurd (cc h);
@@ -78,7 +78,7 @@ module _ (word : ℕ) (calls : List E.Call) (law : ResponseLaw word calls) where
               law_of = record {
                 rows = (refl, law.rows);
                 left = left_by first 0 reply;
-                layer = subst (λ o. Steps (S.start word)
+                layer = subst (λ o. Steps (S.start (S.usual word))
                     ((replying from m.id o ++ asked at arrives (L.Becomes (L.Response m)) ∷ []) ++ W.lower_of calls)
                     (left_by first 0 reply))
                     (sym (ap (λ b. cond b (Some (reset_bytes m.id)) None) kept)) (

@@ -83,7 +83,7 @@ module _ (word : ℕ) (calls : List E.Call) (law : ResponseLaw word calls) where
       record {
         rows = ((pending, con, sym may), law.rows);
         left = left_by first 0 reply;
-        layer = subst (λ b. Steps (S.start word) ((P.deferring b a ++ asked at L.Pass L.Nothing ∷ [])
+        layer = subst (λ b. Steps (S.start (S.usual word)) ((P.deferring b a ++ asked at L.Pass L.Nothing ∷ [])
             ++ W.lower_of calls) (left_by first 0 reply)) (sym may)
             (first, (left, law.layer, one_step left at L.Pass tt), one_step first 0 reply awaits);
       }

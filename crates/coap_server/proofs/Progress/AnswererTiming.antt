@@ -93,7 +93,7 @@ module _ (word : ℕ) (calls : List E.Call) (law : ResponseLaw word calls) where
             law_of = record {
               rows = (refl, law.rows);
               left = k.new;
-              layer = steps_join (S.start word) left k.new (asks ++ asked at L.Ticks below ∷ [])
+              layer = steps_join (S.start (S.usual word)) left k.new (asks ++ asked at L.Ticks below ∷ [])
                   (W.lower_of calls) law.layer inner;
             };
             is_due = refl;

@@ -44,7 +44,8 @@ module _ (word : ℕ) (calls : List E.Call) (law : ResponseLaw word calls) where
     law_of = record {
       rows = ((pending, con, sym may), law.rows);
       left = left_by left at L.Pass;
-      layer = subst (λ b. Steps (S.start word) ((P.deferring b a ++ asked at L.Pass L.Nothing ∷ []) ++ W.lower_of calls)
+      layer = subst (λ b. Steps (S.start (S.usual word))
+          ((P.deferring b a ++ asked at L.Pass L.Nothing ∷ []) ++ W.lower_of calls)
           (left_by left at L.Pass)) (sym may) (left, law.layer, one_step left at L.Pass tt);
     };
     can = record { awaits = can.awaits; kind = inl con; short = can.short };
@@ -114,7 +115,7 @@ module _ (word at : ℕ) where
   moved {xs} {ys} l e = record {
     rows = subst W.AnswererLaw e l.rows;
     left = l.left;
-    layer = subst (λ z. Steps (S.start word) (W.lower_of z) l.left) e l.layer;
+    layer = subst (λ z. Steps (S.start (S.usual word)) (W.lower_of z) l.left) e l.layer;
   }
 
   passes : (o : Observer) (os : List Observer) (calls : List E.Call) → Walked os (E.Ready at o.to false ∷ calls)

@@ -34,6 +34,7 @@ use Rattle.coap_resource.specs.Content.{Content, Held, put_refusal, later}
 use Rattle.coap_resource.specs.Rate.{rate_refusal}
 use Rattle.coap_resource.specs.RequestOptions.{block_said}
 use Rattle.coap_resource.specs.Serves.{Question, Reply}
+use Rattle.coap_resource.specs.Limits.{Limits}
 use Rattle.coap_exchange.specs.declared.answerer.Asked.{Asked}
 use Rattle.coap_exchange.specs.declared.answerer.Due.{Due}
 use Rattle.coap_exchange.specs.declared.answerer.Due.TheVariants as due
@@ -153,27 +154,27 @@ ended_short (Some x) os h = by x.observe
     by true = each_filter (λ (o : Observer). length o.token ≤ 8) (λ o. not (is_of x.to x.token o)) os h
     by false = h
 
-module _ (limit szx word : ℕ) (t : List Call) (law : ServerLaw limit szx word t) where
+module _ (limits : Limits) (szx word : ℕ) (t : List Call) (law : ServerLaw limits szx word t) where
   abbrev mine : Own
-  mine = own_of limit szx t
+  mine = own_of limits szx t
 
   abbrev under : List E.Call
-  under = lower_of limit szx t
+  under = lower_of limits szx t
 
   counted : AreCounted mine.store
-  counted = store_counted limit szx t law.rows
+  counted = store_counted limits szx t law.rows
 
-  mirrored : Mirrors limit szx word t
-  mirrored = mirrors limit szx word t law
+  mirrored : Mirrors limits szx word t
+  mirrored = mirrors limits szx word t law
 
   kept : mine.exchanges ≡ W.own_of under
-  kept = exchanges_kept limit szx t
+  kept = exchanges_kept limits szx t
 
   -- local changes
 
   sets_on : (now : ℕ) (path : List (List ℕ)) (format : Option ℕ) (body : List ℕ)
       → (answer : Result ℕ StoreRefusal) × (left : Content)
-      × ServerLaw limit szx word (Sets now path format body answer left ∷ t)
+      × ServerLaw limits szx word (Sets now path format body answer left ∷ t)
   sets_on now path format body =
       let k = by (put_refusal mine.store at path (length body)) in
       (k.0, k.1, record { rows = (k.2, law.rows); exchanges = law.exchanges })
@@ -191,7 +192,7 @@ module _ (limit szx word : ℕ) (t : List Call) (law : ServerLaw limit szx word 
 
   removes_on : (now : ℕ) (path : List (List ℕ))
       → (answer : Result Bool StoreRefusal) × (left : Content)
-      × ServerLaw limit szx word (Removes now path answer left ∷ t)
+      × ServerLaw limits szx word (Removes now path answer left ∷ t)
   removes_on now path =
       let k = by (mine.store.holds path) (rate_refusal mine.store.tally at) in
       (k.0, k.1, record { rows = (k.2, law.rows); exchanges = law.exchanges })
@@ -341,7 +342,7 @@ module _ (limit szx word : ℕ) (t : List Call) (law : ServerLaw limit szx word 
     handled up (Some p) r = by_verdict up p r (verdict_on mine.szx p.1) (is_refusal mine.szx p.1)
 
     feeds_on : (w : ℕ) → (up : L.Answer) × (came : Option (Asked × Message)) × (handling : Handling)
-        × (below : L.Answer) × ServerLaw limit szx word (Feeds now from bytes w up came handling below ∷ t)
+        × (below : L.Answer) × ServerLaw limits szx word (Feeds now from bytes w up came handling below ∷ t)
     feeds_on w =
         let r = receives word under law.exchanges at from bytes are late in
         let h = handled r.0 r.1 r.2 in
@@ -383,7 +384,7 @@ module _ (limit szx word : ℕ) (t : List Call) (law : ServerLaw limit szx word 
         short : (o : Observer) → behind x.passed (marked os) ≡ Some o → length o.token ≤ 8
         short o is =
             each_there (λ (y : Observer). length y.token ≤ 8) os o
-            (ended_short (P.after mine.exchanges first).ended mine.observers (observers_short limit szx word t law))
+            (ended_short (P.after mine.exchanges first).ended mine.observers (observers_short limits szx word t law))
             (marked_there os o (behind_there x.passed (marked os) o is)).0
 
         by : (o : Option Observer) → behind x.passed (marked os) ≡ o → Dues below room due.Idle
@@ -423,7 +424,7 @@ module _ (limit szx word : ℕ) (t : List Call) (law : ServerLaw limit szx word 
         let asks = taken moment (W.own_of under).separate a mine.waiting f.deferred first f.asked in
         let s : Own = turn below room (due.Ready a) in
         let v = served s a asks.question counted (asked_short moment a mine.waiting asks.question
-        (waiting_short limit szx word t law) asks.asks) in
+        (waiting_short limits szx word t law) asks.asks) in
         let twice : max (max (W.own_of under).clock moment) moment ≡ max (W.own_of under).clock moment = omega arith in
         let ready : P.ready_at (W.own_of (E.Ticks moment below room (due.Ready a) ∷ under)) moment ≡ Some f.deferred =
         ap (λ u. P.first_ready (max (max (W.own_of under).clock moment) moment)
@@ -442,13 +443,13 @@ module _ (limit szx word : ℕ) (t : List Call) (law : ServerLaw limit szx word 
     ticks_on :
         (below : L.Answer) × (room : Bool) × (due : Due) × (passed : ℕ) × (handling : Handling) × (id : ℕ)
         × (answer : Bool)
-        × ServerLaw limit szx word (Ticks now w below room due passed handling id answer ∷ t)
+        × ServerLaw limits szx word (Ticks now w below room due passed handling id answer ∷ t)
     ticks_on =
         let k = passes_time word under law.exchanges moment in
         let h = due_on k.0 k.1 k.2 k.3 in
         (k.0, k.1, k.2, h.0, h.1, h.2, is_done k.2 h.1, record { rows = ((h.3, refl), law.rows); exchanges = h.4 })
 
-  pub goes_on : GoesOn limit szx word t
+  pub goes_on : GoesOn limits szx word t
   goes_on = record {
     sets = sets_on;
     removes = removes_on;

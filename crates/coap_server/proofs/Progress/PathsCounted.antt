@@ -3,6 +3,7 @@ use Rattle.std.proofs.Common.{ℕ, max, Bool, Option, Some, None, List, [], ◌�
 use Rattle.coap_resource.specs.declared.refusal.StoreRefusal.{StoreRefusal}
 use Rattle.coap_resource.specs.Content.{Content, Held, put_refusal}
 use Rattle.coap_resource.specs.Rate.{rate_refusal}
+use Rattle.coap_resource.specs.Limits.{Limits}
 use Rattle.coap_exchange.specs.declared.answerer.Due.TheVariants as due
 use Rattle.coap_server.specs.Trace.{Own, Silent, Replies, Serves, Waits, Notifies, Call, Sets, Removes}
 use Rattle.coap_server.specs.Trace.{Delays, Feeds, Ticks, NextOut, Gets, TellsApplied}
@@ -83,7 +84,8 @@ moves_by s (Ticks now word below room (due.Ready a) passed (Replies r) id answer
 moves_by s (Ticks now word below room (due.Ready a) passed (Waits q e) id answer) right = kept s
 moves_by s (Ticks now word below room (due.Ready a) passed (Notifies o reply) id answer) right = kept s
 
-pub store_counted : (limit szx : ℕ) (t : List Call) → ServerRows limit szx t → AreCounted (own_of limit szx t).store
-store_counted limit szx [] rows = record { paths = []; many = refl; each = λ path held h. absurd (cc h) }
-store_counted limit szx (c ∷ t) rows = counted_by (own_of limit szx t).store (own_of limit szx (c ∷ t)).store
-    (moves_by (own_of limit szx t) c rows.0) (store_counted limit szx t rows.1)
+pub store_counted : (limits : Limits) (szx : ℕ) (t : List Call) → ServerRows limits szx t
+    → AreCounted (own_of limits szx t).store
+store_counted limits szx [] rows = record { paths = []; many = refl; each = λ path held h. absurd (cc h) }
+store_counted limits szx (c ∷ t) rows = counted_by (own_of limits szx t).store (own_of limits szx (c ∷ t)).store
+    (moves_by (own_of limits szx t) c rows.0) (store_counted limits szx t rows.1)

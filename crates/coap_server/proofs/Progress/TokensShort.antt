@@ -9,6 +9,7 @@ use Rattle.coap_block.specs.Whole.{Each}
 use Rattle.coap_observe.specs.Observers.{Observer}
 use Rattle.coap_layer.specs.Trace as L
 use Rattle.coap_resource.specs.Serves.{Question}
+use Rattle.coap_resource.specs.Limits.{Limits}
 use Rattle.coap_exchange.specs.declared.answerer.Asked.{Asked}
 use Rattle.coap_exchange.specs.declared.answerer.Due.{Due}
 use Rattle.coap_exchange.specs.declared.answerer.Due.TheVariants as due
@@ -69,27 +70,27 @@ requests_back : (xs ys : List E.Call) → AreRequests (xs ++ ys) → AreRequests
 requests_back [] ys h = h
 requests_back (x ∷ xs) ys h = requests_back xs ys h.1
 
-module _ (limit szx word : ℕ) where
+module _ (limits : Limits) (szx word : ℕ) where
   abbrev own : List Call → Own
-  own t = own_of limit szx t
+  own t = own_of limits szx t
 
   -- what comes with a datagram
   pub fed_short : (t : List Call) (now : ℕ) (from : Endpoint) (bytes : List ℕ) (w : ℕ) (up : L.Answer)
       (p : Asked × Message) (h : Handling) (below : L.Answer)
-      → ServerLaw limit szx word (Feeds now from bytes w up (Some p) h below ∷ t) → length p.0.token ≤ 8
+      → ServerLaw limits szx word (Feeds now from bytes w up (Some p) h below ∷ t) → length p.0.token ≤ 8
   fed_short t now from bytes w up p h below law =
       let s : Own = own t in
       let first : E.Call = incoming s now from bytes up (Some p) in
       let asks : List E.Call = answering (heard s now first) (Some p) h below in
-      let all = came_in word (lower_of limit szx (Feeds now from bytes w up (Some p) h below ∷ t)) law.exchanges.rows
+      let all = came_in word (lower_of limits szx (Feeds now from bytes w up (Some p) h below ∷ t)) law.exchanges.rows
       law.exchanges.left law.exchanges.layer in
-      let one = requests_back asks (first ∷ lower_of limit szx t)
-      (subst AreRequests (joined asks first (lower_of limit szx t)) all) in
+      let one = requests_back asks (first ∷ lower_of limits szx t)
+      (subst AreRequests (joined asks first (lower_of limits szx t)) all) in
       let came = one.0.came (max s.clock now) from bytes up p.0 p.1 refl in
       subst (λ (x : Asked). length x.token ≤ 8) (sym came.0) came.1.token
 
   -- what waits
-  short_call : (t : List Call) (c : Call) → ServerLaw limit szx word (c ∷ t) → AreShort (own t).waiting
+  short_call : (t : List Call) (c : Call) → ServerLaw limits szx word (c ∷ t) → AreShort (own t).waiting
       → AreShort (own (c ∷ t)).waiting
   short_call t (Sets now path format body answer left) law h = h
   short_call t (Removes now path answer left) law h = h
@@ -106,12 +107,12 @@ module _ (limit szx word : ℕ) where
   short_call t (Feeds now from bytes w up (Some p) (Waits q delay) below) law h =
       short_more (own t).waiting _ h (fed_short t now from bytes w up p (Waits q delay) below law)
 
-  pub waiting_short : (t : List Call) → ServerLaw limit szx word t → AreShort (own t).waiting
+  pub waiting_short : (t : List Call) → ServerLaw limits szx word t → AreShort (own t).waiting
   waiting_short [] law = tt
-  waiting_short (c ∷ t) law = short_call t c law (waiting_short t (server_back limit szx word c t law))
+  waiting_short (c ∷ t) law = short_call t c law (waiting_short t (server_back limits szx word c t law))
 
   -- what is served
-  pub serving_short : (t : List Call) (c : Call) → ServerLaw limit szx word (c ∷ t) → (x : Serving)
+  pub serving_short : (t : List Call) (c : Call) → ServerLaw limits szx word (c ∷ t) → (x : Serving)
       → serving (own t) c ≡ Some x → length x.asked.token ≤ 8
   serving_short t (Feeds now from bytes w up (Some p) (Serves q reply left) below) law x is =
       let s : Own = heard (own t) now (incoming (own t) now from bytes up (Some p)) in
@@ -127,7 +128,7 @@ module _ (limit szx word : ℕ) where
           → AnswersWaiting o (own t).store (max (own t).clock now) (Serves q reply left) → length a.token ≤ 8
       by None e h = absurd (cc h)
       by (Some y) e h = asked_short (max (own t).clock now) a (own t).waiting y
-          (waiting_short t (server_back limit szx word
+          (waiting_short t (server_back limits szx word
           (Ticks now w below room (due.Ready a) passed (Serves q reply left) id answer) t law)) e
   serving_short t (Feeds now from bytes w up None h below) law x e = absurd (cc e)
   serving_short t (Feeds now from bytes w up (Some p) Silent below) law x e = absurd (cc e)
@@ -149,31 +150,32 @@ module _ (limit szx word : ℕ) where
   serving_short t (TellsApplied answer) law x e = absurd (cc e)
 
   -- who observes
-  made_short : (t : List Call) (o : Observer) → ServerLaw limit szx word t → WasMade limit szx t o → length o.token ≤ 8
+  made_short : (t : List Call) (o : Observer) → ServerLaw limits szx word t → WasMade limits szx t o
+      → length o.token ≤ 8
   made_short [] o law h = absurd h
   made_short (c ∷ t) o law (inl h) = subst (λ token. length token ≤ 8) h.made.token_is
       (serving_short t c law h.made.request h.made.here)
-  made_short (c ∷ t) o law (inr h) = made_short t o (server_back limit szx word c t law) h
+  made_short (c ∷ t) o law (inr h) = made_short t o (server_back limits szx word c t law) h
 
-  each_short : (t : List Call) (os : List Observer) → ServerLaw limit szx word t → Each (WasMade limit szx t) os
+  each_short : (t : List Call) (os : List Observer) → ServerLaw limits szx word t → Each (WasMade limits szx t) os
       → Each (λ o. length o.token ≤ 8) os
   each_short t [] law h = tt
   each_short t (o ∷ os) law h = (made_short t o law h.0, each_short t os law h.1)
 
-  pub observers_short : (t : List Call) → ServerLaw limit szx word t
+  pub observers_short : (t : List Call) → ServerLaw limits szx word t
       → Each (λ (o : Observer). length o.token ≤ 8) (own t).observers
-  observers_short t law = each_short t (own t).observers law (are_observers limit szx t).made
+  observers_short t law = each_short t (own t).observers law (are_observers limits szx t).made
 
   each_waiting : (ws : List Waiting) → AreShort ws → Each (λ (w : Waiting). length w.asked.token ≤ 8) ws
   each_waiting [] h = tt
   each_waiting (w ∷ ws) h = (h.0, each_waiting ws h.1)
 
-  all_served_short : (t : List Call) → ServerLaw limit szx word t
+  all_served_short : (t : List Call) → ServerLaw limits szx word t
       → Always (λ past c. (x : Serving) → serving (own past) c ≡ Some x → length x.asked.token ≤ 8) t
   all_served_short [] law = tt
-  all_served_short (c ∷ t) law = (serving_short t c law, all_served_short t (server_back limit szx word c t law))
+  all_served_short (c ∷ t) law = (serving_short t c law, all_served_short t (server_back limits szx word c t law))
 
-  pub short_tokens : (t : List Call) → ServerLaw limit szx word t → ShortTokens limit szx t
+  pub short_tokens : (t : List Call) → ServerLaw limits szx word t → ShortTokens limits szx t
   short_tokens t law = record {
     served = all_served_short t law;
     waiting = each_waiting (own t).waiting (waiting_short t law);

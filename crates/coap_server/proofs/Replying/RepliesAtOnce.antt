@@ -13,6 +13,7 @@ use Rattle.coap_layer.specs.Machine.Steps as G
 use Rattle.coap_layer.specs.Machine.Steps.{Steps, entries, left_after}
 use Rattle.coap_layer.specs.Channel.{RepliesSo}
 use Rattle.coap_observe.specs.Observers.{Observer}
+use Rattle.coap_resource.specs.Limits.{Limits}
 use Rattle.coap_exchange.specs.declared.answerer.Asked.{Asked}
 use Rattle.coap_exchange.specs.declared.answerer.Due.{Due}
 use Rattle.coap_exchange.specs.declared.answerer.Due.TheVariants as due
@@ -63,7 +64,7 @@ module _ (begin : L.State) (from : Endpoint) (now : ℕ) (bytes : List ℕ) (up 
 
 module _ (word : ℕ) where
   abbrev begin : L.State
-  begin = L.start word
+  begin = L.start (L.usual word)
 
   -- calls that reply nothing
   abbrev Quiet : List E.Call → Type 0
@@ -160,29 +161,29 @@ module _ (word : ℕ) where
         waited calls so w.clock from bytes up p (delay_for p.0.kind q.path w.delays)
         (P.may_defer w.exchanges.deferred) law left
 
-module _ (limit szx word : ℕ) where
-  pub replies_at_once : (t : List Call) → ServerLaw limit szx word t
-      → So (L.start word) (W.lower_of (lower_of limit szx t))
+module _ (limits : Limits) (szx word : ℕ) where
+  pub replies_at_once : (t : List Call) → ServerLaw limits szx word t
+      → So (L.start (L.usual word)) (W.lower_of (lower_of limits szx t))
   replies_at_once [] law = tt
-  replies_at_once (c ∷ t) law = here c law (replies_at_once t (server_back limit szx word c t law))
+  replies_at_once (c ∷ t) law = here c law (replies_at_once t (server_back limits szx word c t law))
     where
-      here : (c : Call) → ServerLaw limit szx word (c ∷ t) → Under word (lower_of limit szx t)
-          → Under word (lower_of limit szx (c ∷ t))
+      here : (c : Call) → ServerLaw limits szx word (c ∷ t) → Under word (lower_of limits szx t)
+          → Under word (lower_of limits szx (c ∷ t))
       here (Sets now path format body answer left) law so = so
       here (Removes now path answer left) law so = so
       here (Delays path ms answer) law so = so
       here (Gets path answer) law so = so
       here (TellsApplied answer) law so = so
-      here (NextOut answer) law so = quiet_over word (E.Take answer ∷ []) (lower_of limit szx t)
+      here (NextOut answer) law so = quiet_over word (E.Take answer ∷ []) (lower_of limits szx t)
           ((λ s. (refl, tt)), tt) so
       here (Feeds now from bytes w up came h below) law so =
-          let s : Own = own_of limit szx t in
-          fed word (lower_of limit szx t) so (heard s now (incoming s now from bytes up came)) from bytes up came h
+          let s : Own = own_of limits szx t in
+          fed word (lower_of limits szx t) so (heard s now (incoming s now from bytes up came)) from bytes up came h
           below law.exchanges.rows (law.exchanges.left, law.exchanges.layer)
       here (Ticks now w below room d passed h id answer) law so =
-          let s : Own = own_of limit szx t in
+          let s : Own = own_of limits szx t in
           let first : E.Call = ticking s now below room d in
           let asks : List E.Call = responding (heard s now first) d passed h w id in
           let last : Quiet word (first ∷ []) = ((λ e. asking_none _ _ room below), tt) in
-          quiet_over word (asks ++ first ∷ []) (lower_of limit szx t)
+          quiet_over word (asks ++ first ∷ []) (lower_of limits szx t)
           (quiet_append word asks (first ∷ []) (responding_quiet word (heard s now first) d passed h w id) last) so

@@ -24,16 +24,16 @@ asking_none at (Some d) room below = (refl, (refl, tt))
 
 module _ (word : ℕ) where
   abbrev pub begin : L.State
-  begin = L.start word
+  begin = L.start (L.usual word)
 
   abbrev pub Under : List E.Call → Type 0
-  Under calls = So (L.start word) (W.lower_of calls)
+  Under calls = So (L.start (L.usual word)) (W.lower_of calls)
 
   abbrev pub Left : List E.Call → Type 0
-  Left calls = (h : L.State) × Steps (L.start word) (W.lower_of calls) h
+  Left calls = (h : L.State) × Steps (L.start (L.usual word)) (W.lower_of calls) h
 
   pub one_back : (c : E.Call) (calls : List E.Call) → Left (c ∷ calls) → Left calls
-  one_back c calls left = let k = steps_split (L.start word) left.0 (P.lower (W.own_of calls) c)
+  one_back c calls left = let k = steps_split (L.start (L.usual word)) left.0 (P.lower (W.own_of calls) c)
       (W.lower_of calls) left.1 in (k.0, k.1)
 
   module _ (calls : List E.Call) (so : Under calls) (now : ℕ) where
@@ -41,13 +41,14 @@ module _ (word : ℕ) where
     pub record Arrived (from : Endpoint) (bytes : List ℕ) (up : T.Answer) : Type 0 where
       pub mid : L.State
       pub new : L.State
-      pub before : Steps (L.start word) (W.lower_of calls) mid
+      pub before : Steps (L.start (L.usual word)) (W.lower_of calls) mid
       pub step : L.Step mid now (T.Receive from bytes) up new
 
     pub arrived : (from : Endpoint) (bytes : List ℕ) (up : T.Answer) (came : Option (Asked × Message))
         → Left (E.Incoming now from bytes up came ∷ calls) → Arrived from bytes up
     arrived from bytes up came left =
-        let k = steps_split (L.start word) left.0 (P.lower (W.own_of calls) (E.Incoming now from bytes up came))
+        let k = steps_split (L.start (L.usual word)) left.0
+        (P.lower (W.own_of calls) (E.Incoming now from bytes up came))
         (W.lower_of calls) left.1 in
         let f = steps_split k.0 left.0 (replying from (id_in up) (P.reject_by up))
         (asked now (T.Receive from bytes) up ∷ []) k.2 in

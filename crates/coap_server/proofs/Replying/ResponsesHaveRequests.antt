@@ -17,6 +17,7 @@ use Rattle.coap_block.specs.Whole.{Each}
 use Rattle.coap_observe.specs.Observers.{Observer}
 use Rattle.coap_resource.specs.Content.{Content, Held}
 use Rattle.coap_resource.specs.Serves.{Question, Reply, got}
+use Rattle.coap_resource.specs.Limits.{Limits}
 use Rattle.coap_exchange.specs.declared.answerer.Asked.{Asked}
 use Rattle.coap_exchange.specs.declared.answerer.Due.{Due}
 use Rattle.coap_exchange.specs.declared.answerer.Due.TheVariants as due
@@ -122,9 +123,9 @@ each_there Q [] o h k = absurd k
 each_there Q (y ∷ os) o h (inl e) = subst Q e h.0
 each_there Q (y ∷ os) o h (inr k) = each_there Q os o h.1 k
 
-module _ (limit szx word : ℕ) (p : L.Packet) where
+module _ (limits : Limits) (szx word : ℕ) (p : L.Packet) where
   abbrev own : List Call → Own
-  own t = own_of limit szx t
+  own t = own_of limits szx t
 
   abbrev In : List E.Call → Type 0
   In cs = Ever (CarriesIn p) cs
@@ -156,9 +157,9 @@ module _ (limit szx word : ℕ) (p : L.Packet) where
 
   module _ (t : List Call) where
     fed : (now : ℕ) (from : Endpoint) (bytes : List ℕ) (w : ℕ) (up : L.Answer) (came : Option (Asked × Message))
-        (h : Handling) (below : L.Answer) → ServerLaw limit szx word (Feeds now from bytes w up came h below ∷ t)
+        (h : Handling) (below : L.Answer) → ServerLaw limits szx word (Feeds now from bytes w up came h below ∷ t)
         → In (lower (own t) (Feeds now from bytes w up came h below))
-        → CarriesResponse limit szx word p t (Feeds now from bytes w up came h below)
+        → CarriesResponse limits szx word p t (Feeds now from bytes w up came h below)
     fed now from bytes w up None h below law (inl k) = absurd k
     fed now from bytes w up None h below law (inr k) = absurd k
     fed now from bytes w up (Some a) Silent below law (inl k) = absurd k
@@ -187,7 +188,7 @@ module _ (limit szx word : ℕ) (p : L.Packet) where
             asked = a.0;
             verdict = verdict_on szx a.1;
             code = f.code;
-            comes = comes_here limit szx word t now from bytes w up a (Replies r) below law;
+            comes = comes_here limits szx word t now from bytes w up a (Replies r) below law;
             handed = refl;
             unserved = refl;
             refuses = f.refuses;
@@ -201,7 +202,8 @@ module _ (limit szx word : ℕ) (p : L.Packet) where
                 taken = ap (λ v. taken_by u s.clock a.0 v) f.verdict
                     ∙ ap (λ v. took_by v (took a.0 f.question f.block)) f.joins;
                 more =
-                    joins_more u.szx (reached (key_of a.0 f.question) (there_at u s.clock))
+                    joins_more (record { szx = u.szx; limit = u.limit })
+                    (reached (key_of a.0 f.question) (there_at u s.clock))
                     (length (without_key (key_of a.0 f.question) (there_at u s.clock))) f.block
                     (length f.question.body) f.size f.joins;
                 size = f.size;
@@ -212,9 +214,9 @@ module _ (limit szx word : ℕ) (p : L.Packet) where
         ]
 
     ticked : (now w : ℕ) (below : L.Answer) (room : Bool) (d : Due) (passed : ℕ) (h : Handling) (id : ℕ) (answer : Bool)
-        → ServerLaw limit szx word (Ticks now w below room d passed h id answer ∷ t)
+        → ServerLaw limits szx word (Ticks now w below room d passed h id answer ∷ t)
         → In (lower (own t) (Ticks now w below room d passed h id answer))
-        → CarriesResponse limit szx word p t (Ticks now w below room d passed h id answer)
+        → CarriesResponse limits szx word p t (Ticks now w below room d passed h id answer)
     ticked now w below room (due.Ready a) passed (Serves q reply left) id answer law (inl k) =
         inl (record {
           request = serving_of (heard (own t) now (ticking (own t) now below room (due.Ready a))) a q reply
@@ -253,13 +255,13 @@ module _ (limit szx word : ℕ) (p : L.Packet) where
         let right = law.rows.0.0 in
         let is = next_is (behind passed (marked s.observers)) s.store o reply right in
         let there = (marked_there s.observers o (behind_there passed (marked s.observers) o is)).0 in
-        let g = good_ended limit szx t (P.after (own t).exchanges (ticking (own t) now below room due.Idle)).ended
-        (own t).observers (good limit szx t) in
+        let g = good_ended limits szx t (P.after (own t).exchanges (ticking (own t) now below room due.Idle)).ended
+        (own t).observers (good limits szx t) in
         inr (inr (inr (record {
           observer = o;
           reply = reply;
           here = refl;
-          made = each_there (WasMade limit szx t) s.observers o g.made there;
+          made = each_there (WasMade limits szx t) s.observers o g.made there;
           shows = subst (λ z. NoticeOf o.szx (s.store.holds o.path)
               (response_with z (sequence (s.store.holds o.path)) None))
               (sym (next_told (behind passed (marked s.observers)) s.store o reply right))
@@ -267,7 +269,7 @@ module _ (limit szx word : ℕ) (p : L.Packet) where
           carries = k;
         })))
 
-    here : (c : Call) → ServerLaw limit szx word (c ∷ t) → In (lower (own t) c) → CarriesResponse limit szx word p t c
+    here : (c : Call) → ServerLaw limits szx word (c ∷ t) → In (lower (own t) c) → CarriesResponse limits szx word p t c
     here (Sets now path format body answer left) law k = absurd k
     here (Removes now path answer left) law k = absurd k
     here (Delays path ms answer) law k = absurd k
@@ -277,28 +279,29 @@ module _ (limit szx word : ℕ) (p : L.Packet) where
     here (Ticks now w below room d passed h id answer) law k = ticked now w below room d passed h id answer law k
     here (NextOut answer) law k = elim k [ inl z ↦ absurd z | inr z ↦ absurd z ]
 
-  responded : (t : List Call) → ServerLaw limit szx word t → In (lower_of limit szx t)
-      → Sometime (CarriesResponse limit szx word p) t
+  responded : (t : List Call) → ServerLaw limits szx word t → In (lower_of limits szx t)
+      → Sometime (CarriesResponse limits szx word p) t
   responded [] law h = absurd h
   responded (c ∷ t) law h =
-      elim (Ever_append (CarriesIn p) (lower (own t) c) (lower_of limit szx t) h) [
+      elim (Ever_append (CarriesIn p) (lower (own t) c) (lower_of limits szx t) h) [
         | inl k ↦ inl (here t c law k)
-        | inr k ↦ inr (responded t (server_back limit szx word c t law) k)
+        | inr k ↦ inr (responded t (server_back limits szx word c t law) k)
       ]
 
-pub sent_responses : (limit szx word : ℕ) (t : List Call) → ServerLaw limit szx word t → SentResponses limit szx word t
-sent_responses limit szx word t law p h =
-    let calls : List E.Call = lower_of limit szx t in
-    elim (sourced word p (W.below_of word calls) (layer_stands word calls law.exchanges) h) [
+pub sent_responses : (limits : Limits) (szx word : ℕ) (t : List Call) → ServerLaw limits szx word t
+    → SentResponses limits szx word t
+sent_responses limits szx word t law p h =
+    let calls : List E.Call = lower_of limits szx t in
+    elim (sourced (S.usual word) p (W.below_of word calls) (layer_stands word calls law.exchanges) h) [
       | inl k ↦ inl k
-      | inr k ↦ elim (made p calls law.exchanges.rows (called (Source p) (S.start word) (W.lower_of calls) k))
-          [ inl x ↦ inl x | inr x ↦ inr (responded limit szx word p t law x) ]
+      | inr k ↦ elim (made p calls law.exchanges.rows (called (Source p) (S.start (S.usual word)) (W.lower_of calls) k))
+          [ inl x ↦ inl x | inr x ↦ inr (responded limits szx word p t law x) ]
     ]
 
-pub sends_responses : (limit szx word : ℕ) (t : List Call) → ServerLaw limit szx word t
-    → SendsResponses limit szx word t
-sends_responses limit szx word [] law = tt
-sends_responses limit szx word (c ∷ t) law = (
-  sent_responses limit szx word (c ∷ t) law,
-  sends_responses limit szx word t (server_back limit szx word c t law),
+pub sends_responses : (limits : Limits) (szx word : ℕ) (t : List Call) → ServerLaw limits szx word t
+    → SendsResponses limits szx word t
+sends_responses limits szx word [] law = tt
+sends_responses limits szx word (c ∷ t) law = (
+  sent_responses limits szx word (c ∷ t) law,
+  sends_responses limits szx word t (server_back limits szx word c t law),
 )

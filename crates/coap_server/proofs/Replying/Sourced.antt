@@ -18,6 +18,7 @@ use Rattle.coap_types.specs.Bytes.{AreBytes}
 use Rattle.coap_codec.specs.Message.{Message, Spells}
 use Rattle.coap_codec.specs.Spelling.{message_bytes}
 use Rattle.coap_types.proofs.Facts.Bytes.{AreBytes-drop, byte_at}
+use Rattle.coap_layer.specs.declared.setup.Setup.{Setup}
 use Rattle.coap_layer.specs.Arrivals.{Faulted, Whole, Shows, by_head}
 use Rattle.coap_layer.specs.Trace.{with_head, Packet, Call, Receive, Reply, Confirm, Plain, Settle, Ticks, Take, Room}
 use Rattle.coap_layer.specs.Trace.{AsksFree, Pass, Entry}
@@ -59,8 +60,8 @@ shown_small : (bytes : List ℕ) (id : ℕ) → AreBytes bytes
 shown_small bytes id fits (inl s) = subst (λ n. n < 65536) (sym (fault_id s.0 bytes Con id s.3)) (id_small bytes fits)
 shown_small bytes id fits (inr s) = let k = s.1.id in let e = s.3 in omega (arith, k, e)
 
-module _ (word : ℕ) where
-  small_in : (past : List Entry) (e : Entry) (w : Awaited) → LayerLaw word (e ∷ past) → (call : Call) → e.call ≡ call
+module _ (setup : Setup) where
+  small_in : (past : List Entry) (e : Entry) (w : Awaited) → LayerLaw setup (e ∷ past) → (call : Call) → e.call ≡ call
       → (awaits past ≡ Some w → w.id < 65536) → awaits_in call e.answer (awaits past) ≡ Some w → w.id < 65536
   small_in past e w law (Receive from bytes) is older h = by (handed_by e.answer) refl h
     where
@@ -69,7 +70,7 @@ module _ (word : ℕ) where
       by (Some m) up k =
           let there : Incoming = record { from = from; message = m } in
           let comes : handed e ≡ Some there = ap (λ c. handed_in c e.answer) is ∙ ap (from_there from) up in
-          let s = ((handed_spelled word (e ∷ past) law).0 there comes).spells.id in
+          let s = ((handed_spelled setup (e ∷ past) law).0 there comes).spells.id in
           let same : m.id ≡ w.id = ap (λ (x : Awaited). x.id)
           (let q : ◌≡◌ {A = Awaited} (record { from = from; id = m.id }) w = cc k in q) in
           omega (arith, s, same)
@@ -83,18 +84,18 @@ module _ (word : ℕ) where
   small_in past e w law AsksFree is older h = older h
   small_in past e w law Pass is older h = older h
 
-  awaited_small : (t : List Entry) → LayerLaw word t → (w : Awaited) → awaits t ≡ Some w → w.id < 65536
+  awaited_small : (t : List Entry) → LayerLaw setup t → (w : Awaited) → awaits t ≡ Some w → w.id < 65536
   awaited_small [] law w h = absurd (cc h)
   awaited_small (e ∷ past) law w h = small_in past e w law e.call refl (awaited_small past law.1 w) h
 
   -- a CON that begins
-  begun_source : (c : Open) (past : List Entry) (e : Entry) → LayerLaw word (e ∷ past) → begun e ≡ Some c
+  begun_source : (c : Open) (past : List Entry) (e : Entry) → LayerLaw setup (e ∷ past) → begun e ≡ Some c
       → Source (packet_of c) e.call
   begun_source c past e law h =
       let b = begins_of e c h in
-      let s = (cons_spelled word (e ∷ past) law).0 c h in
-      let row : IsSpelled b.content × Confirms word past e c.to b.content =
-      subst (Row word past e) b.call_is law.0.row in
+      let s = (cons_spelled setup (e ∷ past) law).0 c h in
+      let row : IsSpelled b.content × Confirms setup past e c.to b.content =
+      subst (Row setup past e) b.call_is law.0.row in
       let low : c.id < 65536 = let k = s.1.id in let e = s.3 in omega (arith, k, e) in
       inr (record {
         kind = Con;
@@ -107,7 +108,7 @@ module _ (word : ℕ) where
 
   module _ (p : Packet) where
     -- a reply that was given before
-    reply_source : (id : ℕ) (past : List Entry) (e : Entry) → LayerLaw word (e ∷ past)
+    reply_source : (id : ℕ) (past : List Entry) (e : Entry) → LayerLaw setup (e ∷ past)
         → reply_in p.to id e.call ≡ Some p.bytes → Source p e.call
     reply_source id past e law h = by e.call refl h
       where
@@ -117,7 +118,7 @@ module _ (word : ℕ) where
         placed to n bytes is true k g =
             let place : to ≡ p.to = same_endpoint_is to p.to (and_parts (same_endpoint to p.to) (n == id) k).0 in
             let given : bytes ≡ p.bytes = cc g in
-            let row = subst (Row word past e) is law.0.row in
+            let row = subst (Row setup past e) is law.0.row in
             record {
               id = n;
               call_is = is ∙ (ap (λ x. Reply x n bytes) place ∙ ap (λ x. Reply p.to n x) given);
@@ -136,14 +137,14 @@ module _ (word : ℕ) where
         by AsksFree is g = absurd (cc g)
         by Pass is g = absurd (cc g)
 
-    module _ (past : List Entry) (e : Entry) (law : LayerLaw word (e ∷ past)) where
+    module _ (past : List Entry) (e : Entry) (law : LayerLaw setup (e ∷ past)) where
       plain_source : IsIn p e.out → PlainOut e p → Source p e.call
       plain_source sends q = inr (by row.1)
         where
-          row : IsSpelled q.content × (RefusesIds word past e ⊎ SendsAs Non word past e p.to q.content)
-          row = subst (Row word past e) q.call law.0.row
+          row : IsSpelled q.content × (RefusesIds setup past e ⊎ SendsAs Non setup past e p.to q.content)
+          row = subst (Row setup past e) q.call law.0.row
 
-          by : RefusesIds word past e ⊎ SendsAs Non word past e p.to q.content → GivesMessage p e.call
+          by : RefusesIds setup past e ⊎ SendsAs Non setup past e p.to q.content → GivesMessage p e.call
           by (inl r) = let k = r.answer in let l = q.answer in absurd (cc (k, l))
           by (inr r) =
               let same : r.id ≡ q.id = let k = r.answer in let l = q.answer in cc (k, l) in
@@ -161,7 +162,7 @@ module _ (word : ℕ) where
 
       reset_empty : ResetOut e p → IsEmpty p
       reset_empty r =
-          let row = subst (Row word past e) r.call law.0.row in
+          let row = subst (Row setup past e) r.call law.0.row in
           let low = shown_small r.bytes r.id row.0 r.shows in (
             empty_of Rst r.id,
             subst (λ x. Spells x (empty_of Rst r.id)) (sym (ap (λ (x : Packet). x.bytes) r.is))
@@ -174,7 +175,7 @@ module _ (word : ℕ) where
           (subst (λ x. Source x e.call) (sym f.is) (begun_source f.con past e law f.begins)))
       goes_out sends (GoesOut.copy f) =
           inr (inr (subst (λ x. Ever (λ b. Source x b.call) past) (sym f.is)
-          (Ever_by_law (Stands word) (λ b. begun b ≡ Some f.con) (λ b. Source (packet_of f.con) b.call)
+          (Ever_by_law (Stands setup) (λ b. begun b ≡ Some f.con) (λ b. Source (packet_of f.con) b.call)
           (begun_source f.con) past law.1 f.begun_before)))
       goes_out sends (GoesOut.plain q) = inr (inl (plain_source sends q))
       goes_out sends (GoesOut.reply r) = inr (inl
@@ -184,14 +185,14 @@ module _ (word : ℕ) where
             small = awaited_small past law.1 (record { from = p.to; id = r.id }) r.awaited;
           })))
       goes_out sends (GoesOut.stored s) =
-          inr (inr (Ever_by_law (Stands word) (λ b. reply_in p.to s.message.id b.call ≡ Some p.bytes)
+          inr (inr (Ever_by_law (Stands setup) (λ b. reply_in p.to s.message.id b.call ≡ Some p.bytes)
           (λ b. Source p b.call) (reply_source s.message.id) past law.1
           (Ever_of_Since (λ b. reply_in p.to s.message.id b.call ≡ Some p.bytes)
           (λ b. hands_up p.to s.message.id b ≡ false) past s.given)))
       goes_out sends (GoesOut.reset r) = inl (reset_empty r)
 
-    pub sourced : (t : List Entry) → LayerLaw word t → Ever (λ e. IsIn p e.out) t
+    pub sourced : (t : List Entry) → LayerLaw setup t → Ever (λ e. IsIn p e.out) t
         → IsEmpty p ⊎ Ever (λ b. Source p b.call) t
     sourced [] law h = absurd h
-    sourced (e ∷ past) law (inl h) = goes_out past e law h ((each_goes_out word (e ∷ past) law).0 p h)
+    sourced (e ∷ past) law (inl h) = goes_out past e law h ((each_goes_out setup (e ∷ past) law).0 p h)
     sourced (e ∷ past) law (inr h) = elim (sourced past law.1 h) [ inl k ↦ inl k | inr k ↦ inr (inr k) ]

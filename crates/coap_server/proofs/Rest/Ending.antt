@@ -12,6 +12,7 @@ use Rattle.coap_observe.specs.Observers.{Observer, is_of, removed, sent_to, unma
 use Rattle.coap_observe.proofs.Facts.Registrations.{is_of-decides}
 use Rattle.coap_resource.specs.Content.{Held}
 use Rattle.coap_resource.specs.Serves.{Question}
+use Rattle.coap_resource.specs.Limits.{Limits}
 use Rattle.coap_exchange.specs.declared.answerer.Asked as answerer
 use Rattle.coap_exchange.specs.declared.answerer.Due.{Due}
 use Rattle.coap_exchange.specs.declared.answerer.Due.TheVariants as due
@@ -179,7 +180,7 @@ without_one at a (w ∷ ws) q h = by (D.is_of at a w) h (without_one at a ws q)
 -- the layer, where it is asked at one moment
 module _ (word at : ℕ) (rest : List Asked) (below : L.Answer) where
   abbrev begin : S.State
-  begin = left_after (S.start word) rest
+  begin = left_after (S.start (S.usual word)) rest
 
   abbrev moment : ℕ
   moment = max begin.clock at
@@ -188,25 +189,28 @@ module _ (word at : ℕ) (rest : List Asked) (below : L.Answer) where
   asking o room = (P.asking_room at o room ++ asked at L.Ticks below ∷ []) ++ rest
 
   record Asks (o : Option Deferred) (room : Bool) : Type 0 where
-    clock : max (left_after (S.start word) (asking o room)).clock at ≡ moment
-    least : due_count moment (left_after (S.start word) (asking o room)).open_cons ≤ due_count moment begin.open_cons
+    clock : max (left_after (S.start (S.usual word)) (asking o room)).clock at ≡ moment
+    least : due_count moment (left_after (S.start (S.usual word)) (asking o room)).open_cons
+        ≤ due_count moment begin.open_cons
     fewer : is_step below ≡ true → due_count moment
-        (left_after (S.start word) (asking o room)).open_cons < due_count moment begin.open_cons
+        (left_after (S.start (S.usual word)) (asking o room)).open_cons < due_count moment begin.open_cons
 
-  ticks : (new : S.State) (room : Bool) → Steps (S.start word) (asking None room) new → Asks None room
+  ticks : (new : S.State) (room : Bool) → Steps (S.start (S.usual word)) (asking None room) new → Asks None room
   ticks new room h =
-      let step = last_step (S.start word) new (asked at L.Ticks below) rest h in
+      let step = last_step (S.start (S.usual word)) new (asked at L.Ticks below) rest h in
       record {
         clock = omega arith;
         least = ticks_least begin _ at below step;
         fewer = λ is. ticks_fewer begin _ at below step is;
       }
 
-  asks : (new : S.State) (o : Option Deferred) (room : Bool) → Steps (S.start word) (asking o room) new → Asks o room
+  asks : (new : S.State) (o : Option Deferred) (room : Bool) → Steps (S.start (S.usual word)) (asking o room) new
+      → Asks o room
   asks new None room h = ticks new room h
   asks new (Some d) room h =
       let k = ticks h.0 room h.1 in
-      let step = last_step (S.start word) new (asked at (L.Room d.asked.from) (L.Is room)) (asking None room) h in
+      let step = last_step (S.start (S.usual word)) new (asked at (L.Room d.asked.from) (L.Is room))
+      (asking None room) h in
       let same = room_same _ _ at d.asked.from (L.Is room) step in
       let first = k.least in
       let clock = k.clock in
@@ -218,7 +222,7 @@ module _ (word at : ℕ) (rest : List Asked) (below : L.Answer) where
 
 -- what calls of the exchanges leave of the layer
 abbrev pub behind_calls : ℕ → List E.Call → S.State
-behind_calls word calls = left_after (S.start word) (W.lower_of calls)
+behind_calls word calls = left_after (S.start (S.usual word)) (W.lower_of calls)
 
 -- rooms that are asked for
 module _ (word at : ℕ) where
@@ -229,7 +233,8 @@ module _ (word at : ℕ) where
   one_room : (to : Endpoint) (b : Bool) (calls : List E.Call) → W.ResponseLaw word (E.Ready at to b ∷ calls)
       → Rooms (behind_calls word calls) (behind_calls word (E.Ready at to b ∷ calls))
   one_room to b calls law =
-      let step = last_step (S.start word) law.left (asked at (L.Room to) (L.Is b)) (W.lower_of calls) law.layer in
+      let step = last_step (S.start (S.usual word)) law.left (asked at (L.Room to) (L.Is b))
+      (W.lower_of calls) law.layer in
       record { opens = room_same _ _ at to (L.Is b) step; clock = omega arith }
 
   more_rooms : (a b c : S.State) → Rooms a b → Rooms b c → Rooms a c
@@ -248,18 +253,18 @@ module _ (word at : ℕ) where
       (more_rooms (behind_calls word calls) (behind_calls word (ready ∷ calls))
       (behind_calls word (readies at n os ++ ready ∷ calls)) first (rooms n os (ready ∷ calls) later))
 
-module _ (limit szx word : ℕ) where
+module _ (limits : Limits) (szx word : ℕ) where
   abbrev own : List Call → Own
-  own t = own_of limit szx t
+  own t = own_of limits szx t
 
   abbrev layer : List Call → S.State
-  layer t = behind_calls word (lower_of limit szx t)
+  layer t = behind_calls word (lower_of limits szx t)
 
   -- what is left to be done at this moment
   pub size : ℕ → List Call → ℕ
-  size now t = work (state_left limit szx word t) now
+  size now t = work (state_left limits szx word t) now
 
-  pub size_is : (now : ℕ) (t : List Call) → size now t ≡ work (state_left limit szx word t) now
+  pub size_is : (now : ℕ) (t : List Call) → size now t ≡ work (state_left limits szx word t) now
   unfolding size
   size_is now t = refl
 
@@ -268,13 +273,13 @@ module _ (limit szx word : ℕ) where
     at = max (own t).clock now
 
     abbrev under : List E.Call
-    under = lower_of limit szx t
+    under = lower_of limits szx t
 
     abbrev ready : Option Deferred
     ready = P.ready_if below (P.ready_at (W.own_of under) at)
 
     abbrev asked_room : S.State
-    asked_room = left_after (S.start word) (asking word at (W.lower_of under) below ready room)
+    asked_room = left_after (S.start (S.usual word)) (asking word at (W.lower_of under) below ready room)
 
     abbrev before : ℕ
     before = due_count (max (layer t).clock at) (layer t).open_cons
@@ -282,7 +287,8 @@ module _ (limit szx word : ℕ) where
     abbrev after : S.State → ℕ
     after s = due_count (max s.clock (max at now)) s.open_cons
 
-    taken_less : (new : S.State) → Steps (S.start word) (asking word at (W.lower_of under) below ready room) new
+    taken_less : (new : S.State) → Steps (S.start (S.usual word))
+        (asking word at (W.lower_of under) below ready room) new
         → is_step below ≡ true → after asked_room < before
     taken_less new steps is =
         let k = asks word at (W.lower_of under) below new ready room steps in
@@ -296,16 +302,17 @@ module _ (limit szx word : ℕ) where
 
     -- a CON that begins now is not due
     begun_least : (b : S.State) (calls : List Asked) (to : Endpoint) (content : L.Content) (id : ℕ) (new : S.State)
-        → b ≡ left_after (S.start word) calls → b.open_cons ≡ asked_room.open_cons
+        → b ≡ left_after (S.start (S.usual word)) calls → b.open_cons ≡ asked_room.open_cons
         → max b.clock at ≡ max asked_room.clock at
-        → (mid : S.State) → Steps (S.start word) (asking word at (W.lower_of under) below ready room) mid
-        → Steps (S.start word) (asked at (L.Confirm to content w) (L.Sent id) ∷ calls) new
-        → after (left_after (S.start word) (asked at (L.Confirm to content w) (L.Sent id) ∷ calls)) ≤ before
+        → (mid : S.State) → Steps (S.start (S.usual word)) (asking word at (W.lower_of under) below ready room) mid
+        → Steps (S.start (S.usual word)) (asked at (L.Confirm to content w) (L.Sent id) ∷ calls) new
+        → after (left_after (S.start (S.usual word)) (asked at (L.Confirm to content w) (L.Sent id) ∷ calls)) ≤ before
     begun_least b calls to content id new b_is opens clocks mid turn steps =
-        let a : S.State = left_after (S.start word) calls in
-        let last : S.State = left_after (S.start word) (asked at (L.Confirm to content w) (L.Sent id) ∷ calls) in
+        let a : S.State = left_after (S.start (S.usual word)) calls in
+        let last : S.State = left_after (S.start (S.usual word))
+        (asked at (L.Confirm to content w) (L.Sent id) ∷ calls) in
         let k = asks word at (W.lower_of under) below mid ready room turn in
-        let step = last_step (S.start word) new (asked at (L.Confirm to content w) (L.Sent id)) calls steps in
+        let step = last_step (S.start (S.usual word)) new (asked at (L.Confirm to content w) (L.Sent id)) calls steps in
         let same = confirm_least a last at to content w (L.Sent id) step in
         let clock = k.clock in
         let least = k.least in
@@ -320,7 +327,7 @@ module _ (limit szx word : ℕ) where
         omega (arith, moved, least)
 
     pub less : (d : Due) (passed : ℕ) (h : Handling) (id : ℕ)
-        → ServerLaw limit szx word (Ticks now w below room d passed h id true ∷ t)
+        → ServerLaw limits szx word (Ticks now w below room d passed h id true ∷ t)
         → size now (Ticks now w below room d passed h id true ∷ t) < size now t
     unfolding size
     less due.Copied passed Silent id law =
@@ -400,36 +407,36 @@ module _ (limit szx word : ℕ) where
             let k = begun_least asked_room (asking word at (W.lower_of under) below ready room) a.from
             (P.content_of a (R.response_to s.store s.observers a q reply)) id law.exchanges.left refl refl refl
             turn.left turn.layer law.exchanges.layer in
-            let few = (are_observers limit szx (c ∷ t)).registrations.few in
+            let few = (are_observers limits szx (c ∷ t)).registrations.few in
             let most = length-filter_both (λ (o : Observer). o.marked) (λ (o : Observer). not o.marked) (λ o. refl)
             (own (c ∷ t)).observers in
             let one = without_one at a (own t).waiting x is in
             omega (arith, k, few, most, one)
     less (due.Ready a) passed Silent id law = let k =
-        (ready_are_served limit szx word (Ticks now w below room (due.Ready a) passed Silent id true ∷ t) law).0 a refl
+        (ready_are_served limits szx word (Ticks now w below room (due.Ready a) passed Silent id true ∷ t) law).0 a refl
         in let no = k.1 in absurd (cc no)
     less (due.Ready a) passed (Replies r) id law = let k =
-        (ready_are_served limit szx word (Ticks now w below room (due.Ready a) passed (Replies r) id true ∷ t) law).0 a
+        (ready_are_served limits szx word (Ticks now w below room (due.Ready a) passed (Replies r) id true ∷ t) law).0 a
         refl in let no = k.1 in absurd (cc no)
     less (due.Ready a) passed (Waits q d) id law = let k =
-        (ready_are_served limit szx word (Ticks now w below room (due.Ready a) passed (Waits q d) id true ∷ t) law).0 a
+        (ready_are_served limits szx word (Ticks now w below room (due.Ready a) passed (Waits q d) id true ∷ t) law).0 a
         refl in let no = k.1 in absurd (cc no)
     less (due.Ready a) passed (Notifies o reply) id law =
-        let k = (ready_are_served limit szx word (Ticks now w below room (due.Ready a) passed
+        let k = (ready_are_served limits szx word (Ticks now w below room (due.Ready a) passed
         (Notifies o reply) id true ∷ t) law).0 a refl in let no = k.1 in absurd (cc no)
 
-  so_many : (now : ℕ) (t calls : List Call) → Each (IsTick now true) calls → ServerLaw limit szx word (calls ++ t)
+  so_many : (now : ℕ) (t calls : List Call) → Each (IsTick now true) calls → ServerLaw limits szx word (calls ++ t)
       → length calls + size now (calls ++ t) ≤ size now t
   so_many now t [] h law = omega arith
   so_many now t (c ∷ calls) h law =
-      let k = so_many now t calls h.1 (server_back limit szx word c (calls ++ t) law) in
+      let k = so_many now t calls h.1 (server_back limits szx word c (calls ++ t) law) in
       let b = h.0 in
       let one = less now b.0 (calls ++ t) b.1 b.2 b.3 b.4 b.5 b.6
-      (subst (λ d. ServerLaw limit szx word (d ∷ (calls ++ t))) b.7 law) in
+      (subst (λ d. ServerLaw limits szx word (d ∷ (calls ++ t))) b.7 law) in
       let same : size now (c ∷ (calls ++ t)) ≡ size now (Ticks now b.0 b.1 b.2 b.3 b.4 b.5 b.6 true ∷ (calls ++ t)) =
       ap (λ d. size now (d ∷ (calls ++ t))) b.7 in
       omega (arith, k, one, same)
 
-  pub ticks_end : (t : List Call) → TicksEnd limit szx word t
+  pub ticks_end : (t : List Call) → TicksEnd limits szx word t
   unfolding size
   ticks_end t now calls h law = let k = so_many now t calls h law in omega (arith, k)

@@ -11,6 +11,7 @@ use Rattle.coap_block.specs.AssemblyTrace.{AssemblyTrace, Made, Arrived, state_a
 use Rattle.coap_block.specs.Whole.{Part}
 use Rattle.coap_block.specs.Gathered.{part}
 use Rattle.coap_resource.specs.Serves.{Question}
+use Rattle.coap_resource.specs.Limits.{Limits}
 use Rattle.coap_exchange.specs.declared.answerer.Asked.{Asked}
 use Rattle.coap_server.specs.Trace.{Own, Call, Sets, Removes, Delays, Feeds, Ticks, NextOut, Gets}
 use Rattle.coap_server.specs.Trace.{TellsApplied}
@@ -65,12 +66,12 @@ since_same key Done xs a q b ps e = by (same_key (key_of a q) key)
     by true = behind_is xs a q b ps e
     by false = e
 
-module _ (limit szx : ℕ) where
+module _ (limits : Limits) (szx : ℕ) where
   abbrev own : List Call → Own
-  own t = own_of limit szx t
+  own t = own_of limits szx t
 
   abbrev pub history : List Call → AssemblyTrace
-  history [] = Made szx
+  history [] = Made (record { szx = szx; limit = limits.body })
   history (c ∷ t) = arrived_in (history t) (own t) c
 
   uploads_with : (v : Verdict) (at : ℕ) (a : Asked) (u : AssemblyState) (h : AssemblyTrace) → u ≡ state_after h
@@ -79,6 +80,26 @@ module _ (limit szx : ℕ) where
   uploads_with (Refused code) at a u h e = e
   uploads_with (Asks q) at a u h e = e
   uploads_with (Uploads q b) at a u h e = ap (λ z. after_block z at (key_of a q) b q.body) e
+
+  -- the longest body that it joins stays
+  limit_with : (v : Verdict) (at : ℕ) (a : Asked) (u : AssemblyState) → (uploads_after at a v u).limit ≡ u.limit
+  limit_with Ignored at a u = refl
+  limit_with (Refused code) at a u = refl
+  limit_with (Asks q) at a u = refl
+  limit_with (Uploads q b) at a u = refl
+
+  pub limit_is : (t : List Call) → (own t).uploads.limit ≡ limits.body
+  limit_is [] = refl
+  limit_is (Sets now path format body answer left ∷ t) = limit_is t
+  limit_is (Removes now path answer left ∷ t) = limit_is t
+  limit_is (Delays path ms answer ∷ t) = limit_is t
+  limit_is (Gets path answer ∷ t) = limit_is t
+  limit_is (TellsApplied answer ∷ t) = limit_is t
+  limit_is (Feeds now from bytes word up None h below ∷ t) = limit_is t
+  limit_is (Feeds now from bytes word up (Some p) h below ∷ t) =
+      limit_with (verdict_on (own t).szx p.1) (max (own t).clock now) p.0 (own t).uploads ∙ limit_is t
+  limit_is (Ticks now word below room d passed h id answer ∷ t) = limit_is t
+  limit_is (NextOut answer ∷ t) = limit_is t
 
   -- it leaves what the server keeps of it
   pub uploads_is : (t : List Call) → (own t).uploads ≡ state_after (history t)
@@ -105,7 +126,7 @@ module _ (limit szx : ℕ) where
       ∙ since_same key (verdict_at (state_after h) at (key_of a q) b (length q.body)) xs a q b (A.blocks_since key h) f
 
   -- and so it does of the blocks of a key
-  pub since_is : (key : Key) (t : List Call) → parts_of (blocks_since limit szx key t) ≡ A.blocks_since key (history t)
+  pub since_is : (key : Key) (t : List Call) → parts_of (blocks_since limits szx key t) ≡ A.blocks_since key (history t)
   since_is key [] = refl
   since_is key (Sets now path format body answer left ∷ t) = since_is key t
   since_is key (Removes now path answer left ∷ t) = since_is key t
@@ -115,6 +136,6 @@ module _ (limit szx : ℕ) where
   since_is key (Feeds now from bytes word up None h below ∷ t) = since_is key t
   since_is key (Feeds now from bytes word up (Some p) h below ∷ t) =
       since_with_is key (verdict_on (own t).szx p.1) (max (own t).clock now) p.0 (own t).uploads (history t)
-      (blocks_since limit szx key t) (uploads_is t) (since_is key t)
+      (blocks_since limits szx key t) (uploads_is t) (since_is key t)
   since_is key (Ticks now word below room d passed h id answer ∷ t) = since_is key t
   since_is key (NextOut answer ∷ t) = since_is key t

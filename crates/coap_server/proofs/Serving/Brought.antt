@@ -9,6 +9,7 @@ use Rattle.coap_layer.specs.Trace as L
 use Rattle.coap_layer.specs.Machine.State as S
 use Rattle.coap_layer.specs.Machine.Steps.{Steps, entries, left_after}
 use Rattle.coap_layer.specs.Machine.Steps as G
+use Rattle.coap_resource.specs.Limits.{Limits}
 use Rattle.coap_exchange.specs.declared.answerer.Asked.{Asked}
 use Rattle.coap_exchange.specs.AnswererTrace as E
 use Rattle.coap_exchange.specs.AnswererSteps as P
@@ -26,30 +27,30 @@ use Rattle.coap_server.specs.Follows.Brings.{HandsUp, Comes}
 use Rattle.coap_server.proofs.Exact.Asked.{back}
 
 -- the law of a past
-pub server_back : (limit szx word : ℕ) (c : Call) (t : List Call) → ServerLaw limit szx word (c ∷ t)
-    → ServerLaw limit szx word t
-server_back limit szx word c t law = record {
+pub server_back : (limits : Limits) (szx word : ℕ) (c : Call) (t : List Call) → ServerLaw limits szx word (c ∷ t)
+    → ServerLaw limits szx word t
+server_back limits szx word c t law = record {
   rows = law.rows.1;
-  exchanges = back word (lower (own_of limit szx t) c) (lower_of limit szx t) law.exchanges;
+  exchanges = back word (lower (own_of limits szx t) c) (lower_of limits szx t) law.exchanges;
 }
 
-pub servers_back : (limit szx word : ℕ) (calls t : List Call) → ServerLaw limit szx word (calls ++ t)
-    → ServerLaw limit szx word t
-servers_back limit szx word [] t law = law
-servers_back limit szx word (c ∷ calls) t law =
-    servers_back limit szx word calls t (server_back limit szx word c (calls ++ t) law)
+pub servers_back : (limits : Limits) (szx word : ℕ) (calls t : List Call) → ServerLaw limits szx word (calls ++ t)
+    → ServerLaw limits szx word t
+servers_back limits szx word [] t law = law
+servers_back limits szx word (c ∷ calls) t law =
+    servers_back limits szx word calls t (server_back limits szx word c (calls ++ t) law)
 
 -- the size of blocks stays
-pub szx_is : (limit szx : ℕ) (t : List Call) → (own_of limit szx t).szx ≡ szx
-szx_is limit szx [] = refl
-szx_is limit szx (Sets now path format body answer left ∷ t) = szx_is limit szx t
-szx_is limit szx (Removes now path answer left ∷ t) = szx_is limit szx t
-szx_is limit szx (Delays path ms answer ∷ t) = szx_is limit szx t
-szx_is limit szx (Gets path answer ∷ t) = szx_is limit szx t
-szx_is limit szx (TellsApplied answer ∷ t) = szx_is limit szx t
-szx_is limit szx (Feeds now from bytes word up came h below ∷ t) = szx_is limit szx t
-szx_is limit szx (Ticks now word below room d passed h id answer ∷ t) = szx_is limit szx t
-szx_is limit szx (NextOut answer ∷ t) = szx_is limit szx t
+pub szx_is : (limits : Limits) (szx : ℕ) (t : List Call) → (own_of limits szx t).szx ≡ szx
+szx_is limits szx [] = refl
+szx_is limits szx (Sets now path format body answer left ∷ t) = szx_is limits szx t
+szx_is limits szx (Removes now path answer left ∷ t) = szx_is limits szx t
+szx_is limits szx (Delays path ms answer ∷ t) = szx_is limits szx t
+szx_is limits szx (Gets path answer ∷ t) = szx_is limits szx t
+szx_is limits szx (TellsApplied answer ∷ t) = szx_is limits szx t
+szx_is limits szx (Feeds now from bytes word up came h below ∷ t) = szx_is limits szx t
+szx_is limits szx (Ticks now word below room d passed h id answer ∷ t) = szx_is limits szx t
+szx_is limits szx (NextOut answer ∷ t) = szx_is limits szx t
 
 -- what several calls of the exchanges ask of the layer, and the entries of that
 abbrev under : List E.Call → List E.Call → List G.Asked
@@ -144,32 +145,33 @@ module _ (a : Asked) (m : Message) where
       (subst (λ d. Ever (λ (b : G.Asked). Arrives a m b.call b.answer) (P.lower s d)) (sym h.4)
       (arrives_here s h.0 h.1 h.2 h.3 (subst (P.IsRight s) h.4 law.0)))
 
-module _ (limit szx word : ℕ) (t : List Call) where
+module _ (limits : Limits) (szx word : ℕ) (t : List Call) where
   -- whatever the exchanges are asked in a call, the entries that come with it
-  comes_by : (c : Call) (a : Asked) (m : Message) (v : Verdict) → ServerLaw limit szx word (c ∷ t)
-      → verdict_on szx m ≡ v → Ever (Comes_in a m) (lower (own_of limit szx t) c) → Comes limit szx word t c a v
+  comes_by : (c : Call) (a : Asked) (m : Message) (v : Verdict) → ServerLaw limits szx word (c ∷ t)
+      → verdict_on szx m ≡ v → Ever (Comes_in a m) (lower (own_of limits szx t) c) → Comes limits szx word t c a v
   comes_by c a m v law is h =
-      let xs : List E.Call = lower (own_of limit szx t) c in
-      let calls : List E.Call = lower_of limit szx t in
+      let xs : List E.Call = lower (own_of limits szx t) c in
+      let calls : List E.Call = lower_of limits szx t in
       let e = under_is xs calls in
       record {
-        news = news (S.start word) (under xs calls) (W.lower_of calls);
-        is = ap (entries (S.start word)) e ∙ news_is (S.start word) (under xs calls) (W.lower_of calls);
+        news = news (S.start (S.usual word)) (under xs calls) (W.lower_of calls);
+        is = ap (entries (S.start (S.usual word))) e
+            ∙ news_is (S.start (S.usual word)) (under xs calls) (W.lower_of calls);
         here =
             Ever_map (λ (e : L.Entry). Arrives a m e.call e.answer) (HandsUp szx a v)
             (λ e z. record { message = m; bytes = z.0; call = z.1; answer = z.2; asked_is = z.3; verdict = is })
-            (news (S.start word) (under xs calls) (W.lower_of calls))
-            (entry_of (Arrives a m) (S.start word) law.exchanges.left (under xs calls) (W.lower_of calls)
-            (subst (λ z. Steps (S.start word) z law.exchanges.left) e law.exchanges.layer)
+            (news (S.start (S.usual word)) (under xs calls) (W.lower_of calls))
+            (entry_of (Arrives a m) (S.start (S.usual word)) law.exchanges.left (under xs calls) (W.lower_of calls)
+            (subst (λ z. Steps (S.start (S.usual word)) z law.exchanges.left) e law.exchanges.layer)
             (arrives a m xs calls law.exchanges.rows h));
       }
 
   pub comes_here : (now : ℕ) (from : Endpoint) (bytes : List ℕ) (w : ℕ) (up : L.Answer) (p : Asked × Message)
       (h : Handling) (below : L.Answer)
-      → ServerLaw limit szx word (Feeds now from bytes w up (Some p) h below ∷ t)
-      → Comes limit szx word t (Feeds now from bytes w up (Some p) h below) p.0 (verdict_on szx p.1)
+      → ServerLaw limits szx word (Feeds now from bytes w up (Some p) h below ∷ t)
+      → Comes limits szx word t (Feeds now from bytes w up (Some p) h below) p.0 (verdict_on szx p.1)
   comes_here now from bytes w up p h below law =
-      let s : Own = own_of limit szx t in
+      let s : Own = own_of limits szx t in
       let first : E.Call = incoming s now from bytes up (Some p) in
       comes_by (Feeds now from bytes w up (Some p) h below) p.0 p.1 (verdict_on szx p.1) law refl
       (Ever_back (Comes_in p.0 p.1) (answering (heard s now first) (Some p) h below) (first ∷ [])

@@ -1,6 +1,7 @@
 -- How often a server is handed a request: as often as its message layer hands it up.
 use Rattle.std.proofs.Common.{◌≤◌, ℕ, List, [], ◌∷◌, arith}
 use Rattle.coap_layer.specs.Machine.State as S
+use Rattle.coap_resource.specs.Limits.{Limits}
 use Rattle.coap_exchange.specs.declared.answerer.Asked.{Asked}
 use Rattle.coap_exchange.specs.AnswererLaw as W
 use Rattle.coap_server.proofs.Serving.HandedAtMost.{handed_at_most, at_entries}
@@ -12,15 +13,16 @@ use Rattle.coap_server.specs.Follows.Counts.{ups}
 use Rattle.coap_server.proofs.Serving.ServedOnce.{handed_is}
 use Rattle.coap_server.proofs.Serving.Brought.{server_back}
 
-module _ (limit szx word : ℕ) where
-  as_often : (t : List Call) (a : Asked) → ServerLaw limit szx word t
-      → times_handed limit szx a t ≤ ups a (layer_of limit szx word t)
+module _ (limits : Limits) (szx word : ℕ) where
+  as_often : (t : List Call) (a : Asked) → ServerLaw limits szx word t
+      → times_handed limits szx a t ≤ ups a (layer_of limits szx word t)
   as_often t a law =
-      let p = handed_is limit szx a t in
-      let q = handed_at_most a (lower_of limit szx t) law.exchanges.rows in
-      let r = at_entries a (S.start word) law.exchanges.left (W.lower_of (lower_of limit szx t)) law.exchanges.layer in
+      let p = handed_is limits szx a t in
+      let q = handed_at_most a (lower_of limits szx t) law.exchanges.rows in
+      let r = at_entries a (S.start (S.usual word)) law.exchanges.left
+      (W.lower_of (lower_of limits szx t)) law.exchanges.layer in
       omega (arith, p, q, r)
 
-  pub counted : (t : List Call) → ServerLaw limit szx word t → Counted limit szx word t
+  pub counted : (t : List Call) → ServerLaw limits szx word t → Counted limits szx word t
   counted [] law = tt
-  counted (c ∷ t) law = (λ a. as_often (c ∷ t) a law, counted t (server_back limit szx word c t law))
+  counted (c ∷ t) law = (λ a. as_often (c ∷ t) a law, counted t (server_back limits szx word c t law))

@@ -21,6 +21,7 @@ use Rattle.coap_codec.specs.Message.{Message}
 use Rattle.coap_layer.specs.Trace as L
 use Rattle.coap_resource.specs.RequestOptions.{block_said}
 use Rattle.coap_resource.specs.Serves.{Question}
+use Rattle.coap_resource.specs.Limits.{Limits}
 use Rattle.coap_exchange.specs.declared.answerer.Asked.{Asked}
 use Rattle.coap_exchange.specs.AnswererSteps.{may_defer}
 use Rattle.coap_block.specs.AssemblyState.{reached, without_key}
@@ -148,24 +149,24 @@ verdicts_ask = record {
 one_came : (x y : Asked × Message) → Some x ≡ Some y → x ≡ y
 one_came x y h = cc h
 
-module _ (limit szx : ℕ) where
+module _ (limits : Limits) (szx : ℕ) where
   module _ (t : List Call) (now : ℕ) (from : Endpoint) (bytes : List ℕ) (w : ℕ) (up : L.Answer) (p : Asked × Message)
       (below : L.Answer) where
     abbrev s : Own
-    s = heard (own_of limit szx t) now (incoming (own_of limit szx t) now from bytes up (Some p))
+    s = heard (own_of limits szx t) now (incoming (own_of limits szx t) now from bytes up (Some p))
 
     abbrev call : Handling → Call
     call h = Feeds now from bytes w up (Some p) h below
 
     abbrev Attended : Handling → Question → Type 0
-    Attended h q = IsAttended limit szx t (call h) p.0 q
+    Attended h q = IsAttended limits szx t (call h) p.0 q
 
-    served_so : (q : Question) (h : Handling) → ((delay : ℕ) → HasToWait limit szx t p.0 q delay → ⊥)
+    served_so : (q : Question) (h : Handling) → ((delay : ℕ) → HasToWait limits szx t p.0 q delay → ⊥)
         → IsServed s.store s.clock q h → Attended h q
     served_so q h free k = subst (λ z. Attended z q) (sym k.is)
         (inl ((serving_of s p.0 q k.reply k.left, refl, refl, refl), free))
 
-    waits_here : (q : Question) (delay : ℕ) → HasToWait limit szx t p.0 q delay → Attended (Waits q delay) q
+    waits_here : (q : Question) (delay : ℕ) → HasToWait limits szx t p.0 q delay → Attended (Waits q delay) q
     waits_here q delay has = inr (record { delay = delay; has_to = has; behind = refl })
 
     by_delay : (q : Question) (h : Handling) (o : Option ℕ) (place : Bool) → delay_for p.0.kind q.path s.delays ≡ o
@@ -188,7 +189,7 @@ module _ (limit szx : ℕ) where
 
     -- the last block
     abbrev Completed : Handling → Question → Block → Type 0
-    Completed h q b = (r : Question) × Completes limit szx t (call h) p.0 q b r × Attended h r
+    Completed h q b = (r : Question) × Completes limits szx t (call h) p.0 q b r × Attended h r
 
     by_ruling : (h : Handling) (q : Question) (b : Block) (v : BlockVerdict) → verdict_on s.szx p.1 ≡ Uploads q b
         → ruling_of s.uploads s.clock p.0 q b ≡ v → HandlesBlock v s p.0 q b h
@@ -197,31 +198,33 @@ module _ (limit szx : ℕ) where
     by_ruling h q b (Refuse why) is rule k takes last = absurd (cc takes)
     by_ruling h q b (Join n) is rule k takes last =
         let u = s.uploads in
-        let more : b.more ≡ true = joins_more u.szx (reached (key_of p.0 q) (there_at u s.clock))
+        let more : b.more ≡ true = joins_more (record { szx = u.szx; limit = u.limit })
+        (reached (key_of p.0 q) (there_at u s.clock))
         (length (without_key (key_of p.0 q) (there_at u s.clock))) b (length q.body) n rule in
         absurd (cc (more, last))
     by_ruling h q b Done is rule k takes last = (
       whole s.uploads s.clock p.0 q b,
-      completes limit szx 0 t now from bytes w up p h below q b is rule,
+      completes limits szx 0 t now from bytes w up p h below q b is rule,
       by_whole (whole s.uploads s.clock p.0 q b) h k,
     )
 
     takes_last : (h : Handling) (q : Question) (b : Block) → Handles s p.0 (verdict_on s.szx p.1) h
-        → verdict_on s.szx p.1 ≡ Uploads q b → takes_block (own_of limit szx t) (call h) ≡ Some (took p.0 q b)
+        → verdict_on s.szx p.1 ≡ Uploads q b → takes_block (own_of limits szx t) (call h) ≡ Some (took p.0 q b)
         → b.more ≡ false → Completed h q b
     takes_last h q b right is takes last =
         by_ruling h q b (ruling_of s.uploads s.clock p.0 q b) is refl (subst (λ v. Handles s p.0 v h) is right)
         (ap (taken_by s.uploads s.clock p.0) (sym is) ∙ takes) last
 
-  there : (t : List Call) (m : Message) (v : Verdict) → verdict_on szx m ≡ v → verdict_on (own_of limit szx t).szx m ≡ v
-  there t m v is = ap (λ n. verdict_on n m) (szx_is limit szx t) ∙ is
+  there : (t : List Call) (m : Message) (v : Verdict) → verdict_on szx m ≡ v
+      → verdict_on (own_of limits szx t).szx m ≡ v
+  there t m v is = ap (λ n. verdict_on n m) (szx_is limits szx t) ∙ is
 
-  methods_here : (t : List Call) (c : Call) → ServerRows limit szx (c ∷ t) → MethodsHere limit szx t c
+  methods_here : (t : List Call) (c : Call) → ServerRows limits szx (c ∷ t) → MethodsHere limits szx t c
   methods_here t (Feeds now from bytes w up (Some r) h below) rows p q is asked =
       let same = one_came p r (sym is) in
       let verdict : verdict_on szx r.1 ≡ Asks q =
       subst (λ (z : Asked × Message). verdict_on szx z.1 ≡ Asks q) same asked in
-      subst (λ (z : Asked × Message). IsAttended limit szx t (Feeds now from bytes w up (Some r) h below) z.0 q)
+      subst (λ (z : Asked × Message). IsAttended limits szx t (Feeds now from bytes w up (Some r) h below) z.0 q)
       (sym same)
       (asks_whole t now from bytes w up r below h q rows.0 (there t r.1 (Asks q) verdict))
   methods_here t (Feeds now from bytes w up None h below) rows p q is asked = absurd (cc is)
@@ -233,18 +236,18 @@ module _ (limit szx : ℕ) where
   methods_here t (Gets path answer) rows p q is asked = absurd (cc is)
   methods_here t (TellsApplied answer) rows p q is asked = absurd (cc is)
 
-  pub all_methods : (t : List Call) → ServerRows limit szx t → AllMethods limit szx t
+  pub all_methods : (t : List Call) → ServerRows limits szx t → AllMethods limits szx t
   all_methods [] rows = tt
   all_methods (c ∷ t) rows = (methods_here t c rows, all_methods t rows.1)
 
-  uploads_here : (t : List Call) (c : Call) → ServerRows limit szx (c ∷ t) → UploadsHere limit szx t c
+  uploads_here : (t : List Call) (c : Call) → ServerRows limits szx (c ∷ t) → UploadsHere limits szx t c
   uploads_here t (Feeds now from bytes w up (Some r) h below) rows p q b is asked =
       let c : Call = Feeds now from bytes w up (Some r) h below in
       let same = one_came p r (sym is) in
       let verdict : verdict_on szx r.1 ≡ Uploads q b =
       subst (λ (z : Asked × Message). verdict_on szx z.1 ≡ Uploads q b) same asked in
-      subst (λ (z : Asked × Message). takes_block (own_of limit szx t) c ≡ Some (took z.0 q b) → b.more ≡ false
-      → (v : Question) × Completes limit szx t c z.0 q b v × IsAttended limit szx t c z.0 v) (sym same)
+      subst (λ (z : Asked × Message). takes_block (own_of limits szx t) c ≡ Some (took z.0 q b) → b.more ≡ false
+      → (v : Question) × Completes limits szx t c z.0 q b v × IsAttended limits szx t c z.0 v) (sym same)
       (takes_last t now from bytes w up r below h q b rows.0 (there t r.1 (Uploads q b) verdict))
   uploads_here t (Feeds now from bytes w up None h below) rows p q b is asked = absurd (cc is)
   uploads_here t (Ticks now w below room d passed h id answer) rows p q b is asked = absurd (cc is)
@@ -255,6 +258,6 @@ module _ (limit szx : ℕ) where
   uploads_here t (Gets path answer) rows p q b is asked = absurd (cc is)
   uploads_here t (TellsApplied answer) rows p q b is asked = absurd (cc is)
 
-  pub all_uploads : (t : List Call) → ServerRows limit szx t → AllUploads limit szx t
+  pub all_uploads : (t : List Call) → ServerRows limits szx t → AllUploads limits szx t
   all_uploads [] rows = tt
   all_uploads (c ∷ t) rows = (uploads_here t c rows, all_uploads t rows.1)

@@ -17,6 +17,7 @@ use Rattle.coap_server.specs.Trace.{Sets}
 use Rattle.coap_server.specs.Trace.{Removes, Delays, Feeds, Ticks, NextOut, Gets, TellsApplied}
 use Rattle.coap_observe.specs.Observers.{Observer}
 use Rattle.coap_resource.specs.Serves.{Question}
+use Rattle.coap_resource.specs.Limits.{Limits}
 use Rattle.coap_server.specs.Deferring.{deferral, deferral_by, delay_for}
 use Rattle.coap_server.specs.Notifying.{marked, readies}
 use Rattle.coap_server.specs.Handling.{incoming, ticking, heard}
@@ -132,8 +133,8 @@ responding_served a s now word below room (due.Ready b) passed (Notifies o reply
 responding_served a s now word below room (due.Ready b) passed (Waits q w) id answer rest = omega arith
 responding_served a s now word below room (due.Ready b) passed (Serves q reply left) id answer rest = omega arith
 
-module _ (limit szx : ℕ) where
-  pub handed_is : (a : Asked) (t : List Call) → H a (lower_of limit szx t) ≡ times_handed limit szx a t
+module _ (limits : Limits) (szx : ℕ) where
+  pub handed_is : (a : Asked) (t : List Call) → H a (lower_of limits szx t) ≡ times_handed limits szx a t
   handed_is a [] = refl
   handed_is a (Sets now path format body answer left ∷ t) = let k = handed_is a t in omega (arith, k)
   handed_is a (Removes now path answer left ∷ t) = let k = handed_is a t in omega (arith, k)
@@ -142,21 +143,21 @@ module _ (limit szx : ℕ) where
   handed_is a (TellsApplied answer ∷ t) = let k = handed_is a t in omega (arith, k)
   handed_is a (NextOut answer ∷ t) = let k = handed_is a t in omega (arith, k)
   handed_is a (Feeds now from bytes word up came h below ∷ t) =
-      let s : Own = own_of limit szx t in
+      let s : Own = own_of limits szx t in
       let first : E.Call = incoming s now from bytes up came in
       let k = handed_is a t in
-      ap (H a) (joined (answering (heard s now first) came h below) first (lower_of limit szx t))
-      ∙ (answering_handed a (heard s now first) came h below (first ∷ lower_of limit szx t)
+      ap (H a) (joined (answering (heard s now first) came h below) first (lower_of limits szx t))
+      ∙ (answering_handed a (heard s now first) came h below (first ∷ lower_of limits szx t)
       ∙ ap (λ n. hits (same_asked a) (asked_in came) + n) k)
   handed_is a (Ticks now word below room d passed h id answer ∷ t) =
-      let s : Own = own_of limit szx t in
+      let s : Own = own_of limits szx t in
       let first : E.Call = ticking s now below room d in
       let k = handed_is a t in
-      let e = responding_handed a (heard s now first) d passed h word id (first ∷ lower_of limit szx t) in
-      ap (H a) (joined (responding (heard s now first) d passed h word id) first (lower_of limit szx t))
-      ∙ (e ∙ (let z : 0 + H a (lower_of limit szx t) ≡ 0 + times_handed limit szx a t = ap (λ n. 0 + n) k in z))
+      let e = responding_handed a (heard s now first) d passed h word id (first ∷ lower_of limits szx t) in
+      ap (H a) (joined (responding (heard s now first) d passed h word id) first (lower_of limits szx t))
+      ∙ (e ∙ (let z : 0 + H a (lower_of limits szx t) ≡ 0 + times_handed limits szx a t = ap (λ n. 0 + n) k in z))
 
-  served_at_most : (a : Asked) (t : List Call) → times_served limit szx a t ≤ A a (lower_of limit szx t)
+  served_at_most : (a : Asked) (t : List Call) → times_served limits szx a t ≤ A a (lower_of limits szx t)
   served_at_most a [] = omega arith
   served_at_most a (Sets now path format body answer left ∷ t) = let k = served_at_most a t in omega (arith, k)
   served_at_most a (Removes now path answer left ∷ t) = let k = served_at_most a t in omega (arith, k)
@@ -165,35 +166,35 @@ module _ (limit szx : ℕ) where
   served_at_most a (TellsApplied answer ∷ t) = let k = served_at_most a t in omega (arith, k)
   served_at_most a (NextOut answer ∷ t) = let k = served_at_most a t in omega (arith, k)
   served_at_most a (Feeds now from bytes word up came h below ∷ t) =
-      let s : Own = own_of limit szx t in
+      let s : Own = own_of limits szx t in
       let first : E.Call = incoming s now from bytes up came in
       let k = served_at_most a t in
-      let m = answering_served a s now from bytes word up came h below (first ∷ lower_of limit szx t) in
-      let e : A a (lower_of limit szx (Feeds now from bytes word up came h below ∷ t))
-      ≡ A a (answering (heard s now first) came h below ++ first ∷ lower_of limit szx t)
-      = ap (A a) (joined (answering (heard s now first) came h below) first (lower_of limit szx t)) in
+      let m = answering_served a s now from bytes word up came h below (first ∷ lower_of limits szx t) in
+      let e : A a (lower_of limits szx (Feeds now from bytes word up came h below ∷ t))
+      ≡ A a (answering (heard s now first) came h below ++ first ∷ lower_of limits szx t)
+      = ap (A a) (joined (answering (heard s now first) came h below) first (lower_of limits szx t)) in
       omega (arith, k, m, e)
   served_at_most a (Ticks now word below room d passed h id answer ∷ t) =
-      let s : Own = own_of limit szx t in
+      let s : Own = own_of limits szx t in
       let first : E.Call = ticking s now below room d in
       let k = served_at_most a t in
-      let m = responding_served a s now word below room d passed h id answer (first ∷ lower_of limit szx t) in
-      let e : A a (lower_of limit szx (Ticks now word below room d passed h id answer ∷ t))
-      ≡ A a (responding (heard s now first) d passed h word id ++ first ∷ lower_of limit szx t)
-      = ap (A a) (joined (responding (heard s now first) d passed h word id) first (lower_of limit szx t)) in
+      let m = responding_served a s now word below room d passed h id answer (first ∷ lower_of limits szx t) in
+      let e : A a (lower_of limits szx (Ticks now word below room d passed h id answer ∷ t))
+      ≡ A a (responding (heard s now first) d passed h word id ++ first ∷ lower_of limits szx t)
+      = ap (A a) (joined (responding (heard s now first) d passed h word id) first (lower_of limits szx t)) in
       omega (arith, k, m, e)
 
-  here : (t : List Call) (c : Call) → F.AreResponses (lower_of limit szx (c ∷ t)) → (x : Serving)
-      → serving (own_of limit szx t) c ≡ Some x → times_served limit szx x.asked t < times_handed limit szx x.asked
+  here : (t : List Call) (c : Call) → F.AreResponses (lower_of limits szx (c ∷ t)) → (x : Serving)
+      → serving (own_of limits szx t) c ≡ Some x → times_served limits szx x.asked t < times_handed limits szx x.asked
       (c ∷ t)
   here t (Feeds now from bytes word up (Some p) (Serves q reply left) below) law x h =
       let same : p.0 ≡ x.asked = ap (λ (y : Serving). y.asked)
-      (let e : ◌≡◌ {A = Serving} (serving_of (heard (own_of limit szx t) now
-      (incoming (own_of limit szx t) now from bytes up (Some p))) p.0 q reply left) x = cc h in e) in
-      let s : Own = own_of limit szx t in
+      (let e : ◌≡◌ {A = Serving} (serving_of (heard (own_of limits szx t) now
+      (incoming (own_of limits szx t) now from bytes up (Some p))) p.0 q reply left) x = cc h in e) in
+      let s : Own = own_of limits szx t in
       let it : Own = heard s now (incoming s now from bytes up (Some p)) in
       let first : E.Call = incoming s now from bytes up (Some p) in
-      let older : List E.Call = lower_of limit szx t in
+      let older : List E.Call = lower_of limits szx t in
       let rest : List E.Call = (deferral it p.0 q ++ first ∷ []) ++ older in
       let f : A x.asked rest < H x.asked rest = law.0.first x.asked (ap (λ b. Some b) same) in
       let k = served_at_most x.asked t in
@@ -202,13 +203,13 @@ module _ (limit szx : ℕ) where
       let g = ap (A x.asked) (joined (deferral it p.0 q) first older) in
       let n : A x.asked rest ≡ A x.asked older = g
       ∙ (m ∙ (let z : A x.asked (first ∷ older) ≡ A x.asked older = omega arith in z)) in
-      let o : H x.asked rest ≡ H x.asked (lower_of limit szx
+      let o : H x.asked rest ≡ H x.asked (lower_of limits szx
       (Feeds now from bytes word up (Some p) (Serves q reply left) below ∷ t)) = omega arith in
       omega (arith, f, k, e, n, o)
   here t (Ticks now word below room (due.Ready a) passed (Serves q reply left) id answer) law x h =
       let same : a ≡ x.asked = ap (λ (y : Serving). y.asked)
-      (let e : ◌≡◌ {A = Serving} (serving_of (heard (own_of limit szx t) now
-      (ticking (own_of limit szx t) now below room (due.Ready a))) a q reply left) x = cc h in e) in
+      (let e : ◌≡◌ {A = Serving} (serving_of (heard (own_of limits szx t) now
+      (ticking (own_of limits szx t) now below room (due.Ready a))) a q reply left) x = cc h in e) in
       let f = law.0.first x.asked (ap (λ b. Some b) same) in
       let k = served_at_most x.asked t in
       let e = handed_is x.asked t in
@@ -232,10 +233,10 @@ module _ (limit szx : ℕ) where
   here t (TellsApplied answer) law x e = absurd (cc e)
   here t (NextOut answer) law x e = absurd (cc e)
 
-  pub served_once : (t : List Call) → F.AreResponses (lower_of limit szx t) → ServedOnce limit szx t
+  pub served_once : (t : List Call) → F.AreResponses (lower_of limits szx t) → ServedOnce limits szx t
   served_once [] law = tt
   served_once (c ∷ t) law = (
     here t c law,
     served_once t
-        (Always_back _ (lower (own_of limit szx t) c) (lower_of limit szx t) law),
+        (Always_back _ (lower (own_of limits szx t) c) (lower_of limits szx t) law),
   )

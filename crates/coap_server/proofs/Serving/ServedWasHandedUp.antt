@@ -1,6 +1,6 @@
 -- What a server serves was handed up, and asks what was asked, with the whole body of its upload.
 use Rattle.std.proofs.Common.{◌≡◌, inl, inr, ℕ, max, ◌==◌, ◌&&◌, ◌-◌, ◌+◌, nat_le, nat_lt, not, Bool, true, false}
-use Rattle.std.proofs.Common.{Option, Some, None, List, [], ◌∷◌, ◌++◌, length, refl, ap, sym, subst, ◌∙◌, cond}
+use Rattle.std.proofs.Common.{Option, Some, None, List, [], ◌∷◌, ◌++◌, map, length, refl, ap, sym, subst, ◌∙◌, cond}
 use Rattle.std.specs.Cmp.{unsigned_Decides}
 use Rattle.coap_types.specs.Past.{Sometime}
 use Rattle.coap_types.specs.declared.endpoint.Endpoint.{Endpoint}
@@ -15,14 +15,17 @@ use Rattle.coap_block.specs.declared.block_verdict.BlockVerdict.{BlockVerdict}
 use Rattle.coap_block.specs.declared.block_verdict.BlockVerdict.TheVariants.{Refuse, Join, Done}
 use Rattle.coap_block.specs.declared.assembly_step.AssemblyRefusal.TheVariants.{BadRequest, EntityIncomplete}
 use Rattle.coap_block.specs.declared.assembly_step.AssemblyRefusal.TheVariants.{EntityTooLarge, Unavailable}
-use Rattle.coap_types.specs.Piece.{offset_of, max_body_len}
+use Rattle.coap_types.specs.Piece.{offset_of}
+use Rattle.coap_block.specs.Sizes.{Sizes}
 use Rattle.coap_block.specs.AssemblyState.{AssemblyState, reached, without_key}
 use Rattle.coap_block.specs.AssemblyStep.{ruling, fills, goes_on, answered_szx, with_block, there_at}
 use Rattle.coap_block.specs.AssemblyTrace as A
 use Rattle.coap_block.specs.AssemblyTrace.{Arrived, IsWholeBody}
+use Rattle.coap_block.specs.Whole.{Part}
 use Rattle.coap_block.proofs.Facts.Laws.{whole_by_blocks}
 use Rattle.coap_resource.specs.Content.{Content}
 use Rattle.coap_resource.specs.Serves.{Question}
+use Rattle.coap_resource.specs.Limits.{Limits}
 use Rattle.coap_exchange.specs.declared.answerer.Asked.{Asked}
 use Rattle.coap_exchange.specs.declared.answerer.Due.{Due}
 use Rattle.coap_exchange.specs.declared.answerer.Due.TheVariants as due
@@ -42,11 +45,11 @@ use Rattle.coap_server.specs.Handling.{incoming, ticking, heard, HandlesBlock, H
 use Rattle.coap_server.specs.Steps.{waiting_due, ready_in}
 use Rattle.coap_server.specs.Law.{ServerLaw, own_of}
 use Rattle.coap_server.specs.Follows.Serves.{Serving, serving, serving_of}
-use Rattle.coap_server.specs.Follows.Takes.{Took, took, took_by, taken_by, takes_block}
+use Rattle.coap_server.specs.Follows.Takes.{Took, took, took_by, taken_by, takes_block, blocks_since}
 use Rattle.coap_server.specs.Follows.Brings.{Comes, Completes, AsksBy, Brings, AreHandedUp, ComesIn}
 use Rattle.coap_server.specs.Follows.Brings.{BlocksCome}
 use Rattle.coap_server.proofs.Serving.Brought.{server_back, szx_is, comes_here}
-use Rattle.coap_server.proofs.Serving.BlocksTaken.{history, arrived, uploads_is, since_is}
+use Rattle.coap_server.proofs.Serving.BlocksTaken.{history, arrived, limit_is, uploads_is, since_is}
 
 -- requests that are alike are equal
 kind_is : (a b : Kind) → (kind_number a == kind_number b) ≡ true → a ≡ b
@@ -84,14 +87,15 @@ same_asked_is a b h =
     ∙ ap {B = Asked} (λ x. record { from = b.from; kind = b.kind; id = b.id; token = x }) token))
 
 -- only a last block is Done
-done_last : (szx : ℕ) (there : Option ℕ) (others : ℕ) (b : Block) (len : ℕ) → ruling szx there others b len ≡ Done
+done_last : (sizes : Sizes) (there : Option ℕ) (others : ℕ) (b : Block) (len : ℕ)
+    → ruling sizes there others b len ≡ Done
     → b.more ≡ false
-done_last szx there others b len h = by (not (fills b.more b.szx len)) (not (goes_on there b.num b.szx))
-    (nat_lt max_body_len (offset_of b.num b.szx + len)) (b.more && (b.num == 0) && nat_le 16 others) b.more h
+done_last sizes there others b len h = by (not (fills b.more b.szx len)) (not (goes_on there b.num b.szx))
+    (nat_lt sizes.limit (offset_of b.num b.szx + len)) (b.more && (b.num == 0) && nat_le 16 others) b.more h
   where
     by : (f g l u m : Bool) → cond f (Refuse BadRequest)
         (cond g (Refuse EntityIncomplete) (cond l (Refuse EntityTooLarge)
-        (cond u (Refuse Unavailable) (cond m (Join (answered_szx szx b)) Done)))) ≡ Done → m ≡ false
+        (cond u (Refuse Unavailable) (cond m (Join (answered_szx sizes.szx b)) Done)))) ≡ Done → m ≡ false
     by true g l u m k = absurd (cc k)
     by false true l u m k = absurd (cc k)
     by false false true u m k = absurd (cc k)
@@ -100,14 +104,14 @@ done_last szx there others b len h = by (not (fills b.more b.szx len)) (not (goe
     by false false false false false k = refl
 
 -- and only a block with more behind it is joined
-pub joins_more : (szx : ℕ) (there : Option ℕ) (others : ℕ) (b : Block) (len n : ℕ)
-    → ruling szx there others b len ≡ Join n → b.more ≡ true
-joins_more szx there others b len n h = by (not (fills b.more b.szx len)) (not (goes_on there b.num b.szx))
-    (nat_lt max_body_len (offset_of b.num b.szx + len)) (b.more && (b.num == 0) && nat_le 16 others) b.more h
+pub joins_more : (sizes : Sizes) (there : Option ℕ) (others : ℕ) (b : Block) (len n : ℕ)
+    → ruling sizes there others b len ≡ Join n → b.more ≡ true
+joins_more sizes there others b len n h = by (not (fills b.more b.szx len)) (not (goes_on there b.num b.szx))
+    (nat_lt sizes.limit (offset_of b.num b.szx + len)) (b.more && (b.num == 0) && nat_le 16 others) b.more h
   where
     by : (f g l u m : Bool) → cond f (Refuse BadRequest)
         (cond g (Refuse EntityIncomplete) (cond l (Refuse EntityTooLarge)
-        (cond u (Refuse Unavailable) (cond m (Join (answered_szx szx b)) Done)))) ≡ Join n → m ≡ true
+        (cond u (Refuse Unavailable) (cond m (Join (answered_szx sizes.szx b)) Done)))) ≡ Join n → m ≡ true
     by true g l u m k = absurd (cc k)
     by false true l u m k = absurd (cc k)
     by false false true u m k = absurd (cc k)
@@ -136,9 +140,9 @@ whole_asks None place old at p h q right is = served_asks h p q (ap question_in 
 nothing_asked : (X : Type 0) (h : Handling) (q : Question) → question_in h ≡ None → question_in h ≡ Some q → X
 nothing_asked X h q none is = let e : None ≡ Some q = sym none ∙ is in absurd (cc e)
 
-module _ (limit szx word : ℕ) where
+module _ (limits : Limits) (szx word : ℕ) where
   abbrev own : List Call → Own
-  own t = own_of limit szx t
+  own t = own_of limits szx t
 
   -- the request that arrives
   module _ (t : List Call) (now : ℕ) (from : Endpoint) (bytes : List ℕ) (w : ℕ) (up : L.Answer) (p : Asked × Message)
@@ -154,35 +158,38 @@ module _ (limit szx word : ℕ) where
 
     pub completes : (q : Question) (b : Block) → verdict_on (own t).szx p.1 ≡ Uploads q b
         → ruling_of (own t).uploads moment p.0 q b ≡ Done
-        → Completes limit szx t call p.0 q b (whole (own t).uploads moment p.0 q b)
+        → Completes limits szx t call p.0 q b (whole (own t).uploads moment p.0 q b)
     completes q b is done =
         let u : AssemblyState = (own t).uploads in
-        let hist : history limit szx (call ∷ t) ≡ Arrived (history limit szx t) moment (key_of p.0 q) b q.body =
-        ap (λ v. arrived (history limit szx t) moment p.0 v) is in
-        let parts = since_is limit szx (key_of p.0 q) (call ∷ t) ∙ ap (A.blocks_since (key_of p.0 q)) hist in
+        let hist : history limits szx (call ∷ t) ≡ Arrived (history limits szx t) moment (key_of p.0 q) b q.body =
+        ap (λ v. arrived (history limits szx t) moment p.0 v) is in
+        let parts = since_is limits szx (key_of p.0 q) (call ∷ t) ∙ ap (A.blocks_since (key_of p.0 q)) hist in
+        let blocks : List Part = map (λ x. x.part) (blocks_since limits szx (key_of p.0 q) (call ∷ t)) in
         record {
           takes = ap (λ v. taken_by u moment p.0 v) is ∙ ap (λ r. took_by r (took p.0 q b)) done;
-          last = done_last u.szx (reached (key_of p.0 q) (there_at u moment))
+          last = done_last (record { szx = u.szx; limit = u.limit }) (reached (key_of p.0 q) (there_at u moment))
               (length (without_key (key_of p.0 q) (there_at u moment))) b (length q.body) done;
-          whole = subst (λ ps. IsWholeBody ps (with_block u moment (key_of p.0 q) b q.body)) (sym parts)
-              (whole_by_blocks (history limit szx t) u moment (key_of p.0 q) b q.body (uploads_is limit szx t) done);
+          whole = subst (λ n. IsWholeBody n blocks (with_block u moment (key_of p.0 q) b q.body))
+              (limit_is limits szx t)
+              (subst (λ ps. IsWholeBody u.limit ps (with_block u moment (key_of p.0 q) b q.body)) (sym parts)
+              (whole_by_blocks (history limits szx t) u moment (key_of p.0 q) b q.body (uploads_is limits szx t) done));
           question = refl;
         }
 
     block_asks : (v : BlockVerdict) (q : Question) (b : Block) (asked : Question)
         → verdict_on (own t).szx p.1 ≡ Uploads q b → ruling_of (own t).uploads moment p.0 q b ≡ v
         → HandlesBlock v here p.0 q b h → question_in h ≡ Some asked
-        → Completes limit szx t call p.0 q b asked
+        → Completes limits szx t call p.0 q b asked
     block_asks (Refuse why) q b asked is rule right e = nothing_asked _ h asked (ap question_in right) e
     block_asks (Join n) q b asked is rule right e = nothing_asked _ h asked (ap question_in right) e
     block_asks Done q b asked is rule right e =
         let it : Question = whole (own t).uploads moment p.0 q b in
         let same : asked ≡ it = whole_asks (delay_for p.0.kind q.path here.delays)
         (may_defer here.exchanges.deferred) here.store here.clock it h asked right e in
-        subst (Completes limit szx t call p.0 q b) (sym same) (completes q b is rule)
+        subst (Completes limits szx t call p.0 q b) (sym same) (completes q b is rule)
 
     pub asks_by : (v : Verdict) (q : Question) → verdict_on (own t).szx p.1 ≡ v → Handles here p.0 v h
-        → question_in h ≡ Some q → AsksBy limit szx t call p.0 q v
+        → question_in h ≡ Some q → AsksBy limits szx t call p.0 q v
     asks_by Ignored q is right e = nothing_asked _ h q (ap question_in right) e
     asks_by (Refused code) q is right e = nothing_asked _ h q (ap question_in right) e
     asks_by (Asks asked) q is right e = whole_asks (delay_for p.0.kind asked.path here.delays)
@@ -190,15 +197,15 @@ module _ (limit szx word : ℕ) where
     asks_by (Uploads asked b) q is right e = block_asks
         (ruling_of (own t).uploads moment p.0 asked b) asked b q is refl right e
 
-    pub brings_here : ServerLaw limit szx word (call ∷ t) → (q : Question) → question_in h ≡ Some q
-        → Brings limit szx word t call p.0 q
+    pub brings_here : ServerLaw limits szx word (call ∷ t) → (q : Question) → question_in h ≡ Some q
+        → Brings limits szx word t call p.0 q
     brings_here law q e =
         let v : Verdict = verdict_on (own t).szx p.1 in
-        let same : verdict_on szx p.1 ≡ v = ap (λ n. verdict_on n p.1) (sym (szx_is limit szx t)) in
+        let same : verdict_on szx p.1 ≡ v = ap (λ n. verdict_on n p.1) (sym (szx_is limits szx t)) in
         record {
           verdict = v;
-          comes = subst (Comes limit szx word t call p.0) same
-              (comes_here limit szx word t now from bytes w up p h below law);
+          comes = subst (Comes limits szx word t call p.0) same
+              (comes_here limits szx word t now from bytes w up p h below law);
           asks = asks_by v q refl law.rows.0 e;
         }
 
@@ -214,25 +221,26 @@ module _ (limit szx word : ℕ) where
         by (Join n) k = cc k
         by Done k = cc k
 
-    pub block_comes : ServerLaw limit szx word (call ∷ t) → (x : Took) → takes_block (own t) call ≡ Some x
-        → ComesIn limit szx word t call x
+    pub block_comes : ServerLaw limits szx word (call ∷ t) → (x : Took) → takes_block (own t) call ≡ Some x
+        → ComesIn limits szx word t call x
     block_comes law x e =
         let v : Verdict = verdict_on (own t).szx p.1 in
         let k = takes_by v x e in
         let from_is : p.0 ≡ x.asked = ap (λ (y : Took). y.asked) k.3 in
-        let same : verdict_on szx p.1 ≡ Uploads k.0 k.1 = ap (λ n. verdict_on n p.1) (sym (szx_is limit szx t)) ∙ k.2 in
+        let same : verdict_on szx p.1 ≡ Uploads k.0 k.1 = ap (λ n. verdict_on n p.1) (sym (szx_is limits szx t))
+        ∙ k.2 in
         record {
           question = k.0;
           block = k.1;
           is = sym k.3 ∙ ap (λ a. took a k.0 k.1) from_is;
-          comes = subst (λ a. Comes limit szx word t call a (Uploads k.0 k.1)) from_is
-              (subst (Comes limit szx word t call p.0) same
-              (comes_here limit szx word t now from bytes w up p h below law));
+          comes = subst (λ a. Comes limits szx word t call a (Uploads k.0 k.1)) from_is
+              (subst (Comes limits szx word t call p.0) same
+              (comes_here limits szx word t now from bytes w up p h below law));
         }
 
   -- what waits came so
   abbrev WasBrought : Asked → Question → List Call → Type 0
-  WasBrought a q t = Sometime (λ old b. Brings limit szx word old b a q) t
+  WasBrought a q t = Sometime (λ old b. Brings limits szx word old b a q) t
 
   abbrev AllFrom : List Call → List Waiting → Type 0
   AllFrom t [] = Unit {0}
@@ -270,7 +278,7 @@ module _ (limit szx word : ℕ) where
 
   waits_fed : (t : List Call) (now : ℕ) (from : Endpoint) (bytes : List ℕ) (w : ℕ) (up : L.Answer)
       (came : Option (Asked × Message)) (h : Handling) (below : L.Answer)
-      → ServerLaw limit szx word (Feeds now from bytes w up came h below ∷ t)
+      → ServerLaw limits szx word (Feeds now from bytes w up came h below ∷ t)
       → AllFrom (Feeds now from bytes w up came h below ∷ t) (own t).waiting
       → AllFrom (Feeds now from bytes w up came h below ∷ t)
       (own (Feeds now from bytes w up came h below ∷ t)).waiting
@@ -291,11 +299,11 @@ module _ (limit szx word : ℕ) where
   waits_ticked t at due.Expired ws k = k
   waits_ticked t at (due.Ready a) ws k = from_without t at a ws k
 
-  pub waits : (t : List Call) → ServerLaw limit szx word t → AllFrom t (own t).waiting
+  pub waits : (t : List Call) → ServerLaw limits szx word t → AllFrom t (own t).waiting
   waits [] law = tt
-  waits (c ∷ t) law = by c law (from_later c t (own t).waiting (waits t (server_back limit szx word c t law)))
+  waits (c ∷ t) law = by c law (from_later c t (own t).waiting (waits t (server_back limits szx word c t law)))
     where
-      by : (c : Call) → ServerLaw limit szx word (c ∷ t) → AllFrom (c ∷ t) (own t).waiting
+      by : (c : Call) → ServerLaw limits szx word (c ∷ t) → AllFrom (c ∷ t) (own t).waiting
           → AllFrom (c ∷ t) (own (c ∷ t)).waiting
       by (Sets now path format body answer left) law k = k
       by (Removes now path answer left) law k = k
@@ -312,7 +320,7 @@ module _ (limit szx word : ℕ) where
   answers_by None old at h q right is = nothing_asked _ h q (ap question_in right) is
   answers_by (Some p) old at h q right is = sym (ap question_in right.is) ∙ is
 
-  served_from : (t : List Call) (c : Call) → ServerLaw limit szx word (c ∷ t) → (x : Serving)
+  served_from : (t : List Call) (c : Call) → ServerLaw limits szx word (c ∷ t) → (x : Serving)
       → serving (own t) c ≡ Some x → WasBrought x.asked x.question (c ∷ t)
   served_from t (Feeds now from bytes w up (Some p) (Serves q reply left) below) law x h =
       let same : ◌≡◌ {A = Serving} (serving_of (heard (own t) now (incoming (own t) now from bytes up (Some p))) p.0 q
@@ -328,7 +336,7 @@ module _ (limit szx word : ℕ) where
       (Serves q reply left) q law.rows.0.0 refl in
       let c : Call = Ticks now w below room (due.Ready a) passed (Serves q reply left) id answer in
       inr (subst (λ (y : Serving). WasBrought y.asked y.question t) same
-      (from_question t at a (own t).waiting q (waits t (server_back limit szx word c t law)) is))
+      (from_question t at a (own t).waiting q (waits t (server_back limits szx word c t law)) is))
   served_from t (Feeds now from bytes w up None h below) law x e = absurd (cc e)
   served_from t (Feeds now from bytes w up (Some p) Silent below) law x e = absurd (cc e)
   served_from t (Feeds now from bytes w up (Some p) (Replies r) below) law x e = absurd (cc e)
@@ -348,12 +356,12 @@ module _ (limit szx word : ℕ) where
   served_from t (TellsApplied answer) law x e = absurd (cc e)
   served_from t (NextOut answer) law x e = absurd (cc e)
 
-  pub handed_up : (t : List Call) → ServerLaw limit szx word t → AreHandedUp limit szx word t
+  pub handed_up : (t : List Call) → ServerLaw limits szx word t → AreHandedUp limits szx word t
   handed_up [] law = tt
-  handed_up (c ∷ t) law = (λ x is. served_from t c law x is, handed_up t (server_back limit szx word c t law))
+  handed_up (c ∷ t) law = (λ x is. served_from t c law x is, handed_up t (server_back limits szx word c t law))
 
-  taken_from : (t : List Call) (c : Call) → ServerLaw limit szx word (c ∷ t) → (x : Took)
-      → takes_block (own t) c ≡ Some x → ComesIn limit szx word t c x
+  taken_from : (t : List Call) (c : Call) → ServerLaw limits szx word (c ∷ t) → (x : Took)
+      → takes_block (own t) c ≡ Some x → ComesIn limits szx word t c x
   taken_from t (Feeds now from bytes w up (Some p) h below) law x e =
       block_comes t now from bytes w up p h below law x e
   taken_from t (Feeds now from bytes w up None h below) law x e = absurd (cc e)
@@ -365,6 +373,6 @@ module _ (limit szx word : ℕ) where
   taken_from t (TellsApplied answer) law x e = absurd (cc e)
   taken_from t (NextOut answer) law x e = absurd (cc e)
 
-  pub blocks_come : (t : List Call) → ServerLaw limit szx word t → BlocksCome limit szx word t
+  pub blocks_come : (t : List Call) → ServerLaw limits szx word t → BlocksCome limits szx word t
   blocks_come [] law = tt
-  blocks_come (c ∷ t) law = (λ x is. taken_from t c law x is, blocks_come t (server_back limit szx word c t law))
+  blocks_come (c ∷ t) law = (λ x is. taken_from t c law x is, blocks_come t (server_back limits szx word c t law))

@@ -22,6 +22,7 @@ use Rattle.coap_block.specs.declared.block_verdict.BlockVerdict.{BlockVerdict}
 use Rattle.coap_block.specs.declared.block_verdict.BlockVerdict.TheVariants.{Refuse, Join, Done}
 use Rattle.coap_observe.specs.Observers.{Observer}
 use Rattle.coap_resource.specs.Content.{Content}
+use Rattle.coap_resource.specs.Limits.{Limits}
 use Rattle.coap_server.specs.Trace.{Waiting, Own, Handling, Silent, Replies, Serves, Waits, Notifies}
 use Rattle.coap_server.specs.Trace.{Call, Sets, Removes, Delays, Feeds, Ticks, NextOut, Gets}
 use Rattle.coap_server.specs.Trace.{TellsApplied}
@@ -176,9 +177,9 @@ readies_same at (suc n) (o ∷ os) s =
           k.1 in omega (arith, c, l)),
     )
 
-module _ (limit szx word : ℕ) where
+module _ (limits : Limits) (szx word : ℕ) where
   abbrev own : List Call → Own
-  own t = own_of limit szx t
+  own t = own_of limits szx t
 
   -- the clock of the exchanges is not ahead
   pub record Mirrors (t : List Call) : Type 0 where
@@ -229,7 +230,7 @@ module _ (limit szx word : ℕ) where
 
     -- a request that is ready
     module _ (now w : ℕ) (below : L.Answer) (room : Bool) (a : Asked) (passed : ℕ) (h : Handling) (id : ℕ)
-        (answer : Bool) (law : ServerLaw limit szx word (Ticks now w below room (due.Ready a) passed h id answer ∷ t))
+        (answer : Bool) (law : ServerLaw limits szx word (Ticks now w below room (due.Ready a) passed h id answer ∷ t))
       where
         abbrev at : ℕ
         at = max (own t).clock now
@@ -244,10 +245,10 @@ module _ (limit szx word : ℕ) where
         found =
             let first : E.Call = ticking (own t) now below room (due.Ready a) in
             let row = first_row word (responding (heard (own t) now first) (due.Ready a) passed h w id) first
-            (lower_of limit szx t) law.exchanges in
+            (lower_of limits szx t) law.exchanges in
             found_ready below (P.ready_at (own t).exchanges at) room a
             (subst (λ (z : E.Own). due.Ready a ≡ P.due_of below (P.ready_at z at) room)
-            (sym (exchanges_kept limit szx t)) row)
+            (sym (exchanges_kept limits szx t)) row)
 
         is_taken : IsTaken at (own t).exchanges.separate a (own t).waiting
         is_taken =
@@ -259,7 +260,7 @@ module _ (limit szx word : ℕ) where
         served = subst (λ o. AnswersWaiting o (own t).store at h) is_taken.asks law.rows.0.0
 
     ready : (now w : ℕ) (below : L.Answer) (room : Bool) (a : Asked) (passed : ℕ) (h : Handling) (id : ℕ)
-        (answer : Bool) → ServerLaw limit szx word (Ticks now w below room (due.Ready a) passed h id answer ∷ t)
+        (answer : Bool) → ServerLaw limits szx word (Ticks now w below room (due.Ready a) passed h id answer ∷ t)
         → Mirrors (Ticks now w below room (due.Ready a) passed h id answer ∷ t)
         × ((x : Serving) × (serving (own t) (Ticks now w below room (due.Ready a) passed h id answer) ≡ Some x)
         × (x.asked ≡ a))
@@ -313,7 +314,7 @@ module _ (limit szx word : ℕ) where
         by (Notifies o reply) = record { clock = omega (arith, clock); lists = lists }
 
     ticked : (now w : ℕ) (below : L.Answer) (room : Bool) (d : Due) (passed : ℕ) (h : Handling) (id : ℕ) (answer : Bool)
-        → ServerLaw limit szx word (Ticks now w below room d passed h id answer ∷ t)
+        → ServerLaw limits szx word (Ticks now w below room d passed h id answer ∷ t)
         → Mirrors (Ticks now w below room d passed h id answer ∷ t)
     ticked now w below room (due.Ready a) passed h id answer law = (ready now w below room a passed h id answer law).0
     ticked now w below room due.Idle passed h id answer law = idled now w below room passed h id answer
@@ -322,7 +323,7 @@ module _ (limit szx word : ℕ) where
     ticked now w below room due.Expired passed h id answer law =
         record { clock = let k = m.clock in omega (arith, k); lists = m.lists }
 
-    mirrored : (c : Call) → ServerLaw limit szx word (c ∷ t) → Mirrors (c ∷ t)
+    mirrored : (c : Call) → ServerLaw limits szx word (c ∷ t) → Mirrors (c ∷ t)
     mirrored (Sets now path format body answer left) law =
         record { clock = let k = m.clock in omega (arith, k); lists = m.lists }
     mirrored (Removes now path answer left) law =
@@ -334,20 +335,20 @@ module _ (limit szx word : ℕ) where
     mirrored (Ticks now w below room d passed h id answer) law = ticked now w below room d passed h id answer law
     mirrored (NextOut answer) law = record { clock = m.clock; lists = m.lists }
 
-  pub mirrors : (t : List Call) → ServerLaw limit szx word t → Mirrors t
+  pub mirrors : (t : List Call) → ServerLaw limits szx word t → Mirrors t
   mirrors [] law = record { clock = omega arith; lists = refl }
-  mirrors (c ∷ t) law = mirrored t (mirrors t (server_back limit szx word c t law)) c law
+  mirrors (c ∷ t) law = mirrored t (mirrors t (server_back limits szx word c t law)) c law
 
-  pub waits_as_deferred : (t : List Call) → ServerLaw limit szx word t → WaitsAsDeferred limit szx t
-  waits_as_deferred t law = (mirrors t law).lists ∙ ap (λ (z : E.Own). z.deferred) (exchanges_kept limit szx t)
+  pub waits_as_deferred : (t : List Call) → ServerLaw limits szx word t → WaitsAsDeferred limits szx t
+  waits_as_deferred t law = (mirrors t law).lists ∙ ap (λ (z : E.Own). z.deferred) (exchanges_kept limits szx t)
 
-  pub ready_are_served : (t : List Call) → ServerLaw limit szx word t → ReadyAreServed limit szx t
+  pub ready_are_served : (t : List Call) → ServerLaw limits szx word t → ReadyAreServed limits szx t
   ready_are_served [] law = tt
   ready_are_served (c ∷ t) law =
-      let back = server_back limit szx word c t law in
+      let back = server_back limits szx word c t law in
       (λ a is. here c (mirrors t back) law a is, ready_are_served t back)
     where
-      here : (c : Call) → Mirrors t → ServerLaw limit szx word (c ∷ t) → (a : Asked) → ready_in c ≡ Some a
+      here : (c : Call) → Mirrors t → ServerLaw limits szx word (c ∷ t) → (a : Asked) → ready_in c ≡ Some a
           → (x : Serving) × (serving (own t) c ≡ Some x) × (x.asked ≡ a)
       here (Ticks now w below room (due.Ready b) passed h id answer) m law a is =
           let same : b ≡ a = cc is in

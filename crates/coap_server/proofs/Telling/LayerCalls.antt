@@ -11,6 +11,7 @@ use Rattle.coap_layer.specs.Trace as L
 use Rattle.coap_layer.specs.Words.{is_kept}
 use Rattle.coap_layer.proofs.Facts.Calls.{steps_left}
 use Rattle.coap_layer.proofs.Facts.StepsOfLayer.{steps_split}
+use Rattle.coap_resource.specs.Limits.{Limits}
 use Rattle.coap_exchange.specs.declared.answerer.Asked.{Asked}
 use Rattle.coap_exchange.specs.declared.separate.Deferred.{Deferred}
 use Rattle.coap_exchange.specs.EmptyMessages.{ack_bytes, reset_bytes}
@@ -142,36 +143,36 @@ module _ (K : L.Call → L.Answer → Type 0) where
             { before = g.before; call = g.call; there = inr g.there; right = g.right; from = g.from })
       ]
 
-module _ (limit szx word : ℕ) where
+module _ (limits : Limits) (szx word : ℕ) where
   pub asked_next : (past : List Call) (c : Call)
-      → all_asked limit szx (c ∷ past) ≡ call_asks limit szx past c ++ all_asked limit szx past
-  asked_next past c = answerer_append (lower (own_of limit szx past) c) (lower_of limit szx past)
+      → all_asked limits szx (c ∷ past) ≡ call_asks limits szx past c ++ all_asked limits szx past
+  asked_next past c = answerer_append (lower (own_of limits szx past) c) (lower_of limits szx past)
 
   -- what a call adds to the layer's entries stands in front
   pub layer_next : (past : List Call) (c : Call)
-      → layer_of limit szx word (c ∷ past) ≡ call_adds limit szx word past c ++ layer_of limit szx word past
-  layer_next past c = ap (entries (S.start word)) (asked_next past c)
-      ∙ entries_append (S.start word) (call_asks limit szx past c) (all_asked limit szx past)
+      → layer_of limits szx word (c ∷ past) ≡ call_adds limits szx word past c ++ layer_of limits szx word past
+  layer_next past c = ap (entries (S.start (S.usual word))) (asked_next past c)
+      ∙ entries_append (S.start (S.usual word)) (call_asks limits szx past c) (all_asked limits szx past)
 
   -- the steps of the layer at one call
-  pub steps_here : (past : List Call) (c : Call) → ServerLaw limit szx word (c ∷ past)
-      → (old new : S.State) × Steps old (call_asks limit szx past c) new
-      × (call_adds limit szx word past c ≡ entries old (call_asks limit szx past c))
+  pub steps_here : (past : List Call) (c : Call) → ServerLaw limits szx word (c ∷ past)
+      → (old new : S.State) × Steps old (call_asks limits szx past c) new
+      × (call_adds limits szx word past c ≡ entries old (call_asks limits szx past c))
   steps_here past c law =
-      let asks = call_asks limit szx past c in
-      let before = all_asked limit szx past in
-      let steps = subst (λ (z : List G.Asked). Steps (S.start word) z law.exchanges.left)
+      let asks = call_asks limits szx past c in
+      let before = all_asked limits szx past in
+      let steps = subst (λ (z : List G.Asked). Steps (S.start (S.usual word)) z law.exchanges.left)
       (asked_next past c) law.exchanges.layer in
-      let k = steps_split (S.start word) law.exchanges.left asks before steps in
-      let from = steps_left (S.start word) before k.0 k.1 in
+      let k = steps_split (S.start (S.usual word)) law.exchanges.left asks before steps in
+      let from = steps_left (S.start (S.usual word)) before k.0 k.1 in
       (k.0, law.exchanges.left, k.2, ap (λ s. entries s asks) (sym from))
 
   -- which call of the exchanges gives the layer what it sends in this call
   pub given_here : (K : L.Call → L.Answer → Type 0) → IsOfSending K → (past : List Call) (c : Call)
-      → ServerLaw limit szx word (c ∷ past)
-      → Ever (λ (e : L.Entry). K e.call e.answer) (call_adds limit szx word past c)
-      → Given K (lower (own_of limit szx past) c)
+      → ServerLaw limits szx word (c ∷ past)
+      → Ever (λ (e : L.Entry). K e.call e.answer) (call_adds limits szx word past c)
+      → Given K (lower (own_of limits szx past) c)
   given_here K q past c law h =
       let k = steps_here past c law in
-      given K q (lower (own_of limit szx past) c) (lower_of limit szx past) law.exchanges.rows
-      (asked_for K k.0 k.1 (call_asks limit szx past c) k.2 (subst (Ever (λ (e : L.Entry). K e.call e.answer)) k.3 h))
+      given K q (lower (own_of limits szx past) c) (lower_of limits szx past) law.exchanges.rows
+      (asked_for K k.0 k.1 (call_asks limits szx past c) k.2 (subst (Ever (λ (e : L.Entry). K e.call e.answer)) k.3 h))

@@ -13,6 +13,7 @@ use Rattle.coap_layer.specs.Trace as L
 use Rattle.coap_layer.specs.Words.{Open, begun, begun_in}
 use Rattle.coap_observe.specs.Observers.{Observer}
 use Rattle.coap_resource.specs.Serves.{Question}
+use Rattle.coap_resource.specs.Limits.{Limits}
 use Rattle.coap_exchange.specs.declared.answerer.Asked.{Asked}
 use Rattle.coap_exchange.specs.declared.answerer.Due.{Due}
 use Rattle.coap_exchange.specs.declared.answerer.Due.TheVariants as due
@@ -201,11 +202,11 @@ few s (NextOut answer) = omega arith
 few s (Gets path answer) = omega arith
 few s (TellsApplied answer) = omega arith
 
-pub one_con : (limit szx word : ℕ) (past : List Call) (c : Call) (a b : Open)
-    → Begins a (call_adds limit szx word past c) → Begins b (call_adds limit szx word past c) → a ≡ b
-one_con limit szx word past c a b p q =
-    let calls : List E.Call = lower (own_of limit szx past) c in
-    let w = all_weigh (lower_of limit szx past) calls in
-    let f = few (own_of limit szx past) c in
-    one_of (left_after (S.start word) (all_asked limit szx past)) (call_asks limit szx past c) a b
+pub one_con : (limits : Limits) (szx word : ℕ) (past : List Call) (c : Call) (a b : Open)
+    → Begins a (call_adds limits szx word past c) → Begins b (call_adds limits szx word past c) → a ≡ b
+one_con limits szx word past c a b p q =
+    let calls : List E.Call = lower (own_of limits szx past) c in
+    let w = all_weigh (lower_of limits szx past) calls in
+    let f = few (own_of limits szx past) c in
+    one_of (left_after (S.start (S.usual word)) (all_asked limits szx past)) (call_asks limits szx past c) a b
     (omega (arith, w, f)) p q

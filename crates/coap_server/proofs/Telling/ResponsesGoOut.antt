@@ -11,6 +11,7 @@ use Rattle.coap_layer.specs.Machine.Steps.{Steps, entries, left_after}
 use Rattle.coap_layer.specs.Trace as L
 use Rattle.coap_layer.proofs.Facts.Calls.{steps_left}
 use Rattle.coap_observe.specs.Observers.{Observer}
+use Rattle.coap_resource.specs.Limits.{Limits}
 use Rattle.coap_exchange.specs.declared.answerer.Asked.{Asked}
 use Rattle.coap_exchange.specs.declared.answerer.Due.TheVariants as due
 use Rattle.coap_exchange.specs.AnswererSteps as P
@@ -57,15 +58,15 @@ module _ (K : L.Call → L.Answer → Type 0) (Q : E.Call → Type 0)
     asked_of (d ∷ later) past law (inr h) = Ever_back (λ (b : G.Asked). K b.call b.answer)
         (P.lower (W.own_of (later ++ past)) d) (asked_by_server past later) (asked_of later past law.1 h)
 
-    module _ (limit szx word : ℕ) where
-      given_in : (past : List Call) (c : Call) → ServerLaw limit szx word (c ∷ past)
-          → Ever Q (lower (own_of limit szx past) c)
-          → Ever (λ (e : L.Entry). K e.call e.answer) (call_adds limit szx word past c)
+    module _ (limits : Limits) (szx word : ℕ) where
+      given_in : (past : List Call) (c : Call) → ServerLaw limits szx word (c ∷ past)
+          → Ever Q (lower (own_of limits szx past) c)
+          → Ever (λ (e : L.Entry). K e.call e.answer) (call_adds limits szx word past c)
       given_in past c law h =
-          let k = steps_here limit szx word past c law in
+          let k = steps_here limits szx word past c law in
           subst (Ever (λ (e : L.Entry). K e.call e.answer)) (sym k.3)
-          (added_for K k.0 k.1 (call_asks limit szx past c) k.2
-          (asked_of (lower (own_of limit szx past) c) (lower_of limit szx past) law.exchanges.rows h))
+          (added_for K k.0 k.1 (call_asks limits szx past c) k.2
+          (asked_of (lower (own_of limits szx past) c) (lower_of limits szx past) law.exchanges.rows h))
 
 -- a response
 
@@ -110,22 +111,27 @@ notice_out o r s d right k =
     subst (λ x. Ever (λ (b : G.Asked). InCon o.to (P.content_with o.token r) b.call b.answer) (P.lower s x)) (sym k.3)
     (inl (record { word = k.1; id = k.2; call_is = refl; answer_is = refl }))
 
-module _ (limit szx word : ℕ) where
-  notifying : (t : List Call) (c : Call) → ServerLaw limit szx word (c ∷ t) → (x : Notice) → notice c ≡ Some x
-      → Ever (IsNotifying x.observer (notification (own_of limit szx t).store x.observer x.reply))
-      (lower (own_of limit szx t) c)
+module _ (limits : Limits) (szx word : ℕ) where
+  notifying : (t : List Call) (c : Call) → ServerLaw limits szx word (c ∷ t) → (x : Notice) → notice c ≡ Some x
+      → Ever (IsNotifying x.observer (notification (own_of limits szx t).store x.observer x.reply))
+      (lower (own_of limits szx t) c)
   notifying t (Ticks now w below room due.Idle passed (Notifies o reply) id answer) law x e =
       let same : ◌≡◌ {A = Notice} (record { observer = o; reply = reply }) x = cc e in
       subst (λ (y : Notice). Ever (IsNotifying y.observer
-      (notification (own_of limit szx t).store y.observer y.reply))
-      (lower (own_of limit szx t) (Ticks now w below room due.Idle passed (Notifies o reply) id answer))) same
-      (inl ((heard (own_of limit szx t) now (ticking (own_of limit szx t) now below room due.Idle)).clock, w, id, refl))
+      (notification (own_of limits szx t).store y.observer y.reply))
+      (lower (own_of limits szx t) (Ticks now w below room due.Idle passed (Notifies o reply) id answer))) same
+      (inl (
+        (heard (own_of limits szx t) now (ticking (own_of limits szx t) now below room due.Idle)).clock,
+        w,
+        id,
+        refl,
+      ))
   notifying t (Ticks now w below room due.Copied passed (Notifies o reply) id answer) law x e =
       let k = law.rows.0.0 in absurd (cc k)
   notifying t (Ticks now w below room due.Expired passed (Notifies o reply) id answer) law x e =
       let k = law.rows.0.0 in absurd (cc k)
   notifying t (Ticks now w below room (due.Ready a) passed (Notifies o reply) id answer) law x e =
-      let s : Own = heard (own_of limit szx t) now (ticking (own_of limit szx t) now below room (due.Ready a)) in
+      let s : Own = heard (own_of limits szx t) now (ticking (own_of limits szx t) now below room (due.Ready a)) in
       absurd (never_notifies_ready (question_of s.clock a s.waiting) s.store s.clock o reply law.rows.0.0)
   notifying t (Ticks now w below room d passed Silent id answer) law x e = absurd (cc e)
   notifying t (Ticks now w below room d passed (Replies r) id answer) law x e = absurd (cc e)
@@ -139,20 +145,20 @@ module _ (limit szx word : ℕ) where
   notifying t (TellsApplied answer) law x e = absurd (cc e)
   notifying t (NextOut answer) law x e = absurd (cc e)
 
-  here : (t : List Call) (c : Call) → ServerLaw limit szx word (c ∷ t) → GoesOutHere limit szx word t c
+  here : (t : List Call) (c : Call) → ServerLaw limits szx word (c ∷ t) → GoesOutHere limits szx word t c
   here t c law =
       record {
-        answers = λ a h. answer_sent a (lower (own_of limit szx t) c) h;
-        serves = λ x e. served_sent (own_of limit szx t) c x e;
-        made = λ a r h. made_here limit szx word t c law a r h;
-        responses = λ a r h. given_in (GoesOut a r) (λ d. responds_with d ≡ Some (a, r)) (response_out a r) limit szx
+        answers = λ a h. answer_sent a (lower (own_of limits szx t) c) h;
+        serves = λ x e. served_sent (own_of limits szx t) c x e;
+        made = λ a r h. made_here limits szx word t c law a r h;
+        responses = λ a r h. given_in (GoesOut a r) (λ d. responds_with d ≡ Some (a, r)) (response_out a r) limits szx
             word t c law h;
         notices = λ x e.
-            let r : E.Response = notification (own_of limit szx t).store x.observer x.reply in
+            let r : E.Response = notification (own_of limits szx t).store x.observer x.reply in
             given_in (InCon x.observer.to (P.content_with x.observer.token r)) (IsNotifying x.observer r)
-            (notice_out x.observer r) limit szx word t c law (notifying t c law x e);
+            (notice_out x.observer r) limits szx word t c law (notifying t c law x e);
       }
 
-  pub all_go_out : (t : List Call) → ServerLaw limit szx word t → AllGoOut limit szx word t
+  pub all_go_out : (t : List Call) → ServerLaw limits szx word t → AllGoOut limits szx word t
   all_go_out [] law = tt
-  all_go_out (c ∷ t) law = (here t c law, all_go_out t (server_back limit szx word c t law))
+  all_go_out (c ∷ t) law = (here t c law, all_go_out t (server_back limits szx word c t law))

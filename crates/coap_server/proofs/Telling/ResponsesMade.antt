@@ -10,6 +10,7 @@ use Rattle.coap_block.specs.AssemblyState.{AssemblyState, reached, without_key}
 use Rattle.coap_block.specs.AssemblyStep.{there_at}
 use Rattle.coap_observe.specs.Observers.{Observer}
 use Rattle.coap_resource.specs.Serves.{Question}
+use Rattle.coap_resource.specs.Limits.{Limits}
 use Rattle.coap_exchange.specs.declared.answerer.Asked.{Asked}
 use Rattle.coap_exchange.specs.declared.answerer.Due.{Due}
 use Rattle.coap_exchange.specs.declared.answerer.Due.TheVariants as due
@@ -130,12 +131,12 @@ module _ (a : Asked) (r : E.Response) where
       elim (Ever_append (λ b. responds_with b ≡ Some (a, r)) (readies at n os) cs h)
       [ inl k ↦ readies_none at n os k | inr k ↦ f k ]
 
-module _ (limit szx word : ℕ) (t : List Call) (a : Asked) (r : E.Response) where
+module _ (limits : Limits) (szx word : ℕ) (t : List Call) (a : Asked) (r : E.Response) where
   abbrev own : Own
-  own = own_of limit szx t
+  own = own_of limits szx t
 
   abbrev Made : Call → Type 0
-  Made c = IsMade limit szx t c a r
+  Made c = IsMade limits szx t c a r
 
   came_none : (now : ℕ) (from : Endpoint) (bytes : List ℕ) (up : L.Answer) (came : Option (Asked × Message))
       → In a r (incoming own now from bytes up came ∷ []) → ⊥
@@ -145,7 +146,7 @@ module _ (limit szx word : ℕ) (t : List Call) (a : Asked) (r : E.Response) whe
   tick_none now below room d h = last_none a r (ticking own now below room d) (λ z. cc z) h
 
   fed : (now : ℕ) (from : Endpoint) (bytes : List ℕ) (w : ℕ) (up : L.Answer) (came : Option (Asked × Message))
-      (h : Handling) (below : L.Answer) → ServerLaw limit szx word (Feeds now from bytes w up came h below ∷ t)
+      (h : Handling) (below : L.Answer) → ServerLaw limits szx word (Feeds now from bytes w up came h below ∷ t)
       → In a r (lower own (Feeds now from bytes w up came h below)) → Made (Feeds now from bytes w up came h below)
   fed now from bytes w up None h below law k = absurd (came_none now from bytes up None k)
   fed now from bytes w up (Some p) Silent below law k = absurd (came_none now from bytes up (Some p) k)
@@ -181,7 +182,8 @@ module _ (limit szx word : ℕ) (t : List Call) (a : Asked) (r : E.Response) whe
               asked = same.0;
               unserved = refl;
               more =
-                  joins_more u.szx (reached (key_of p.0 f.question) (there_at u s.clock))
+                  joins_more (record { szx = u.szx; limit = u.limit })
+                  (reached (key_of p.0 f.question) (there_at u s.clock))
                   (length (without_key (key_of p.0 f.question) (there_at u s.clock))) f.block
                   (length f.question.body) f.size f.joins;
               size = f.size;
@@ -231,7 +233,7 @@ module _ (limit szx word : ℕ) (t : List Call) (a : Asked) (r : E.Response) whe
       absurd (idle_none a r s.clock passed (marked s.observers) (ticking own now below room due.Idle ∷ [])
       (tick_none now below room due.Idle) k)
 
-  here : (c : Call) → ServerLaw limit szx word (c ∷ t) → In a r (lower own c) → Made c
+  here : (c : Call) → ServerLaw limits szx word (c ∷ t) → In a r (lower own c) → Made c
   here (Sets now path format body answer left) law k = absurd k
   here (Removes now path answer left) law k = absurd k
   here (Delays path ms answer) law k = absurd k
@@ -241,7 +243,7 @@ module _ (limit szx word : ℕ) (t : List Call) (a : Asked) (r : E.Response) whe
   here (Ticks now w below room d passed h id answer) law k = ticked now w below room d passed h id answer k
   here (NextOut answer) law k = absurd (last_none a r (E.Take answer) (λ z. cc z) k)
 
-pub made_here : (limit szx word : ℕ) (t : List Call) (c : Call) → ServerLaw limit szx word (c ∷ t)
-    → (a : Asked) (r : E.Response) → Ever (λ b. responds_with b ≡ Some (a, r)) (lower (own_of limit szx t) c)
-    → IsMade limit szx t c a r
-made_here limit szx word t c law a r k = here limit szx word t a r c law k
+pub made_here : (limits : Limits) (szx word : ℕ) (t : List Call) (c : Call) → ServerLaw limits szx word (c ∷ t)
+    → (a : Asked) (r : E.Response) → Ever (λ b. responds_with b ≡ Some (a, r)) (lower (own_of limits szx t) c)
+    → IsMade limits szx t c a r
+made_here limits szx word t c law a r k = here limits szx word t a r c law k

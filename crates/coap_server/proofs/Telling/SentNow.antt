@@ -25,6 +25,7 @@ use Rattle.coap_resource.specs.ResponseOptions.{block_number}
 use Rattle.coap_resource.specs.Serves.{Question, Reply, got}
 use Rattle.coap_resource.specs.Serves as R
 use Rattle.coap_resource.proofs.Facts.Served.{content_law}
+use Rattle.coap_resource.specs.Limits.{Limits}
 use Rattle.coap_exchange.specs.declared.answerer.Asked.{Asked}
 use Rattle.coap_exchange.specs.declared.answerer.Due.{Due}
 use Rattle.coap_exchange.specs.declared.answerer.Due.TheVariants as due
@@ -92,24 +93,24 @@ unobserved : (reply : Reply) (last : Option ℕ) → value_of observe (response_
 unobserved reply last = none_there reply.tag reply.format (block_number reply.block2) last
 
 -- a version that is held has 64 bits
-module _ (limit szx : ℕ) where
-  pub held_small : (path : List (List ℕ)) (held : Held) (t : List Call) → AreStamped limit szx t
-      → held_at limit szx path t ≡ Some held → held.version < 2 ^ 64
+module _ (limits : Limits) (szx : ℕ) where
+  pub held_small : (path : List (List ℕ)) (held : Held) (t : List Call) → AreStamped limits szx t
+      → held_at limits szx path t ≡ Some held → held.version < 2 ^ 64
   held_small path held [] st h = absurd (cc h)
-  held_small path held (c ∷ t) st h = by (change (own_of limit szx t) c) refl h (λ k. held_small path held t st.1 k)
+  held_small path held (c ∷ t) st h = by (change (own_of limits szx t) c) refl h (λ k. held_small path held t st.1 k)
     where
-      put : (x : Change) → change (own_of limit szx t) c ≡ Some x → x.held ≡ Some held → held.version < 2 ^ 64
+      put : (x : Change) → change (own_of limits szx t) c ≡ Some x → x.held ≡ Some held → held.version < 2 ^ 64
       put x is k = subst (λ n. n < 2 ^ 64) (sym (st.0.held x held is k)) (st.0.version x is)
 
-      placed : (x : Change) → change (own_of limit szx t) c ≡ Some x → (b : Bool)
-          → cond b x.held (held_at limit szx path t) ≡ Some held
-          → (held_at limit szx path t ≡ Some held → held.version < 2 ^ 64) → held.version < 2 ^ 64
+      placed : (x : Change) → change (own_of limits szx t) c ≡ Some x → (b : Bool)
+          → cond b x.held (held_at limits szx path t) ≡ Some held
+          → (held_at limits szx path t ≡ Some held → held.version < 2 ^ 64) → held.version < 2 ^ 64
       placed x is true k f = put x is k
       placed x is false k f = f k
 
-      by : (o : Option Change) → change (own_of limit szx t) c ≡ o
-          → held_then path o (held_at limit szx path t) ≡ Some held
-          → (held_at limit szx path t ≡ Some held → held.version < 2 ^ 64) → held.version < 2 ^ 64
+      by : (o : Option Change) → change (own_of limits szx t) c ≡ o
+          → held_then path o (held_at limits szx path t) ≡ Some held
+          → (held_at limits szx path t ≡ Some held → held.version < 2 ^ 64) → held.version < 2 ^ 64
       by None is k f = f k
       by (Some x) is k f = placed x is (same_path x.path path) k f
 
@@ -117,7 +118,7 @@ module _ (limit szx : ℕ) where
   pub record Says (past : List Call) (c : Call) (con : Option ℕ) (to : Endpoint) (token : List ℕ)
       (r : E.Response) : Type 0 where
     pub told_here : Telling
-    pub here : telling (own_of limit szx past) c ≡ Some told_here
+    pub here : telling (own_of limits szx past) c ≡ Some told_here
     pub con_is : told_here.con ≡ con
     pub to_is : told_here.to ≡ to
     pub token_is : told_here.token ≡ token
@@ -127,8 +128,8 @@ module _ (limit szx : ℕ) where
   one_held : (x y : Held) → Some x ≡ Some y → x ≡ y
   one_held x y h = cc h
 
-  module _ (t : List Call) (c : Call) (stamped : AreStamped limit szx t)
-      (kept : (path : List (List ℕ)) → (own_of limit szx t).store.holds path ≡ held_at limit szx path t) where
+  module _ (t : List Call) (c : Call) (stamped : AreStamped limits szx t)
+      (kept : (path : List (List ℕ)) → (own_of limits szx t).store.holds path ≡ held_at limits szx path t) where
     -- what a GET is answered that shows what the path holds
     shows_tag : (reply : Reply) (seq last : Option ℕ) (held : Held) → reply.tag ≡ Some (tag_of held.version)
         → value_of etag (recognised Response (response_with reply seq last).options) ≡ Some (tag_of held.version)
@@ -139,8 +140,8 @@ module _ (limit szx : ℕ) where
         ∙ tag_recognised (tag_of held.version) rest refl
 
     said : (to : Endpoint) (token : List ℕ) (path : List (List ℕ)) (con : Option ℕ) (first : Bool) (reply : Reply)
-        (seq last : Option ℕ) (held : Held) → (own_of limit szx t).store.holds path ≡ Some held
-        → telling (own_of limit szx t) c ≡ tells to token path con first (Some held)
+        (seq last : Option ℕ) (held : Held) → (own_of limits szx t).store.holds path ≡ Some held
+        → telling (own_of limits szx t) c ≡ tells to token path con first (Some held)
         → reply.tag ≡ Some (tag_of held.version) → Says t c con to token (response_with reply seq last)
     said to token path con first reply seq last held there is tag =
         record {
@@ -161,15 +162,15 @@ module _ (limit szx : ℕ) where
         }
 
     -- .. of a request that is served
-    served : (s : Own) → s.store ≡ (own_of limit szx t).store
+    served : (s : Own) → s.store ≡ (own_of limits szx t).store
         → (a : Asked) (q : Question) (reply : Reply) (left : Content) (con : Option ℕ)
-        → telling (own_of limit szx t) c ≡ answer_tells s a q reply con
+        → telling (own_of limits szx t) c ≡ answer_tells s a q reply con
         → (at : ℕ) × R.Serves s.store at q reply left → Notes (response_to s.store s.observers a q reply)
         → Says t c con a.from a.token (response_to s.store s.observers a q reply)
     served s same a q reply left con is serves n = by (registers a q reply s.observers) (s.store.holds q.path) refl is n
       where
         by : (b : Bool) (h : Option Held) → s.store.holds q.path ≡ h
-            → telling (own_of limit szx t) c ≡ tells_if b s a q con
+            → telling (own_of limits szx t) c ≡ tells_if b s a q con
             → Notes (response_with reply (sequence_if b (s.store.holds q.path)) (last_block q))
             → Says t c con a.from a.token (response_with reply (sequence_if b (s.store.holds q.path)) (last_block q))
         by false h e tell k = silent _ (response_with reply None (last_block q)) (unobserved reply (last_block q)) k
@@ -185,14 +186,14 @@ module _ (limit szx : ℕ) where
             (ap (λ (x : Reply). x.tag) w.is ∙ ap (λ (x : Held). Some (tag_of x.version)) one)
 
     -- .. and of a notification
-    noticed : (s : Own) → s.store ≡ (own_of limit szx t).store → (o : Observer) (reply : Reply) (id : ℕ)
-        → telling (own_of limit szx t) c ≡ tells o.to o.token o.path (Some id) false (s.store.holds o.path)
+    noticed : (s : Own) → s.store ≡ (own_of limits szx t).store → (o : Observer) (reply : Reply) (id : ℕ)
+        → telling (own_of limits szx t) c ≡ tells o.to o.token o.path (Some id) false (s.store.holds o.path)
         → reply ≡ told s.store o
         → Notes (notification s.store o reply) → Says t c (Some id) o.to o.token (notification s.store o reply)
     noticed s same o reply id is so n = by (s.store.holds o.path) refl is n
       where
         by : (h : Option Held) → s.store.holds o.path ≡ h
-            → telling (own_of limit szx t) c ≡ tells o.to o.token o.path (Some id) false (s.store.holds o.path)
+            → telling (own_of limits szx t) c ≡ tells o.to o.token o.path (Some id) false (s.store.holds o.path)
             → Notes (response_with reply (sequence (s.store.holds o.path)) None)
             → Says t c (Some id) o.to o.token (response_with reply (sequence (s.store.holds o.path)) None)
         by None e tell k = silent _ (response_with reply (sequence (s.store.holds o.path)) None)
@@ -233,15 +234,15 @@ replies (Uploads q b) s a r h = block_replies (ruling_of s.uploads s.clock a q b
 
 -- what the exchanges are asked in a call
 
-module _ (limit szx : ℕ) (t : List Call) (c : Call) where
+module _ (limits : Limits) (szx : ℕ) (t : List Call) (c : Call) where
   -- the request is served here
   abbrev pub Serving_of : Asked → Type 0
-  Serving_of a = (y : Serving) × (serving (own_of limit szx t) c ≡ Some y) × (y.asked ≡ a)
+  Serving_of a = (y : Serving) × (serving (own_of limits szx t) c ≡ Some y) × (y.asked ≡ a)
 
   abbrev pub Means : E.Call → Type 0
-  Means (E.Answers a r below) = Notes r → Says limit szx t c None a.from a.token r × Serving_of a
-  Means (E.Responds now a r word id) = Notes r → Says limit szx t c (Some id) a.from a.token r
-  Means (E.Notifies now to token r word id) = Notes r → Says limit szx t c (Some id) to token r
+  Means (E.Answers a r below) = Notes r → Says limits szx t c None a.from a.token r × Serving_of a
+  Means (E.Responds now a r word id) = Notes r → Says limits szx t c (Some id) a.from a.token r
+  Means (E.Notifies now to token r word id) = Notes r → Says limits szx t c (Some id) to token r
   Means _ = Unit {0}
 
   join : (xs ys : List E.Call) → Each Means xs → Each Means ys → Each Means (xs ++ ys)
@@ -265,29 +266,29 @@ module _ (limit szx : ℕ) (t : List Call) (c : Call) where
   meant e (d ∷ cs) m (inl h) = subst Means h m.0
   meant e (d ∷ cs) m (inr h) = meant e cs m.1 h
 
-module _ (limit szx word : ℕ) (t : List Call) where
+module _ (limits : Limits) (szx word : ℕ) (t : List Call) where
   abbrev own : Own
-  own = own_of limit szx t
+  own = own_of limits szx t
 
   abbrev Mean : Call → List E.Call → Type 0
-  Mean c cs = Each (Means limit szx t c) cs
+  Mean c cs = Each (Means limits szx t c) cs
 
-  module _ (c : Call) (law : ServerLaw limit szx word (c ∷ t)) where
-    pub stamped : AreStamped limit szx t
-    stamped = (facts.stamped limit szx word (c ∷ t) law).1
+  module _ (c : Call) (law : ServerLaw limits szx word (c ∷ t)) where
+    pub stamped : AreStamped limits szx t
+    stamped = (facts.stamped limits szx word (c ∷ t) law).1
 
-    pub kept : (path : List (List ℕ)) → own.store.holds path ≡ held_at limit szx path t
-    kept path = facts.held_is limit szx t law.rows.1 path
+    pub kept : (path : List (List ℕ)) → own.store.holds path ≡ held_at limits szx path t
+    kept path = facts.held_is limits szx t law.rows.1 path
 
   fed : (now : ℕ) (from : Endpoint) (bytes : List ℕ) (w : ℕ) (up : L.Answer) (came : Option (Asked × Message))
-      (h : Handling) (below : L.Answer) → ServerLaw limit szx word (Feeds now from bytes w up came h below ∷ t)
+      (h : Handling) (below : L.Answer) → ServerLaw limits szx word (Feeds now from bytes w up came h below ∷ t)
       → Mean (Feeds now from bytes w up came h below)
       (answering (heard own now (incoming own now from bytes up came)) came h below)
   fed now from bytes w up None h below law = tt
   fed now from bytes w up (Some p) Silent below law = tt
   fed now from bytes w up (Some p) (Notifies o reply) below law = tt
   fed now from bytes w up (Some p) (Waits q d) below law =
-      deferred_mean limit szx t (Feeds now from bytes w up (Some p) (Waits q d) below)
+      deferred_mean limits szx t (Feeds now from bytes w up (Some p) (Waits q d) below)
       (heard own now (incoming own now from bytes up (Some p))) p.0 q
   fed now from bytes w up (Some p) (Replies r) below law =
       let s : Own = heard own now (incoming own now from bytes up (Some p))
@@ -296,21 +297,21 @@ module _ (limit szx word : ℕ) (t : List Call) where
       let s : Own = heard own now (incoming own now from bytes up (Some p)) in
       let c : Call = Feeds now from bytes w up (Some p) (Serves q reply left) below in (
         λ n. (
-          served limit szx t c (stamped c law) (kept c law) s refl p.0 q reply left None refl
+          served limits szx t c (stamped c law) (kept c law) s refl p.0 q reply left None refl
               (serves_came s p q reply left law.rows.0) n,
           (serving_of s p.0 q reply left, refl, refl),
         ),
-        deferred_mean limit szx t c s p.0 q,
+        deferred_mean limits szx t c s p.0 q,
       )
 
   ticked : (now w : ℕ) (below : L.Answer) (room : Bool) (d : Due) (passed : ℕ) (h : Handling) (id : ℕ) (answer : Bool)
-      → ServerLaw limit szx word (Ticks now w below room d passed h id answer ∷ t)
+      → ServerLaw limits szx word (Ticks now w below room d passed h id answer ∷ t)
       → Mean (Ticks now w below room d passed h id answer)
       (responding (heard own now (ticking own now below room d)) d passed h w id)
   ticked now w below room (due.Ready a) passed (Serves q reply left) id answer law =
       let s : Own = heard own now (ticking own now below room (due.Ready a)) in
       let c : Call = Ticks now w below room (due.Ready a) passed (Serves q reply left) id answer in (
-        λ n. served limit szx t c (stamped c law) (kept c law) s refl a q reply left (Some id) refl
+        λ n. served limits szx t c (stamped c law) (kept c law) s refl a q reply left (Some id) refl
             (serves_waited (question_of s.clock a s.waiting) s.store s.clock q reply left law.rows.0.0) n,
         tt,
       )
@@ -323,32 +324,32 @@ module _ (limit szx word : ℕ) (t : List Call) where
   ticked now w below room due.Idle passed (Notifies o reply) id answer law =
       let s : Own = heard own now (ticking own now below room due.Idle) in
       let c : Call = Ticks now w below room due.Idle passed (Notifies o reply) id answer in (
-        λ n. noticed limit szx t c (stamped c law) (kept c law) s refl o reply id refl
+        λ n. noticed limits szx t c (stamped c law) (kept c law) s refl o reply id refl
             (next_told (behind passed (marked s.observers)) s.store o reply law.rows.0.0) n,
-        readies_mean limit szx t c s.clock passed (marked s.observers),
+        readies_mean limits szx t c s.clock passed (marked s.observers),
       )
   ticked now w below room due.Idle passed Silent id answer law = let s : Own =
-      heard own now (ticking own now below room due.Idle) in readies_mean limit szx t _ s.clock passed
+      heard own now (ticking own now below room due.Idle) in readies_mean limits szx t _ s.clock passed
       (marked s.observers)
   ticked now w below room due.Idle passed (Replies r) id answer law = let s : Own =
-      heard own now (ticking own now below room due.Idle) in readies_mean limit szx t _ s.clock passed
+      heard own now (ticking own now below room due.Idle) in readies_mean limits szx t _ s.clock passed
       (marked s.observers)
   ticked now w below room due.Idle passed (Waits q e) id answer law = let s : Own =
-      heard own now (ticking own now below room due.Idle) in readies_mean limit szx t _ s.clock passed
+      heard own now (ticking own now below room due.Idle) in readies_mean limits szx t _ s.clock passed
       (marked s.observers)
   ticked now w below room due.Idle passed (Serves q reply left) id answer law = let s : Own =
-      heard own now (ticking own now below room due.Idle) in readies_mean limit szx t _ s.clock passed
+      heard own now (ticking own now below room due.Idle) in readies_mean limits szx t _ s.clock passed
       (marked s.observers)
 
   -- what each call of the exchanges means that a call makes
-  pub mean : (c : Call) → ServerLaw limit szx word (c ∷ t) → Mean c (lower own c)
+  pub mean : (c : Call) → ServerLaw limits szx word (c ∷ t) → Mean c (lower own c)
   mean (Feeds now from bytes w up came h below) law =
       let first : E.Call = incoming own now from bytes up came in
-      join limit szx t (Feeds now from bytes w up came h below) (answering (heard own now first) came h below)
+      join limits szx t (Feeds now from bytes w up came h below) (answering (heard own now first) came h below)
       (first ∷ []) (fed now from bytes w up came h below law) (tt, tt)
   mean (Ticks now w below room d passed h id answer) law =
       let first : E.Call = ticking own now below room d in
-      join limit szx t (Ticks now w below room d passed h id answer) (responding (heard own now first) d passed h w id)
+      join limits szx t (Ticks now w below room d passed h id answer) (responding (heard own now first) d passed h w id)
       (first ∷ []) (ticked now w below room d passed h id answer law) (tt, tt)
   mean (Sets now path format body answer left) law = tt
   mean (Removes now path answer left) law = tt

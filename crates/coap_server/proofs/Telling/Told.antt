@@ -25,6 +25,8 @@ use Rattle.coap_layer.specs.Trace as L
 use Rattle.coap_layer.specs.Trace.{Content, with_head}
 use Rattle.coap_layer.specs.Words.{Open, begun}
 use Rattle.coap_layer.proofs.Facts.Laws.{begins_of, spelled_begun}
+use Rattle.coap_layer.specs.Machine.State.{usual}
+use Rattle.coap_resource.specs.Limits.{Limits}
 use Rattle.coap_exchange.specs.declared.answerer.Asked.{Asked}
 use Rattle.coap_exchange.specs.EmptyMessages.{ack_bytes, reset_bytes}
 use Rattle.coap_exchange.specs.AnswererTrace as E
@@ -81,9 +83,9 @@ module _ (kind : Kind) (id : ℕ) (token : List ℕ) (r : E.Response) (bytes : L
   notes : is_notification m ≡ true → Notes r
   notes h = noted m r (ap (λ (x : Message). x.code) same) (ap (λ (x : Message). x.options) same) h
 
-  module _ (limit szx : ℕ) (past : List Call) (c : Call) where
-    tells_so : (con : Option ℕ) (to : Endpoint) → Says limit szx past c con to token r
-        → TellsIn limit szx con to m past c
+  module _ (limits : Limits) (szx : ℕ) (past : List Call) (c : Call) where
+    tells_so : (con : Option ℕ) (to : Endpoint) → Says limits szx past c con to token r
+        → TellsIn limits szx con to m past c
     tells_so con to s =
         record {
           told = s.told_here;
@@ -97,15 +99,17 @@ module _ (kind : Kind) (id : ℕ) (token : List ℕ) (r : E.Response) (bytes : L
           };
         }
 
-module _ (limit szx word : ℕ) (past : List Call) (c : Call) (law : ServerLaw limit szx word (c ∷ past)) where
+module _ (limits : Limits) (szx word : ℕ) (past : List Call) (c : Call)
+    (law : ServerLaw limits szx word (c ∷ past)) where
   abbrev adds : List L.Entry
-  adds = call_adds limit szx word past c
+  adds = call_adds limits szx word past c
 
-  means : (K : L.Call → L.Answer → Type 0) → (g : Given K (lower (own_of limit szx past) c)) → (e : E.Call) → g.call ≡ e
-      → Means limit szx past c e × P.IsRight (W.own_of g.before) e
+  means : (K : L.Call → L.Answer → Type 0) → (g : Given K (lower (own_of limits szx past) c)) → (e : E.Call)
+      → g.call ≡ e
+      → Means limits szx past c e × P.IsRight (W.own_of g.before) e
   means K g e is = (
-    subst (Means limit szx past c) is (meant limit szx past c g.call (lower (own_of limit szx past) c)
-        (mean limit szx word past c law) g.there),
+    subst (Means limits szx past c) is (meant limits szx past c g.call (lower (own_of limits szx past) c)
+        (mean limits szx word past c law) g.there),
     subst (P.IsRight (W.own_of g.before)) is g.right,
   )
 
@@ -137,17 +141,17 @@ module _ (limit szx word : ℕ) (past : List Call) (c : Call) (law : ServerLaw l
 
   con_small : (con : Open) → Ever (λ b. begun b ≡ Some con) adds → con.id < message_ids
   con_small con h =
-      let there = subst (Ever (λ b. begun b ≡ Some con)) (sym (layer_next limit szx word past c))
-      (Ever_front (λ b. begun b ≡ Some con) adds (layer_of limit szx word past) h) in
-      let s = spelled_begun word (layer_of limit szx word (c ∷ past)) con
-      (facts.layer limit szx word (c ∷ past) law) there in
+      let there = subst (Ever (λ b. begun b ≡ Some con)) (sym (layer_next limits szx word past c))
+      (Ever_front (λ b. begun b ≡ Some con) adds (layer_of limits szx word past) h) in
+      let s = spelled_begun (usual word) (layer_of limits szx word (c ∷ past)) con
+      (facts.layer limits szx word (c ∷ past) law) there in
       let low = s.1.id in let e = s.3 in omega (arith, low, e)
 
   module _ (con : Open) (m : Message) (h : Ever (λ b. begun b ≡ Some con) adds) (are : AreBytes con.bytes)
       (spells : Spells con.bytes m) (note : is_notification m ≡ true) where
     con_says : (id : ℕ) (to : Endpoint) (token : List ℕ) (r : E.Response) (w : ℕ)
         → Confirms con (L.Confirm to (P.content_with token r) w) (L.Sent id) → IsSpelled (P.content_with token r)
-        → (Notes r → Says limit szx past c (Some id) to token r) → TellsIn limit szx (Some con.id) con.to m past c
+        → (Notes r → Says limits szx past c (Some id) to token r) → TellsIn limits szx (Some con.id) con.to m past c
     con_says id to token r w k spelled f =
         let call = k.2 in
         let sent = k.3 in
@@ -157,12 +161,12 @@ module _ (limit szx word : ℕ) (past : List Call) (c : Call) (law : ServerLaw l
         let there = subst (λ b. Spells b (with_head Con con.id (P.content_with token r)))
         (ap (λ z. message_bytes (with_head Con con.id z)) x ∙ sym k.4) (spelled Con con.id (con_small con h)) in
         let said = f (notes Con con.id token r con.bytes m are spells there note) in
-        tells_so Con con.id token r con.bytes m are spells there limit szx past c (Some con.id) con.to
-        (subst (λ z. Says limit szx past c (Some con.id) z token r) place
-        (subst (λ z. Says limit szx past c (Some z) to token r) number said))
+        tells_so Con con.id token r con.bytes m are spells there limits szx past c (Some con.id) con.to
+        (subst (λ z. Says limits szx past c (Some con.id) z token r) place
+        (subst (λ z. Says limits szx past c (Some z) to token r) number said))
 
-    begun_so : (g : Given (Confirms con) (lower (own_of limit szx past) c))
-        → Origin (Confirms con) (W.own_of g.before) g.call → TellsIn limit szx (Some con.id) con.to m past c
+    begun_so : (g : Given (Confirms con) (lower (own_of limits szx past) c))
+        → Origin (Confirms con) (W.own_of g.before) g.call → TellsIn limits szx (Some con.id) con.to m past c
     begun_so g (empties to id (inl k)) = let z = k.2 in absurd (cc z)
     begun_so g (empties to id (inr k)) = let z = k.2 in absurd (cc z)
     begun_so g (answers a r below is k) = absurd (no_confirm con (W.own_of g.before) a.kind a r below k)
@@ -171,9 +175,9 @@ module _ (limit szx word : ℕ) (past : List Call) (c : Call) (law : ServerLaw l
     begun_so g (notifies now to token r w id is k) = let z =
         means (Confirms con) g (E.Notifies now to token r w id) is in con_says id to token r w k z.1.spelled z.0
 
-    begun_tells : TellsIn limit szx (Some con.id) con.to m past c
+    begun_tells : TellsIn limits szx (Some con.id) con.to m past c
     begun_tells =
-        let g = given_here limit szx word (Confirms con) (confirming con) past c law
+        let g = given_here limits szx word (Confirms con) (confirming con) past c law
         (Ever_map (λ b. begun b ≡ Some con) (λ (e : L.Entry). Confirms con e.call e.answer) (begins_so con) adds h)
         in
         begun_so g g.from
@@ -199,8 +203,8 @@ module _ (limit szx word : ℕ) (past : List Call) (c : Call) (law : ServerLaw l
 
     ack_says : (s : E.Own) (kind : Kind) (a : Asked) (r : E.Response) (below : L.Answer)
         → Replies (P.answering s kind a r) below → P.IsResponse a r
-        → (Notes r → Says limit szx past c None a.from a.token r)
-        → TellsIn limit szx None to m past c
+        → (Notes r → Says limits szx past c None a.from a.token r)
+        → TellsIn limits szx None to m past c
     ack_says s Con a r below k is f =
         let place : a.from ≡ to = cc k in
         let number : a.id.0 ≡ m.id = cc k in
@@ -208,15 +212,15 @@ module _ (limit szx word : ℕ) (past : List Call) (c : Call) (law : ServerLaw l
         let low = small_id in
         let there = subst (λ b. Spells b (with_head Ack a.id.0 (P.content_of a r))) given
         (is.spelled Ack a.id.0 (omega (arith, number, low))) in
-        tells_so Ack a.id.0 a.token r bytes m are spells there limit szx past c None to
-        (subst (λ z. Says limit szx past c None z a.token r) place
+        tells_so Ack a.id.0 a.token r bytes m are spells there limits szx past c None to
+        (subst (λ z. Says limits szx past c None z a.token r) place
         (f (notes Ack a.id.0 a.token r bytes m are spells there note)))
     ack_says s Non a r below k is f = absurd (cc k)
     ack_says s Ack a r below k is f = absurd (cc k)
     ack_says s Rst a r below k is f = absurd (cc k)
 
-    replied_so : (g : Given Replies (lower (own_of limit szx past) c)) → Origin Replies (W.own_of g.before) g.call
-        → TellsIn limit szx None to m past c
+    replied_so : (g : Given Replies (lower (own_of limits szx past) c)) → Origin Replies (W.own_of g.before) g.call
+        → TellsIn limits szx None to m past c
     replied_so g (empties there id (inl k)) =
         let number : id ≡ m.id = cc k in
         let given : ack_bytes id ≡ bytes = cc k in
@@ -235,8 +239,8 @@ module _ (limit szx word : ℕ) (past : List Call) (c : Call) (law : ServerLaw l
     replied_so g (responds now a r w id is k) = absurd (cc k)
     replied_so g (notifies now there token r w id is k) = absurd (cc k)
 
-    replied_tells : Ever (λ (b : L.Entry). b.call ≡ L.Reply to m.id bytes) adds → TellsIn limit szx None to m past c
-    replied_tells h = let g = given_here limit szx word Replies replying_so past c law h in replied_so g g.from
+    replied_tells : Ever (λ (b : L.Entry). b.call ≡ L.Reply to m.id bytes) adds → TellsIn limits szx None to m past c
+    replied_tells h = let g = given_here limits szx word Replies replying_so past c law h in replied_so g g.from
 
     -- a NON
 
@@ -253,10 +257,10 @@ module _ (limit szx word : ℕ) (past : List Call) (c : Call) (law : ServerLaw l
     }
 
     abbrev TellsPlainly : Type 0
-    TellsPlainly = TellsIn limit szx None to m past c × ServesNon limit szx to past c
+    TellsPlainly = TellsIn limits szx None to m past c × ServesNon limits szx to past c
 
-    serves_non : (a : Asked) → Serving_of limit szx past c a → a.from ≡ to → (a.kind ≡ Con → ⊥)
-        → ServesNon limit szx to past c
+    serves_non : (a : Asked) → Serving_of limits szx past c a → a.from ≡ to → (a.kind ≡ Con → ⊥)
+        → ServesNon limits szx to past c
     serves_non a y place none = record {
       request = y.0;
       here = y.1;
@@ -265,28 +269,28 @@ module _ (limit szx word : ℕ) (past : List Call) (c : Call) (law : ServerLaw l
     }
 
     non_by : (a : Asked) (r : E.Response) → Plainly (L.Plain a.from (P.content_of a r)) L.Nothing → (a.kind ≡ Con → ⊥)
-        → (Notes r → Says limit szx past c None a.from a.token r × Serving_of limit szx past c a) → TellsPlainly
+        → (Notes r → Says limits szx past c None a.from a.token r × Serving_of limits szx past c a) → TellsPlainly
     non_by a r k none f =
         let call = k.2 in
         let place : a.from ≡ to = cc call in
         let same_x : P.content_of a r ≡ k.0 = cc call in
         let there = subst (λ z. Spells bytes (with_head Non k.1 z)) (sym same_x) k.3 in
         let said = f (notes Non k.1 a.token r bytes m are spells there note) in (
-          tells_so Non k.1 a.token r bytes m are spells there limit szx past c None to
-              (subst (λ z. Says limit szx past c None z a.token r) place said.0),
+          tells_so Non k.1 a.token r bytes m are spells there limits szx past c None to
+              (subst (λ z. Says limits szx past c None z a.token r) place said.0),
           serves_non a said.1 place none,
         )
 
     non_says : (s : E.Own) (kind : Kind) (a : Asked) (r : E.Response) (below : L.Answer) → a.kind ≡ kind
         → Plainly (P.answering s kind a r) below → (Notes r
-        → Says limit szx past c None a.from a.token r × Serving_of limit szx past c a)
+        → Says limits szx past c None a.from a.token r × Serving_of limits szx past c a)
         → TellsPlainly
     non_says s Con a r below is k f = let z = k.2 in absurd (cc z)
     non_says s Non a r below is k f = non_by a r k (λ e. (let z : Non ≡ Con = sym is ∙ e in absurd (cc z))) f
     non_says s Ack a r below is k f = non_by a r k (λ e. (let z : Ack ≡ Con = sym is ∙ e in absurd (cc z))) f
     non_says s Rst a r below is k f = non_by a r k (λ e. (let z : Rst ≡ Con = sym is ∙ e in absurd (cc z))) f
 
-    plain_so : (g : Given Plainly (lower (own_of limit szx past) c)) → Origin Plainly (W.own_of g.before) g.call
+    plain_so : (g : Given Plainly (lower (own_of limits szx past) c)) → Origin Plainly (W.own_of g.before) g.call
         → TellsPlainly
     plain_so g (empties there id (inl k)) = let z = k.2 in absurd (cc z)
     plain_so g (empties there id (inr k)) = let z = k.2 in absurd (cc z)
@@ -297,17 +301,17 @@ module _ (limit szx word : ℕ) (past : List Call) (c : Call) (law : ServerLaw l
 
     plain_tells : Ever (λ (b : L.Entry). PlainOut b (record { to = to; bytes = bytes })) adds → TellsPlainly
     plain_tells h =
-        let g = given_here limit szx word Plainly plainly_so past c law
+        let g = given_here limits szx word Plainly plainly_so past c law
         (Ever_map (λ (b : L.Entry). PlainOut b (record { to = to; bytes = bytes }))
         (λ (e : L.Entry). Plainly e.call e.answer) (λ e k. (k.content, k.id, k.call, k.spells)) adds h) in
         plain_so g g.from
 
-  tells_sent : TellsSent limit szx word past c
+  tells_sent : TellsSent limits szx word past c
   tells_sent = record {
     begun_now = λ con m h are spells note. begun_tells con m h are spells note;
     replied = λ to bytes m h are spells note. replied_tells to bytes m are spells note h;
     plain = λ to bytes m h are spells note. plain_tells to bytes m are spells note h;
-    one = λ a b p q. one_con limit szx word past c a b p q;
+    one = λ a b p q. one_con limits szx word past c a b p q;
   }
 
 -- what arrives
@@ -348,27 +352,29 @@ module _ (to : Endpoint) (id : ℕ) where
       (last_there Comes (answering (heard s h.now first) h.came h.handling h.below) first
       (max s.clock h.now, h.bytes, h.came, refl))
 
-  ack_arrives : (limit szx word : ℕ) (past : List Call) (c : Call) → ServerLaw limit szx word (c ∷ past)
-      → HearsAck to id c → Ever (TakesAck to id) (call_adds limit szx word past c)
-  ack_arrives limit szx word past c law h =
-      let k = steps_here limit szx word past c law in
-      let asks = call_asks limit szx past c in
+  ack_arrives : (limits : Limits) (szx word : ℕ) (past : List Call) (c : Call) → ServerLaw limits szx word (c ∷ past)
+      → HearsAck to id c → Ever (TakesAck to id) (call_adds limits szx word past c)
+  ack_arrives limits szx word past c law h =
+      let k = steps_here limits szx word past c law in
+      let asks = call_asks limits szx past c in
       Ever_map (λ (e : L.Entry). Takes to id e.call e.answer) (TakesAck to id)
-      (λ e z. record { bytes = z.0; call = z.1; answer = z.2 }) (call_adds limit szx word past c)
+      (λ e z. record { bytes = z.0; call = z.1; answer = z.2 }) (call_adds limits szx word past c)
       (subst (Ever (λ (e : L.Entry). Takes to id e.call e.answer)) (sym k.3)
-      (entry_of (Takes to id) k.0 k.1 asks k.2 (taken_in (lower_of limit szx past) (lower (own_of limit szx past) c)
-      (comes_in (own_of limit szx past) c h))))
+      (entry_of (Takes to id) k.0 k.1 asks k.2 (taken_in (lower_of limits szx past) (lower (own_of limits szx past) c)
+      (comes_in (own_of limits szx past) c h))))
 
-pub all_tell_sent : (limit szx word : ℕ) (t : List Call) → ServerLaw limit szx word t → AllTellSent limit szx word t
-all_tell_sent limit szx word [] law = tt
-all_tell_sent limit szx word (c ∷ t) law = (
-  tells_sent limit szx word t c law,
-  all_tell_sent limit szx word t (server_back limit szx word c t law),
+pub all_tell_sent : (limits : Limits) (szx word : ℕ) (t : List Call) → ServerLaw limits szx word t
+    → AllTellSent limits szx word t
+all_tell_sent limits szx word [] law = tt
+all_tell_sent limits szx word (c ∷ t) law = (
+  tells_sent limits szx word t c law,
+  all_tell_sent limits szx word t (server_back limits szx word c t law),
 )
 
-pub acks_arrive : (limit szx word : ℕ) (t : List Call) → ServerLaw limit szx word t → AcksArrive limit szx word t
-acks_arrive limit szx word [] law = tt
-acks_arrive limit szx word (c ∷ t) law = (
-  λ to id h. ack_arrives to id limit szx word t c law h,
-  acks_arrive limit szx word t (server_back limit szx word c t law),
+pub acks_arrive : (limits : Limits) (szx word : ℕ) (t : List Call) → ServerLaw limits szx word t
+    → AcksArrive limits szx word t
+acks_arrive limits szx word [] law = tt
+acks_arrive limits szx word (c ∷ t) law = (
+  λ to id h. ack_arrives to id limits szx word t c law h,
+  acks_arrive limits szx word t (server_back limits szx word c t law),
 )

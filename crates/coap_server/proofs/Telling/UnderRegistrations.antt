@@ -7,6 +7,7 @@ use Rattle.coap_block.specs.Whole.{Each}
 use Rattle.coap_observe.specs.Observers.{Observer}
 use Rattle.coap_resource.specs.Content.{Content, Held}
 use Rattle.coap_resource.specs.Serves.{Question, Reply}
+use Rattle.coap_resource.specs.Limits.{Limits}
 use Rattle.coap_exchange.specs.declared.answerer.Asked.{Asked}
 use Rattle.coap_exchange.specs.declared.answerer.Due.TheVariants as due
 use Rattle.coap_exchange.specs.AnswererSteps as P
@@ -31,13 +32,13 @@ each_there Q [] o h k = absurd k
 each_there Q (y ∷ os) o h (inl e) = subst Q e h.0
 each_there Q (y ∷ os) o h (inr k) = each_there Q os o h.1 k
 
-module _ (limit szx word : ℕ) (t : List Call) where
+module _ (limits : Limits) (szx word : ℕ) (t : List Call) where
   abbrev own : Own
-  own = own_of limit szx t
+  own = own_of limits szx t
 
   abbrev Under : Call → Telling → Type 0
-  Under c z = ((z.registers ≡ true) × ServesPair limit szx (pair_of limit szx z) t c)
-      ⊎ ((z.registers ≡ false) × Sometime (ServesPair limit szx (pair_of limit szx z)) t)
+  Under c z = ((z.registers ≡ true) × ServesPair limits szx (pair_of limits szx z) t c)
+      ⊎ ((z.registers ≡ false) × Sometime (ServesPair limits szx (pair_of limits szx z)) t)
 
   -- the answer that registers
   answered : (c : Call) (s : Own) (a : Asked) (q : Question) (reply : Reply) (left : Content) (con : Option ℕ)
@@ -72,13 +73,13 @@ module _ (limit szx word : ℕ) (t : List Call) where
             },
           ))
 
-  made_so : (o : Observer) (past : List Call) (b : Call) → MadeWith limit szx o.to o.token o.path o.szx past b
-      → ServesPair limit szx (record { to = o.to; token = o.token }) past b
+  made_so : (o : Observer) (past : List Call) (b : Call) → MadeWith limits szx o.to o.token o.path o.szx past b
+      → ServesPair limits szx (record { to = o.to; token = o.token }) past b
   made_so o past b k = let m = k.made in record
       { registers = m.registers; request = m.request; here = m.here; from = m.from; token_is = m.token_is }
 
   -- a notification
-  notified : (c : Call) (o : Observer) (id : ℕ) (held : Option Held) → WasMade limit szx t o → (x : Telling)
+  notified : (c : Call) (o : Observer) (id : ℕ) (held : Option Held) → WasMade limits szx t o → (x : Telling)
       → tells o.to o.token o.path (Some id) false held ≡ Some x → Under c x
   notified c o id None made x k = absurd (cc k)
   notified c o id (Some held) made x k =
@@ -93,11 +94,11 @@ module _ (limit szx word : ℕ) (t : List Call) where
       let same : y ≡ x = cc k in
       subst (Under c) same (inr (
         refl,
-        Sometime_map (MadeWith limit szx o.to o.token o.path o.szx)
-            (ServesPair limit szx (record { to = o.to; token = o.token })) (made_so o) t made,
+        Sometime_map (MadeWith limits szx o.to o.token o.path o.szx)
+            (ServesPair limits szx (record { to = o.to; token = o.token })) (made_so o) t made,
       ))
 
-  told_under : (c : Call) → ServerLaw limit szx word (c ∷ t) → IsUnder limit szx t c
+  told_under : (c : Call) → ServerLaw limits szx word (c ∷ t) → IsUnder limits szx t c
   told_under (Feeds now from bytes w up (Some p) (Serves q reply left) below) law x h =
       answered (Feeds now from bytes w up (Some p) (Serves q reply left) below)
       (heard own now (incoming own now from bytes up (Some p))) p.0 q reply left None refl refl x h
@@ -108,10 +109,10 @@ module _ (limit szx word : ℕ) (t : List Call) where
       let s : Own = heard own now (ticking own now below room due.Idle) in
       let is = next_is (behind passed (marked s.observers)) s.store o reply law.rows.0.0 in
       let there = (marked_there s.observers o (behind_there passed (marked s.observers) o is)).0 in
-      let g = good_ended limit szx t (P.after own.exchanges (ticking own now below room due.Idle)).ended own.observers
-      (good limit szx t) in
+      let g = good_ended limits szx t (P.after own.exchanges (ticking own now below room due.Idle)).ended own.observers
+      (good limits szx t) in
       notified (Ticks now w below room due.Idle passed (Notifies o reply) id answer) o id (s.store.holds o.path)
-      (each_there (WasMade limit szx t) s.observers o g.made there) x h
+      (each_there (WasMade limits szx t) s.observers o g.made there) x h
   told_under (Feeds now from bytes w up None h below) law x e = absurd (cc e)
   told_under (Feeds now from bytes w up (Some p) Silent below) law x e = absurd (cc e)
   told_under (Feeds now from bytes w up (Some p) (Replies r) below) law x e = absurd (cc e)
@@ -134,18 +135,18 @@ module _ (limit szx word : ℕ) (t : List Call) where
   told_under (Gets path answer) law x e = absurd (cc e)
   told_under (TellsApplied answer) law x e = absurd (cc e)
 
-module _ (limit szx : ℕ) (t : List Call) where
+module _ (limits : Limits) (szx : ℕ) (t : List Call) where
   abbrev at_hand : Own
-  at_hand = own_of limit szx t
+  at_hand = own_of limits szx t
 
   -- a request that is served and registers
   registered : (c : Call) (s : Own) (a : Asked) (q : Question) (reply : Reply) (left : Content)
       → registering at_hand c ≡ registers_by s a q reply → serving at_hand c ≡ Some (serving_of s a q reply left)
-      → (p : Pair) → registers_by s a q reply ≡ Some p → ServesPair limit szx p t c
+      → (p : Pair) → registers_by s a q reply ≡ Some p → ServesPair limits szx p t c
   registered c s a q reply left is here p h = by (registers a q reply s.observers) h
     where
       by : (b : Bool) → cond {A = Option Pair} b (Some (record { to = a.from; token = a.token })) None ≡ Some p
-          → ServesPair limit szx p t c
+          → ServesPair limits szx p t c
       by false k = absurd (cc k)
       by true k =
           let y : Pair = record { to = a.from; token = a.token } in
@@ -158,7 +159,7 @@ module _ (limit szx : ℕ) (t : List Call) where
             token_is = ap (λ (z : Pair). z.token) same;
           }
 
-  serves_pair : (c : Call) (p : Pair) → registering at_hand c ≡ Some p → ServesPair limit szx p t c
+  serves_pair : (c : Call) (p : Pair) → registering at_hand c ≡ Some p → ServesPair limits szx p t c
   serves_pair (Feeds now from bytes w up (Some m) (Serves q reply left) below) p h =
       registered (Feeds now from bytes w up (Some m) (Serves q reply left) below)
       (heard at_hand now (incoming at_hand now from bytes up (Some m))) m.0 q reply left refl refl p h
@@ -184,13 +185,13 @@ module _ (limit szx : ℕ) (t : List Call) where
   serves_pair (Gets path answer) p e = absurd (cc e)
   serves_pair (TellsApplied answer) p e = absurd (cc e)
 
-pub all_serve_pairs : (limit szx : ℕ) (t : List Call) → AllServePairs limit szx t
-all_serve_pairs limit szx [] = tt
-all_serve_pairs limit szx (c ∷ t) = (serves_pair limit szx t c, all_serve_pairs limit szx t)
+pub all_serve_pairs : (limits : Limits) (szx : ℕ) (t : List Call) → AllServePairs limits szx t
+all_serve_pairs limits szx [] = tt
+all_serve_pairs limits szx (c ∷ t) = (serves_pair limits szx t c, all_serve_pairs limits szx t)
 
-pub are_under : (limit szx word : ℕ) (t : List Call) → ServerLaw limit szx word t → AreUnder limit szx t
-are_under limit szx word [] law = tt
-are_under limit szx word (c ∷ t) law = (
-  told_under limit szx word t c law,
-  are_under limit szx word t (server_back limit szx word c t law),
+pub are_under : (limits : Limits) (szx word : ℕ) (t : List Call) → ServerLaw limits szx word t → AreUnder limits szx t
+are_under limits szx word [] law = tt
+are_under limits szx word (c ∷ t) law = (
+  told_under limits szx word t c law,
+  are_under limits szx word t (server_back limits szx word c t law),
 )

@@ -24,7 +24,7 @@ use Rattle.coap_server.specs.Serving.{response_to}
 use Rattle.coap_server.specs.Notifying as N
 use Rattle.coap_server.specs.Law.{ServerLaw, ServerRows, lower_of}
 use Rattle.coap_server.specs.Examples.Observation as X
-use Rattle.coap_server.specs.Examples.Observation.{limit, client, token, path, held, a, b, get, request, asked}
+use Rattle.coap_server.specs.Examples.Observation.{limits, client, token, path, held, a, b, get, request, asked}
 use Rattle.coap_server.specs.Examples.Observation.{question, observer, empty_ack, run}
 
 pub bytes_are : (bytes : List ℕ) → list_all (λ x. nat_lt x 256) bytes ≡ true → AreBytes bytes
@@ -45,7 +45,7 @@ elsewhere other h apart = go (same_path path other) refl
     go true same = absurd (apart (sym ((same_path-decides path other).0 same)))
     go false same = refl
 
-first : Changes (nothing limit) 0 path (Some (held 1 (codes "a"))) a
+first : Changes (nothing limits) 0 path (Some (held 1 (codes "a"))) a
 first = record {
   there = there (held 1 (codes "a"));
   others = λ other apart. elsewhere other (held 1 (codes "a")) apart;
@@ -88,7 +88,7 @@ notification_spelled = (sendable_when_short _
       short = refl;
     }) (omega arith)).spelled
 
-rows : ServerRows limit 6 run
+rows : ServerRows limits 6 run
 unfolding option_bytes options_bytes
 rows = (
   refl,
@@ -119,7 +119,7 @@ rows = (
   ),
 )
 
-answered : AnswererLaw (lower_of limit 6 run)
+answered : AnswererLaw (lower_of limits 6 run)
 answered = (
   refl,
   (
@@ -138,9 +138,9 @@ answered = (
 )
 
 abbrev below : List Below
-below = W.lower_of (lower_of limit 6 run)
+below = W.lower_of (lower_of limits 6 run)
 
-steps : Steps (L.start 0) below (left_after (L.start 0) below)
+steps : Steps (L.start (L.usual 0)) below (left_after (L.start (L.usual 0)) below)
 unfolding decoded frame_fault body_at walk walk_of option_at nibbles_at value_at extended payload_at option_bytes
     options_bytes
 steps = (
@@ -185,9 +185,9 @@ steps = (
   record { may = bytes_are empty_ack refl; right = refl; new_is = refl },
 )
 
-pub lawful : ServerLaw limit 6 0 run
+pub lawful : ServerLaw limits 6 0 run
 lawful = record {
   rows = rows;
   exchanges = record
-      { rows = answered; left = left_after (L.start 0) below; layer = steps };
+      { rows = answered; left = left_after (L.start (L.usual 0)) below; layer = steps };
 }

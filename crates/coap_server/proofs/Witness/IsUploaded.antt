@@ -16,7 +16,7 @@ use Rattle.coap_exchange.specs.AnswererLaw.{AnswererLaw}
 use Rattle.coap_exchange.specs.AnswererLaw as W
 use Rattle.coap_exchange.specs.AnswererSteps.{content_of}
 use Rattle.coap_server.specs.Law.{ServerLaw, ServerRows, lower_of}
-use Rattle.coap_server.specs.Examples.Observation.{limit, path}
+use Rattle.coap_server.specs.Examples.Observation.{limits, path}
 use Rattle.coap_server.specs.Examples.Upload.{front, last, held, made, put, asked, continues, created}
 use Rattle.coap_server.specs.Examples.Upload.{run}
 use Rattle.coap_server.proofs.Witness.IsNotified.{bytes_are}
@@ -31,7 +31,7 @@ elsewhere other apart = go (same_path path other) refl
     go true same = absurd (apart (sym ((same_path-decides path other).0 same)))
     go false same = refl
 
-makes : Changes (nothing limit) 1 path (Some held) made
+makes : Changes (nothing limits) 1 path (Some held) made
 makes = record { there = there; others = elsewhere; paths = refl; tally = refl }
 
 continues_spelled : IsSpelled (content_of (asked 1 8 front) continues)
@@ -58,11 +58,11 @@ created_spelled = (sendable_when_short _ (record {
   short = refl;
 }) (omega arith)).spelled
 
-rows : ServerRows limit 6 run
+rows : ServerRows limits 6 run
 unfolding option_bytes options_bytes
 rows = (tt, (record { reply = bare 65 0; left = made; serves = (refl, makes); is = refl }, (tt, (refl, tt))))
 
-answered : AnswererLaw (lower_of limit 6 run)
+answered : AnswererLaw (lower_of limits 6 run)
 answered = (
   tt,
   (
@@ -72,9 +72,9 @@ answered = (
 )
 
 abbrev below : List Below
-below = W.lower_of (lower_of limit 6 run)
+below = W.lower_of (lower_of limits 6 run)
 
-steps : Steps (L.start 0) below (left_after (L.start 0) below)
+steps : Steps (L.start (L.usual 0)) below (left_after (L.start (L.usual 0)) below)
 unfolding decoded frame_fault body_at walk walk_of option_at nibbles_at value_at extended payload_at option_bytes
     options_bytes
 steps = (
@@ -99,9 +99,9 @@ steps = (
   record { may = tt; right = refl; new_is = refl },
 )
 
-pub lawful : ServerLaw limit 6 0 run
+pub lawful : ServerLaw limits 6 0 run
 lawful = record {
   rows = rows;
   exchanges = record
-      { rows = answered; left = left_after (L.start 0) below; layer = steps };
+      { rows = answered; left = left_after (L.start (L.usual 0)) below; layer = steps };
 }

@@ -11,6 +11,7 @@ use Rattle.coap_layer.specs.Trace as L
 use Rattle.coap_observe.specs.Observers.{Observer}
 use Rattle.coap_resource.specs.declared.tally.TheConstants.{MAX_CHANGES_PER_WINDOW as max_changes}
 use Rattle.coap_resource.specs.Content.{Content, Held}
+use Rattle.coap_resource.specs.Limits.{Limits, usual_limits}
 use Rattle.coap_resource.specs.Rate.{counted, unused}
 use Rattle.coap_resource.specs.RequestOptions.{tag_of}
 use Rattle.coap_resource.specs.Serves.{Question, Reply}
@@ -19,8 +20,8 @@ use Rattle.coap_exchange.specs.declared.answerer.Due.TheVariants as due
 use Rattle.coap_exchange.specs.AnswererSteps.{asked_of}
 use Rattle.coap_server.specs.Trace.{Silent, Serves, Notifies, Call, Sets, Feeds, Ticks, NextOut}
 
-abbrev pub limit : ℕ
-limit = max_changes
+abbrev pub limits : Limits
+limits = usual_limits max_changes
 
 abbrev pub client : Endpoint
 client = record { ip = 127 ∷ 0 ∷ 0 ∷ 1 ∷ []; port = 40001 }
@@ -39,7 +40,7 @@ abbrev pub a : Content
 a = record {
   holds = λ other. cond (same_path path other) (Some (held 1 (codes "a"))) None;
   paths = 1;
-  tally = counted (unused limit) 0;
+  tally = counted (unused limits) 0;
 }
 
 abbrev pub b : Content

@@ -15,7 +15,7 @@ use Rattle.coap_exchange.specs.declared.answerer.Asked.{Asked}
 use Rattle.coap_exchange.specs.AnswererSteps.{asked_of}
 use Rattle.coap_exchange.specs.AnswererTrace as E
 use Rattle.coap_server.specs.Trace.{Replies, Serves, Call, Feeds, NextOut}
-use Rattle.coap_server.specs.Examples.Observation.{limit, client, path}
+use Rattle.coap_server.specs.Examples.Observation.{limits, client, path}
 
 abbrev pub front : List ℕ
 front = codes "0123456789abcdef"
@@ -30,7 +30,7 @@ abbrev pub made : Content
 made = record {
   holds = λ other. cond (same_path path other) (Some held) None;
   paths = 1;
-  tally = counted (unused limit) 1;
+  tally = counted (unused limits) 1;
 }
 
 -- a PUT with Uri-Path and Block1 of this value

@@ -11,8 +11,10 @@ use Rattle.coap_codec.specs.Message.{Message}
 use Rattle.coap_layer.specs.Trace as L
 use Rattle.coap_layer.specs.Rows.{Busy, Withholds}
 use Rattle.coap_layer.specs.Words.{clock}
+use Rattle.coap_layer.specs.Machine.State.{usual}
 use Rattle.coap_block.specs.Whole.{Each}
 use Rattle.coap_resource.specs.Serves.{Question}
+use Rattle.coap_resource.specs.Limits.{Limits}
 use Rattle.coap_exchange.specs.declared.answerer.Asked.{Asked}
 use Rattle.coap_exchange.specs.declared.answerer.Due.{Due}
 use Rattle.coap_exchange.specs.AnswererFollows.{responds}
@@ -35,30 +37,30 @@ pub record IsIgnored (m : Message) : Type 0 where
   pub kind : m.kind ≢ Con
   pub option : lacks_critical direction.Request m.options ≡ true
 
-module _ (limit szx : ℕ) where
+module _ (limits : Limits) (szx : ℕ) where
   -- a response to the request is sent in this call
   abbrev pub AnswersIt : List Call → Call → Asked → Type 0
-  AnswersIt past c a = Ever (λ b. responds b ≡ Some a) (lower (own_of limit szx past) c)
+  AnswersIt past c a = Ever (λ b. responds b ≡ Some a) (lower (own_of limits szx past) c)
 
   -- What asks this has to wait: it is a CON, its path has a delay, and there is a place (section 5.2.2; profile).
   pub record HasToWait (past : List Call) (a : Asked) (q : Question) (delay : ℕ) : Type 0 where
     pub kind : a.kind ≡ Con
-    pub has_delay : delay_of q.path (own_of limit szx past).delays ≡ Some delay
-    pub place : may_defer (own_of limit szx past).exchanges.deferred ≡ true
+    pub has_delay : delay_of q.path (own_of limits szx past).delays ≡ Some delay
+    pub place : may_defer (own_of limits szx past).exchanges.deferred ≡ true
 
   -- it waits from then on, by that delay and behind all that waits, to ask this
   pub record MakesWait (past : List Call) (c : Call) (a : Asked) (q : Question) : Type 0 where
     pub delay : ℕ
     pub has_to : HasToWait past a q delay
     pub behind :
-        (own_of limit szx (c ∷ past)).waiting
-        ≡ (own_of limit szx past).waiting ++ record
-        { asked = a; at = (own_of limit szx (c ∷ past)).clock; delay = delay; question = q } ∷ []
+        (own_of limits szx (c ∷ past)).waiting
+        ≡ (own_of limits szx past).waiting ++ record
+        { asked = a; at = (own_of limits szx (c ∷ past)).clock; delay = delay; question = q } ∷ []
 
   -- .. what came, with the whole body of its blocks
   pub record WaitsToAsk (past : List Call) (c : Call) (p : Asked × Message) : Type 0 where
     pub question : Question
-    pub asks : AsksBy limit szx past c p.0 question (verdict_on szx p.1)
+    pub asks : AsksBy limits szx past c p.0 question (verdict_on szx p.1)
     pub waits : MakesWait past c p.0 question
 
   -- Each request that is handed up is answered in that call, or waits, or is ignored.
@@ -70,8 +72,8 @@ module _ (limit szx : ℕ) where
   module _ (word : ℕ) where
     -- no Message ID is free for what is sent now
     abbrev pub NoId : List Call → ℕ → Type 0
-    NoId past now = Withholds word (layer_of limit szx word past)
-        (max (clock (layer_of limit szx word past)) (max (own_of limit szx past).clock now))
+    NoId past now = Withholds (usual word) (layer_of limits szx word past)
+        (max (clock (layer_of limits szx word past)) (max (own_of limits szx past).clock now))
 
     -- what came of a request that the message layer hands up: it is handed up, save a NON for which no Message ID is
     -- free
@@ -88,8 +90,8 @@ module _ (limit szx : ℕ) where
 
     -- what waits can be answered: its delay has passed, and no CON to its endpoint is unacknowledged (section 4.7)
     pub record CanAnswer (past : List Call) (now : ℕ) (x : Waiting) : Type 0 where
-      pub passed : x.delay ≤ max (own_of limit szx past).clock now - x.at
-      pub alone : Busy (layer_of limit szx word past) x.asked.from → ⊥
+      pub passed : x.delay ≤ max (own_of limits szx past).clock now - x.at
+      pub alone : Busy (layer_of limits szx word past) x.asked.from → ⊥
 
     -- Where the message layer has nothing due, a tick answers the first that can be, if a Message ID is free.
     abbrev pub FirstIsAnswered : List Call → Type 0
@@ -97,6 +99,6 @@ module _ (limit szx : ℕ) where
         Always (λ past c.
         (now w : ℕ) (room : Bool) (d : Due) (passed : ℕ) (h : Handling) (id : ℕ) (answer : Bool)
         (before behind : List Waiting) (x : Waiting)
-        → c ≡ Ticks now w L.Idle room d passed h id answer → (own_of limit szx past).waiting ≡ before ++ x ∷ behind
+        → c ≡ Ticks now w L.Idle room d passed h id answer → (own_of limits szx past).waiting ≡ before ++ x ∷ behind
         → Each (λ y. CanAnswer past now y → ⊥) before → CanAnswer past now x
         → AnswersIt past c x.asked ⊎ NoId past now) t

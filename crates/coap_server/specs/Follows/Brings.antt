@@ -7,6 +7,7 @@ use Rattle.coap_layer.specs.Trace.{Receive, Becomes, Request, Entry}
 use Rattle.coap_types.specs.declared.block.Block.{Block}
 use Rattle.coap_block.specs.AssemblyTrace.{IsWholeBody}
 use Rattle.coap_resource.specs.Serves.{Question}
+use Rattle.coap_resource.specs.Limits.{Limits}
 use Rattle.coap_exchange.specs.declared.answerer.Asked.{Asked}
 use Rattle.coap_exchange.specs.AnswererSteps as P
 use Rattle.coap_server.specs.Trace.{Call}
@@ -25,19 +26,19 @@ pub record HandsUp (szx : ℕ) (asked : Asked) (v : Verdict) (e : Entry) : Type 
   pub asked_is : asked ≡ P.asked_of asked.from message
   pub verdict : verdict_on szx message ≡ v
 
-module _ (limit szx : ℕ) where
+module _ (limits : Limits) (szx : ℕ) where
   -- in this call the message layer hands up the request, and it comes to this
   pub record Comes (word : ℕ) (past : List Call) (c : Call) (asked : Asked) (v : Verdict) : Type 0 where
     pub news : List Entry
-    pub is : layer_of limit szx word (c ∷ past) ≡ news ++ layer_of limit szx word past
+    pub is : layer_of limits szx word (c ∷ past) ≡ news ++ layer_of limits szx word past
     pub here : Ever (HandsUp szx asked v) news
 
   -- the last block of an upload is taken, and the blocks since its block 0 are the whole body
   pub record Completes (past : List Call) (c : Call) (a : Asked) (p : Question) (b : Block)
       (q : Question) : Type 0 where
-    pub takes : takes_block (own_of limit szx past) c ≡ Some (took a p b)
+    pub takes : takes_block (own_of limits szx past) c ≡ Some (took a p b)
     pub last : b.more ≡ false
-    pub whole : IsWholeBody (map (λ x. x.part) (blocks_since limit szx (key_of a p) (c ∷ past))) q.body
+    pub whole : IsWholeBody limits.body (map (λ x. x.part) (blocks_since limits szx (key_of a p) (c ∷ past))) q.body
     pub question : q ≡ record p { body = q.body }
 
   -- what is asked of the store: as it came, or with the body of the upload
@@ -54,7 +55,7 @@ module _ (limit szx : ℕ) where
   -- What is served was handed up, at once or before, and asks this.
   abbrev pub AreHandedUp : ℕ → List Call → Type 0
   AreHandedUp word t =
-      Always (λ past c. (x : Serving) → serving (own_of limit szx past) c ≡ Some x
+      Always (λ past c. (x : Serving) → serving (own_of limits szx past) c ≡ Some x
       → Sometime (λ old b. Brings word old b x.asked x.question) (c ∷ past)) t
 
   -- A block that is taken came in a request that was handed up in this very call.
@@ -65,5 +66,5 @@ module _ (limit szx : ℕ) where
     pub comes : Comes word past c x.asked (Uploads question block)
 
   abbrev pub BlocksCome : ℕ → List Call → Type 0
-  BlocksCome word t = Always (λ past c. (x : Took) → takes_block (own_of limit szx past) c ≡ Some x
+  BlocksCome word t = Always (λ past c. (x : Took) → takes_block (own_of limits szx past) c ≡ Some x
       → ComesIn word past c x) t

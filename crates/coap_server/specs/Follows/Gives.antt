@@ -18,6 +18,7 @@ use Rattle.coap_observe.specs.Observers.{Observer}
 use Rattle.coap_observe.specs.Versions.{sequence_number}
 use Rattle.coap_resource.specs.Content.{Held}
 use Rattle.coap_resource.specs.Serves.{Reply, bare, content_reply}
+use Rattle.coap_resource.specs.Limits.{Limits}
 use Rattle.coap_exchange.specs.declared.answerer.Asked.{Asked}
 use Rattle.coap_exchange.specs.AnswererTrace as E
 use Rattle.coap_exchange.specs.AnswererSteps.{content_with}
@@ -82,21 +83,21 @@ NoticeOf szx None r = r ≡ response_with (bare codes.NOT_FOUND.0 0) None None
 NoticeOf szx (Some held) r = r ≡ response_with (content_reply held false 0 szx)
     (Some (sequence_number held.version)) None
 
-module _ (limit szx : ℕ) where
+module _ (limits : Limits) (szx : ℕ) where
   -- what the store served here
   pub record CarriesServed (past : List Call) (c : Call) (p : L.Packet) : Type 0 where
     pub request : Serving
-    pub here : serving (own_of limit szx past) c ≡ Some request
+    pub here : serving (own_of limits szx past) c ≡ Some request
     pub carries : Carries p request.asked.from request.asked.token
         (response_with request.reply request.sequence (last_block request.question))
 
   -- 2.31 to a block that was taken here
   pub record CarriesContinue (past : List Call) (c : Call) (p : L.Packet) : Type 0 where
     pub block : Took
-    pub taken : takes_block (own_of limit szx past) c ≡ Some block
+    pub taken : takes_block (own_of limits szx past) c ≡ Some block
     pub more : block.part.more ≡ true
     pub size : ℕ
-    pub asks : size_in (own_of limit szx past) c ≡ Some size
+    pub asks : size_in (own_of limits szx past) c ≡ Some size
     pub carries : Carries p block.asked.from block.asked.token
         (continuing size (record { num = block.part.num; more = true; szx = block.part.szx }))
 
@@ -105,10 +106,10 @@ module _ (limit szx : ℕ) where
     pub asked : Asked
     pub verdict : Verdict
     pub code : ℕ
-    pub comes : Comes limit szx word past c asked verdict
+    pub comes : Comes limits szx word past c asked verdict
     pub handed : hands c ≡ Some asked
-    pub unserved : serving (own_of limit szx past) c ≡ None
-    pub refuses : refusal_in (own_of limit szx past) c ≡ Some code
+    pub unserved : serving (own_of limits szx past) c ≡ None
+    pub refuses : refusal_in (own_of limits szx past) c ≡ Some code
     pub not_continue : code ≢ continue
     pub carries : Carries p asked.from asked.token (R.bare code)
 
@@ -117,10 +118,10 @@ module _ (limit szx : ℕ) where
     pub observer : Observer
     pub reply : Reply
     pub here : notice_in c ≡ Some (observer, reply)
-    pub made : WasMade limit szx past observer
-    pub shows : NoticeOf observer.szx ((own_of limit szx past).store.holds observer.path)
-        (notification (own_of limit szx past).store observer reply)
-    pub carries : Carries p observer.to observer.token (notification (own_of limit szx past).store observer reply)
+    pub made : WasMade limits szx past observer
+    pub shows : NoticeOf observer.szx ((own_of limits szx past).store.holds observer.path)
+        (notification (own_of limits szx past).store observer reply)
+    pub carries : Carries p observer.to observer.token (notification (own_of limits szx past).store observer reply)
 
   abbrev pub CarriesResponse : ℕ → L.Packet → List Call → Call → Type 0
   CarriesResponse word p past c = CarriesServed past c p
@@ -128,7 +129,7 @@ module _ (limit szx : ℕ) where
 
   -- what the message layer sent in all these calls is Empty, or carries a response that was made in them
   abbrev pub SentResponses : ℕ → List Call → Type 0
-  SentResponses word t = (p : L.Packet) → Ever (λ e. IsIn p e.out) (layer_of limit szx word t)
+  SentResponses word t = (p : L.Packet) → Ever (λ e. IsIn p e.out) (layer_of limits szx word t)
       → IsEmpty p ⊎ Sometime (CarriesResponse word p) t
 
   -- Whatever is sent, at any time, is Empty, or carries a response that was made by then.
@@ -137,5 +138,5 @@ module _ (limit szx : ℕ) where
 
   -- The store never answers 2.31.
   abbrev pub NoneContinues : List Call → Type 0
-  NoneContinues t = Always (λ past c. (x : Serving) → serving (own_of limit szx past) c ≡ Some x
+  NoneContinues t = Always (λ past c. (x : Serving) → serving (own_of limits szx past) c ≡ Some x
       → x.reply.code ≢ continue) t

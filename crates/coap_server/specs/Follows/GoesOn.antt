@@ -7,29 +7,30 @@ use Rattle.coap_codec.specs.Message.{Message}
 use Rattle.coap_layer.specs.Trace as L
 use Rattle.coap_resource.specs.Content.{Content, Held}
 use Rattle.coap_resource.specs.declared.refusal.StoreRefusal.{StoreRefusal}
+use Rattle.coap_resource.specs.Limits.{Limits}
 use Rattle.coap_exchange.specs.declared.answerer.Asked.{Asked}
 use Rattle.coap_exchange.specs.declared.answerer.Due.{Due}
 use Rattle.coap_server.specs.Trace.{Applied, Handling, Call, Sets, Removes, Delays, Feeds, Ticks}
 use Rattle.coap_server.specs.Trace.{NextOut, Gets, TellsApplied}
 use Rattle.coap_server.specs.Law.{ServerLaw}
 
-pub record GoesOn (limit szx word : ℕ) (t : List Call) : Type 0 where
+pub record GoesOn (limits : Limits) (szx word : ℕ) (t : List Call) : Type 0 where
   pub sets : (now : ℕ) (path : List (List ℕ)) (format : Option ℕ) (body : List ℕ)
       → (answer : Result ℕ StoreRefusal) × (left : Content)
-      × ServerLaw limit szx word (Sets now path format body answer left ∷ t)
+      × ServerLaw limits szx word (Sets now path format body answer left ∷ t)
   pub removes : (now : ℕ) (path : List (List ℕ))
       → (answer : Result Bool StoreRefusal) × (left : Content)
-      × ServerLaw limit szx word (Removes now path answer left ∷ t)
-  pub delays : (path : List (List ℕ)) (ms : ℕ) → (answer : Bool) × ServerLaw limit szx word (Delays path ms answer ∷ t)
+      × ServerLaw limits szx word (Removes now path answer left ∷ t)
+  pub delays : (path : List (List ℕ)) (ms : ℕ) → (answer : Bool) × ServerLaw limits szx word (Delays path ms answer ∷ t)
   pub feeds :
       (now : ℕ) (from : Endpoint) (bytes : List ℕ) (w : ℕ) → AreBytes bytes
       → (up : L.Answer) × (came : Option (Asked × Message)) × (handling : Handling) × (below : L.Answer)
-      × ServerLaw limit szx word (Feeds now from bytes w up came handling below ∷ t)
+      × ServerLaw limits szx word (Feeds now from bytes w up came handling below ∷ t)
   pub ticks :
       (now w : ℕ)
       → (below : L.Answer) × (room : Bool) × (due : Due) × (passed : ℕ) × (handling : Handling) × (id : ℕ)
       × (answer : Bool)
-      × ServerLaw limit szx word (Ticks now w below room due passed handling id answer ∷ t)
-  pub next_out : (answer : Option L.Packet) × ServerLaw limit szx word (NextOut answer ∷ t)
-  pub gets : (path : List (List ℕ)) → (answer : Option Held) × ServerLaw limit szx word (Gets path answer ∷ t)
-  pub tells_applied : (answer : List Applied) × ServerLaw limit szx word (TellsApplied answer ∷ t)
+      × ServerLaw limits szx word (Ticks now w below room due passed handling id answer ∷ t)
+  pub next_out : (answer : Option L.Packet) × ServerLaw limits szx word (NextOut answer ∷ t)
+  pub gets : (path : List (List ℕ)) → (answer : Option Held) × ServerLaw limits szx word (Gets path answer ∷ t)
+  pub tells_applied : (answer : List Applied) × ServerLaw limits szx word (TellsApplied answer ∷ t)

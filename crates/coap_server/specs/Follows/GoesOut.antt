@@ -7,6 +7,7 @@ use Rattle.coap_types.specs.declared.message.Kind.TheVariants.{Con, Ack}
 use Rattle.coap_codec.specs.Spelling.{message_bytes}
 use Rattle.coap_layer.specs.Trace as L
 use Rattle.coap_layer.specs.Trace.{with_head}
+use Rattle.coap_resource.specs.Limits.{Limits}
 use Rattle.coap_exchange.specs.declared.answerer.Asked.{Asked}
 use Rattle.coap_exchange.specs.AnswererTrace as E
 use Rattle.coap_exchange.specs.AnswererSteps.{content_of, content_with}
@@ -49,35 +50,35 @@ pub record InCon (to : Endpoint) (content : L.Content) (call : L.Call) (answer :
   pub call_is : call ≡ L.Confirm to content word
   pub answer_is : answer ≡ L.Sent id
 
-module _ (limit szx : ℕ) where
+module _ (limits : Limits) (szx : ℕ) where
   -- this response to this request is sent in this call
   abbrev pub Sends : List Call → Call → Asked → E.Response → Type 0
-  Sends past c a r = Ever (λ b. responds_with b ≡ Some (a, r)) (lower (own_of limit szx past) c)
+  Sends past c a r = Ever (λ b. responds_with b ≡ Some (a, r)) (lower (own_of limits szx past) c)
 
   -- the store served the request in this call, and the response says what it replied
   pub record IsReplied (past : List Call) (c : Call) (a : Asked) (r : E.Response) : Type 0 where
     pub request : Serving
-    pub here : serving (own_of limit szx past) c ≡ Some request
+    pub here : serving (own_of limits szx past) c ≡ Some request
     pub asked : request.asked ≡ a
     pub is : r ≡ response_of request
 
   -- 2.31 to the block that was taken in this call
   pub record IsContinued (past : List Call) (c : Call) (a : Asked) (r : E.Response) : Type 0 where
     pub block : Took
-    pub taken : takes_block (own_of limit szx past) c ≡ Some block
+    pub taken : takes_block (own_of limits szx past) c ≡ Some block
     pub asked : block.asked ≡ a
-    pub unserved : serving (own_of limit szx past) c ≡ None
+    pub unserved : serving (own_of limits szx past) c ≡ None
     pub more : block.part.more ≡ true
     pub size : ℕ
-    pub asks : size_in (own_of limit szx past) c ≡ Some size
+    pub asks : size_in (own_of limits szx past) c ≡ Some size
     pub is : r ≡ continuing size (record { num = block.part.num; more = true; szx = block.part.szx })
 
   -- the refusal, without the store, of the request that was handed up in this call
   pub record IsRefused (past : List Call) (c : Call) (a : Asked) (r : E.Response) : Type 0 where
     pub code : ℕ
     pub handed : hands c ≡ Some a
-    pub unserved : serving (own_of limit szx past) c ≡ None
-    pub refuses : refusal_in (own_of limit szx past) c ≡ Some code
+    pub unserved : serving (own_of limits szx past) c ≡ None
+    pub refuses : refusal_in (own_of limits szx past) c ≡ Some code
     pub is : r ≡ bare code
 
   -- a response is made in the call that sends it
@@ -86,18 +87,19 @@ module _ (limit szx : ℕ) where
 
 -- What is answered is sent a response, and to what is served it is what the store replied; each that is sent was made
 -- in that call, and goes out in it; and so does each notification.
-module _ (limit szx word : ℕ) where
+module _ (limits : Limits) (szx word : ℕ) where
   pub record GoesOutHere (past : List Call) (c : Call) : Type 0 where
-    pub answers : (a : Asked) → AnswersIt limit szx past c a → (r : E.Response) × Sends limit szx past c a r
-    pub serves : (x : Serving) → serving (own_of limit szx past) c ≡ Some x
-        → Sends limit szx past c x.asked (response_of x)
-    pub made : (a : Asked) (r : E.Response) → Sends limit szx past c a r → IsMade limit szx past c a r
-    pub responses : (a : Asked) (r : E.Response) → Sends limit szx past c a r
-        → Ever (λ e. GoesOut a r e.call e.answer) (call_adds limit szx word past c)
+    pub answers : (a : Asked) → AnswersIt limits szx past c a → (r : E.Response) × Sends limits szx past c a r
+    pub serves : (x : Serving) → serving (own_of limits szx past) c ≡ Some x
+        → Sends limits szx past c x.asked (response_of x)
+    pub made : (a : Asked) (r : E.Response) → Sends limits szx past c a r → IsMade limits szx past c a r
+    pub responses : (a : Asked) (r : E.Response) → Sends limits szx past c a r
+        → Ever (λ e. GoesOut a r e.call e.answer) (call_adds limits szx word past c)
     pub notices : (x : Notice) → notice c ≡ Some x
         → Ever (λ e. InCon x.observer.to
-        (content_with x.observer.token (notification (own_of limit szx past).store x.observer x.reply)) e.call e.answer)
-        (call_adds limit szx word past c)
+        (content_with x.observer.token (notification (own_of limits szx past).store x.observer x.reply)) e.call
+        e.answer)
+        (call_adds limits szx word past c)
 
   abbrev pub AllGoOut : List Call → Type 0
   AllGoOut t = Always GoesOutHere t

@@ -8,6 +8,7 @@ use Rattle.coap_resource.specs.Content.{Content, Held}
 use Rattle.coap_resource.specs.RequestOptions.{format_of, precondition_fails}
 use Rattle.coap_resource.specs.Serves.{Question}
 use Rattle.coap_resource.specs.Serves as R
+use Rattle.coap_resource.specs.Limits.{Limits}
 use Rattle.coap_server.specs.Trace.{Own, Call, Sets, Removes}
 use Rattle.coap_server.specs.Serving.{is_applied}
 use Rattle.coap_server.specs.Law.{own_of}
@@ -63,20 +64,20 @@ abbrev pub held_then : List (List ℕ) → Option Change → Option Held → Opt
 held_then path None held = held
 held_then path (Some x) held = if same_path x.path path then x.held else held
 
-module _ (limit szx : ℕ) where
+module _ (limits : Limits) (szx : ℕ) where
   -- how many changes there were, and what a path holds: its last change
   abbrev pub changes : List Call → ℕ
   changes [] = 0
-  changes (c ∷ past) = counted (change (own_of limit szx past) c) + changes past
+  changes (c ∷ past) = counted (change (own_of limits szx past) c) + changes past
 
   abbrev pub held_at : List (List ℕ) → List Call → Option Held
   held_at path [] = None
-  held_at path (c ∷ past) = held_then path (change (own_of limit szx past) c) (held_at path past)
+  held_at path (c ∷ past) = held_then path (change (own_of limits szx past) c) (held_at path past)
 
   -- The versions of the changes are 1, 2, 3 and so on, and the store holds at each path its last change.
   pub record Holds (past : List Call) (c : Call) : Type 0 where
-    pub version : (x : Change) → change (own_of limit szx past) c ≡ Some x → x.version ≡ changes past + 1
-    pub held : (path : List (List ℕ)) → (own_of limit szx past).store.holds path ≡ held_at path past
+    pub version : (x : Change) → change (own_of limits szx past) c ≡ Some x → x.version ≡ changes past + 1
+    pub held : (path : List (List ℕ)) → (own_of limits szx past).store.holds path ≡ held_at path past
 
   abbrev pub HoldsChanges : List Call → Type 0
   HoldsChanges trace = Always Holds trace
@@ -84,12 +85,12 @@ module _ (limit szx : ℕ) where
   -- What is served is by the store's table, what is applied is applied whole, and nothing else that is served changes
   -- anything.
   pub record ServesRight (past : List Call) (c : Call) : Type 0 where
-    pub serves : (x : Serving) → serving (own_of limit szx past) c ≡ Some x
+    pub serves : (x : Serving) → serving (own_of limits szx past) c ≡ Some x
         → (at : ℕ) × R.Serves x.old at x.question x.reply x.left
-    pub applied : (x : Serving) → serving (own_of limit szx past) c ≡ Some x → is_applied x.reply.code ≡ true
+    pub applied : (x : Serving) → serving (own_of limits szx past) c ≡ Some x → is_applied x.reply.code ≡ true
         → IsApplied x
-    pub changes_by : (x : Serving) (y : Change) → serving (own_of limit szx past) c ≡ Some x
-        → change (own_of limit szx past) c ≡ Some y → is_applied x.reply.code ≡ true
+    pub changes_by : (x : Serving) (y : Change) → serving (own_of limits szx past) c ≡ Some x
+        → change (own_of limits szx past) c ≡ Some y → is_applied x.reply.code ≡ true
 
   abbrev pub AllServed : List Call → Type 0
   AllServed trace = Always ServesRight trace

@@ -7,6 +7,7 @@ use Rattle.coap_block.specs.Whole.{Each}
 use Rattle.coap_observe.specs.Observers.{Observer, AreRegistrations, registration}
 use Rattle.coap_resource.specs.RequestOptions.{block_of, szx_by}
 use Rattle.coap_resource.specs.Serves.{Reply}
+use Rattle.coap_resource.specs.Limits.{Limits}
 use Rattle.coap_exchange.specs.declared.answerer.Ended.{Ended}
 use Rattle.coap_exchange.specs.AnswererSteps.{reset_by, failed_by}
 use Rattle.coap_common.specs.SuccessCodes.{content}
@@ -34,17 +35,17 @@ notice _ = None
 abbrev pub not_found : ℕ
 not_found = codes.NOT_FOUND.0
 
-module _ (limit szx : ℕ) where
+module _ (limits : Limits) (szx : ℕ) where
   -- a GET with Observe 0 of this endpoint and token was served with a 2.05, and this call made the registration
   pub record MadeBy (to : Endpoint) (token : List ℕ) (path : List (List ℕ)) (past : List Call) (c : Call) : Type 0 where
     pub request : Serving
-    pub here : serving (own_of limit szx past) c ≡ Some request
+    pub here : serving (own_of limits szx past) c ≡ Some request
     pub from : request.asked.from ≡ to
     pub token_is : request.asked.token ≡ token
     pub path_is : request.question.path ≡ path
     pub observe : observes 0 request.question ≡ true
     pub code : request.reply.code ≡ content
-    pub registers : registering (own_of limit szx past) c ≡ Some (record { to = to; token = token })
+    pub registers : registering (own_of limits szx past) c ≡ Some (record { to = to; token = token })
 
   -- .. with the block size of the server, or a smaller one that Block2 says (RFC 7959, section 2.6)
   pub record MadeWith (to : Endpoint) (token : List ℕ) (path : List (List ℕ)) (size : ℕ) (past : List Call)
@@ -57,28 +58,28 @@ module _ (limit szx : ℕ) where
 
   -- the observers are registrations, and each was made so
   pub record AreObservers (t : List Call) : Type 0 where
-    pub registrations : AreRegistrations (own_of limit szx t).observers
-    pub made : Each (WasMade t) (own_of limit szx t).observers
+    pub registrations : AreRegistrations (own_of limits szx t).observers
+    pub made : Each (WasMade t) (own_of limits szx t).observers
 
   -- What is told to have ended by a Reset or because it was given up, where it carried Observe, is observed no more.
   abbrev pub EndsObservation : List Call → Type 0
   EndsObservation t =
-      Always (λ past c. (x : Ended) → ends_in (own_of limit szx past) c ≡ Some x → x.observe ≡ true
-      → registration x.to x.token (own_of limit szx (c ∷ past)).observers ≡ None) t
+      Always (λ past c. (x : Ended) → ends_in (own_of limits szx past) c ≡ Some x → x.observe ≡ true
+      → registration x.to x.token (own_of limits szx (c ∷ past)).observers ≡ None) t
 
   -- A GET with Observe 1 that is served ends the observation of its endpoint and token, whatever it is answered
   -- (section 3.6).
   abbrev pub EndsOnRequest : List Call → Type 0
   EndsOnRequest t =
-      Always (λ past c. (x : Serving) → serving (own_of limit szx past) c ≡ Some x → observes 1 x.question ≡ true
-      → registration x.asked.from x.asked.token (own_of limit szx (c ∷ past)).observers ≡ None) t
+      Always (λ past c. (x : Serving) → serving (own_of limits szx past) c ≡ Some x → observes 1 x.question ≡ true
+      → registration x.asked.from x.asked.token (own_of limits szx (c ∷ past)).observers ≡ None) t
 
   -- An observer is told a 4.04 where its path holds nothing, and what is no 2.05 is the last that it is told (section
   -- 4.2).
   pub record EndsWith (past : List Call) (c : Call) (x : Notice) : Type 0 where
-    pub gone : (own_of limit szx past).store.holds x.observer.path ≡ None → x.reply.code ≡ not_found
+    pub gone : (own_of limits szx past).store.holds x.observer.path ≡ None → x.reply.code ≡ not_found
     pub last : x.reply.code ≢ content → registration x.observer.to x.observer.token
-        (own_of limit szx (c ∷ past)).observers ≡ None
+        (own_of limits szx (c ∷ past)).observers ≡ None
 
   abbrev pub EndsOnNotice : List Call → Type 0
   EndsOnNotice t = Always (λ past c. (x : Notice) → notice c ≡ Some x → EndsWith past c x) t
@@ -86,9 +87,9 @@ module _ (limit szx : ℕ) where
   -- The observation of this endpoint and token ends in this call: by what is told to have ended, a GET with Observe 1,
   -- or a notification.
   pub data Ends (to : Endpoint) (token : List ℕ) (past : List Call) (c : Call) : Type 0 where
-    is_told : (x : Ended) → ends_in (own_of limit szx past) c ≡ Some x → x.observe ≡ true → x.to ≡ to → x.token ≡ token
+    is_told : (x : Ended) → ends_in (own_of limits szx past) c ≡ Some x → x.observe ≡ true → x.to ≡ to → x.token ≡ token
         → Ends to token past c
-    cancels : (x : Serving) → serving (own_of limit szx past) c ≡ Some x → observes 1 x.question ≡ true
+    cancels : (x : Serving) → serving (own_of limits szx past) c ≡ Some x → observes 1 x.question ≡ true
         → x.asked.from ≡ to → x.asked.token ≡ token → Ends to token past c
     is_gone : (x : Notice) → notice c ≡ Some x → x.reply.code ≢ content → x.observer.to ≡ to → x.observer.token ≡ token
         → Ends to token past c
@@ -97,5 +98,6 @@ module _ (limit szx : ℕ) where
   abbrev pub EndsSo : List Call → Type 0
   EndsSo t =
       Always (λ past c.
-      (to : Endpoint) (token : List ℕ) (o : Observer) → registration to token (own_of limit szx past).observers ≡ Some o
-      → registration to token (own_of limit szx (c ∷ past)).observers ≡ None → Ends to token past c) t
+      (to : Endpoint) (token : List ℕ) (o : Observer)
+      → registration to token (own_of limits szx past).observers ≡ Some o
+      → registration to token (own_of limits szx (c ∷ past)).observers ≡ None → Ends to token past c) t

@@ -3,6 +3,7 @@ use Rattle.std.specs.Prelude.{◌≡◌, ◌<◌, ℕ, ◌+◌, Option, Some, No
 use Rattle.coap_types.specs.Past.{Always}
 use Rattle.coap_resource.specs.Content.{Content}
 use Rattle.coap_resource.specs.Serves.{Question, Reply}
+use Rattle.coap_resource.specs.Limits.{Limits}
 use Rattle.coap_exchange.specs.declared.answerer.Asked.{Asked}
 use Rattle.coap_exchange.specs.declared.answerer.Due.TheVariants as due
 use Rattle.coap_exchange.specs.AnswererFollows.{hits, same_asked}
@@ -48,7 +49,7 @@ abbrev pub asked_of : Option Serving → Option Asked
 asked_of None = None
 asked_of (Some x) = Some x.asked
 
-module _ (limit szx : ℕ) where
+module _ (limits : Limits) (szx : ℕ) where
   -- how often a request of one endpoint, type, Message ID and token is handed up, and served
   abbrev pub times_handed : Asked → List Call → ℕ
   times_handed a [] = 0
@@ -56,9 +57,9 @@ module _ (limit szx : ℕ) where
 
   abbrev pub times_served : Asked → List Call → ℕ
   times_served a [] = 0
-  times_served a (c ∷ past) = hits (same_asked a) (asked_of (serving (own_of limit szx past) c)) + times_served a past
+  times_served a (c ∷ past) = hits (same_asked a) (asked_of (serving (own_of limits szx past) c)) + times_served a past
 
   -- Each request that is handed up is served at most once, at once or later.
   abbrev pub ServedOnce : List Call → Type 0
-  ServedOnce trace = Always (λ past c. (x : Serving) → serving (own_of limit szx past) c ≡ Some x
+  ServedOnce trace = Always (λ past c. (x : Serving) → serving (own_of limits szx past) c ≡ Some x
       → times_served x.asked past < times_handed x.asked (c ∷ past)) trace

@@ -16,6 +16,7 @@ use Rattle.coap_types.specs.declared.request.Method.{Method}
 use Rattle.coap_types.specs.declared.request.Method.TheVariants.{Put, Post}
 use Rattle.coap_codec.specs.Message.{Message}
 use Rattle.coap_resource.specs.Serves.{Question}
+use Rattle.coap_resource.specs.Limits.{Limits}
 use Rattle.coap_exchange.specs.declared.answerer.Asked.{Asked}
 use Rattle.coap_server.specs.Trace.{Call}
 use Rattle.coap_server.specs.Checks.{Verdict, Asks, Uploads, asks, is_reserved, question, verdict_on}
@@ -52,15 +53,15 @@ pub record VerdictsAsk : Type 0 where
   pub posts : (szx : ℕ) (m : Message) (n : ℕ) (b : Block) → method_of m.code ≡ Some Post → HasNoFault m
       → uint_at block1 (asks m) ≡ Some n → block_by n ≡ Some b → verdict_on szx m ≡ Uploads (question szx Post m) b
 
-module _ (limit szx : ℕ) where
+module _ (limits : Limits) (szx : ℕ) where
   abbrev pub ServedHere : List Call → Call → Asked → Question → Type 0
-  ServedHere past c a q = (x : Serving) × (serving (own_of limit szx past) c ≡ Some x) × (x.asked ≡ a)
+  ServedHere past c a q = (x : Serving) × (serving (own_of limits szx past) c ≡ Some x) × (x.asked ≡ a)
       × (x.question ≡ q)
 
   -- It is served in that call, unless it has to wait: then it waits.
   abbrev pub IsAttended : List Call → Call → Asked → Question → Type 0
-  IsAttended past c a q = (ServedHere past c a q × ((delay : ℕ) → HasToWait limit szx past a q delay → ⊥))
-      ⊎ MakesWait limit szx past c a q
+  IsAttended past c a q = (ServedHere past c a q × ((delay : ℕ) → HasToWait limits szx past a q delay → ⊥))
+      ⊎ MakesWait limits szx past c a q
 
   -- What asks whole is served in that call, or waits.
   abbrev pub MethodsHere : List Call → Call → Type 0
@@ -75,8 +76,8 @@ module _ (limit szx : ℕ) where
   abbrev pub UploadsHere : List Call → Call → Type 0
   UploadsHere past c =
       (p : Asked × Message) (q : Question) (b : Block) → came_in c ≡ Some p → verdict_on szx p.1 ≡ Uploads q b
-      → takes_block (own_of limit szx past) c ≡ Some (took p.0 q b) → b.more ≡ false
-      → (whole : Question) × Completes limit szx past c p.0 q b whole × IsAttended past c p.0 whole
+      → takes_block (own_of limits szx past) c ≡ Some (took p.0 q b) → b.more ≡ false
+      → (whole : Question) × Completes limits szx past c p.0 q b whole × IsAttended past c p.0 whole
 
   abbrev pub AllUploads : List Call → Type 0
   AllUploads t = Always UploadsHere t

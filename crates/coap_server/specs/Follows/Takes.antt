@@ -7,6 +7,7 @@ use Rattle.coap_block.specs.AssemblyState.{Key, AssemblyState, same_key}
 use Rattle.coap_block.specs.Gathered.{part}
 use Rattle.coap_block.specs.Whole.{Part}
 use Rattle.coap_resource.specs.Serves.{Question}
+use Rattle.coap_resource.specs.Limits.{Limits}
 use Rattle.coap_exchange.specs.declared.answerer.Asked.{Asked}
 use Rattle.coap_server.specs.Trace.{Own, Call, Feeds}
 use Rattle.coap_server.specs.Checks.{Verdict, Uploads, verdict_on}
@@ -45,8 +46,8 @@ abbrev pub since_with : Key → Option Took → List Took → List Took
 since_with key None xs = xs
 since_with key (Some x) xs = if same_key x.key key then behind xs x else xs
 
-module _ (limit szx : ℕ) where
+module _ (limits : Limits) (szx : ℕ) where
   -- the blocks of an upload that were taken since its last block 0, that one first
   abbrev pub blocks_since : Key → List Call → List Took
   blocks_since key [] = []
-  blocks_since key (c ∷ past) = since_with key (takes_block (own_of limit szx past) c) (blocks_since key past)
+  blocks_since key (c ∷ past) = since_with key (takes_block (own_of limits szx past) c) (blocks_since key past)

@@ -6,6 +6,7 @@ use Rattle.coap_codec.specs.Message.{Message}
 use Rattle.coap_layer.specs.Trace as L
 use Rattle.coap_resource.specs.Content.{Held}
 use Rattle.coap_resource.specs.Serves.{Question, Reply}
+use Rattle.coap_resource.specs.Limits.{Limits}
 use Rattle.coap_exchange.specs.declared.answerer.Asked.{Asked}
 use Rattle.coap_exchange.specs.declared.answerer.Due.TheVariants as due
 use Rattle.coap_server.specs.Trace.{Own, Handling, Serves, Notifies, Call, Feeds, Ticks}
@@ -77,17 +78,17 @@ pub record FollowsOn (after : List Call) (x y : Telling) : Type 0 where
   pub version : x.version < y.version
   pub acknowledged : (id : ℕ) → x.con ≡ Some id → Ever (HearsAck x.to id) after
 
-module _ (limit szx : ℕ) where
+module _ (limits : Limits) (szx : ℕ) where
   -- no registration of this endpoint and token is made in these calls, the first of which came behind those others
   abbrev pub NoneMade : Endpoint → List ℕ → List Call → List Call → Type 0
   NoneMade to token [] base = Unit {0}
-  NoneMade to token (b ∷ newer) base = (registering (own_of limit szx (newer ++ base)) b
+  NoneMade to token (b ∷ newer) base = (registering (own_of limits szx (newer ++ base)) b
       ≡ Some (record { to = to; token = token }) → ⊥) × NoneMade to token newer base
 
   -- What is told under one registration follows on.
   abbrev pub Follows : List Call → Type 0
   Follows t =
       (after older : List Call) (c d : Call) (x y : Telling) → t ≡ d ∷ (after ++ c ∷ older)
-      → telling (own_of limit szx older) c ≡ Some x → telling (own_of limit szx (after ++ c ∷ older)) d ≡ Some y
+      → telling (own_of limits szx older) c ≡ Some x → telling (own_of limits szx (after ++ c ∷ older)) d ≡ Some y
       → y.registers ≡ false → y.to ≡ x.to → y.token ≡ x.token
       → NoneMade x.to x.token after (c ∷ older) → FollowsOn after x y

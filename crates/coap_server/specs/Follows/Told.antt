@@ -9,6 +9,7 @@ use Rattle.coap_layer.specs.Sends.{PlainOut}
 use Rattle.coap_layer.specs.Trace as L
 use Rattle.coap_layer.specs.Words.{Open, begun}
 use Rattle.coap_resource.specs.RequestOptions.{tag_of}
+use Rattle.coap_resource.specs.Limits.{Limits}
 use Rattle.coap_common.specs.Notifications.{is_notification, tag_in}
 use Rattle.coap_server.specs.Trace.{Call}
 use Rattle.coap_server.specs.Law.{own_of}
@@ -29,47 +30,48 @@ pub record TakesAck (to : Endpoint) (id : ℕ) (e : L.Entry) : Type 0 where
   pub call : e.call ≡ L.Receive to bytes
   pub answer : e.answer ≡ L.Becomes (L.Acked id)
 
-module _ (limit szx : ℕ) where
+module _ (limits : Limits) (szx : ℕ) where
   -- the call tells what the message says: in a CON with this Message ID, or else in an acknowledgement or a NON
   pub record TellsIn (con : Option ℕ) (to : Endpoint) (m : Message) (past : List Call) (c : Call) : Type 0 where
     pub told : Telling
-    pub here : telling (own_of limit szx past) c ≡ Some told
+    pub here : telling (own_of limits szx past) c ≡ Some told
     pub con_is : told.con ≡ con
     pub conveys : Conveys told to m
 
   -- a request from there that came in no CON is served
   pub record ServesNon (to : Endpoint) (past : List Call) (c : Call) : Type 0 where
     pub request : Serving
-    pub here : serving (own_of limit szx past) c ≡ Some request
+    pub here : serving (own_of limits szx past) c ≡ Some request
     pub from : request.asked.from ≡ to
     pub kind : request.asked.kind ≢ Con
 
   -- A notification that the message layer is given in a call, that very call tells.
   pub record TellsSent (word : ℕ) (past : List Call) (c : Call) : Type 0 where
-    pub begun_now : (con : Open) (m : Message) → Ever (λ b. begun b ≡ Some con) (call_adds limit szx word past c)
+    pub begun_now : (con : Open) (m : Message) → Ever (λ b. begun b ≡ Some con) (call_adds limits szx word past c)
         → AreBytes con.bytes → Spells con.bytes m → is_notification m ≡ true
         → TellsIn (Some con.id) con.to m past c
     pub replied : (to : Endpoint) (bytes : List ℕ) (m : Message)
-        → Ever (λ b. b.call ≡ L.Reply to m.id bytes) (call_adds limit szx word past c) → AreBytes bytes → Spells bytes m
+        → Ever (λ b. b.call ≡ L.Reply to m.id bytes) (call_adds limits szx word past c) → AreBytes bytes
+        → Spells bytes m
         → is_notification m ≡ true
         → TellsIn None to m past c
     -- It is in a NON where the request was no CON.
     pub plain : (to : Endpoint) (bytes : List ℕ) (m : Message)
-        → Ever (λ b. PlainOut b (record { to = to; bytes = bytes })) (call_adds limit szx word past c) → AreBytes bytes
+        → Ever (λ b. PlainOut b (record { to = to; bytes = bytes })) (call_adds limits szx word past c) → AreBytes bytes
         → Spells bytes m
         → is_notification m ≡ true → TellsIn None to m past c × ServesNon to past c
     -- One CON begins in a call at most.
-    pub one : (a b : Open) → Ever (λ e. begun e ≡ Some a) (call_adds limit szx word past c)
-        → Ever (λ e. begun e ≡ Some b) (call_adds limit szx word past c) → a ≡ b
+    pub one : (a b : Open) → Ever (λ e. begun e ≡ Some a) (call_adds limits szx word past c)
+        → Ever (λ e. begun e ≡ Some b) (call_adds limits szx word past c) → a ≡ b
 
   abbrev pub AllTellSent : ℕ → List Call → Type 0
   AllTellSent word t = Always (TellsSent word) t
 
   -- a request of this endpoint under this token is served, and makes the registration
   pub record ServesPair (p : Pair) (past : List Call) (c : Call) : Type 0 where
-    pub registers : registering (own_of limit szx past) c ≡ Some p
+    pub registers : registering (own_of limits szx past) c ≡ Some p
     pub request : Serving
-    pub here : serving (own_of limit szx past) c ≡ Some request
+    pub here : serving (own_of limits szx past) c ≡ Some request
     pub from : request.asked.from ≡ p.to
     pub token_is : request.asked.token ≡ p.token
 
@@ -78,13 +80,13 @@ module _ (limit szx : ℕ) where
 
   -- What makes a registration serves a request of that endpoint and token.
   abbrev pub AllServePairs : List Call → Type 0
-  AllServePairs t = Always (λ past c. (p : Pair) → registering (own_of limit szx past) c ≡ Some p
+  AllServePairs t = Always (λ past c. (p : Pair) → registering (own_of limits szx past) c ≡ Some p
       → ServesPair p past c) t
 
   -- What is told is told by the call that makes its registration, or later.
   abbrev pub IsUnder : List Call → Call → Type 0
   IsUnder past c =
-      (x : Telling) → telling (own_of limit szx past) c ≡ Some x
+      (x : Telling) → telling (own_of limits szx past) c ≡ Some x
       → ((x.registers ≡ true) × ServesPair (pair_of x) past c)
       ⊎ ((x.registers ≡ false) × Sometime (ServesPair (pair_of x)) past)
 
@@ -94,4 +96,4 @@ module _ (limit szx : ℕ) where
   -- An acknowledgement that is heard the message layer takes in that very call.
   abbrev pub AcksArrive : ℕ → List Call → Type 0
   AcksArrive word t = Always (λ past c. (to : Endpoint) (id : ℕ) → HearsAck to id c
-      → Ever (TakesAck to id) (call_adds limit szx word past c)) t
+      → Ever (TakesAck to id) (call_adds limits szx word past c)) t

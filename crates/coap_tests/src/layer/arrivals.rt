@@ -29,7 +29,7 @@ fn each_line_of_the_table_of_arrivals(rt: HostRuntime) -> Result<(), AllocError>
             Step::Comes(0, "60200000", Came::Dropped, ""),
             // Of nothing that is outstanding.
             Step::Comes(0, "60000007", Came::Dropped, ""),
-            Step::Comes(0, "70000007", Came::Dropped, ""),
+            Step::Comes(0, "70000007", Came::Unmatched(Id(7)), ""),
             Step::Comes(0, "60450007", Came::Dropped, ""),
             // Requests and responses.
             Step::Comes(0, "4001000a", Came::Request, ""),
@@ -56,7 +56,7 @@ fn what_is_outstanding_is_acknowledged_and_reset(rt: HostRuntime) -> Result<(), 
             Step::Confirms(0, THERE, 0, Ok(Id(1))),
             Step::Sends("40010001"),
             Step::Comes(0, "70000001", Came::Reset(Id(1)), ""),
-            Step::Comes(0, "70000001", Came::Dropped, ""),
+            Step::Comes(0, "70000001", Came::Unmatched(Id(1)), ""),
         ],
     )
 }

@@ -16,6 +16,7 @@ pub(super) enum Came {
     Response,
     Acked(Id),
     Reset(Id),
+    Unmatched(Id),
 }
 
 fn outcome(up: &Up<'_>) -> Came {
@@ -33,6 +34,7 @@ fn outcome(up: &Up<'_>) -> Came {
         Up::Response(_) => Came::Response,
         Up::Acked(id) => Came::Acked(*id),
         Up::Reset(id) => Came::Reset(*id),
+        Up::Unmatched(id) => Came::Unmatched(*id),
     }
 }
 

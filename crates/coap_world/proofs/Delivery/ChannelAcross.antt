@@ -6,6 +6,7 @@ use Rattle.coap_layer.specs.Channel.{Hop, Near, Far, near_of, far_of, OnNear, On
 use Rattle.coap_layer.specs.Channel.{ChannelLaw}
 use Rattle.coap_layer.specs.Rows.{LayerLaw}
 use Rattle.coap_layer.specs.Trace.{Entry}
+use Rattle.coap_layer.specs.declared.setup.Setup.{Setup}
 use Rattle.coap_world.specs.Hops.{across}
 
 pub near_across : (hs : List Hop) → near_of (across hs) ≡ far_of hs
@@ -43,7 +44,7 @@ fair_across near far (Far e ∷ hs) h = (
   fair_across near far hs h.1,
 )
 
-pub channel_across : (one other : ℕ) (near far : Endpoint) (hs : List Hop) → ChannelLaw one other near far hs
+pub channel_across : (one other : Setup) (near far : Endpoint) (hs : List Hop) → ChannelLaw one other near far hs
     → ChannelLaw other one far near (across hs)
 channel_across one other near far hs law =
     record {

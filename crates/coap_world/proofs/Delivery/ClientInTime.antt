@@ -30,6 +30,7 @@ use Rattle.coap_world.specs.Record.{OfClient}
 use Rattle.coap_world.specs.Hops.{client_asks, client_asked, client_adds}
 use Rattle.coap_world.proofs.Delivery.HopsAreEntries.{client_asked_next}
 use Rattle.coap_layer.specs.Trace as L
+use Rattle.coap_layer.specs.Machine.State.{usual}
 use Rattle.coap_exchange.specs.AskerTrace as A
 use Rattle.coap_exchange.specs.AskerLaw as asker
 use Rattle.coap_exchange.specs.AskerSteps as asker_steps
@@ -167,13 +168,13 @@ module _ (t : ℕ) (F : Endpoint → List ℕ → Type 0) where
 
 module _ (config : Config) where
   abbrev own : List Call → Own
-  own past = own_of config.client_szx past
+  own past = own_of config.client_sizes past
 
   abbrev exchanges : List Call → List A.Call
-  exchanges past = lower_of config.client_szx past
+  exchanges past = lower_of config.client_sizes past
 
   abbrev before : List Call → State
-  before past = left_after (start config.client_word) (client_asked config past)
+  before past = left_after (start (usual config.client_word)) (client_asked config past)
 
   -- no clock of the client is past this moment
   pub record IsBy (t : ℕ) (past : List Call) : Type 0 where
@@ -236,8 +237,8 @@ module _ (config : Config) where
       record {
         own = subst (λ (n : ℕ). n ≤ t) (sym (clock_is (own past) c)) (moment_by t (own past) c by.own at);
         layer = subst (λ (s : State). s.clock ≤ t)
-            (sym (ap (left_after (start config.client_word)) (client_asked_next config past c)
-            ∙ left_append (start config.client_word) (client_asks config past c) (client_asked config past)))
+            (sym (ap (left_after (start (usual config.client_word))) (client_asked_next config past c)
+            ∙ left_append (start (usual config.client_word)) (client_asks config past c) (client_asked config past)))
             (asks_done t past c by at).till;
       }
 

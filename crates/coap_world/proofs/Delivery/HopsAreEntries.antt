@@ -9,6 +9,7 @@ use Rattle.coap_common.proofs.Facts.Adds.{answerer_append, entries_append}
 use Rattle.coap_world.specs.Hops.{client_asks, client_asked, client_adds, server_asks, server_asked, server_adds}
 use Rattle.coap_world.specs.Hops.{hops_in}
 use Rattle.coap_layer.specs.Trace as L
+use Rattle.coap_layer.specs.Machine.State.{usual}
 use Rattle.coap_exchange.specs.AnswererLaw as answerer
 use Rattle.coap_client.specs.Trace as C
 use Rattle.coap_client.specs.Law as client
@@ -37,31 +38,31 @@ far_near (x ∷ xs) hs = far_near xs hs
 
 module _ (config : Config) where
   abbrev pub client_layer : List C.Call → List L.Entry
-  client_layer t = client.layer_of server_end config.client_szx config.client_word t
+  client_layer t = client.layer_of server_end config.client_sizes config.client_word t
 
   abbrev pub server_layer : List S.Call → List L.Entry
-  server_layer t = server.layer_of config.limit config.server_szx config.server_word t
+  server_layer t = server.layer_of config.limits config.server_szx config.server_word t
 
   pub client_asked_next : (past : List C.Call) (c : C.Call)
       → client_asked config (c ∷ past) ≡ client_asks config past c ++ client_asked config past
-  client_asked_next past c = client_facts.asked_next server_end config.client_szx config.client_word past c
+  client_asked_next past c = client_facts.asked_next server_end config.client_sizes config.client_word past c
 
   pub server_asked_next : (past : List S.Call) (c : S.Call)
       → server_asked config (c ∷ past) ≡ server_asks config past c ++ server_asked config past
-  server_asked_next past c = answerer_append (asks.lower (server.own_of config.limit config.server_szx past) c)
-      (server.lower_of config.limit config.server_szx past)
+  server_asked_next past c = answerer_append (asks.lower (server.own_of config.limits config.server_szx past) c)
+      (server.lower_of config.limits config.server_szx past)
 
   pub client_next : (past : List C.Call) (c : C.Call)
       → client_layer (c ∷ past) ≡ client_adds config past c ++ client_layer past
-  client_next past c = client_facts.layer_next server_end config.client_szx config.client_word past c
+  client_next past c = client_facts.layer_next server_end config.client_sizes config.client_word past c
 
   pub server_next : (past : List S.Call) (c : S.Call)
       → server_layer (c ∷ past) ≡ server_adds config past c ++ server_layer past
-  server_next past c = ap (entries (start config.server_word)) (server_asked_next past c)
-      ∙ entries_append (start config.server_word) (server_asks config past c) (server_asked config past)
+  server_next past c = ap (entries (start (usual config.server_word))) (server_asked_next past c)
+      ∙ entries_append (start (usual config.server_word)) (server_asks config past c) (server_asked config past)
 
   -- a server begins with no call of its layer
-  pub begins_silent : (ds : List S.Delay) → server.lower_of config.limit config.server_szx
+  pub begins_silent : (ds : List S.Delay) → server.lower_of config.limits config.server_szx
       (map (λ (d : S.Delay). S.Delays d.path d.ms true) ds) ≡ []
   begins_silent [] = refl
   begins_silent (d ∷ ds) = begins_silent ds
@@ -74,7 +75,7 @@ module _ (config : Config) where
       ∙ near_is past
 
   pub far_is : (all : List Entry) → far_of (hops_in config all) ≡ server_layer (server_trace config all)
-  far_is [] = sym (ap (λ t. entries (start config.server_word) (answerer.lower_of t)) (begins_silent config.delays))
+  far_is [] = sym (ap (λ t. entries (start (usual config.server_word)) (answerer.lower_of t)) (begins_silent config.delays))
   far_is (OfServer c ∷ past) = far_far (server_adds config (server_trace config past) c) (hops_in config past)
       ∙ ap (λ t. server_adds config (server_trace config past) c ++ t) (far_is past)
       ∙ sym (server_next (server_trace config past) c)

@@ -18,6 +18,7 @@ use Rattle.coap_world.proofs.Delivery.HopsAreEntries.{begins_silent}
 use Rattle.coap_world.proofs.Delivery.AfterATurn.{Still, Goes}
 use Rattle.coap_world.proofs.Delivery.OneEndATurn.{ClientTurn, ServerTurn, side}
 use Rattle.coap_layer.specs.Trace as L
+use Rattle.coap_layer.specs.Machine.State.{usual}
 use Rattle.coap_world.specs.Delivery as D
 use Rattle.coap_server.specs.Trace as S
 use Rattle.coap_server.specs.Law as server_law
@@ -95,7 +96,7 @@ module _ (config : Config) where
       }
 
   -- a server begins at moment 0
-  begins_by : (t : ℕ) (ds : List S.Delay) → (server_law.own_of config.limit config.server_szx
+  begins_by : (t : ℕ) (ds : List S.Delay) → (server_law.own_of config.limits config.server_szx
       (map (λ (d : S.Delay). S.Delays d.path d.ms true) ds)).clock ≤ t
   begins_by t [] = omega arith
   begins_by t (d ∷ ds) = begins_by t ds
@@ -108,11 +109,11 @@ module _ (config : Config) where
         server = record {
           own = begins_by t config.delays;
           between = subst (λ l. (answerer.own_of l).clock ≤ t) (sym none) (omega arith);
-          layer = subst (λ l. (left_after (start config.server_word) (answerer.lower_of l)).clock ≤ t) (sym none)
+          layer = subst (λ l. (left_after (start (usual config.server_word)) (answerer.lower_of l)).clock ≤ t) (sym none)
               (omega arith);
         };
         client_none = refl;
-        server_none = ap (λ l. waiting (entries (start config.server_word) (answerer.lower_of l))) none;
+        server_none = ap (λ l. waiting (entries (start (usual config.server_word)) (answerer.lower_of l))) none;
       }
 
   pub record Ran (turns : List Turn) : Type 0 where

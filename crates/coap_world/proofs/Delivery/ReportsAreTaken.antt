@@ -5,6 +5,7 @@ use Rattle.std.proofs.Common.{subst}
 use Rattle.std.specs.Prelude.{slice_get}
 use Rattle.std.proofs.lemmas.List.{append-nil}
 use Rattle.coap_types.specs.Past.{Always}
+use Rattle.coap_block.specs.Sizes.{Sizes}
 use Rattle.coap_layer.specs.Trace.{Packet}
 use Rattle.coap_client.specs.Law.{own_of, ClientRows}
 use Rattle.coap_client.specs.Follows.Gives.{made, given, forgotten, NoneDropped}
@@ -77,41 +78,41 @@ none_first : {X : Type 0} (rs : List X) → None ≡ slice_get rs 0 → drop 1 r
 none_first [] h = refl
 none_first (r ∷ rs) h = absurd (cc h)
 
-module _ (szx : ℕ) where
+module _ (sizes : Sizes) where
   -- nothing waits to be taken
   abbrev NoneLeft : List C.Call → Type 0
-  NoneLeft t = (own_of szx t).reports ≡ []
+  NoneLeft t = (own_of sizes t).reports ≡ []
 
   -- nothing waits, and nothing was dropped
   record AreTaken (t : List C.Call) : Type 0 where
     left : NoneLeft t
-    dropped : NoneDropped szx t
+    dropped : NoneDropped sizes t
 
-  keeps_on : (cs t : List C.Call) → Every Keeps cs → NoneDropped szx t → NoneDropped szx (cs ++ t)
+  keeps_on : (cs t : List C.Call) → Every Keeps cs → NoneDropped sizes t → NoneDropped sizes (cs ++ t)
   keeps_on [] t h none = none
   keeps_on (c ∷ cs) t h none = ((λ number is. absurd (let k = h.0 in cc (k, is))), keeps_on cs t h.1 none)
 
-  outs_keep : (ps : List Packet) (t : List C.Call) → NoneDropped szx t
-      → NoneDropped szx (map (λ p. C.NextOut (Some p)) ps ++ t)
+  outs_keep : (ps : List Packet) (t : List C.Call) → NoneDropped sizes t
+      → NoneDropped sizes (map (λ p. C.NextOut (Some p)) ps ++ t)
   outs_keep [] t none = none
   outs_keep (p ∷ ps) t none = ((λ number is. absurd (cc is)), outs_keep ps t none)
 
-  reports_keep : (rs : List C.Reported) (t : List C.Call) → NoneDropped szx t
-      → NoneDropped szx (map (λ r. C.NextReport (Some r)) rs ++ t)
+  reports_keep : (rs : List C.Reported) (t : List C.Call) → NoneDropped sizes t
+      → NoneDropped sizes (map (λ r. C.NextReport (Some r)) rs ++ t)
   reports_keep [] t none = none
   reports_keep (r ∷ rs) t none = ((λ number is. absurd (cc is)), reports_keep rs t none)
 
-  calls_keep : (calls t : List C.Call) → FewForget calls → AreTaken t → NoneDropped szx (calls ++ t)
+  calls_keep : (calls t : List C.Call) → FewForget calls → AreTaken t → NoneDropped sizes (calls ++ t)
   calls_keep calls t (inl keep) k = keeps_on calls t keep k.dropped
-  calls_keep calls t (inr one) k = subst (λ cs. NoneDropped szx (cs ++ t)) (sym one.1)
+  calls_keep calls t (inr one) k = subst (λ cs. NoneDropped sizes (cs ++ t)) (sym one.1)
       ((λ number is. k.left), k.dropped)
 
-  rows_behind : (cs t : List C.Call) → ClientRows szx (cs ++ t) → ClientRows szx t
+  rows_behind : (cs t : List C.Call) → ClientRows sizes (cs ++ t) → ClientRows sizes t
   rows_behind [] t rows = rows
   rows_behind (c ∷ cs) t rows = rows_behind cs t rows.1
 
-  module _ (t : Turn) (past : List Turn) (rows : ClientRows szx (client_of (t.entries ++ entries_of past))) where
-    by_client : ClientTakes t.entries → (ClientRows szx (client_of (entries_of past))
+  module _ (t : Turn) (past : List Turn) (rows : ClientRows sizes (client_of (t.entries ++ entries_of past))) where
+    by_client : ClientTakes t.entries → (ClientRows sizes (client_of (entries_of past))
         → AreTaken (client_of (entries_of past))) → AreTaken (client_of (t.entries ++ entries_of past))
     by_client k before =
         let old : List C.Call = client_of (entries_of past) in
@@ -122,7 +123,7 @@ module _ (szx : ℕ) where
         = ap (λ es. client_of (es ++ entries_of past)) k.on.is
         ∙ client_client (C.NextReport None ∷ more) (entries_of past)
         in
-        let here = subst (ClientRows szx) is rows in
+        let here = subst (ClientRows sizes) is rows in
         let calls = outs_keep k.on.outs (k.calls ++ old)
         (calls_keep k.calls old k.few (before (rows_behind more old here.1))) in
         let all = reports_keep k.on.reports (C.NextOut None ∷ (outs ++ (k.calls ++ old)))
@@ -132,21 +133,21 @@ module _ (szx : ℕ) where
         ∙ sym (append_assoc reports (C.NextOut None ∷ (outs ++ k.calls)) old)
         in
         subst AreTaken (sym is) (record {
-          left = none_first (own_of szx (more ++ old)).reports here.0;
-          dropped = ((λ number none. absurd (cc none)), subst (NoneDropped szx) same all);
+          left = none_first (own_of sizes (more ++ old)).reports here.0;
+          dropped = ((λ number none. absurd (cc none)), subst (NoneDropped sizes) same all);
         })
 
-    by_server : ServerTakes t.entries → (ClientRows szx (client_of (entries_of past))
+    by_server : ServerTakes t.entries → (ClientRows sizes (client_of (entries_of past))
         → AreTaken (client_of (entries_of past))) → AreTaken (client_of (t.entries ++ entries_of past))
     by_server k before =
         let calls : List S.Call = S.NextOut None ∷ (map (λ p. S.NextOut (Some p)) k.on.outs ++ k.calls) in
         let is : client_of (t.entries ++ entries_of past)
         ≡ client_of (entries_of past) = ap (λ es. client_of (es ++ entries_of past)) k.on.is
         ∙ client_server calls (entries_of past) in
-        subst AreTaken (sym is) (before (subst (ClientRows szx) is rows))
+        subst AreTaken (sym is) (before (subst (ClientRows sizes) is rows))
 
   are_taken : (turns : List Turn) → Always (λ past t. Makes past t.event.at t.event.word t.event.what t.refused
-      t.entries) turns → ClientRows szx (client_of (entries_of turns)) → AreTaken (client_of (entries_of turns))
+      t.entries) turns → ClientRows sizes (client_of (entries_of turns)) → AreTaken (client_of (entries_of turns))
   are_taken [] made rows = record { left = refl; dropped = tt }
   are_taken (t ∷ past) made rows =
       elim (side past t.event.at t.event.word t.refused t.entries t.event.what made.0) [
@@ -156,12 +157,12 @@ module _ (szx : ℕ) where
 
 pub all_given : (config : Config) (turns : List Turn)
     → Always (λ past t. Makes past t.event.at t.event.word t.event.what t.refused t.entries) turns
-    → ClientRows config.client_szx (client_of (entries_of turns)) → AllGiven config (entries_of turns)
+    → ClientRows config.client_sizes (client_of (entries_of turns)) → AllGiven config (entries_of turns)
 all_given config turns made rows =
     let t : List C.Call = client_of (entries_of turns) in
-    let k = are_taken config.client_szx turns made rows in
+    let k = are_taken config.client_sizes turns made rows in
     record {
       none_left = k.left;
       given_all = sym
-          (all_wait config.client_szx t rows k.dropped ∙ (ap (λ rs. given t ++ rs) k.left ∙ append-nil (given t)));
+          (all_wait config.client_sizes t rows k.dropped ∙ (ap (λ rs. given t ++ rs) k.left ∙ append-nil (given t)));
     }

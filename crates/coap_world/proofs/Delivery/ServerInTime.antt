@@ -6,6 +6,7 @@ use Rattle.coap_codec.specs.Message.{Message}
 use Rattle.coap_layer.specs.Trace as L
 use Rattle.coap_layer.specs.Machine.State.{State, start}
 use Rattle.coap_layer.specs.Machine.Steps.{left_after}
+use Rattle.coap_layer.specs.Machine.State.{usual}
 use Rattle.coap_observe.specs.Observers.{Observer}
 use Rattle.coap_exchange.specs.declared.answerer.Asked as request
 use Rattle.coap_exchange.specs.declared.answerer.Due.{Due}
@@ -107,13 +108,13 @@ module _ (t : ℕ) (F : Endpoint → List ℕ → Type 0) where
 
 module _ (config : Config) where
   abbrev own : List Call → Own
-  own past = own_of config.limit config.server_szx past
+  own past = own_of config.limits config.server_szx past
 
   abbrev exchanges : List Call → List R.Call
-  exchanges past = lower_of config.limit config.server_szx past
+  exchanges past = lower_of config.limits config.server_szx past
 
   abbrev before : List Call → State
-  before past = left_after (start config.server_word) (server_asked config past)
+  before past = left_after (start (usual config.server_word)) (server_asked config past)
 
   -- no clock of the server is past this moment
   pub record IsBy (t : ℕ) (past : List Call) : Type 0 where
@@ -168,8 +169,8 @@ module _ (config : Config) where
         own = end_by t (own past) c by.own at;
         between = owns_by t (Fed c) (exchanges past) (asks_of.lower (own past) c) by.between (asks t past c by at);
         layer = subst (λ (s : State). s.clock ≤ t)
-            (sym (ap (left_after (start config.server_word)) (server_asked_next config past c)
-            ∙ left_append (start config.server_word) (server_asks config past c) (server_asked config past)))
+            (sym (ap (left_after (start (usual config.server_word))) (server_asked_next config past c)
+            ∙ left_append (start (usual config.server_word)) (server_asks config past c) (server_asked config past)))
             (asks_done t past c by at).till;
       }
 

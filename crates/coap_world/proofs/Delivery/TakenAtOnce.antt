@@ -9,6 +9,7 @@ use Rattle.coap_layer.specs.Words.{waiting, takes_in}
 use Rattle.coap_layer.specs.Rows.{LayerLaw, Row}
 use Rattle.coap_layer.specs.Sends.{IsIn}
 use Rattle.coap_layer.proofs.Facts.Laws.{taken_since}
+use Rattle.coap_layer.specs.declared.setup.Setup.{Setup}
 use Rattle.coap_world.specs.Hops.{SendsAt}
 use Rattle.coap_world.proofs.Delivery.EntriesInTime.{Every, every_join, every_map, Timely}
 
@@ -69,10 +70,10 @@ module _ {X : Type 0} (t : ℕ) (adds : List X → X → List Entry) (IsBy : Lis
       (all_timely G later past by at.1 (λ from bytes h. f from bytes (inr h)))
 
 -- calls of an end, the entries that each adds to its layer, and what is known of them at this moment
-module _ {X : Type 0} (word t : ℕ) (layer : List X → List Entry) (adds : List X → X → List Entry)
+module _ {X : Type 0} (setup : Setup) (t : ℕ) (layer : List X → List Entry) (adds : List X → X → List Entry)
     (next : (past : List X) (c : X) → layer (c ∷ past) ≡ adds past c ++ layer past) (IsGood : List X → Type 0)
     (down : (past : List X) (c : X) → IsGood (c ∷ past) → IsGood past)
-    (law : (past : List X) → IsGood past → LayerLaw word (layer past)) (out : Option Packet → X)
+    (law : (past : List X) → IsGood past → LayerLaw setup (layer past)) (out : Option Packet → X)
     (took : (answer : Option Packet) (past : List X) → IsGood (out answer ∷ past)
     → Took answer (adds past (out answer))) where
   pub all_added : (later past : List X) → layer (later ++ past) ≡ added adds past later ++ layer past
@@ -89,8 +90,8 @@ module _ {X : Type 0} (word t : ℕ) (layer : List X → List Entry) (adds : Lis
   nothing_waits past good =
       let k = took None past good in
       let is : layer (out None ∷ past) ≡ k.entry ∷ layer past = next past (out None) ∙ ap (λ l. l ++ layer past) k.is in
-      let stands = subst (LayerLaw word) is (law (out None ∷ past) good) in
-      let row = subst (Row word (layer past) k.entry) k.call stands.0.row in
+      let stands = subst (LayerLaw setup) is (law (out None ∷ past) good) in
+      let row = subst (Row setup (layer past) k.entry) k.call stands.0.row in
       let none : waiting (layer past) ≡ [] = none_waits (waiting (layer past)) (sym k.answer_is ∙ row.0) in
       ap waiting is ∙ ap (λ q. drop (takes_in k.entry.call) q ++ k.entry.out) none
       ∙ ap (λ q. drop (takes_in k.entry.call) [] ++ q) k.out ∙ empty (takes_in k.entry.call)
@@ -108,8 +109,8 @@ module _ {X : Type 0} (word t : ℕ) (layer : List X → List Entry) (adds : Lis
       let is : layer (c ∷ (later ++ past)) ≡ k.entry ∷ (added adds past later ++ layer past) =
       next (later ++ past) c ∙ ap (λ d. adds (later ++ past) d ++ layer (later ++ past)) h
       ∙ ap (λ l. l ++ layer (later ++ past)) k.is ∙ ap (λ l. k.entry ∷ l) (all_added later past) in
-      let sent = taken_since word (layer past) (added adds past later) k.entry p
-      (subst (LayerLaw word) is (law (c ∷ (later ++ past)) good)) none k.call k.answer_is in
+      let sent = taken_since setup (layer past) (added adds past later) k.entry p
+      (subst (LayerLaw setup) is (law (c ∷ (later ++ past)) good)) none k.call k.answer_is in
       Ever_back (SendsAt t p) (adds (later ++ past) c) (added adds past later)
       (Ever_by_law (λ before e. InTime t e) (λ e. IsIn p e.out) (SendsAt t p) (λ before e l i. sends_at t p e l.0 i)
       (added adds past later) (behind (adds (later ++ past) c) times) sent)

@@ -11,6 +11,8 @@ use Rattle.coap_layer.specs.Words.{Open, begun, clock}
 use Rattle.coap_layer.proofs.Facts.Hops.{earlier, far_ever, to_far}
 use Rattle.coap_layer.proofs.Facts.Laws.{acks_heard, acks_taken, handed_once}
 use Rattle.coap_layer.proofs.Facts.Taken.{alone, kept_by, taken_handed}
+use Rattle.coap_layer.specs.Machine.State.{usual}
+use Rattle.coap_layer.specs.declared.setup.Setup.{Setup}
 use Rattle.coap_server.specs.Trace as S
 use Rattle.coap_server.specs.Follows.Told.{TakesAck}
 use Rattle.coap_server.proofs.Facts.EachCall.{acks_arrive}
@@ -25,12 +27,12 @@ use Rattle.coap_world.proofs.Observations.Following.{AckedBehind}
 use Rattle.coap_world.proofs.Observations.Positions.{across_append, across_far, AtServer, server_entries}
 
 -- moments don't fall
-before_now : (word : ℕ) (P : T.Entry → Type 0) (t : List T.Entry) (n : ℕ) → LayerLaw word t → clock t ≤ n → Ever P t
+before_now : (setup : Setup) (P : T.Entry → Type 0) (t : List T.Entry) (n : ℕ) → LayerLaw setup t → clock t ≤ n → Ever P t
     → Ever (λ e. P e × (e.at ≤ n)) t
-before_now word P [] n law low h = absurd h
-before_now word P (e ∷ past) n law low (inl h) = inl (h, low)
-before_now word P (e ∷ past) n law low (inr h) =
-    inr (before_now word P past n law.1 (let k = law.0.time in omega (arith, k, low)) h)
+before_now setup P [] n law low h = absurd h
+before_now setup P (e ∷ past) n law low (inl h) = inl (h, low)
+before_now setup P (e ∷ past) n law low (inr h) =
+    inr (before_now setup P past n law.1 (let k = law.0.time in omega (arith, k, low)) h)
 
 -- a CON with its Message ID, which was begun no earlier, is taken here
 pub record TakenBefore (con : Open) (e : T.Entry) : Type 0 where
@@ -45,7 +47,7 @@ far_only P [] hs h = h
 far_only P (x ∷ xs) hs (inl h) = absurd h
 far_only P (x ∷ xs) hs (inr h) = far_only P xs hs h
 
-module _ (one other : ℕ) (con : Open) (to : con.to ≡ client_end) (hs : List Hop)
+module _ (one other : Setup) (con : Open) (to : con.to ≡ client_end) (hs : List Hop)
     (begun_there : Ever (λ b. begun b ≡ Some con) (near_of hs)) where
   -- the far end has taken what is acknowledged
   pub acked_taken : (adds : List T.Entry) → ChannelLaw one other server_end client_end (map Near adds ++ hs)
@@ -112,7 +114,7 @@ module _ (one other : ℕ) (con : Open) (to : con.to ≡ client_end) (hs : List 
 
 module _ (config : Config) (con : Open) (to : con.to ≡ client_end) where
   abbrev Acked : List S.Call → S.Call → Type 0
-  Acked past b = AckedBehind config.limit config.server_szx config.server_word client_end con past b
+  Acked past b = AckedBehind config.limits config.server_szx config.server_word client_end con past b
 
   none_first : (past : List S.Call) (d : S.Delay) → Acked past (S.Delays d.path d.ms true) → ⊥
   none_first past d k = let is = k.0.is in cc is
@@ -130,16 +132,16 @@ module _ (config : Config) (con : Open) (to : con.to ≡ client_end) where
       (taken_at past (lawful_back config past e law) h)
   taken_at (OfServer c ∷ past) law (inl h) =
       let adds = server_adds config (server_trace config past) c in
-      let channel = subst (ChannelLaw config.server_word config.client_word server_end client_end)
+      let channel = subst (ChannelLaw (usual config.server_word) (usual config.client_word) server_end client_end)
       (across_far adds (hops_in config past))
-      (channel_across config.client_word config.server_word client_end server_end
+      (channel_across (usual config.client_word) (usual config.server_word) client_end server_end
       (hops_in config (OfServer c ∷ past)) law.channel) in
       let there = subst (Ever (λ b. begun b ≡ Some con))
       (sym (near_across (hops_in config past) ∙ far_is config past)) h.1 in
-      let acks = (acks_arrive config.limit config.server_szx config.server_word
+      let acks = (acks_arrive config.limits config.server_szx config.server_word
       (server_trace config (OfServer c ∷ past)) law.server).0 client_end con.id h.0 in
       across_back (OfServer c) past (OnFar (TakenBefore con))
-      (acked_taken config.server_word config.client_word con to
+      (acked_taken (usual config.server_word) (usual config.client_word) con to
       (across (hops_in config past)) there adds channel acks)
 
   -- what the server hears acknowledged the client has taken

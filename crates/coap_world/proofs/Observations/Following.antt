@@ -4,6 +4,7 @@ use Rattle.std.proofs.Common.{◌∙◌}
 use Rattle.coap_types.specs.Past.{Ever, Sometime, Always}
 use Rattle.coap_types.proofs.Facts.Traces.{Ever_front, Ever_back, Sometime_back, Always_back}
 use Rattle.coap_types.specs.declared.endpoint.Endpoint.{Endpoint}
+use Rattle.coap_resource.specs.Limits.{Limits}
 use Rattle.coap_codec.specs.Message.{Message}
 use Rattle.coap_layer.specs.Trace as L
 use Rattle.coap_layer.specs.Words.{Open, begun}
@@ -31,66 +32,66 @@ split P (e ∷ t) (inl h) = record { newer = []; entry = e; older = t; is = refl
 split P (e ∷ t) (inr h) = let k = split P t h in record
     { newer = e ∷ k.newer; entry = k.entry; older = k.older; is = ap (λ z. e ∷ z) k.is; here = k.here }
 
-module _ (limit szx word : ℕ) where
+module _ (limits : Limits) (szx word : ℕ) where
   abbrev own : List Call → Own
-  own t = own_of limit szx t
+  own t = own_of limits szx t
 
   abbrev pub OnceOf : Pair → List Call → Type 0
-  OnceOf p t = Always (λ past c. ServesPair limit szx p past c → Sometime (ServesPair limit szx p) past → ⊥) t
+  OnceOf p t = Always (λ past c. ServesPair limits szx p past c → Sometime (ServesPair limits szx p) past → ⊥) t
 
-  none_made : (p : Pair) (newer base : List Call) → OnceOf p (newer ++ base) → AllServePairs limit szx (newer ++ base)
-      → Sometime (ServesPair limit szx p) base → NoneMade limit szx p.to p.token newer base
+  none_made : (p : Pair) (newer base : List Call) → OnceOf p (newer ++ base) → AllServePairs limits szx (newer ++ base)
+      → Sometime (ServesPair limits szx p) base → NoneMade limits szx p.to p.token newer base
   none_made p [] base once pairs made = tt
   none_made p (b ∷ newer) base once pairs made = (
-    λ h. once.0 (pairs.0 p h) (Sometime_back (ServesPair limit szx p) newer base made),
+    λ h. once.0 (pairs.0 p h) (Sometime_back (ServesPair limits szx p) newer base made),
     none_made p newer base once.1 pairs.1 made,
   )
 
-  told_since : (past : List Call) (c : Call) (x : Telling) → IsUnder limit szx past c → telling (own past) c ≡ Some x
-      → Sometime (ServesPair limit szx (pair_of limit szx x)) (c ∷ past)
+  told_since : (past : List Call) (c : Call) (x : Telling) → IsUnder limits szx past c → telling (own past) c ≡ Some x
+      → Sometime (ServesPair limits szx (pair_of limits szx x)) (c ∷ past)
   told_since past c x under h = elim (under x h) [ inl k ↦ inl k.1 | inr k ↦ inr k.1 ]
 
-  not_first : (past : List Call) (d : Call) (p : Pair) (y : Telling) → pair_of limit szx y ≡ p
-      → IsUnder limit szx past d → telling (own past) d ≡ Some y → OnceOf p (d ∷ past)
-      → Sometime (ServesPair limit szx p) past → y.registers ≡ false
+  not_first : (past : List Call) (d : Call) (p : Pair) (y : Telling) → pair_of limits szx y ≡ p
+      → IsUnder limits szx past d → telling (own past) d ≡ Some y → OnceOf p (d ∷ past)
+      → Sometime (ServesPair limits szx p) past → y.registers ≡ false
   not_first past d p y same under h once before =
       elim (under y h) [
-        | inl k ↦ absurd (once.0 (subst (λ z. ServesPair limit szx z past d) same k.1) before)
+        | inl k ↦ absurd (once.0 (subst (λ z. ServesPair limits szx z past d) same k.1) before)
         | inr k ↦ k.0
       ]
 
   -- one behind the other
   follow_here : (newer older : List Call) (c d : Call) (x y : Telling)
-      → ServerLaw limit szx word (d ∷ (newer ++ c ∷ older)) → OnceOf (pair_of limit szx x) (d ∷ (newer ++ c ∷ older))
+      → ServerLaw limits szx word (d ∷ (newer ++ c ∷ older)) → OnceOf (pair_of limits szx x) (d ∷ (newer ++ c ∷ older))
       → telling (own older) c ≡ Some x → telling (own (newer ++ c ∷ older)) d ≡ Some y → y.to ≡ x.to → y.token ≡ x.token
       → FollowsOn newer x y
   follow_here newer older c d x y law once first second to token =
-      let p : Pair = pair_of limit szx x in
-      let under = are_under limit szx word (d ∷ (newer ++ c ∷ older)) law in
-      let made = told_since older c x (Always_back (IsUnder limit szx) newer (c ∷ older) under.1).0 first in
-      let before = Sometime_back (ServesPair limit szx p) newer (c ∷ older) made in
-      let same : pair_of limit szx y ≡ p = ap {B = Pair} (λ z. record { to = z; token = y.token }) to
+      let p : Pair = pair_of limits szx x in
+      let under = are_under limits szx word (d ∷ (newer ++ c ∷ older)) law in
+      let made = told_since older c x (Always_back (IsUnder limits szx) newer (c ∷ older) under.1).0 first in
+      let before = Sometime_back (ServesPair limits szx p) newer (c ∷ older) made in
+      let same : pair_of limits szx y ≡ p = ap {B = Pair} (λ z. record { to = z; token = y.token }) to
       ∙ ap {B = Pair} (λ z. record { to = x.to; token = z }) token in
-      facts.follows limit szx word (d ∷ (newer ++ c ∷ older)) law newer older c d x y refl first second
+      facts.follows limits szx word (d ∷ (newer ++ c ∷ older)) law newer older c d x y refl first second
       (not_first (newer ++ c ∷ older) d p y same under.0 second once before) to token
-      (none_made p newer (c ∷ older) once.1 (all_serve_pairs limit szx (newer ++ c ∷ older)) made)
+      (none_made p newer (c ∷ older) once.1 (all_serve_pairs limits szx (newer ++ c ∷ older)) made)
 
   -- what was begun in a call is in the layer's entries behind it
-  begun_behind : (P : L.Entry → Type 0) (newer older : List Call) (c : Call) → Ever P (call_adds limit szx word older c)
-      → Ever P (layer_of limit szx word (newer ++ c ∷ older))
-  begun_behind P [] older c h = subst (Ever P) (sym (layer_next limit szx word older c))
-      (Ever_front P (call_adds limit szx word older c) (layer_of limit szx word older) h)
+  begun_behind : (P : L.Entry → Type 0) (newer older : List Call) (c : Call) → Ever P (call_adds limits szx word older c)
+      → Ever P (layer_of limits szx word (newer ++ c ∷ older))
+  begun_behind P [] older c h = subst (Ever P) (sym (layer_next limits szx word older c))
+      (Ever_front P (call_adds limits szx word older c) (layer_of limits szx word older) h)
   begun_behind P (b ∷ newer) older c h =
-      subst (Ever P) (sym (layer_next limit szx word (newer ++ c ∷ older) b))
-      (Ever_back P (call_adds limit szx word (newer ++ c ∷ older) b) (layer_of limit szx word (newer ++ c ∷ older))
+      subst (Ever P) (sym (layer_next limits szx word (newer ++ c ∷ older) b))
+      (Ever_back P (call_adds limits szx word (newer ++ c ∷ older) b) (layer_of limits szx word (newer ++ c ∷ older))
       (begun_behind P newer older c h))
 
   -- it is acknowledged behind its begin
   abbrev pub AckedBehind : Endpoint → Open → List Call → Call → Type 0
-  AckedBehind to con past b = HearsAck to con.id b × Ever (λ e. begun e ≡ Some con) (layer_of limit szx word past)
+  AckedBehind to con past b = HearsAck to con.id b × Ever (λ e. begun e ≡ Some con) (layer_of limits szx word past)
 
   acked_behind : (to : Endpoint) (con : Open) (newer older : List Call) (c : Call)
-      → Ever (λ e. begun e ≡ Some con) (call_adds limit szx word older c) → Ever (HearsAck to con.id) newer
+      → Ever (λ e. begun e ≡ Some con) (call_adds limits szx word older c) → Ever (HearsAck to con.id) newer
       → Sometime (AckedBehind to con) (newer ++ c ∷ older)
   acked_behind to con [] older c there h = absurd h
   acked_behind to con (b ∷ newer) older c there (inl h) =
@@ -101,19 +102,19 @@ module _ (limit szx word : ℕ) where
     abbrev pub pair : Pair
     pair = record { to = to; token = token }
 
-    pair_is : (x : Telling) (m : Message) → Conveys x to m → m.token ≡ token → pair ≡ pair_of limit szx x
+    pair_is : (x : Telling) (m : Message) → Conveys x to m → m.token ≡ token → pair ≡ pair_of limits szx x
     pair_is x m k is = sym (ap {B = Pair} (λ z. record { to = z; token = x.token }) k.to_is
         ∙ ap {B = Pair} (λ z. record { to = to; token = z }) (k.token_is ∙ is))
 
     -- of two messages that are told under the token the later one follows on
     module _ (k l : Option ℕ) (m n : Message) (older_is : m.token ≡ token) (newer_is : n.token ≡ token) where
       abbrev First : List Call → Call → Type 0
-      First past c = TellsIn limit szx k to m past c
+      First past c = TellsIn limits szx k to m past c
 
       abbrev Second : List Call → Call → Type 0
-      Second past c = TellsIn limit szx l to n past c
+      Second past c = TellsIn limits szx l to n past c
 
-      follow_split : (newer older : List Call) (c d : Call) → ServerLaw limit szx word (d ∷ (newer ++ c ∷ older))
+      follow_split : (newer older : List Call) (c d : Call) → ServerLaw limits szx word (d ∷ (newer ++ c ∷ older))
           → OnceOf pair (d ∷ (newer ++ c ∷ older)) → (x : First older c) → (y : Second (newer ++ c ∷ older) d)
           → FollowsOn newer x.told y.told
       follow_split newer older c d law once x y =
@@ -131,14 +132,14 @@ module _ (limit szx word : ℕ) where
         pub second_conveys : Conveys second to n
         pub less : first.version < second.version
 
-      rises_split : (past : List Call) (d : Call) → ServerLaw limit szx word (d ∷ past) → OnceOf pair (d ∷ past)
+      rises_split : (past : List Call) (d : Call) → ServerLaw limits szx word (d ∷ past) → OnceOf pair (d ∷ past)
           → Second past d → (s : Split First past) → Rises
       rises_split past d law once y s = by s.newer s.entry s.older s.is s.here
         where
           by : (newer : List Call) (c : Call) (older : List Call) → past ≡ newer ++ c ∷ older → First older c → Rises
           by newer c older e x =
               let z = subst (λ q. Second q d) e y in
-              let f = follow_split newer older c d (subst (λ q. ServerLaw limit szx word (d ∷ q)) e law)
+              let f = follow_split newer older c d (subst (λ q. ServerLaw limits szx word (d ∷ q)) e law)
               (subst (λ q. OnceOf pair (d ∷ q)) e once) x z in
               record {
                 first = x.told;
@@ -148,22 +149,22 @@ module _ (limit szx word : ℕ) where
                 less = f.version;
               }
 
-      pub rises_in : (t : List Call) → ServerLaw limit szx word t → OnceOf pair t
+      pub rises_in : (t : List Call) → ServerLaw limits szx word t → OnceOf pair t
           → Sometime (λ past d. Second past d × Sometime First past) t → Rises
       rises_in [] law once h = absurd h
       rises_in (d ∷ past) law once (inl h) = rises_split past d law once h.0 (split First past h.1)
-      rises_in (d ∷ past) law once (inr h) = rises_in past (facts.back limit szx word (d ∷ []) past law) once.1 h
+      rises_in (d ∷ past) law once (inr h) = rises_in past (facts.back limits szx word (d ∷ []) past law) once.1 h
 
     -- where the earlier one was sent in a CON, that was acknowledged before the later one was made
     module _ (con : Open) (l : Option ℕ) (m n : Message) (older_is : m.token ≡ token) (newer_is : n.token ≡ token) where
       abbrev ByCon : List Call → Call → Type 0
-      ByCon past c = TellsIn limit szx (Some con.id) to m past c
-          × Ever (λ b. begun b ≡ Some con) (call_adds limit szx word past c)
+      ByCon past c = TellsIn limits szx (Some con.id) to m past c
+          × Ever (λ b. begun b ≡ Some con) (call_adds limits szx word past c)
 
       abbrev Behind : List Call → Call → Type 0
-      Behind past c = TellsIn limit szx l to n past c
+      Behind past c = TellsIn limits szx l to n past c
 
-      acked_split : (past : List Call) (d : Call) → ServerLaw limit szx word (d ∷ past) → OnceOf pair (d ∷ past)
+      acked_split : (past : List Call) (d : Call) → ServerLaw limits szx word (d ∷ past) → OnceOf pair (d ∷ past)
           → Behind past d → (s : Split ByCon past) → Sometime (AckedBehind to con) past
       acked_split past d law once y s = by s.newer s.entry s.older s.is s.here
         where
@@ -172,14 +173,14 @@ module _ (limit szx word : ℕ) where
           by newer c older e x =
               let z = subst (λ q. Behind q d) e y in
               let f = follow_split (Some con.id) l m n older_is newer_is newer older c d
-              (subst (λ q. ServerLaw limit szx word (d ∷ q)) e law)
+              (subst (λ q. ServerLaw limits szx word (d ∷ q)) e law)
               (subst (λ q. OnceOf pair (d ∷ q)) e once) x.0 z in
               let acked = subst (λ q. Ever (HearsAck q con.id) newer) x.0.conveys.to_is
               (f.acknowledged con.id x.0.con_is) in
               subst (Sometime (AckedBehind to con)) (sym e) (acked_behind to con newer older c x.1 acked)
 
-      pub acked_in : (t : List Call) → ServerLaw limit szx word t → OnceOf pair t
+      pub acked_in : (t : List Call) → ServerLaw limits szx word t → OnceOf pair t
           → Sometime (λ past d. Behind past d × Sometime ByCon past) t → Sometime (AckedBehind to con) t
       acked_in [] law once h = absurd h
       acked_in (d ∷ past) law once (inl h) = inr (acked_split past d law once h.0 (split ByCon past h.1))
-      acked_in (d ∷ past) law once (inr h) = inr (acked_in past (facts.back limit szx word (d ∷ []) past law) once.1 h)
+      acked_in (d ∷ past) law once (inr h) = inr (acked_in past (facts.back limits szx word (d ∷ []) past law) once.1 h)

@@ -14,6 +14,8 @@ use Rattle.coap_layer.specs.Words.{Open, begun, handed, handed_in, Incoming, is_
 use Rattle.coap_layer.proofs.Facts.Hops.{earlier, far_ever}
 use Rattle.coap_layer.proofs.Facts.Laws.{acks_heard, acks_replied, begun_as, handed_spelled, nons_sent}
 use Rattle.coap_layer.proofs.Facts.Laws.{responses_spelled}
+use Rattle.coap_layer.specs.Machine.State.{usual}
+use Rattle.coap_layer.specs.declared.setup.Setup.{Setup}
 use Rattle.coap_client.specs.Follows.Hears.{Hears}
 use Rattle.coap_client.specs.Responses.{is_notification}
 use Rattle.coap_client.specs.Trace as C
@@ -54,7 +56,7 @@ pub record AckHeard (m : Message) (hs : List Hop) : Type 0 where
   pub spells : Spells bytes m
   pub given : Ever (λ e. e.call ≡ T.Reply client_end m.id bytes) (far_of hs)
 
-module _ (one other : ℕ) (m : Message) where
+module _ (one other : Setup) (m : Message) where
   module _ (past : List Hop) (x : T.Entry) (law : ChannelLaw one other server_end client_end (Far x ∷ past))
       (h : Hears server_end m x) (kept : is_kept m.kind ≡ true) where
     abbrev incoming : Incoming
@@ -162,11 +164,11 @@ module _ (config : Config) where
 
   -- the server tells it in this CON
   abbrev pub TellsCon : Open → Message → List S.Call → S.Call → Type 0
-  TellsCon con m past c = TellsIn config.limit config.server_szx (Some con.id) client_end m past c
-      × Ever (λ b. begun b ≡ Some con) (call_adds config.limit config.server_szx config.server_word past c)
+  TellsCon con m past c = TellsIn config.limits config.server_szx (Some con.id) client_end m past c
+      × Ever (λ b. begun b ≡ Some con) (call_adds config.limits config.server_szx config.server_word past c)
 
   abbrev pub TellsAck : Message → List S.Call → S.Call → Type 0
-  TellsAck m past c = TellsIn config.limit config.server_szx None client_end m past c
+  TellsAck m past c = TellsIn config.limits config.server_szx None client_end m past c
 
   module _ (past : List Entry) (c : C.Call) (law : Lawful config (OfClient c ∷ past)) (m : Message)
       (hears : Ever (Hears server_end m) (client_adds config (client_of past) c))
@@ -174,39 +176,39 @@ module _ (config : Config) where
     abbrev adds : List T.Entry
     adds = client_adds config (client_of past) c
 
-    pub law_across : ChannelLaw config.server_word config.client_word server_end client_end
+    pub law_across : ChannelLaw (usual config.server_word) (usual config.client_word) server_end client_end
         (map Far adds ++ across (hops_in config past))
     law_across =
-        subst (ChannelLaw config.server_word config.client_word server_end client_end)
+        subst (ChannelLaw (usual config.server_word) (usual config.client_word) server_end client_end)
         (across_near adds (hops_in config past))
-        (channel_across config.client_word config.server_word client_end server_end
+        (channel_across (usual config.client_word) (usual config.server_word) client_end server_end
         (hops_in config (OfClient c ∷ past)) law.channel)
 
     near_there : near_of (across (hops_in config past))
-        ≡ layer_of config.limit config.server_szx config.server_word (trace past)
+        ≡ layer_of config.limits config.server_szx config.server_word (trace past)
     near_there = near_across (hops_in config past) ∙ far_is config past
 
     abbrev Added : (T.Entry → Type 0) → List S.Call → S.Call → Type 0
-    Added P p b = Ever P (call_adds config.limit config.server_szx config.server_word p b)
+    Added P p b = Ever P (call_adds config.limits config.server_szx config.server_word p b)
 
-    told : Always (TellsSent config.limit config.server_szx config.server_word) (trace past)
-    told = all_tell_sent config.limit config.server_szx config.server_word (trace past) law.server
+    told : Always (TellsSent config.limits config.server_szx config.server_word) (trace past)
+    told = all_tell_sent config.limits config.server_szx config.server_word (trace past) law.server
 
     -- in a CON
     pub con_told : m.kind ≡ Con → (con : Open) × Ever (HandsUpAs server_end con) adds
         × Sometime (TellsCon con m) (trace past) × Ever (λ b. begun b ≡ Some con)
         (near_of (across (hops_in config past))) × (con.to ≡ client_end)
     con_told kind =
-        let k = con_heard config.server_word config.client_word m
+        let k = con_heard (usual config.server_word) (usual config.client_word) m
         (across (hops_in config past)) adds law_across hears kind in
         let P : T.Entry → Type 0 = λ b. begun b ≡ Some k.con in
-        let there = located config.limit config.server_szx config.server_word P (trace past)
+        let there = located config.limits config.server_szx config.server_word P (trace past)
         (subst (Ever P) near_there k.begun_before) in (
           k.con,
           k.up,
-          by_law (TellsSent config.limit config.server_szx config.server_word) (Added P) (TellsCon k.con m)
+          by_law (TellsSent config.limits config.server_szx config.server_word) (Added P) (TellsCon k.con m)
               (λ p b l h. (
-                subst (λ z. TellsIn config.limit config.server_szx (Some k.con.id) z m p b) k.to_is
+                subst (λ z. TellsIn config.limits config.server_szx (Some k.con.id) z m p b) k.to_is
                     (l.0.begun_now k.con m h k.are k.spells note),
                 h,
               )) (trace past) told there,
@@ -217,21 +219,21 @@ module _ (config : Config) where
     -- in an acknowledgement
     pub ack_told : m.kind ≡ Ack → Sometime (TellsAck m) (trace past)
     ack_told kind =
-        let k = ack_heard config.client_word config.server_word m (hops_in config past) adds law.channel hears kind in
+        let k = ack_heard (usual config.client_word) (usual config.server_word) m (hops_in config past) adds law.channel hears kind in
         let P : T.Entry → Type 0 = λ b. b.call ≡ T.Reply client_end m.id k.bytes in
-        let there = located config.limit config.server_szx config.server_word P (trace past)
+        let there = located config.limits config.server_szx config.server_word P (trace past)
         (subst (Ever P) (far_is config past) k.given) in
-        by_law (TellsSent config.limit config.server_szx config.server_word) (Added P) (TellsAck m)
+        by_law (TellsSent config.limits config.server_szx config.server_word) (Added P) (TellsAck m)
         (λ p b l h. l.0.replied client_end k.bytes m h k.are k.spells note) (trace past) told there
 
     -- in a NON
-    pub non_told : m.kind ≡ Non → Sometime (ServesNon config.limit config.server_szx client_end) (trace past)
+    pub non_told : m.kind ≡ Non → Sometime (ServesNon config.limits config.server_szx client_end) (trace past)
     non_told kind =
-        let k = non_heard config.server_word config.client_word m
+        let k = non_heard (usual config.server_word) (usual config.client_word) m
         (across (hops_in config past)) adds law_across hears kind in
         let P : T.Entry → Type 0 = λ b. PlainOut b (record { to = client_end; bytes = k.bytes }) in
-        let there = located config.limit config.server_szx config.server_word P (trace past)
+        let there = located config.limits config.server_szx config.server_word P (trace past)
         (subst (Ever P) near_there k.sent) in
-        by_law (TellsSent config.limit config.server_szx config.server_word) (Added P)
-        (ServesNon config.limit config.server_szx client_end)
+        by_law (TellsSent config.limits config.server_szx config.server_word) (Added P)
+        (ServesNon config.limits config.server_szx client_end)
         (λ p b l h. (l.0.plain client_end k.bytes m h k.are k.spells note).1) (trace past) told there

@@ -14,8 +14,8 @@ all_named config (e ∷ past) law = (
   λ path held h. (
       let t : List S.Call = server_trace config (e ∷ past) in
       record {
-        small = held_small config.limit config.server_szx path held t
-            (server_facts.stamped config.limit config.server_szx config.server_word t law.server) h;
+        small = held_small config.limits config.server_szx path held t
+            (server_facts.stamped config.limits config.server_szx config.server_word t law.server) h;
         is = refl;
       }),
   all_named config past (lawful_back config past e law),

@@ -6,6 +6,7 @@ use Rattle.coap_types.specs.Past.{Ever, Sometime, Always}
 use Rattle.coap_codec.specs.Message.{Message, Spells}
 use Rattle.coap_layer.specs.Channel.{near_of}
 use Rattle.coap_layer.specs.Words.{Open, begun}
+use Rattle.coap_layer.specs.Machine.State.{usual}
 use Rattle.coap_exchange.specs.declared.answerer.Asked.{Asked}
 use Rattle.coap_exchange.specs.AnswererFollows.{hits, same_asked}
 use Rattle.coap_exchange.specs.AnswererSteps.{asked_of}
@@ -38,22 +39,22 @@ use Rattle.coap_world.proofs.Observations.Positions.{AtServer, server_entries}
 module _ (config : Config) where
   -- which of the client's requests it is that is served here
   pub came : (past : List Entry) (c : S.Call) → Lawful config (OfServer c ∷ past) → (x : Serving)
-      → serving (own_of config.limit config.server_szx (server_trace config past)) c ≡ Some x
+      → serving (own_of config.limits config.server_szx (server_trace config past)) c ≡ Some x
       → x.asked.from ≡ client_end
       → Traced config x.asked x.question (OfServer c ∷ past)
   came past c law x here from =
       let w : List Entry = OfServer c ∷ past in
-      let brings = (server_facts.handed config.limit config.server_szx config.server_word
+      let brings = (server_facts.handed config.limits config.server_szx config.server_word
       (server_trace config w) law.server).0 x here in
       traced config x.asked x.question w law.came from (brought_in config x.asked x.question w brings)
 
   -- it is a CON
   non_first : (past : List S.Call) (d : S.Delay)
-      → ServesNon config.limit config.server_szx client_end past (S.Delays d.path d.ms true) → ⊥
+      → ServesNon config.limits config.server_szx client_end past (S.Delays d.path d.ms true) → ⊥
   non_first past d k = let here = k.here in cc here
 
   non_at : (t : List Entry) → Lawful config t → Sometime
-      (AtServer config (ServesNon config.limit config.server_szx client_end)) t → ⊥
+      (AtServer config (ServesNon config.limits config.server_szx client_end)) t → ⊥
   non_at [] law h = h
   non_at (OfClient c ∷ past) law (inl h) = h
   non_at (OfClient c ∷ past) law (inr h) = non_at past (lawful_back config past (OfClient c) law) h
@@ -63,17 +64,17 @@ module _ (config : Config) where
       h.kind (ap (λ (a : Asked). a.kind) k.came.asked)
 
   pub no_non : (t : List Entry) → Lawful config t
-      → Sometime (ServesNon config.limit config.server_szx client_end) (server_trace config t) → ⊥
+      → Sometime (ServesNon config.limits config.server_szx client_end) (server_trace config t) → ⊥
   no_non t law h = non_at t law (server_entries config
-      (ServesNon config.limit config.server_szx client_end) non_first t h)
+      (ServesNon config.limits config.server_szx client_end) non_first t h)
 
 module _ (config : Config) (all : List Entry) (whole : Lawful config all) (number : ℕ) (token : List ℕ)
-    (first : Sending) (sent : WasSent config.client_szx first (client_of all)) (path : List (List ℕ))
+    (first : Sending) (sent : WasSent config.client_sizes first (client_of all)) (path : List (List ℕ))
     (registers : first.operation ≡ Registering number path) (token_is : first.token ≡ token)
-    (none : WasCancelled config.client_szx number (client_of all) → ⊥) where
+    (none : WasCancelled config.client_sizes number (client_of all) → ⊥) where
   -- the token is that of the registration alone
-  is_first : (x : Sending) → WasSent config.client_szx x (client_of all) → x.token ≡ token → x ≡ first
-  is_first x there same = by (client_facts.tokens server_end config.client_szx config.client_word
+  is_first : (x : Sending) → WasSent config.client_sizes x (client_of all) → x.token ≡ token → x ≡ first
+  is_first x there same = by (client_facts.tokens server_end config.client_sizes config.client_word
       (client_of all) whole.client x first there sent (same ∙ sym token_is))
     where
       by : (x ≡ first) ⊎ (Deregisters x first ⊎ Deregisters first x) → x ≡ first
@@ -86,7 +87,7 @@ module _ (config : Config) (all : List Entry) (whole : Lawful config all) (numbe
           absurd (none (record { sending = x; sent = there; cancels = d.cancels ∙ ap (λ z. Cancelling z) n }))
 
   not_ended : (con other : Open) (m : Message) → AreBytes con.bytes → Spells con.bytes m → con.id ≡ m.id
-      → m.token ≡ token → Ends server_end config.client_szx (client_of all) con other → ⊥
+      → m.token ≡ token → Ends server_end config.client_sizes (client_of all) con other → ⊥
   not_ended con other m are spells id here e =
       let same = is_first e.first e.first_sent (sym
       (ap (λ (z : Message). z.token) (same_request con m e.first e.begins are spells id)) ∙ here) in
@@ -103,12 +104,12 @@ module _ (config : Config) (all : List Entry) (whole : Lawful config all) (numbe
   one_con : OneConBy token (near_of (hops_in config all))
   one_con a b i j x y ab bb sa sb ia ib ta tb =
       let near = near_is config all in
-      by (client_facts.one_con server_end config.client_szx config.client_word (client_of all) whole.client a b
+      by (client_facts.one_con server_end config.client_sizes config.client_word (client_of all) whole.client a b
       (subst (Ever (λ e. begun e ≡ Some a)) near i) (subst (Ever (λ e. begun e ≡ Some b)) near j) x y ab bb sa sb
       (ta ∙ sym tb))
     where
-      by : (a ≡ b) ⊎ (Ends server_end config.client_szx (client_of all) a b
-          ⊎ Ends server_end config.client_szx (client_of all) b a) → a ≡ b
+      by : (a ≡ b) ⊎ (Ends server_end config.client_sizes (client_of all) a b
+          ⊎ Ends server_end config.client_sizes (client_of all) b a) → a ≡ b
       by (inl same) = same
       by (inr (inl e)) = absurd (not_ended a b x ab sa ia ta e)
       by (inr (inr e)) = absurd (not_ended b a y bb sb ib tb e)
@@ -117,10 +118,10 @@ module _ (config : Config) (all : List Entry) (whole : Lawful config all) (numbe
   pair = record { to = client_end; token = token }
 
   abbrev pub Serves : List S.Call → S.Call → Type 0
-  Serves past c = ServesPair config.limit config.server_szx pair past c
+  Serves past c = ServesPair config.limits config.server_szx pair past c
 
   abbrev Later : List Entry → Type 0
-  Later t = ((x : Sending) → WasSent config.client_szx x (client_of t) → WasSent config.client_szx x (client_of all))
+  Later t = ((x : Sending) → WasSent config.client_sizes x (client_of t) → WasSent config.client_sizes x (client_of all))
       × ((con : Open) → Ever (λ b. begun b ≡ Some con) (near_of (hops_in config t))
       → Ever (λ b. begun b ≡ Some con) (near_of (hops_in config all)))
 
@@ -161,7 +162,7 @@ module _ (config : Config) (all : List Entry) (whole : Lawful config all) (numbe
       k.asked ∙ (ap (λ (z : Open). asked_of client_end (request_of z.id first)) c ∙ sym l.asked)
 
   abbrev own : List Entry → S.Own
-  own past = own_of config.limit config.server_szx (server_trace config past)
+  own past = own_of config.limits config.server_szx (server_trace config past)
 
   served_now : (past : List Entry) (c : S.Call) (x : Serving) (b : Asked) → x.asked ≡ b → serving (own past) c ≡ Some x
       → 1 ≤ hits (same_asked b) (served_as (serving (own past) c))
@@ -176,7 +177,7 @@ module _ (config : Config) (all : List Entry) (whole : Lawful config all) (numbe
   At = AtServer config Serves
 
   served_before : (y : Serving) → Known y → (t : List Entry) → Later t → Lawful config t → Sometime At t
-      → 1 ≤ times_served config.limit config.server_szx y.asked (server_trace config t)
+      → 1 ≤ times_served config.limits config.server_szx y.asked (server_trace config t)
   served_before y k [] later law h = absurd h
   served_before y k (OfClient c ∷ past) later law (inl a) = absurd a
   served_before y k (OfClient c ∷ past) later law (inr h) =
@@ -200,16 +201,16 @@ module _ (config : Config) (all : List Entry) (whole : Lawful config all) (numbe
       let k : Known x = known past c later law a in
       let before = served_before x k past (later_back e past later) (lawful_back config past e law)
       (server_entries config Serves first_none past h) in
-      let fewer = (server_facts.served config.limit config.server_szx config.server_word t law.server).0 x a.here in
-      let counted = (server_facts.counts config.limit config.server_szx config.server_word t law.server).0 x.asked in
+      let fewer = (server_facts.served config.limits config.server_szx config.server_word t law.server).0 x a.here in
+      let counted = (server_facts.counts config.limits config.server_szx config.server_word t law.server).0 x.asked in
       let its : x.asked.token ≡ token = a.token_is in
       let cons : OneConBy x.asked.token (near_of (hops_in config (e ∷ past))) = λ p q i j m n pb qb pm qn pi qi tp tq.
       one_con p q (later.1 p i) (later.1 q j) m n pb qb pm qn pi qi (tp ∙ its) (tq ∙ its)
       in
       let nons = subst NoNons (sym (near_is config (e ∷ past)))
-      (client_facts.nons server_end config.client_szx config.client_word (client_of past)) in
+      (client_facts.nons server_end config.client_sizes config.client_word (client_of past)) in
       let few = once_counted x.asked (hops_in config (e ∷ past))
-      (up_once config.client_word config.server_word client_end server_end x.asked a.from
+      (up_once (usual config.client_word) (usual config.server_word) client_end server_end x.asked a.from
       (hops_in config (e ∷ past)) law.channel nons cons) in
       let same = ap (ups x.asked) (far_is config (e ∷ past)) in
       omega (arith, before, fewer, counted, few, same)

@@ -2,6 +2,7 @@
 use Rattle.std.proofs.Common.{◌≡◌, ◌⊎◌, inl, inr, ⊎_elim, ℕ, true, List, [], ◌∷◌, ◌++◌, map, refl, ap, subst}
 use Rattle.coap_types.specs.Past.{Ever, Sometime}
 use Rattle.coap_types.proofs.Facts.Traces.{Ever_append}
+use Rattle.coap_resource.specs.Limits.{Limits}
 use Rattle.coap_layer.specs.Channel.{Hop, Near, Far}
 use Rattle.coap_layer.specs.Trace as L
 use Rattle.coap_client.specs.Trace as C
@@ -41,14 +42,14 @@ across_far [] hs = refl
 across_far (x ∷ xs) hs = ap (λ t. Near x ∷ t) (across_far xs hs)
 
 -- in which call of a server its layer's entry was added
-pub located : (limit szx word : ℕ) (P : L.Entry → Type 0) (t : List S.Call) → Ever P (layer_of limit szx word t)
-    → Sometime (λ past c. Ever P (call_adds limit szx word past c)) t
-located limit szx word P [] h = absurd h
-located limit szx word P (c ∷ t) h =
-    elim (Ever_append P (call_adds limit szx word t c) (layer_of limit szx word t)
-    (subst (Ever P) (layer_next limit szx word t c) h)) [
+pub located : (limits : Limits) (szx word : ℕ) (P : L.Entry → Type 0) (t : List S.Call) → Ever P (layer_of limits szx word t)
+    → Sometime (λ past c. Ever P (call_adds limits szx word past c)) t
+located limits szx word P [] h = absurd h
+located limits szx word P (c ∷ t) h =
+    elim (Ever_append P (call_adds limits szx word t c) (layer_of limits szx word t)
+    (subst (Ever P) (layer_next limits szx word t c) h)) [
       | inl k ↦ inl k
-      | inr k ↦ inr (located limit szx word P t k)
+      | inr k ↦ inr (located limits szx word P t k)
     ]
 
 module _ (config : Config) where

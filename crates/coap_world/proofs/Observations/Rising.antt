@@ -10,6 +10,7 @@ use Rattle.coap_codec.specs.Message.{Message}
 use Rattle.coap_layer.specs.Channel.{Hop, Far, near_of, OnFar, HandsUpAs}
 use Rattle.coap_layer.specs.Trace as T
 use Rattle.coap_layer.specs.Words.{Open, begun}
+use Rattle.coap_layer.specs.Machine.State.{usual}
 use Rattle.coap_resource.specs.RequestOptions.{tag_of}
 use Rattle.coap_client.specs.Follows.Hears.{Hears}
 use Rattle.coap_client.specs.Follows.Ended.{WasCancelled}
@@ -72,7 +73,7 @@ far_there P (x ∷ adds) (inr h) = inr (far_there P adds h)
 
 module _ (config : Config) where
   abbrev szx : ℕ
-  szx = config.client_szx
+  szx = config.client_sizes
 
   -- what was heard of an observation, as the server told it: in a CON that was handed up, or in an acknowledgement
   data HeardTold (m : Message) (t : List Entry) : Type 0 where
@@ -210,13 +211,13 @@ module _ (config : Config) where
     heard = (are_noted server_end szx config.client_word (client_of (OfClient c ∷ past)) law.client).0 n after.noted
 
     abbrev First : Option ℕ → List S.Call → S.Call → Type 0
-    First k p b = TellsIn config.limit config.server_szx k client_end m p b
+    First k p b = TellsIn config.limits config.server_szx k client_end m p b
 
     module _ (con : Open) (up : Ever (HandsUpAs server_end con) (client_adds config (client_of past) c))
         (told : Sometime (TellsCon config con n) calls)
         (begun_before : Ever (λ b. begun b ≡ Some con) (near_of (across (hops_in config past))))
         (to : con.to ≡ client_end) where
-      once : OnceOf config.limit config.server_szx config.server_word
+      once : OnceOf config.limits config.server_szx config.server_word
           (record { to = client_end; token = n.token }) calls
       once =
           let s = second_registered in
@@ -234,20 +235,20 @@ module _ (config : Config) where
               ⊎ Sometime (λ p b. A p b × Sometime (TellsCon config con n) p) calls) → AreRising (tag_in m) (tag_in n)
           by (inl same) = absurd (apart same)
           by (inr (inl later)) =
-              let r = rises_in config.limit config.server_szx config.server_word client_end n.token k
+              let r = rises_in config.limits config.server_szx config.server_word client_end n.token k
               (Some con.id) m n token refl calls before.server once
               (Sometime_map (λ p b. TellsCon config con n p b × Sometime A p)
-              (λ p b. TellsIn config.limit config.server_szx (Some con.id) client_end n p b × Sometime (First k) p)
+              (λ p b. TellsIn config.limits config.server_szx (Some con.id) client_end n p b × Sometime (First k) p)
               (λ p b x. (x.0.0, Sometime_map A (First k) strip p x.1)) calls later) in
               rising_by r.first.version r.second.version (tag_in m) (tag_in n) (named r.first m r.first_conveys)
               (named r.second n r.second_conveys) r.less
           by (inr (inr sooner)) =
-              let acked = acked_in config.limit config.server_szx config.server_word client_end n.token con k n m refl
+              let acked = acked_in config.limits config.server_szx config.server_word client_end n.token con k n m refl
               token calls before.server once
               (Sometime_map (λ p b. A p b × Sometime (TellsCon config con n) p)
               (λ p b. First k p b × Sometime (TellsCon config con n) p)
               (λ p b x. (strip p b x.0, x.1)) calls sooner) in
-              absurd (not_after config.server_word config.client_word con to (across (hops_in config past)) begun_before
+              absurd (not_after (usual config.server_word) (usual config.client_word) con to (across (hops_in config past)) begun_before
               (client_adds config (client_of past) c) (law_across config past c law n heard taken.notification) up
               (taken_before config con to past before acked))
 
@@ -265,7 +266,7 @@ module _ (config : Config) where
       acks_apart (b ∷ p) (inr h) = acks_apart p h
 
       one_begun : (other : Open) (t : List S.Call)
-          → Always (TellsSent config.limit config.server_szx config.server_word) t
+          → Always (TellsSent config.limits config.server_szx config.server_word) t
           → Sometime (λ p b. TellsCon config other m p b × TellsCon config con n p b) t → other ≡ con
       one_begun other [] told h = absurd h
       one_begun other (b ∷ p) told (inl h) = told.0.one other con h.0.1 h.1.1
@@ -279,9 +280,9 @@ module _ (config : Config) where
           by (in_con other before_up x) =
               decide (Some other.id) (TellsCon config other m) (λ p b h. h.0)
               (λ same.
-              let e = one_begun other calls (all_tell_sent config.limit config.server_szx config.server_word calls
+              let e = one_begun other calls (all_tell_sent config.limits config.server_szx config.server_word calls
               before.server) same in
-              not_again config.server_word config.client_word con to (across (hops_in config past)) begun_before
+              not_again (usual config.server_word) (usual config.client_word) con to (across (hops_in config past)) begun_before
               (client_adds config (client_of past) c) (law_across config past c law n heard taken.notification) up
               (subst (λ z. Ever (OnFar (HandsUpAs server_end z)) (across (hops_in config past))) e before_up)) x
 

@@ -7,6 +7,8 @@ use Rattle.std.specs.Prelude.{◌==◌, All, IfSome, ◌<◌, ◌^◌}
 use Rattle.coap_types.specs.Bytes.{AreBytes}
 use Rattle.coap_types.specs.declared.request.Method.{Method}
 use Rattle.coap_types.specs.declared.request.Method.TheVariants.{Get, Post, Put, Delete}
+use Rattle.coap_types.specs.declared.body_limit.TheConstants.{MAX_BODY_LIMIT as max_limit}
+use Rattle.coap_block.specs.Sizes.{Sizes}
 use Rattle.coap_codec.specs.Message.{Message}
 use Rattle.coap_block.specs.FetchStep as F
 use Rattle.coap_block.specs.declared.fetch_verdict.Verdict.TheVariants as verdict
@@ -17,7 +19,7 @@ use Rattle.coap_client.specs.declared.refusals.CallRefusal.{CallRefusal}
 use Rattle.coap_client.specs.Trace.{Request, Report, Reported, NoIds}
 use Rattle.coap_client.specs.Own.{Transfer, Operation, Calling, Registering, Fetching, Cancelling}
 use Rattle.coap_client.specs.Own.{Dropped, Notified, Observation, Own}
-use Rattle.coap_client.specs.Observations.{dropped, over, with_rest}
+use Rattle.coap_client.specs.Observations.{dropped, observation_of, over, rest_of, with_rest}
 use Rattle.coap_client.specs.Reports.{lapse}
 use Rattle.coap_client.specs.Responses.{sequence_in}
 use Rattle.coap_client.specs.Queue.{transfer_of, calling, numbered}
@@ -31,7 +33,7 @@ use Rattle.coap_client.specs.Turns.Moves.{Move, left_by, Hears}
 use Rattle.coap_client.specs.Turns.Closing.{Closing, quiet, goes_out, is_refused}
 use Rattle.coap_world.specs.Legal.{IsRequest}
 use Rattle.coap_world.proofs.Progress.EachElement.{Each, each_join, each_filter, each_changed}
-use Rattle.coap_world.proofs.Progress.TransfersInBytes.{TransferAre, RestAre, answer_are, rest_are}
+use Rattle.coap_world.proofs.Progress.TransfersInBytes.{FetchAre, TransferAre, RestAre, answer_are, rest_are}
 
 -- a request without its body
 pub record HeadAre (r : Request) : Type 0 where
@@ -54,7 +56,8 @@ pub record WatchAre (o : Observation) : Type 0 where
   pub rest : RestAre o.rest
 
 pub record OwnAre (s : Own) : Type 0 where
-  pub szx : s.szx ≤ 6
+  pub szx : s.sizes.szx ≤ 6
+  pub limit : s.sizes.limit ≤ max_limit
   pub queue : Each OpAre s.queue
   pub running : IfSome s.running OpAre
   pub observations : Each WatchAre s.observations
@@ -92,24 +95,38 @@ with_rest_are k r h os w = changed_are k (λ o. record o { rest = r })
 pub over_are : (k : ℕ) (s : Own) → OwnAre s → OwnAre (over k s)
 over_are k s h = record {
   szx = h.szx;
+limit = h.limit;
   queue = each_filter OpAre _ s.queue h.queue;
   running = dropped_are k s.running h.running;
   observations = each_filter WatchAre _ s.observations h.observations;
 }
 
+-- what is to be fetched for an observation
+fetch_there : (k : ℕ) (os : List Observation) (n : Notified) → Each WatchAre os → rest_of k os ≡ Some n
+    → FetchAre n.fetch
+fetch_there k [] n h is = absurd (cc is)
+fetch_there k (o ∷ os) n h is = by (o.number == k) (fetch_there k os n h.1) is
+  where
+    by : (b : Bool) → (rest_of k os ≡ Some n → FetchAre n.fetch)
+        → elim (cond b (Some o) (observation_of k os)) [ None ↦ None | Some p ↦ p.rest ] ≡ Some n → FetchAre n.fetch
+    by true later e = subst RestAre e h.0.rest
+    by false later e = later e
+
 -- nothing runs any more
 still : (s : Own) → OwnAre s → OwnAre (record s { running = None })
-still s h = record { szx = h.szx; queue = h.queue; running = tt; observations = h.observations }
+still s h = record { szx = h.szx; limit = h.limit; queue = h.queue; running = tt; observations = h.observations }
 
 held_are : (s : Own) (c : Bool) (report : Option Reported) → OwnAre s
     → OwnAre (ends report (cond c (record s { hold = Some s.sent }) s)).own
-held_are s true report h = record { szx = h.szx; queue = h.queue; running = tt; observations = h.observations }
+held_are s true report h =
+    record { szx = h.szx; limit = h.limit; queue = h.queue; running = tt; observations = h.observations }
 held_are s false report h = still s h
 
 fetch_over_are : (k : ℕ) (s : Own) → OwnAre s
     → OwnAre (record s { running = None; observations = with_rest k None s.observations })
 fetch_over_are k s h = record {
   szx = h.szx;
+limit = h.limit;
   queue = h.queue;
   running = tt;
   observations = with_rest_are k None tt s.observations h.observations;
@@ -125,7 +142,7 @@ failed_are s u report (Some (Cancelling k)) h = over_are k (record s { running =
 failed_are s u report (Some Dropped) h = still s h
 
 runs_are : (s : Own) (op : Operation) → OwnAre s → OpAre op → OwnAre (record s { running = Some op })
-runs_are s op h k = record { szx = h.szx; queue = h.queue; running = k; observations = h.observations }
+runs_are s op h k = record { szx = h.szx; limit = h.limit; queue = h.queue; running = k; observations = h.observations }
 
 module _ (s : Own) (now : ℕ) (told : Option Event) (h : OwnAre s)
     (tokens : (m : Message) → Hears told m → AreBytes m.token) where
@@ -133,16 +150,20 @@ module _ (s : Own) (now : ℕ) (told : Option Event) (h : OwnAre s)
   ran op is = let k : IfSome (Some op) OpAre = subst (λ o. IfSome o OpAre) is h.running in k
 
   begun_are : (k : ℕ) (path : List (List ℕ)) (m : Message) → All AreBytes path → AreBytes m.token
-      → WatchAre (begun k path s.szx now m)
-  begun_are k path m p t = record { path = p; token = t; rest = rest_are (sequence_in m) (F.start s.szx 0) m _ refl }
+      → WatchAre (begun k path s.sizes now m)
+  begun_are k path m p t =
+      record { path = p; token = t; rest = rest_are (sequence_in m) (F.start s.sizes 0) m _ h.limit refl }
 
   newer_are : (k : ℕ) (m : Message) → Each WatchAre
       (map (λ (p : Observation). cond (p.number == k)
-      (record p { watch = arrived p.watch (sequence_in m) now true; rest = first_rest s.szx m }) p) s.observations)
+      (record p { watch = arrived p.watch (sequence_in m) now true; rest = first_rest s.sizes m }) p) s.observations)
   newer_are k m =
-      changed_are k (λ p. record p { watch = arrived p.watch (sequence_in m) now true; rest = first_rest s.szx m })
-      (λ o x. record { path = x.path; token = x.token; rest = rest_are (sequence_in m) (F.start s.szx 0) m _ refl })
-      s.observations h.observations
+      changed_are k (λ p. record p { watch = arrived p.watch (sequence_in m) now true; rest = first_rest s.sizes m })
+      (λ o x. record {
+        path = x.path;
+        token = x.token;
+        rest = rest_are (sequence_in m) (F.start s.sizes 0) m _ h.limit refl;
+      }) s.observations h.observations
 
   passed_are : (k : ℕ) (m : Message) → Each WatchAre
       (map (λ (p : Observation). cond (p.number == k)
@@ -154,13 +175,14 @@ module _ (s : Own) (now : ℕ) (told : Option Event) (h : OwnAre s)
   moves_are (mv.rests un) = h
   moves_are (mv.copies quiet_so) = record {
     szx = h.szx;
+limit = h.limit;
     queue = h.queue;
     running = h.running;
     observations = h.observations;
   }
   moves_are (mv.starts_next op queue none rest first quiet_so) =
       let k : Each OpAre (op ∷ queue) = subst (Each OpAre) first h.queue in
-      record { szx = h.szx; queue = k.1; running = k.0; observations = h.observations }
+      record { szx = h.szx; limit = h.limit; queue = k.1; running = k.0; observations = h.observations }
   moves_are (mv.fetches k none rest quiet_so) = runs_are s (Fetching k) h tt
   moves_are (mv.goes_on k r tr next a hears runs asks) =
       let was = ran (Calling k r tr) runs in
@@ -169,19 +191,21 @@ module _ (s : Own) (now : ℕ) (told : Option Event) (h : OwnAre s)
   moves_are (mv.registers k path a hears runs note) =
       record {
         szx = h.szx;
+limit = h.limit;
         queue = h.queue;
         running = tt;
-        observations = each_join WatchAre s.observations (begun k path s.szx now a ∷ []) h.observations
+        observations = each_join WatchAre s.observations (begun k path s.sizes now a ∷ []) h.observations
             (begun_are k path a (ran (Registering k path) runs) (tokens a hears), tt);
       }
   moves_are (mv.refuses k path a hears runs note) = still s h
   moves_are (mv.fetches_on k n a num size hears runs rest code asks) =
       record {
         szx = h.szx;
+limit = h.limit;
         queue = h.queue;
         running = tt;
-        observations = with_rest_are k _ (rest_are n.sequence n.fetch a (verdict.Ask num size) asks) s.observations
-            h.observations;
+        observations = with_rest_are k _ (rest_are n.sequence n.fetch a (verdict.Ask num size)
+            (fetch_there k s.observations n h.observations rest).limit asks) s.observations h.observations;
       }
   moves_are (mv.fetched k n a hears runs rest code done) = fetch_over_are k s h
   moves_are (mv.gives_up k a hears runs) = fetch_over_are k s h
@@ -193,12 +217,13 @@ module _ (s : Own) (now : ℕ) (told : Option Event) (h : OwnAre s)
   moves_are (mv.renews o a notes found note newer) =
       record {
         szx = h.szx;
+limit = h.limit;
         queue = h.queue;
         running = dropped_are o.number s.running h.running;
         observations = newer_are o.number a;
       }
   moves_are (mv.passes_by o a notes found note newer) =
-      record { szx = h.szx; queue = h.queue; running = h.running; observations = passed_are o.number a }
+      record { szx = h.szx; limit = h.limit; queue = h.queue; running = h.running; observations = passed_are o.number a }
 
 pub closed_are : (now : ℕ) (e : Effect) (token : Result (List ℕ) AskRefusal) → OwnAre e.own → Closing now e token
     → OwnAre (closed now e e.deed token).own
@@ -206,6 +231,7 @@ closed_are now e token z (quiet q none own_same report_same) = subst OwnAre (sym
 closed_are now e token z (goes_out op key asks given sends_it own_same report_same) =
     subst OwnAre (sym own_same) (record {
       szx = z.szx;
+limit = z.limit;
       queue = z.queue;
       running = z.running;
       observations = z.observations;
@@ -224,17 +250,19 @@ head_of r h = record {
   if_match = λ i d low. (h.if_match.each i d low).bytes;
 }
 
-transfer_are : (szx : ℕ) (r : Request) (m : Method) → szx ≤ 6 → AreBytes r.body → TransferAre (transfer_of szx r m)
-transfer_are szx r Get small body = tt
-transfer_are szx r Post small body = record { body = body; num = omega arith; szx = small }
-transfer_are szx r Put small body = record { body = body; num = omega arith; szx = small }
-transfer_are szx r Delete small body = tt
+transfer_are : (sizes : Sizes) (r : Request) (m : Method) → sizes.szx ≤ 6 → sizes.limit ≤ max_limit → AreBytes r.body
+    → TransferAre (transfer_of sizes r m)
+transfer_are sizes r Get small low body = record { limit = low; asked = tt }
+transfer_are sizes r Post small low body = record { body = body; num = omega arith; szx = small }
+transfer_are sizes r Put small low body = record { body = body; num = omega arith; szx = small }
+transfer_are sizes r Delete small low body = tt
 
 pub calling_are : (s : Own) (now : ℕ) (r : Request) (answer : Result ℕ CallRefusal) → OwnAre s
     → ((number : ℕ) → answer ≡ Ok number → IsRequest r)
-    → OwnAre (numbered (λ number. calling s.szx number r) answer (at now s))
+    → OwnAre (numbered (λ number. calling s.sizes number r) answer (at now s))
 calling_are s now r (Err why) h f = record {
   szx = h.szx;
+limit = h.limit;
   queue = h.queue;
   running = h.running;
   observations = h.observations;
@@ -243,8 +271,9 @@ calling_are s now r (Ok number) h f =
     let is = f number refl in
     record {
       szx = h.szx;
-      queue = each_join OpAre s.queue (calling s.szx number r ∷ []) h.queue
-          ((head_of r is, transfer_are s.szx r r.method h.szx is.body), tt);
+limit = h.limit;
+      queue = each_join OpAre s.queue (calling s.sizes number r ∷ []) h.queue
+          ((head_of r is, transfer_are s.sizes r r.method h.szx h.limit is.body), tt);
       running = h.running;
       observations = h.observations;
     }
@@ -253,10 +282,11 @@ pub observing_are : (s : Own) (now : ℕ) (path : List (List ℕ)) (answer : Res
     → ((number : ℕ) → answer ≡ Ok number → All AreBytes path)
     → OwnAre (numbered (λ number. Registering number path) answer (at now s))
 observing_are s now path (Err why) h f = record
-    { szx = h.szx; queue = h.queue; running = h.running; observations = h.observations }
+    { szx = h.szx; limit = h.limit; queue = h.queue; running = h.running; observations = h.observations }
 observing_are s now path (Ok number) h f =
     record {
       szx = h.szx;
+limit = h.limit;
       queue = each_join OpAre s.queue (Registering number path ∷ []) h.queue (f number refl, tt);
       running = h.running;
       observations = h.observations;

@@ -13,6 +13,8 @@ use Rattle.coap_types.specs.declared.option_number.TheConstants.{IF_MATCH as if_
 use Rattle.coap_types.specs.declared.option_number.TheConstants.{IF_NONE_MATCH as if_none_match, URI_PATH as uri_path}
 use Rattle.coap_types.specs.declared.request.Method.{Method}
 use Rattle.coap_types.specs.declared.request.Method.TheVariants.{Get, Post, Put, Delete}
+use Rattle.coap_types.specs.declared.body_limit.TheConstants.{MAX_BODY_LIMIT as max_limit}
+use Rattle.coap_block.specs.Sizes.{Sizes}
 use Rattle.coap_codec.specs.Message.{Message}
 use Rattle.coap_layer.specs.Machine.State as layer
 use Rattle.coap_layer.specs.Sends.{IsIn}
@@ -230,7 +232,7 @@ module _ (now word : ℕ) (sent : L.Answer) (token : Result (List ℕ) AskRefusa
   left_are = closed_are now e token r.own (closing now e token)
 
 at_are : (now : ℕ) (s : Own) → OwnAre s → OwnAre (at now s)
-at_are now s h = record { szx = h.szx; queue = h.queue; running = h.running; observations = h.observations }
+at_are now s h = record { szx = h.szx; limit = h.limit; queue = h.queue; running = h.running; observations = h.observations }
 
 -- an answer has a token of bytes
 heard_are : (server : Endpoint) (t : List Call) (now : ℕ) (from : Endpoint) (bytes : List ℕ) (w : ℕ) (up : L.Answer)
@@ -241,35 +243,36 @@ heard_are server t now from bytes w up settled event sent token kept f are m is 
     (parts_are bytes m are (f.0.came now from bytes w up settled event sent token kept m refl
     (ap Rattle.coap_exchange.specs.AskerFollows.message_told is)).1).0
 
-module _ (server : Endpoint) (szx : ℕ) (small : szx ≤ 6) where
+module _ (server : Endpoint) (sizes : Sizes) (small : sizes.szx ≤ 6) (low : sizes.limit ≤ max_limit) where
   call_are : (t : List Call) (c : Call) → AreFromServer server (c ∷ t) → CallInRange c
-      → Each InputAre (lower (own_of szx t) c) → OwnAre (own_of szx t)
-      → Leaves (own_of szx (c ∷ t)) (lower (own_of szx t) c)
-  call_are t (Calls now r answer) f range inputs h = (calling_are (own_of szx t) now r answer h (λ n is. range), tt)
+      → Each InputAre (lower (own_of sizes t) c) → OwnAre (own_of sizes t)
+      → Leaves (own_of sizes (c ∷ t)) (lower (own_of sizes t) c)
+  call_are t (Calls now r answer) f range inputs h = (calling_are (own_of sizes t) now r answer h (λ n is. range), tt)
   call_are t (Observes now path answer) f range inputs h =
-      (observing_are (own_of szx t) now path answer h (λ n is. range), tt)
+      (observing_are (own_of sizes t) now path answer h (λ n is. range), tt)
   call_are t (Cancels now k None) f range inputs h = (
     record {
       szx = h.szx;
-      queue = each_join OpAre (own_of szx t).queue (Cancelling k ∷ []) h.queue (tt, tt);
+limit = h.limit;
+      queue = each_join OpAre (own_of sizes t).queue (Cancelling k ∷ []) h.queue (tt, tt);
       running = h.running;
       observations = h.observations;
     },
     tt,
   )
-  call_are t (Cancels now k (Some why)) f range inputs h = (at_are now (own_of szx t) h, tt)
+  call_are t (Cancels now k (Some why)) f range inputs h = (at_are now (own_of sizes t) h, tt)
   call_are t (Forgets k kept true) f range inputs h =
-      let o = over_are k (own_of szx t) h in (
-        record { szx = o.szx; queue = o.queue; running = o.running; observations = o.observations },
-        releases_are (observation_of k (own_of szx t).observations) (own_of szx t) kept,
+      let o = over_are k (own_of sizes t) h in (
+        record { szx = o.szx; limit = o.limit; queue = o.queue; running = o.running; observations = o.observations },
+        releases_are (observation_of k (own_of sizes t).observations) (own_of sizes t) kept,
       )
   call_are t (Forgets k kept false) f range inputs h = (h, tt)
   call_are t (NextOut answer) f range inputs h = (h, (tt, tt))
   call_are t (NextReport answer) f range inputs h =
-      (record { szx = h.szx; queue = h.queue; running = h.running; observations = h.observations }, tt)
+      (record { szx = h.szx; limit = h.limit; queue = h.queue; running = h.running; observations = h.observations }, tt)
   call_are t (Asked answer) f range inputs h = (h, tt)
   call_are t (Feeds now from bytes w up settled event sent token kept) f range inputs h =
-      let s : Own = own_of szx t in
+      let s : Own = own_of sizes t in
       let m : ℕ = max s.clock now in
       let e : Effect = happened (at now s) m event in
       let c : Effect = closed m e e.deed token in
@@ -281,35 +284,36 @@ module _ (server : Endpoint) (szx : ℕ) (small : szx ≤ 6) where
       (heard_are server t now from bytes w up settled event sent token kept f are)
       (happened_moves (at now s) m event) in
       let o = left_are m w sent token kept e r in (
-        record { szx = o.szx; queue = o.queue; running = o.running; observations = o.observations },
+        record { szx = o.szx; limit = o.limit; queue = o.queue; running = o.running; observations = o.observations },
         done_are m w sent token kept e r input tt,
       )
   call_are t (Ticks now w below turn sent token kept answer) f range inputs h =
-      let s : Own = own_of szx t in
+      let s : Own = own_of sizes t in
       let m : ℕ = max s.clock now in
       let e : Effect = passes (at now s) m turn in
       let r = ready (at now s) m None e (at_are now s h) (λ a is. absurd (cc is)) (passes_moves (at now s) m turn) in
       let o = left_are m w sent token kept e r in (
-        record { szx = o.szx; queue = o.queue; running = o.running; observations = o.observations },
+        record { szx = o.szx; limit = o.limit; queue = o.queue; running = o.running; observations = o.observations },
         done_are m w sent token kept e r (E.Ticks m below turn) tt,
       )
 
-  all_are : (t : List Call) → AreFromServer server t → Each CallInRange t → Each InputAre (lower_of szx t)
-      → Leaves (own_of szx t) (lower_of szx t)
-  all_are [] f range inputs = (record { szx = small; queue = tt; running = tt; observations = tt }, tt)
+  all_are : (t : List Call) → AreFromServer server t → Each CallInRange t → Each InputAre (lower_of sizes t)
+      → Leaves (own_of sizes t) (lower_of sizes t)
+  all_are [] f range inputs = (record { szx = small; limit = low; queue = tt; running = tt; observations = tt }, tt)
   all_are (c ∷ t) f range inputs =
-      let s : Own = own_of szx t in
-      let k = all_are t f.1 range.1 (each_back InputAre (lower s c) (lower_of szx t) inputs) in
-      let j = call_are t c f range.0 (each_front InputAre (lower s c) (lower_of szx t) inputs) k.0 in
-      (j.0, each_join RequestAre (lower s c) (lower_of szx t) j.1 k.1)
+      let s : Own = own_of sizes t in
+      let k = all_are t f.1 range.1 (each_back InputAre (lower s c) (lower_of sizes t) inputs) in
+      let j = call_are t c f range.0 (each_front InputAre (lower s c) (lower_of sizes t) inputs) k.0 in
+      (j.0, each_join RequestAre (lower s c) (lower_of sizes t) j.1 k.1)
 
-pub client_are : (server : Endpoint) (szx word : ℕ) (t : List Call) → szx ≤ 6 → ClientLaw server szx word t
-    → Each CallInRange t → (p : L.Packet) → Ever (λ e. IsIn p e.out) (layer_of server szx word t) → AreBytes p.bytes
-client_are server szx word t small law range p h =
-    let calls : List E.Call = lower_of szx t in
+pub client_are : (server : Endpoint) (sizes : Sizes) (word : ℕ) (t : List Call) → sizes.szx ≤ 6
+    → sizes.limit ≤ max_limit → ClientLaw server sizes word t
+    → Each CallInRange t → (p : L.Packet) → Ever (λ e. IsIn p e.out) (layer_of server sizes word t) → AreBytes p.bytes
+client_are server sizes word t small low law range p h =
+    let calls : List E.Call = lower_of sizes t in
     let under = law.exchanges in
-    let received = steps_are (layer.start word) under.left (W.lower_of server word calls) under.layer in
-    let k = all_are server szx small t (facts.from_server server szx word t law) range
+    let received = steps_are (layer.start (layer.usual word)) under.left (W.lower_of server word calls) under.layer in
+    let k = all_are server sizes small low t (facts.from_server server sizes word t law) range
     (inputs_are server word calls received) in
     sent_are p word (W.lower_of server word calls) (layer_stands server word calls under)
     (each_are server word calls k.1) h

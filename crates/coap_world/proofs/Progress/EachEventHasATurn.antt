@@ -50,17 +50,17 @@ module _ (config : Config) (events : List Event) (turns : List Turn) (run : Reco
   abbrev servers : List S.Call
   servers = server_trace config all
 
-  client_goes_on : client_goes_spec.GoesOn server_end config.client_szx config.client_word clients
-  client_goes_on = client_calls.goes_on server_end config.client_szx config.client_word clients run.client
+  client_goes_on : client_goes_spec.GoesOn server_end config.client_sizes config.client_word clients
+  client_goes_on = client_calls.goes_on server_end config.client_sizes config.client_word clients run.client
 
-  server_goes_on : server_goes_spec.GoesOn config.limit config.server_szx config.server_word servers
-  server_goes_on = server_facts.goes config.limit config.server_szx config.server_word servers run.server
+  server_goes_on : server_goes_spec.GoesOn config.limits config.server_szx config.server_word servers
+  server_goes_on = server_facts.goes config.limits config.server_szx config.server_word servers run.server
 
   -- a turn that makes these entries
   follows : (what : What) → MayHappen turns (event what) → (entries : List Entry)
       → Makes turns at word what false entries
-      → ClientLaw server_end config.client_szx config.client_word (client_of (entries ++ all))
-      → ServerLaw config.limit config.server_szx config.server_word (server_trace config (entries ++ all))
+      → ClientLaw server_end config.client_sizes config.client_word (client_of (entries ++ all))
+      → ServerLaw config.limits config.server_szx config.server_word (server_trace config (entries ++ all))
       → Follows config events turns (event what)
   follows what may entries makes on_client on_server = record {
     entries = entries;
@@ -82,13 +82,13 @@ module _ (config : Config) (events : List Event) (turns : List Turn) (run : Reco
 
   -- a turn of the client: its calls, all that it has out, and its reports
   of_client : (what : What) → MayHappen turns (event what) → (calls : List C.Call)
-      → ClientLaw server_end config.client_szx config.client_word (calls ++ clients)
+      → ClientLaw server_end config.client_sizes config.client_word (calls ++ clients)
       → ((entries : List Entry) → OnClient calls entries → Makes turns at word what false entries)
       → Follows config events turns (event what)
   of_client what may calls law makes =
-      let outs = (client_calls.comes_to_rest server_end config.client_szx config.client_word
+      let outs = (client_calls.comes_to_rest server_end config.client_sizes config.client_word
       (calls ++ clients) law).outs in
-      let reports = (client_calls.comes_to_rest server_end config.client_szx config.client_word
+      let reports = (client_calls.comes_to_rest server_end config.client_sizes config.client_word
       (all_taken C.NextOut outs.0 ++ (calls ++ clients)) outs.1).reports in
       let taken : List C.Call = C.NextOut None ∷ (map (λ p. C.NextOut (Some p)) outs.0 ++ calls) in
       let given : List C.Call = map (λ r. C.NextReport (Some r)) reports.0 in
@@ -100,26 +100,26 @@ module _ (config : Config) (events : List Event) (turns : List Turn) (run : Reco
       (append_assoc (map (λ p. C.NextOut (Some p)) outs.0) calls clients)) in
       follows what may (map OfClient list) (makes (map OfClient list)
       (record { outs = outs.0; reports = reports.0; is = refl }))
-      (subst (ClientLaw server_end config.client_szx config.client_word)
+      (subst (ClientLaw server_end config.client_sizes config.client_word)
       (sym (client_client list all ∙ same)) reports.1)
-      (subst (λ xs. ServerLaw config.limit config.server_szx config.server_word (xs ++ begun_with config))
+      (subst (λ xs. ServerLaw config.limits config.server_szx config.server_word (xs ++ begun_with config))
       (sym (server_client list all)) run.server)
 
   -- a turn of the server: its calls, and all that it has out
   of_server : (what : What) → MayHappen turns (event what) → (calls : List S.Call)
-      → ServerLaw config.limit config.server_szx config.server_word (calls ++ servers)
+      → ServerLaw config.limits config.server_szx config.server_word (calls ++ servers)
       → ((entries : List Entry) → OnServer calls entries → Makes turns at word what false entries)
       → Follows config events turns (event what)
   of_server what may calls law makes =
-      let outs = (server_facts.rests config.limit config.server_szx config.server_word (calls ++ servers) law).outs in
+      let outs = (server_facts.rests config.limits config.server_szx config.server_word (calls ++ servers) law).outs in
       let given : List S.Call = map (λ p. S.NextOut (Some p)) outs.0 in
       let list : List S.Call = S.NextOut None ∷ (given ++ calls) in
       let same : (list ++ server_of all) ++ begun_with config ≡ all_taken S.NextOut outs.0 ++ (calls ++ servers) =
       append_assoc list (server_of all) (begun_with config)
       ∙ ap (λ xs. S.NextOut None ∷ xs) (append_assoc given calls servers) in
       follows what may (map OfServer list) (makes (map OfServer list) (record { outs = outs.0; is = refl }))
-      (subst (ClientLaw server_end config.client_szx config.client_word) (sym (client_server list all)) run.client)
-      (subst (ServerLaw config.limit config.server_szx config.server_word)
+      (subst (ClientLaw server_end config.client_sizes config.client_word) (sym (client_server list all)) run.client)
+      (subst (ServerLaw config.limits config.server_szx config.server_word)
       (sym (ap (λ xs. xs ++ begun_with config) (server_server list all) ∙ same)) outs.1)
 
   -- a datagram
@@ -170,11 +170,11 @@ module _ (config : Config) (events : List Event) (turns : List Turn) (run : Reco
       of_server (Removes path) may (call ∷ []) k.2
       (λ entries on. (call ∷ [], ((call, (k.0, k.1, refl), refl), refl), on))
   by_what TickClient may =
-      let k = (client_calls.comes_to_rest server_end config.client_szx config.client_word clients run.client).ticks at
+      let k = (client_calls.comes_to_rest server_end config.client_sizes config.client_word clients run.client).ticks at
       word in
       of_client TickClient may k.0 k.2 (λ entries on. (k.0, are_ticks (ClientTick at word) k.0 k.1, on))
   by_what TickServer may =
-      let k = (server_facts.rests config.limit config.server_szx config.server_word servers run.server).ticks at word in
+      let k = (server_facts.rests config.limits config.server_szx config.server_word servers run.server).ticks at word in
       of_server TickServer may k.0 k.2 (λ entries on. (k.0, are_ticks (ServerTick at word) k.0 k.1, on))
   by_what (StrangerToClient from bytes) may = to_client (StrangerToClient from bytes) may from bytes may.range.1
       (λ calls entries one on. (calls, one, on))
@@ -210,24 +210,24 @@ module _ (config : Config) where
   abbrev begun_by : List S.Delay → List S.Call
   begun_by ds = map (λ (d : S.Delay). S.Delays d.path d.ms true) ds
 
-  few_delays : (ds : List S.Delay) → length (own_of config.limit config.server_szx (begun_by ds)).delays ≤ length ds
+  few_delays : (ds : List S.Delay) → length (own_of config.limits config.server_szx (begun_by ds)).delays ≤ length ds
   few_delays [] = omega arith
   few_delays (d ∷ ds) =
-      let have = (own_of config.limit config.server_szx (begun_by ds)).delays in
+      let have = (own_of config.limits config.server_szx (begun_by ds)).delays in
       let k = few_delays ds in
       let o = few_others d.path have in
       let e = length-append (others d.path have) (record { path = d.path; ms = d.ms } ∷ []) in
       omega (arith, k, o, e)
 
   begins_by : (ds : List S.Delay) → length ds ≤ max_delays
-      → ServerLaw config.limit config.server_szx config.server_word (begun_by ds)
+      → ServerLaw config.limits config.server_szx config.server_word (begun_by ds)
   begins_by [] few = record {
     rows = tt;
     exchanges =
-        record { rows = tt; left = layer.start config.server_word; layer = refl };
+        record { rows = tt; left = layer.start (layer.usual config.server_word); layer = refl };
   }
   begins_by (d ∷ ds) few =
-      let have = (own_of config.limit config.server_szx (begun_by ds)).delays in
+      let have = (own_of config.limits config.server_szx (begun_by ds)).delays in
       let k = few_delays ds in
       let o = few_others d.path have in
       let law = begins_by ds (omega (arith, few)) in
@@ -243,7 +243,7 @@ module _ (config : Config) where
     client = record {
       rows = tt;
       exchanges = record
-          { rows = tt; left = layer.start config.client_word; layer = refl };
+          { rows = tt; left = layer.start (layer.usual config.client_word); layer = refl };
     };
     server = begins_by config.delays range.few;
   }

@@ -17,22 +17,22 @@ use Rattle.coap_world.proofs.Progress.EachEventHasATurn.{goes_on}
 -- what was before stands in the laws of both ends
 module _ (config : Config) where
   abbrev ForClient : List Entry → Type 0
-  ForClient t = ClientLaw server_end config.client_szx config.client_word (client_of t)
+  ForClient t = ClientLaw server_end config.client_sizes config.client_word (client_of t)
 
   abbrev ForServer : List Entry → Type 0
-  ForServer t = ServerLaw config.limit config.server_szx config.server_word (server_trace config t)
+  ForServer t = ServerLaw config.limits config.server_szx config.server_word (server_trace config t)
 
   client_behind : (later past : List Entry) → ForClient (later ++ past) → ForClient past
   client_behind [] past law = law
   client_behind (OfClient c ∷ later) past law = client_behind later past
-      (client_facts.back server_end config.client_szx config.client_word (c ∷ []) (client_of (later ++ past)) law)
+      (client_facts.back server_end config.client_sizes config.client_word (c ∷ []) (client_of (later ++ past)) law)
   client_behind (OfServer c ∷ later) past law = client_behind later past law
 
   server_behind : (later past : List Entry) → ForServer (later ++ past) → ForServer past
   server_behind [] past law = law
   server_behind (OfClient c ∷ later) past law = server_behind later past law
   server_behind (OfServer c ∷ later) past law = server_behind later past
-      (server_facts.back config.limit config.server_szx config.server_word (c ∷ [])
+      (server_facts.back config.limits config.server_szx config.server_word (c ∷ [])
       (server_trace config (later ++ past)) law)
 
   client_before : (later past : List Turn) → ForClient (entries_of (later ++ past)) → ForClient (entries_of past)

@@ -9,6 +9,7 @@ use Rattle.coap_layer.specs.Machine.State.{start}
 use Rattle.coap_layer.specs.Machine.Steps.{Asked, entries}
 use Rattle.coap_layer.specs.Trace as L
 use Rattle.coap_layer.specs.Trace.{with_head}
+use Rattle.coap_layer.specs.declared.setup.Setup.{Setup}
 use Rattle.coap_exchange.specs.AskerArrivals.{replying}
 use Rattle.coap_exchange.specs.EmptyMessages.{ack_bytes, reset_bytes}
 use Rattle.coap_server.specs.Follows.Sources.{Source}
@@ -44,12 +45,12 @@ module _ (p : L.Packet) where
   each_source (a ∷ calls) are (inl h) = source_are a.call are.0 h
   each_source (a ∷ calls) are (inr h) = each_source calls are.1 h
 
-  pub sent_are : (word : ℕ) (calls : List Asked) → LayerLaw word (entries (start word) calls) → EachAre calls
-      → Ever (λ e. IsIn p e.out) (entries (start word) calls) → AreBytes p.bytes
-  sent_are word calls law are h =
-      elim (sourced word p (entries (start word) calls) law h) [
+  pub sent_are : (setup : Setup) (calls : List Asked) → LayerLaw setup (entries (start setup) calls) → EachAre calls
+      → Ever (λ e. IsIn p e.out) (entries (start setup) calls) → AreBytes p.bytes
+  sent_are setup calls law are h =
+      elim (sourced setup p (entries (start setup) calls) law h) [
         | inl k ↦ empty_are p.bytes k.0 k.1 k.2
-        | inr k ↦ each_source calls are (called (Source p) (start word) calls k)
+        | inr k ↦ each_source calls are (called (Source p) (start setup) calls k)
       ]
 
 -- Empty replies

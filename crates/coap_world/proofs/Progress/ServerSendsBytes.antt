@@ -6,8 +6,9 @@ use Rattle.std.proofs.Common.{sym, subst}
 use Rattle.std.specs.Prelude.{◌==◌, nat_lt, nat_le, IfSome}
 use Rattle.coap_types.specs.Past.{Ever}
 use Rattle.coap_types.specs.Bytes.{AreBytes}
-use Rattle.coap_types.specs.Piece.{max_body_len, offset_of}
+use Rattle.coap_types.specs.Piece.{offset_of}
 use Rattle.coap_types.specs.declared.block.Block.{Block}
+use Rattle.coap_resource.specs.Limits.{Limits}
 use Rattle.coap_codec.specs.Message.{Message}
 use Rattle.coap_layer.specs.Machine.State as layer
 use Rattle.coap_layer.specs.Sends.{IsIn}
@@ -92,7 +93,7 @@ size_asked : (uploads : AssemblyState) (at : ℕ) (a : Asked) (q : Question) (b 
     → ruling_of uploads at a q b ≡ Join size → answered_szx uploads.szx b ≡ size
 size_asked uploads at a q b size h =
     by (fills b.more b.szx (length q.body)) (goes_on (reached (key_of a q) (there_at uploads at)) b.num b.szx)
-    (nat_lt max_body_len (offset_of b.num b.szx + length q.body))
+    (nat_lt uploads.limit (offset_of b.num b.szx + length q.body))
     (b.more && (b.num == 0) && nat_le max_partials (length (without_key (key_of a q) (there_at uploads at)))) b.more h
   where
     by : (f g l u m : Bool) → cond (not f) (Refuse BadRequest)
@@ -360,9 +361,9 @@ call_are s (Ticks now word below room d passed k id answer) own right range h =
 
 -- all calls
 
-module _ (limit szx : ℕ) (small : szx ≤ 6) where
-  all_are : (t : List Call) → ServerRows limit szx t → Each ChangeInRange t → Each IncomingAre (lower_of limit szx t)
-      → Leaves (own_of limit szx t) (lower_of limit szx t)
+module _ (limits : Limits) (szx : ℕ) (small : szx ≤ 6) where
+  all_are : (t : List Call) → ServerRows limits szx t → Each ChangeInRange t → Each IncomingAre (lower_of limits szx t)
+      → Leaves (own_of limits szx t) (lower_of limits szx t)
   all_are [] rows range h = (
     record {
       szx = small;
@@ -374,17 +375,17 @@ module _ (limit szx : ℕ) (small : szx ≤ 6) where
     tt,
   )
   all_are (c ∷ t) rows range h =
-      let s : Own = own_of limit szx t in
-      let k = all_are t rows.1 range.1 (each_back IncomingAre (lower s c) (lower_of limit szx t) h) in
-      let j = call_are s c k.0 rows.0 range.0 (each_front IncomingAre (lower s c) (lower_of limit szx t) h) in
-      (j.0, each_join RespondAre (lower s c) (lower_of limit szx t) j.1 k.1)
+      let s : Own = own_of limits szx t in
+      let k = all_are t rows.1 range.1 (each_back IncomingAre (lower s c) (lower_of limits szx t) h) in
+      let j = call_are s c k.0 rows.0 range.0 (each_front IncomingAre (lower s c) (lower_of limits szx t) h) in
+      (j.0, each_join RespondAre (lower s c) (lower_of limits szx t) j.1 k.1)
 
-  pub server_are : (word : ℕ) (t : List Call) → ServerLaw limit szx word t → Each ChangeInRange t → (p : L.Packet)
-      → Ever (λ e. IsIn p e.out) (layer_of limit szx word t) → AreBytes p.bytes
+  pub server_are : (word : ℕ) (t : List Call) → ServerLaw limits szx word t → Each ChangeInRange t → (p : L.Packet)
+      → Ever (λ e. IsIn p e.out) (layer_of limits szx word t) → AreBytes p.bytes
   server_are word t law range p h =
-      let calls : List E.Call = lower_of limit szx t in
+      let calls : List E.Call = lower_of limits szx t in
       let under = law.exchanges in
       let came = all_incoming calls (came_in word calls under.rows under.left under.layer)
-      (steps_are (layer.start word) under.left (W.lower_of calls) under.layer) in
+      (steps_are (layer.start (layer.usual word)) under.left (W.lower_of calls) under.layer) in
       let k = all_are t law.rows range came in
       sent_are p word (W.lower_of calls) (layer_stands word calls under) (each_are calls under.rows k.1) h

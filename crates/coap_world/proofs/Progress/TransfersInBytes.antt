@@ -13,7 +13,7 @@ use Rattle.coap_types.specs.BlockValue.{block_value}
 use Rattle.coap_types.specs.Piece.{size_of, offset_of}
 use Rattle.coap_types.specs.Uint.{uint}
 use Rattle.coap_types.specs.declared.block.Block.{Block}
-use Rattle.coap_types.specs.declared.limits.TheConstants.{MAX_BODY_LEN as max_body}
+use Rattle.coap_types.specs.declared.body_limit.TheConstants.{MAX_BODY_LIMIT as max_limit}
 use Rattle.coap_types.specs.declared.option_number.TheConstants.{BLOCK1 as block1}
 use Rattle.coap_types.proofs.Facts.Bytes.{AreBytes-drop, AreBytes-take}
 use Rattle.coap_types.proofs.Facts.Uints.{uint_spells}
@@ -47,7 +47,7 @@ uint_are n low = (uint_spells n low).are_bytes
 
 record AsksSmall (f : FetchState) (b : Block) (len num size : ℕ) : Type 0 where
   full : len ≡ size_of b.szx
-  small : offset_of b.num b.szx + len ≤ max_body
+  small : offset_of b.num b.szx + len ≤ f.limit
   num_is : next_num f b ≡ num
   size_is : next_szx f b ≡ size
 
@@ -72,10 +72,10 @@ module _ (f : FetchState) (b : Block) (tag : Option (List ℕ)) (len : ℕ) wher
 
   asks_small : (num size : ℕ) → F.verdict f (Some b) tag len ≡ verdict.Ask num size → AsksSmall f b len num size
   asks_small num size h = by (fits f.asked b.num b.szx && is_sized b.more b.num b.szx len) refl
-      (nat_lt max_body (offset_of b.num b.szx + len)) refl (lacks_tag b tag) (differs f tag) b.more refl h
+      (nat_lt f.limit (offset_of b.num b.szx + len)) refl (lacks_tag b tag) (differs f tag) b.more refl h
     where
       by : (s : Bool) → (fits f.asked b.num b.szx && is_sized b.more b.num b.szx len) ≡ s → (l : Bool)
-          → nat_lt max_body (offset_of b.num b.szx + len) ≡ l → (n d m : Bool) → b.more ≡ m
+          → nat_lt f.limit (offset_of b.num b.szx + len) ≡ l → (n d m : Bool) → b.more ≡ m
           → chosen s l n d m ≡ verdict.Ask num size → AsksSmall f b len num size
       by false a l c n d m e h = absurd (cc h)
       by true a true c n d m e h = absurd (cc h)
@@ -86,40 +86,42 @@ module _ (f : FetchState) (b : Block) (tag : Option (List ℕ)) (len : ℕ) wher
           let k = and_parts (fits f.asked b.num b.szx) (is_sized b.more b.num b.szx len) a in
           record {
             full = full_by b.more e k.1;
-            small = lt_not max_body (offset_of b.num b.szx + len) c;
+            small = lt_not f.limit (offset_of b.num b.szx + len) c;
             num_is = cc h;
             size_is = cc h;
           }
 
 -- a block of a body has a small size
-size_small : (szx : ℕ) → size_of szx ≤ 65536 → szx ≤ 12
-size_small szx h = by (nat_le szx 12) refl
+size_small : (szx : ℕ) → size_of szx ≤ max_limit → szx ≤ 16
+size_small szx h = by (nat_le szx 16) refl
   where
-    by : (b : Bool) → nat_le szx 12 ≡ b → szx ≤ 12
+    by : (b : Bool) → nat_le szx 16 ≡ b → szx ≤ 16
     by true e = grind (arith, nat_tests, e)
     by false e =
-        let over : 13 ≤ szx = grind (arith, nat_tests, e) in
-        let k : 131072 ≤ size_of szx = pow_mono {i = 17} {j = szx + 4} (omega (arith, over)) in
+        let over : 17 ≤ szx = grind (arith, nat_tests, e) in
+        let k : 2097152 ≤ size_of szx = pow_mono {i = 21} {j = szx + 4} (omega (arith, over)) in
         absurd (omega (arith, h, k))
 
-value_small : (num more szx : ℕ) → num ≤ 1048576 → more ≤ 8 → szx ≤ 12 → num * 16 + more + szx < 2 ^ 32
+value_small : (num more szx : ℕ) → num ≤ 2097152 → more ≤ 8 → szx ≤ 16 → num * 16 + more + szx < 2 ^ 32
 value_small num more szx h m k = omega (arith, h, m, k)
 
-asked_small : (f : FetchState) (b : Block) (len num size : ℕ) → AsksSmall f b len num size
+asked_small : (f : FetchState) (b : Block) (len num size : ℕ) → f.limit ≤ max_limit → AsksSmall f b len num size
     → block_value (record { num = num; more = false; szx = size }) < 2 ^ 32
-asked_small f b len num size a =
+asked_small f b len num size limit a =
     let full = a.full in
     let small = a.small in
     let size_is : min b.szx f.szx ≡ size = a.size_is in
-    let b_small = size_small b.szx (omega (arith, full, small)) in
+    let b_small = size_small b.szx (omega (arith, limit, full, small)) in
     let whole = div-le_self (offset_of b.num b.szx + size_of b.szx) (size_of (min b.szx f.szx)) in
     let num_is : (offset_of b.num b.szx + size_of b.szx) / size_of (min b.szx f.szx) ≡ num = a.num_is in
-    value_small num 0 size (omega (arith, num_is, whole, full, small)) (omega arith) (omega (arith, size_is, b_small))
+    value_small num 0 size (omega (arith, limit, num_is, whole, full, small)) (omega arith) (omega (arith, size_is, b_small))
 
 -- transfers
 
-abbrev pub FetchAre : FetchState → Type 0
-FetchAre f = ValuesAre (block2_option f.asked)
+-- the block that is asked for is a number of bytes, and so is that behind any part
+pub record FetchAre (f : FetchState) : Type 0 where
+  pub limit : f.limit ≤ max_limit
+  pub asked : ValuesAre (block2_option f.asked)
 
 -- a body of bytes, and a number that is written in three bytes
 pub record UploadAre (u : UploadState) : Type 0 where
@@ -132,29 +134,30 @@ TransferAre (Fetches f) = FetchAre f
 TransferAre (Uploads u) = UploadAre u
 TransferAre Single = Unit {0}
 
-after_ask : (f : FetchState) (m : Message) (num size : ℕ) → part f m ≡ verdict.Ask num size
+after_ask : (f : FetchState) (m : Message) (num size : ℕ) → f.limit ≤ max_limit → part f m ≡ verdict.Ask num size
     → FetchAre (F.after f (tag_in m) m.payload (verdict.Ask num size))
-after_ask f m num size h =
+after_ask f m num size limit h =
     let k = part_asks f m num size h in
     let a = asks_small f k.0 (tag_in m) (length m.payload) num size k.2 in
-    (uint_are _ (asked_small f k.0 (length m.payload) num size a), tt)
+    record { limit = limit; asked = (uint_are _ (asked_small f k.0 (length m.payload) num size limit a), tt) }
 
 abbrev NextAre : Next → Type 0
 NextAre (Asks t) = TransferAre t
 NextAre (Ends final report) = Unit {0}
 
-fetched_are : (f : FetchState) (m : Message) (v : Verdict) → part f m ≡ v → NextAre (fetched f m v)
-fetched_are f m (verdict.Refuse why) is = tt
-fetched_are f m verdict.Again is = tt
-fetched_are f m verdict.Done is = tt
-fetched_are f m (verdict.Ask num size) is = after_ask f m num size is
+fetched_are : (f : FetchState) (m : Message) (v : Verdict) → f.limit ≤ max_limit → part f m ≡ v
+    → NextAre (fetched f m v)
+fetched_are f m (verdict.Refuse why) limit is = tt
+fetched_are f m verdict.Again limit is = record { limit = limit; asked = tt }
+fetched_are f m verdict.Done limit is = tt
+fetched_are f m (verdict.Ask num size) limit is = after_ask f m num size limit is
 
-got_are : (r : Request) (f : FetchState) (m : Message) → NextAre (got r f m)
-got_are r f m = by (m.code == content) ((m.code == valid) && has_tags r.etags)
+got_are : (r : Request) (f : FetchState) (m : Message) → f.limit ≤ max_limit → NextAre (got r f m)
+got_are r f m limit = by (m.code == content) ((m.code == valid) && has_tags r.etags)
   where
     by : (a b : Bool) → NextAre (cond a (fetched f m (part f m))
         (cond b (Ends true (Valid (tag_in m))) (Ends true (Failed m.code))))
-    by true b = fetched_are f m (part f m) refl
+    by true b = fetched_are f m (part f m) limit refl
     by false true = tt
     by false false = tt
 
@@ -184,14 +187,14 @@ pub answer_are : (r : Request) (t next : Transfer) (m : Message) → TransferAre
 answer_are r t next m h is = subst NextAre is (by t h)
   where
     by : (t : Transfer) → TransferAre t → NextAre (answer r t m)
-    by (Fetches f) k = got_are r f m
+    by (Fetches f) k = got_are r f m k.limit
     by (Uploads u) k = sent_are r u m k
     by Single k = tt
 
 -- what a transfer sends
 
 pub block_are : (t : Transfer) → TransferAre t → ValuesAre (block_option t)
-block_are (Fetches f) h = h
+block_are (Fetches f) h = h.asked
 block_are Single h = tt
 block_are (Uploads u) h = by (is_longer u) (more_follows u) refl
   where
@@ -219,9 +222,9 @@ abbrev pub RestAre : Option Notified → Type 0
 RestAre None = Unit {0}
 RestAre (Some n) = FetchAre n.fetch
 
-pub rest_are : (sequence : ℕ) (f : FetchState) (m : Message) (v : Verdict) → part f m ≡ v
+pub rest_are : (sequence : ℕ) (f : FetchState) (m : Message) (v : Verdict) → f.limit ≤ max_limit → part f m ≡ v
     → RestAre (rest sequence f m v)
-rest_are sequence f m (verdict.Refuse why) is = tt
-rest_are sequence f m verdict.Again is = tt
-rest_are sequence f m verdict.Done is = tt
-rest_are sequence f m (verdict.Ask num size) is = after_ask f m num size is
+rest_are sequence f m (verdict.Refuse why) limit is = tt
+rest_are sequence f m verdict.Again limit is = tt
+rest_are sequence f m verdict.Done limit is = tt
+rest_are sequence f m (verdict.Ask num size) limit is = after_ask f m num size limit is

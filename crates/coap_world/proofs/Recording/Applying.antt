@@ -2,6 +2,7 @@
 use Rattle.std.proofs.Common.{◌≡◌, ℕ, ◌+◌, ◌==◌, Bool, true, false, Option, Some, None, List, [], ◌∷◌, ◌++◌, refl}
 use Rattle.std.proofs.Common.{sym, ap, ◌∙◌, arith, if◌then◌else◌}
 use Rattle.std.proofs.lemmas.Bool.Decides.{Decides-eqb}
+use Rattle.coap_resource.specs.Limits.{Limits}
 use Rattle.coap_resource.specs.Content.{Content, Held}
 use Rattle.coap_exchange.specs.declared.answerer.Due.TheVariants as due
 use Rattle.coap_server.specs.Law.{ServerRows, own_of}
@@ -164,23 +165,23 @@ told_of sender n (Some x) right new store is =
     (is_applied x.reply.code) (x.left.tally.version == x.old.tally.version) (λ y h. right x y refl h) new store.holds
     (ap (λ (s : Content). s.holds x.question.path) (is x refl))
 
-module _ (limit szx : ℕ) (sender : List ℕ → Option ℕ) (t : List S.Call) (c : S.Call)
-    (rows : ServerRows limit szx (c ∷ t)) (input : IsInput c) where
+module _ (limits : Limits) (szx : ℕ) (sender : List ℕ → Option ℕ) (t : List S.Call) (c : S.Call)
+    (rows : ServerRows limits szx (c ∷ t)) (input : IsInput c) where
   abbrev pub s : S.Own
-  s = own_of limit szx t
+  s = own_of limits szx t
 
   pub told_input :
       (applied_told sender (after s c).applied (after s c).store.holds ≡ applied_lines sender (serving s c)
       ++ line_if Changes (change s c))
-      × (version_told (after s c).applied (changes limit szx t) ≡ changes limit szx (c ∷ t))
+      × (version_told (after s c).applied (changes limits szx t) ≡ changes limits szx (c ∷ t))
   told_input =
       let k = served_by s c input in
-      let right = (all_served limit szx (c ∷ t) rows).0 in
-      let holds = (holds_changes limit szx (c ∷ t) rows).0 in
-      let p = told_of sender (changes limit szx t) (serving s c) (λ x y h g. right.changes_by x y h (k.change ∙ g))
+      let right = (all_served limits szx (c ∷ t) rows).0 in
+      let holds = (holds_changes limits szx (c ∷ t) rows).0 in
+      let p = told_of sender (changes limits szx t) (serving s c) (λ x y h g. right.changes_by x y h (k.change ∙ g))
       (λ y g. holds.version y (k.change ∙ g)) (after s c).store k.store in (
         ap (λ l. applied_told sender l (after s c).store.holds) k.applied ∙ p.0
             ∙ ap (λ o. applied_lines sender (serving s c) ++ line_if Changes o) (sym k.change),
-        ap (λ l. version_told l (changes limit szx t)) k.applied ∙ p.1
-            ∙ ap (λ o. counted o + changes limit szx t) (sym k.change),
+        ap (λ l. version_told l (changes limits szx t)) k.applied ∙ p.1
+            ∙ ap (λ o. counted o + changes limits szx t) (sym k.change),
       )

@@ -71,15 +71,15 @@ module _ {A : Type 0} where
       ≡ noted token mid.client.own.asked (sender_in mid.senders token)) → Moves ClientLed old (c ∷ []) new
   input_moves c old mid new input step same client_is notes config t h =
       record {
-        led = subst (client.Led server_end config.client_szx config.client_word (c ∷ t)) (sym client_is)
-            (led_client server_end config.client_szx config.client_word t c old.client mid.client h.led step);
+        led = subst (client.Led server_end config.client_sizes config.client_word (c ∷ t)) (sym client_is)
+            (led_client server_end config.client_sizes config.client_word t c old.client mid.client h.led step);
         senders = λ token.
             notes token
             ∙ ap (λ (s : Senders A). noted token mid.client.own.asked (sender_in s token)) same
             ∙ ap (λ o. noted token o (sender_in old.senders token))
             (ap (λ (o : Own). o.asked) step.own_is ∙ asked_is old.client.own c input
             ∙ ap (λ (s : Own). sent_as (sends s c)) h.led.own_is)
-            ∙ ap (noted token (sent_as (sends (own_of config.client_szx t) c))) (h.senders token);
+            ∙ ap (noted token (sent_as (sends (own_of config.client_sizes t) c))) (h.senders token);
       }
 
   -- another call, which sends nothing
@@ -88,12 +88,12 @@ module _ {A : Type 0} where
       → new.senders ≡ old.senders → Moves ClientLed old (c ∷ []) new
   still_moves c old new none step same config t h =
       record {
-        led = led_client server_end config.client_szx config.client_word t c old.client new.client h.led step;
+        led = led_client server_end config.client_sizes config.client_word t c old.client new.client h.led step;
         senders = λ token.
             ap (λ (s : Senders A). sender_in s token) same
             ∙ h.senders token
-            ∙ ap (λ o. noted token (sent_as o) (sender_of config.client_szx token t))
-            (sym (none (own_of config.client_szx t)));
+            ∙ ap (λ o. noted token (sent_as o) (sender_of config.client_sizes token t))
+            (sym (none (own_of config.client_sizes t)));
       }
 
   -- what an input tells

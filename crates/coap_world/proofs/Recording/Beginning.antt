@@ -5,6 +5,7 @@ use Rattle.std.proofs.lemmas.Bool.{lt-ltb}
 use Rattle.std.proofs.lemmas.List.{drop-map, drop_more, drop_all, length-append, length-drop, length-map}
 use Rattle.std.proofs.lemmas.List.Filters.{length-filter_both}
 use Rattle.coap_types.specs.Path.{same_path}
+use Rattle.coap_resource.specs.Limits.{Limits}
 use Rattle.coap_server.specs.Deferring.{others, may_delay}
 use Rattle.coap_server.specs.Law.{own_of}
 use Rattle.coap_server.specs.Follows.Holds.{changes}
@@ -19,12 +20,12 @@ not_both : (b : Bool) → false ≡ b → b ≡ true → ⊥
 not_both true f t = cc
 not_both false f t = cc
 
-module _ (limit szx : ℕ) where
+module _ (limits : Limits) (szx : ℕ) where
   -- no more paths have a delay than were given one
-  pub few_given : (ds : List S.Delay) → length (own_of limit szx (gives ds)).delays ≤ length ds
+  pub few_given : (ds : List S.Delay) → length (own_of limits szx (gives ds)).delays ≤ length ds
   few_given [] = omega (arith)
   few_given (d ∷ ds) =
-      let before = (own_of limit szx (gives ds)).delays in
+      let before = (own_of limits szx (gives ds)).delays in
       let rest = few_given ds in
       let left = length-filter_both (λ (x : S.Delay). not (same_path x.path d.path))
       (λ (x : S.Delay). not (not (same_path x.path d.path))) (λ x. refl) before in
@@ -33,9 +34,9 @@ module _ (limit szx : ℕ) where
 
   -- so one more may be given
   pub none_full : (ds : List S.Delay) (path : List (List ℕ)) → length ds < max_delays
-      → false ≡ may_delay path (own_of limit szx (gives ds)).delays → ⊥
+      → false ≡ may_delay path (own_of limits szx (gives ds)).delays → ⊥
   none_full ds path few full =
-      let before = (own_of limit szx (gives ds)).delays in
+      let before = (own_of limits szx (gives ds)).delays in
       let left = length-filter_both (λ (x : S.Delay). not (same_path x.path path))
       (λ (x : S.Delay). not (not (same_path x.path path))) (λ x. refl) before in
       let rest = few_given ds in
@@ -69,6 +70,6 @@ pub few_left : (ds : List S.Delay) (left : ℕ) → 0 < left → left ≤ length
 few_left ds left some within few = let long = length-drop left ds in omega (arith, long, some, within, few)
 
 -- a delay changes nothing
-pub none_changed : (limit szx : ℕ) (ds : List S.Delay) → changes limit szx (gives ds) ≡ 0
-none_changed limit szx [] = refl
-none_changed limit szx (d ∷ ds) = sym (zero_plus (changes limit szx (gives ds))) ∙ none_changed limit szx ds
+pub none_changed : (limits : Limits) (szx : ℕ) (ds : List S.Delay) → changes limits szx (gives ds) ≡ 0
+none_changed limits szx [] = refl
+none_changed limits szx (d ∷ ds) = sym (zero_plus (changes limits szx (gives ds))) ∙ none_changed limits szx ds

@@ -5,6 +5,8 @@ use Rattle.std.proofs.lemmas.Bool.{ltb-true}
 use Rattle.std.proofs.lemmas.List.{length-append}
 use Rattle.std.proofs.lemmas.List.Elements.{All-filter, All-push}
 use Rattle.coap_types.specs.Path.{IsPath, same_path}
+use Rattle.coap_block.specs.Sizes.{Sizes}
+use Rattle.coap_resource.specs.Limits.{Limits}
 use Rattle.coap_server.specs.Trace as T
 use Rattle.coap_server.specs.Deferring.{others, delays_with, may_delay}
 use Rattle.coap_server.specs.Turns.DelaysShown.{delays_as}
@@ -14,22 +16,25 @@ use Rattle.coap_world.specs.Legal.{IsConfig, IsDelay}
 use Rattle.coap_world.specs.Run.Configs.{config_of}
 
 pub still_config :
-    {A X : Type 0} (client_word client_szx server_word server_szx limit : ℕ) (old new : List (PathDelay A))
+    {A X : Type 0} (client_word : ℕ) (client_sizes : Sizes) (server_word server_szx : ℕ) (limits : Limits)
+    (old new : List (PathDelay A))
     (path : List (List ℕ)) (ms : ℕ) (r : Result Bool X)
-    → IsConfig (config_of client_word client_szx server_word server_szx limit old) → IsPath path → ms < 2 ^ 64
+    → IsConfig (config_of client_word client_sizes server_word server_szx limits old) → IsPath path → ms < 2 ^ 64
     → IfOk r (λ given. (given ≡ may_delay path (delays_as old))
     × (delays_as new ≡ delays_with path ms given (delays_as old))) → OnErr r (new ≡ old)
-    → IsConfig (config_of client_word client_szx server_word server_szx limit new)
-still_config cw cs sw ss limit old new path ms (Ok true) is p small given err =
+    → IsConfig (config_of client_word client_sizes server_word server_szx limits new)
+still_config cw cs sw ss limits old new path ms (Ok true) is p small given err =
     let room : length (others path (delays_as old)) < max_delays = ltb-true _ _ (sym given.0) in
     let long = length-append (others path (delays_as old)) (record { path = path; ms = ms } ∷ []) in
     record {
       client_word = is.client_word;
       client_szx = is.client_szx;
+      client_limit = is.client_limit;
       server_word = is.server_word;
       server_szx = is.server_szx;
       some = is.some;
       limit = is.limit;
+      server_limit = is.server_limit;
       delays =
           subst (All IsDelay) (sym given.1)
           (All-push IsDelay (others path (delays_as old)) (record { path = path; ms = ms })
@@ -37,9 +42,9 @@ still_config cw cs sw ss limit old new path ms (Ok true) is p small given err =
           (record { path = p; ms = small }));
       few = subst (λ (ds : List T.Delay). length ds ≤ max_delays) (sym given.1) (omega (arith, room, long));
     }
-still_config cw cs sw ss limit old new path ms (Ok false) is p small given err =
+still_config cw cs sw ss limits old new path ms (Ok false) is p small given err =
     subst (λ (ds : List T.Delay). IsConfig (record
-    { client_word = cw; client_szx = cs; server_word = sw; server_szx = ss; limit = limit; delays = ds }))
+    { client_word = cw; client_sizes = cs; server_word = sw; server_szx = ss; limits = limits; delays = ds }))
     (sym given.1) is
-still_config cw cs sw ss limit old new path ms (Err e) is p small given err =
-    subst (λ ds. IsConfig (config_of cw cs sw ss limit ds)) (sym err) is
+still_config cw cs sw ss limits old new path ms (Err e) is p small given err =
+    subst (λ ds. IsConfig (config_of cw cs sw ss limits ds)) (sym err) is

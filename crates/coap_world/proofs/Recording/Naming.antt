@@ -52,9 +52,9 @@ noted_here token mine o before k same is = ap
 module _ (config : Config) (all : List Entry) (whole : Lawful config all) where
   -- a token of a call is of one request alone
   one_of :
-      (x y : Sending) (k : ℕ) → WasSent config.client_szx x (client_of all)
-      → WasSent config.client_szx y (client_of all) → call_of y.operation ≡ Some k → x.token ≡ y.token → x ≡ y
-  one_of x y k sent there of token = by (client_facts.tokens server_end config.client_szx config.client_word
+      (x y : Sending) (k : ℕ) → WasSent config.client_sizes x (client_of all)
+      → WasSent config.client_sizes y (client_of all) → call_of y.operation ≡ Some k → x.token ≡ y.token → x ≡ y
+  one_of x y k sent there of token = by (client_facts.tokens server_end config.client_sizes config.client_word
       (client_of all) whole.client x y sent there token)
     where
       by : (x ≡ y) ⊎ (Deregisters x y ⊎ Deregisters y x) → x ≡ y
@@ -63,11 +63,11 @@ module _ (config : Config) (all : List Entry) (whole : Lawful config all) where
       by (inr (inr d)) = absurd (no_call y x k of d)
 
   abbrev After : List C.Call → Type 0
-  After t = (x : Sending) → WasSent config.client_szx x t → WasSent config.client_szx x (client_of all)
+  After t = (x : Sending) → WasSent config.client_sizes x t → WasSent config.client_sizes x (client_of all)
 
   module _ (s : Sending) (k : ℕ) (of : call_of s.operation ≡ Some k) (token : List ℕ) (token_is : s.token ≡ token) where
     abbrev szx : ℕ
-    szx = config.client_szx
+    szx = config.client_sizes
 
     module _ (c : C.Call) (past : List C.Call) (after : After (c ∷ past)) (sent : WasSent szx s (c ∷ past))
         (rest : WasSent szx s past → sender_of szx token past ≡ Some k) where
@@ -107,10 +107,10 @@ module _ (config : Config) (all : List Entry) (whole : Lawful config all) where
       (x : Serving) (here : ServesAt config x past (OfServer c))
       (belongs : x.asked.from ≡ client_end → (number : ℕ) × SentFor config number x.asked.token all) where
     is_sent : (m : ℕ) → SentFor config m x.asked.token all → x.asked.from ≡ client_end
-        → sender_of config.client_szx x.asked.token (client_of past) ≡ Some m
+        → sender_of config.client_sizes x.asked.token (client_of past) ≡ Some m
     is_sent m z from =
         let w : List Entry = OfServer c ∷ past in
-        let brings = (server_facts.handed config.limit config.server_szx config.server_word
+        let brings = (server_facts.handed config.limits config.server_szx config.server_word
         (server_trace config w) law.server).0 x here in
         let k = traced config x.asked x.question w law.came from (brought_in config x.asked x.question w brings) in
         let s : Sending = k.came.sending in
@@ -121,7 +121,7 @@ module _ (config : Config) (all : List Entry) (whole : Lawful config all) where
 
     named_by :
         (b : Bool) → same_endpoint x.asked.from client_end ≡ b → (number : ℕ)
-        → (call_if b (sender_of config.client_szx x.asked.token (client_of past)) ≡ Some number)
+        → (call_if b (sender_of config.client_sizes x.asked.token (client_of past)) ≡ Some number)
         ↔ ((x.asked.from ≡ client_end) × SentFor config number x.asked.token all)
     named_by true same number =
         let from : x.asked.from ≡ client_end = (same_endpoint-decides x.asked.from client_end).0 same in

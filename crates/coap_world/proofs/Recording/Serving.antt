@@ -41,21 +41,21 @@ module _ {K A : Type 0} (holding : K → Content) where
   led_on :
       (config : Config) (t : List S.Call) (c : S.Call) (old mid new : ServerEnd K A) → ServerLed holding config t old
       → server.Step (state old) c (state mid) → new.server ≡ mid.server
-      → server.Led config.limit config.server_szx config.server_word (c ∷ t) (state new)
+      → server.Led config.limits config.server_szx config.server_word (c ∷ t) (state new)
   led_on config t c old mid new h step same =
-      subst (λ k. server.Led config.limit config.server_szx config.server_word (c ∷ t) (state_of holding k)) (sym same)
-      (led_further config.limit config.server_szx config.server_word t c (state old) (state mid) h.led step)
+      subst (λ k. server.Led config.limits config.server_szx config.server_word (c ∷ t) (state_of holding k)) (sym same)
+      (led_further config.limits config.server_szx config.server_word t c (state old) (state mid) h.led step)
 
   -- a call that changes nothing
   still_moves :
       (c : S.Call) (old new : ServerEnd K A) → ((config : Config) (t : List S.Call) → ServerLed holding config t old
-      → change (own_of config.limit config.server_szx t) c ≡ None)
+      → change (own_of config.limits config.server_szx t) c ≡ None)
       → server.Step (state old) c (state new) → new.version ≡ old.version → Moves (ServerLed holding) old (c ∷ []) new
   still_moves c old new none step same config t h =
       record {
         led = led_on config t c old new new h step refl;
-        version = same ∙ h.version ∙ zero_plus (changes config.limit config.server_szx t)
-            ∙ ap (λ o. counted o + changes config.limit config.server_szx t) (sym (none config t h));
+        version = same ∙ h.version ∙ zero_plus (changes config.limits config.server_szx t)
+            ∙ ap (λ o. counted o + changes config.limits config.server_szx t) (sym (none config t h));
       }
 
   module _ (sender : List ℕ → Option ℕ) (at : ℕ) where
@@ -66,16 +66,16 @@ module _ {K A : Type 0} (holding : K → Content) where
         (step : server.Step (state old) c (state mid)) (kept : mid.version ≡ old.version)
         (same : new.server ≡ mid.server) (version : new.version ≡ version_told mid.server.applied mid.version)
         (config : Config) (t : List S.Call) (h : ServerLed holding config t old) where
-      its_own : (state mid).own ≡ after (own_of config.limit config.server_szx t) c
+      its_own : (state mid).own ≡ after (own_of config.limits config.server_szx t) c
       its_own = step.own_is ∙ ap (λ (s : S.Own). after s c) h.led.own_is
 
-      told_here : (applied_told sender (after (own_of config.limit config.server_szx t) c).applied
-          (after (own_of config.limit config.server_szx t) c).store.holds
-          ≡ applied_lines sender (serving (own_of config.limit config.server_szx t) c)
-          ++ line_if Changes (change (own_of config.limit config.server_szx t) c))
-          × (version_told (after (own_of config.limit config.server_szx t) c).applied
-          (changes config.limit config.server_szx t) ≡ changes config.limit config.server_szx (c ∷ t))
-      told_here = told_input config.limit config.server_szx sender t c
+      told_here : (applied_told sender (after (own_of config.limits config.server_szx t) c).applied
+          (after (own_of config.limits config.server_szx t) c).store.holds
+          ≡ applied_lines sender (serving (own_of config.limits config.server_szx t) c)
+          ++ line_if Changes (change (own_of config.limits config.server_szx t) c))
+          × (version_told (after (own_of config.limits config.server_szx t) c).applied
+          (changes config.limits config.server_szx t) ≡ changes config.limits config.server_szx (c ∷ t))
+      told_here = told_input config.limits config.server_szx sender t c
           (led_on config t c old mid new h step same).rows input
 
       input_led : ServerLed holding config (c ∷ t) new
@@ -85,7 +85,7 @@ module _ {K A : Type 0} (holding : K → Content) where
             version =
                 version
                 ∙ ap (λ (o : S.Own). version_told o.applied mid.version) its_own
-                ∙ ap (version_told (after (own_of config.limit config.server_szx t) c).applied) (kept ∙ h.version)
+                ∙ ap (version_told (after (own_of config.limits config.server_szx t) c).applied) (kept ∙ h.version)
                 ∙ told_here.1;
           }
 
@@ -94,8 +94,8 @@ module _ {K A : Type 0} (holding : K → Content) where
       input_lines =
           ap (λ (o : S.Own). applied_told sender o.applied o.store.holds) its_own
           ∙ told_here.0
-          ∙ ap (λ l. l ++ (applied_lines sender (serving (own_of config.limit config.server_szx t) c)
-          ++ line_if Changes (change (own_of config.limit config.server_szx t) c))) (sym silent)
+          ∙ ap (λ l. l ++ (applied_lines sender (serving (own_of config.limits config.server_szx t) c)
+          ++ line_if Changes (change (own_of config.limits config.server_szx t) c))) (sym silent)
 
     -- a datagram or a tick, and then what it applied is told
     input_acts :
@@ -206,14 +206,14 @@ module _ {K A : Type 0} (holding : K → Content) where
           ((Decides-eqb left_store.tally.version (state old).own.store.tally.version).1 same)
 
       local_lines : (config : Config) (t : List S.Call) (o : Option Change)
-          → change (own_of config.limit config.server_szx t) c ≡ o
+          → change (own_of config.limits config.server_szx t) c ≡ o
           → line ∷ line_if Changes o ≡ server_lines sender config t c
       local_lines config t o is =
           ap (λ l. line ∷ l) (ap (line_if Changes) (sym is)
-          ∙ ap (λ x. applied_lines sender x ++ line_if Changes (change (own_of config.limit config.server_szx t) c))
-          (sym (serves (own_of config.limit config.server_szx t))))
-          ∙ ap (λ l. l ++ (applied_lines sender (serving (own_of config.limit config.server_szx t) c)
-          ++ line_if Changes (change (own_of config.limit config.server_szx t) c))) (sym answers)
+          ∙ ap (λ x. applied_lines sender x ++ line_if Changes (change (own_of config.limits config.server_szx t) c))
+          (sym (serves (own_of config.limits config.server_szx t))))
+          ∙ ap (λ l. l ++ (applied_lines sender (serving (own_of config.limits config.server_szx t) c)
+          ++ line_if Changes (change (own_of config.limits config.server_szx t) c))) (sym answers)
 
       pub changes_here :
           (version : ℕ) → new.server ≡ mid.server → new.version ≡ version
@@ -228,7 +228,7 @@ module _ {K A : Type 0} (holding : K → Content) where
                   version =
                       version_is_new ∙ right config t h
                       ∙ ap (λ (o : S.Own). o.store.tally.version) (led_on config t c old mid mid h step refl).own_is
-                      ∙ version_is config.limit config.server_szx (c ∷ t)
+                      ∙ version_is config.limits config.server_szx (c ∷ t)
                       (led_on config t c old mid mid h step refl).rows;
                 };
             given = ap (λ (l : Log). l.given) told ∙ ap (λ (l : Log). l.given) says ∙ sym (append-nil log.given)
@@ -239,7 +239,7 @@ module _ {K A : Type 0} (holding : K → Content) where
                 ∙ append_assoc log.lines (line ∷ []) (change_told path version (left_store.holds path))
                 ∙ ap (λ v. log.lines ++ (line ∷ change_told path v (left_store.holds path))) (right config t h)
                 ∙ ap (λ l. log.lines ++ l) (local_lines config t _
-                (changed_so next (own_of config.limit config.server_szx t) h.led.own_is));
+                (changed_so next (own_of config.limits config.server_szx t) h.led.own_is));
           }
 
       pub same_here : new ≡ mid → mid.version ≡ old.version
@@ -247,10 +247,10 @@ module _ {K A : Type 0} (holding : K → Content) where
       same_here is kept same =
           subst (λ e. ActsSo (c ∷ []) old log e said) (sym is)
           (one_acts (ServerLed holding) OfServer (server_lines sender) at c (line ∷ []) old mid log said quiet
-          (still_moves c old mid (λ config t h. same_so same (own_of config.limit config.server_szx t) h.led.own_is)
+          (still_moves c old mid (λ config t h. same_so same (own_of config.limits config.server_szx t) h.led.own_is)
           step kept)
           (λ config t h. local_lines config t None (same_so same
-          (own_of config.limit config.server_szx t) h.led.own_is)) says)
+          (own_of config.limits config.server_szx t) h.led.own_is)) says)
 
 -- what a local change leaves, by its answer
 
@@ -339,12 +339,12 @@ module _ {K A : Type 0} (holding : K → Content) (sender : List ℕ → Option 
       λ config t h.
       let led = led_on holding config t c old mid mid h step refl in
       let change_is = changed_so holding sender at path c old mid new log said left (Removes answer) refl refl
-      (λ s. refl) (λ s. refl) step says next (own_of config.limit config.server_szx t) h.led.own_is in
-      let small = (server_facts.stamped config.limit config.server_szx config.server_word (c ∷ t)
-      (led_lawful config.limit config.server_szx config.server_word (c ∷ t) (of mid) led)).0.version _ change_is in
+      (λ s. refl) (λ s. refl) step says next (own_of config.limits config.server_szx t) h.led.own_is in
+      let small = (server_facts.stamped config.limits config.server_szx config.server_word (c ∷ t)
+      (led_lawful config.limits config.server_szx config.server_word (c ∷ t) (of mid) led)).0.version _ change_is in
       let before : old.version ≡ (of old).own.store.tally.version = h.version
       ∙ sym (ap (λ (o : S.Own). o.store.tally.version) h.led.own_is
-      ∙ version_is config.limit config.server_szx t h.led.rows) in
+      ∙ version_is config.limits config.server_szx t h.led.rows) in
       counts (omega (arith, before, next, small)) ∙ ap (λ n. n + 1) before ∙ sym next in
       one_taken (ServerLed holding) OfServer (server_lines sender) at (IsRemoval at path) c old new log left
       (answer, (of mid).own.store, refl)

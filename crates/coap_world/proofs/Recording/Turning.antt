@@ -164,22 +164,22 @@ same_applied s r same (Some x) =
     (applied_as x) ∷ [] else []) (same x.asked.token)
 
 module _ (config : Config) (all : List Entry) (sender : List ℕ → Option ℕ)
-    (same : (token : List ℕ) → sender token ≡ sender_of config.client_szx token (client_of all)) where
+    (same : (token : List ℕ) → sender token ≡ sender_of config.client_sizes token (client_of all)) where
   server_upon : (calls : List S.Call) → lines_upon (server_lines sender config) (server_trace config all) calls
       ≡ lines_upon (lines_by config) all (map OfServer calls)
   server_upon [] = refl
   server_upon (c ∷ calls) =
       let before : List S.Call = calls ++ server_trace config all in
-      let s : S.Own = own_of config.limit config.server_szx before in
+      let s : S.Own = own_of config.limits config.server_szx before in
       let there : server_trace config (map OfServer calls ++ all) ≡ before =
       ap (λ x. x ++ begun_with config) (server_server calls all)
       ∙ append_assoc calls (server_of all) (begun_with config) in
       ap (λ l. l ++ server_lines sender config before c) (server_upon calls)
       ∙ ap (λ l. lines_upon (lines_by config) all (map OfServer calls) ++ l)
       (ap (λ l. answer_lines c ++ (l ++ line_if Changes (change s c)))
-      (same_applied sender (λ token. sender_of config.client_szx token (client_of (map OfServer calls ++ all)))
-      (λ token. same token ∙ ap (sender_of config.client_szx token) (sym (client_server calls all))) (serving s c))
-      ∙ ap (λ t. server_lines (λ token. sender_of config.client_szx token (client_of (map OfServer calls ++ all)))
+      (same_applied sender (λ token. sender_of config.client_sizes token (client_of (map OfServer calls ++ all)))
+      (λ token. same token ∙ ap (sender_of config.client_sizes token) (sym (client_server calls all))) (serving s c))
+      ∙ ap (λ t. server_lines (λ token. sender_of config.client_sizes token (client_of (map OfServer calls ++ all)))
       config t c) (sym there))
 
 module _ {A K : Type 0} (content : K → Content) (past : List Turn) (event : Event) (log left : Log) where

@@ -2,6 +2,7 @@
 use Rattle.std.proofs.Common.{◌≡◌, ◌≤◌, inl, inr, ℕ, true, Some, List, [], ◌∷◌, refl, ap, sym, subst, ◌∙◌, arith}
 use Rattle.coap_types.specs.Past.{Sometime}
 use Rattle.coap_layer.specs.Channel.{near_of}
+use Rattle.coap_layer.specs.Machine.State.{usual}
 use Rattle.coap_exchange.specs.declared.answerer.Asked.{Asked}
 use Rattle.coap_exchange.specs.AnswererSteps.{asked_of}
 use Rattle.coap_client.specs.Follows.Sendings.{NoNons}
@@ -29,7 +30,7 @@ use Rattle.coap_world.proofs.Reports.Codes.{applied_by, reply_right}
 use Rattle.coap_world.proofs.Reports.HandedOnce.{counted_in}
 use Rattle.coap_world.proofs.Reports.Located.{LaterAll, SentAll, Origin, TakesIn, brought_served, server_later}
 
-module _ (config : Config) (number : ℕ) (all : List Entry) (small : config.client_szx ≤ 6) (whole : Lawful config all)
+module _ (config : Config) (number : ℕ) (all : List Entry) (small : config.client_sizes ≤ 6) (whole : Lawful config all)
     (in_range : (x : Taken) → WasTaken x (client_of all) → IsRequest x.request) where
   abbrev pub Knows : List Entry → Serving → Type 0
   Knows w x = Known config number all small whole in_range w x
@@ -67,20 +68,20 @@ module _ (config : Config) (number : ℕ) (all : List Entry) (small : config.cli
 
     -- it is handed up once
     pub handed_few : (a : Asked) → a.from ≡ client_end → a.token ≡ k.token
-        → times_handed config.limit config.server_szx a (server_trace config all) ≤ 1
+        → times_handed config.limits config.server_szx a (server_trace config all) ≤ 1
     handed_few a from token =
         let t : List S.Call = server_trace config all in
         let cons : OneConBy a.token (near_of (hops_in config all)) =
         λ p q i j m n pb qb pm qn pi qi tp tq. one_con config number all small whole in_range k sent of p q i j m n
         pb qb pm qn pi qi (tp ∙ token) (tq ∙ token) in
         let nons = subst NoNons (sym (near_is config all))
-        (client_facts.nons server_end config.client_szx config.client_word (client_of all)) in
+        (client_facts.nons server_end config.client_sizes config.client_word (client_of all)) in
         let few = once_counted a (hops_in config all)
-        (up_once config.client_word config.server_word client_end server_end a from
+        (up_once (usual config.client_word) (usual config.server_word) client_end server_end a from
         (hops_in config all) whole.channel nons cons) in
         let same = ap (ups a) (far_is config all) in
-        let counted = counted_in config.limit config.server_szx a config.server_word t
-        (server_facts.counts config.limit config.server_szx config.server_word t whole.server) in
+        let counted = counted_in config.limits config.server_szx a config.server_word t
+        (server_facts.counts config.limits config.server_szx config.server_word t whole.server) in
         omega (arith, few, same, counted)
 
   -- one that is applied
@@ -93,7 +94,7 @@ module _ (config : Config) (number : ℕ) (all : List Entry) (small : config.cli
     pub final : Final verdict
     pub comes : Comes request.asked verdict
     pub took : (p : _) (b : _) → verdict ≡ Uploads p b → Sometime (TakesIn config request.asked) (server_trace config t)
-    pub served : Sometime (λ past c. serving (own_of config.limit config.server_szx past) c ≡ Some request)
+    pub served : Sometime (λ past c. serving (own_of config.limits config.server_szx past) c ≡ Some request)
         (server_trace config t)
     pub right : applied_by request.question.method request.reply.code ≡ true
 
@@ -102,7 +103,7 @@ module _ (config : Config) (number : ℕ) (all : List Entry) (small : config.cli
   applied_here w c later law a =
       let t : List Entry = OfServer c ∷ w in
       let b = brought_served config number all small whole in_range w c later law a.request a.here a.from in
-      let table = (server_facts.right config.limit config.server_szx config.server_word
+      let table = (server_facts.right config.limits config.server_szx config.server_word
       (server_trace config t) law.server).0.serves a.request a.here in
       record {
         request = a.request;
@@ -135,7 +136,7 @@ module _ (config : Config) (number : ℕ) (all : List Entry) (small : config.cli
         final = k.final;
         comes = k.comes;
         took = λ p b is. server_later config (TakesIn config k.request.asked) e w (k.took p b is);
-        served = server_later config (λ past c. serving (own_of config.limit config.server_szx past) c ≡ Some k.request)
+        served = server_later config (λ past c. serving (own_of config.limits config.server_szx past) c ≡ Some k.request)
             e w k.served;
         right = k.right;
       }

@@ -5,6 +5,7 @@ use Rattle.coap_types.specs.Recognised.{recognised}
 use Rattle.coap_types.specs.RequestPath.{path_of}
 use Rattle.coap_types.specs.declared.block.Block.{Block}
 use Rattle.coap_types.specs.declared.direction.Direction.TheVariants.{Request}
+use Rattle.coap_resource.specs.Limits.{Limits}
 use Rattle.coap_codec.specs.Message.{Message}
 use Rattle.coap_observe.specs.Observers.{Observer}
 use Rattle.coap_resource.specs.RequestOptions.{block_of, szx_by}
@@ -30,12 +31,12 @@ use Rattle.coap_world.proofs.Requests.Traced.{sent_later, traced, brought_in}
 use Rattle.coap_world.proofs.Reports.PathRead.{path_read}
 
 -- what is asked of the store has the server's block size
-szx_asked : (limit szx : ℕ) (past : List S.Call) (c : S.Call) (a : Asked) (q : Question) (m : Message) (v : Verdict)
-    → AsksBy limit szx past c a q v → ReadsOf szx m v → q.szx ≡ szx
-szx_asked limit szx past c a q m Ignored h r = absurd h
-szx_asked limit szx past c a q m (Refused code) h r = absurd h
-szx_asked limit szx past c a q m (Asks p) h r = ap (λ (z : Question). z.szx) h ∙ ap (λ (z : Question). z.szx) r.0.is
-szx_asked limit szx past c a q m (Uploads p b) h r = ap (λ (z : Question). z.szx) h.question
+szx_asked : (limits : Limits) (szx : ℕ) (past : List S.Call) (c : S.Call) (a : Asked) (q : Question) (m : Message) (v : Verdict)
+    → AsksBy limits szx past c a q v → ReadsOf szx m v → q.szx ≡ szx
+szx_asked limits szx past c a q m Ignored h r = absurd h
+szx_asked limits szx past c a q m (Refused code) h r = absurd h
+szx_asked limits szx past c a q m (Asks p) h r = ap (λ (z : Question). z.szx) h ∙ ap (λ (z : Question). z.szx) r.0.is
+szx_asked limits szx past c a q m (Uploads p b) h r = ap (λ (z : Question). z.szx) h.question
     ∙ ap (λ (z : Question). z.szx) r.0.is
 
 good_of : (m : Message) (v : Verdict) → NoFaultIn m v → Final v → HasNoFault m
@@ -55,7 +56,7 @@ module _ (config : Config) where
   -- the client's request that is served here
   pub record AskedBy (x : Serving) (w : List Entry) : Type 0 where
     pub sending : Sending
-    pub sent : WasSent config.client_szx sending (client_of w)
+    pub sent : WasSent config.client_sizes sending (client_of w)
     pub token : sending.token ≡ x.asked.token
     pub options : x.question.options ≡ recognised Request sending.request.options
     pub path : x.question.path ≡ path_of sending.request.options
@@ -66,15 +67,15 @@ module _ (config : Config) where
   asked_by past c law x here from =
       let t : List S.Call = server_trace config past in
       let w : List Entry = OfServer c ∷ past in
-      let brings = (server_facts.handed config.limit config.server_szx config.server_word (c ∷ t) law.server).0 x here
+      let brings = (server_facts.handed config.limits config.server_szx config.server_word (c ∷ t) law.server).0 x here
       in
       let k = traced config x.asked x.question w law.came from (brought_in config x.asked x.question w brings) in
       let s : Sending = k.came.sending in
       let m : Message = request_of k.came.con.id s in
-      let final = final_of config.limit config.server_szx
+      let final = final_of config.limits config.server_szx
       (server_trace config k.past) k.call x.asked x.question k.verdict k.asks in
       let read = subst (ReadsOf config.server_szx m) k.came.verdict (server_facts.reads config.server_szx m) in
-      let read_as = options_asked config.limit config.server_szx
+      let read_as = options_asked config.limits config.server_szx
       (server_trace config k.past) k.call x.asked x.question m k.verdict k.asks read in
       let good = good_of m k.verdict (subst (NoFaultIn m) k.came.verdict
       (server_facts.questions.faultless config.server_szx m)) final in
@@ -84,14 +85,14 @@ module _ (config : Config) where
         token = sym (ap (λ (z : Asked). z.token) k.came.asked);
         options = read_as.0;
         path = read_as.1 ∙ path_read s.request.options good.critical;
-        size = szx_asked config.limit config.server_szx
+        size = szx_asked config.limits config.server_szx
             (server_trace config k.past) k.call x.asked x.question m k.verdict k.asks read;
       }
 
   -- the client's request that registered an observer
   pub record RegisteredBy (o : Observer) (w : List Entry) : Type 0 where
     pub sending : Sending
-    pub sent : WasSent config.client_szx sending (client_of w)
+    pub sent : WasSent config.client_sizes sending (client_of w)
     pub token : sending.token ≡ o.token
     pub path : o.path ≡ path_of sending.request.options
     pub size : (most : ℕ) → config.server_szx ≤ most → o.szx ≤ most
@@ -106,13 +107,13 @@ module _ (config : Config) where
   }
 
   none_made : (o : Observer) (ds : List S.Delay)
-      → WasMade config.limit config.server_szx (map (λ (d : S.Delay). S.Delays d.path d.ms true) ds) o → ⊥
+      → WasMade config.limits config.server_szx (map (λ (d : S.Delay). S.Delays d.path d.ms true) ds) o → ⊥
   none_made o [] h = h
   none_made o (d ∷ ds) (inr h) = none_made o ds h
   none_made o (d ∷ ds) (inl h) = let here = h.made.here in cc here
 
   pub registered_by : (o : Observer) (w : List Entry) → Lawful config w → o.to ≡ client_end
-      → WasMade config.limit config.server_szx (server_trace config w) o → RegisteredBy o w
+      → WasMade config.limits config.server_szx (server_trace config w) o → RegisteredBy o w
   registered_by o [] law to h = absurd (none_made o config.delays h)
   registered_by o (OfClient c ∷ past) law to h =
       later o past (OfClient c) (registered_by o past (lawful_back config past (OfClient c) law) to h)

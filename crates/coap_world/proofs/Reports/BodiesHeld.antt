@@ -30,12 +30,12 @@ module _ (config : Config) (small : config.server_szx ≤ 6) where
       → (m : Message) → hears c ≡ Some m
       → m.code ≡ content → Sometime (ShownAt config m) past
   heard_shown past c law formats m heard code =
-      shown_in config m code (heard_understood server_end config.client_szx config.client_word
+      shown_in config m code (heard_understood server_end config.client_sizes config.client_word
       (client_of past) c law.client m heard) small past (lawful_back config past (OfClient c) law) formats
       ((all_answered config (OfClient c ∷ past) law).0 m heard)
 
   abbrev pub PartHeld : List Entry → Part → Type 0
-  PartHeld w p = IsPartHeld config.limit config.server_szx (server_trace config w) p
+  PartHeld w p = IsPartHeld config.limits config.server_szx (server_trace config w) p
 
   pub part_later : (p : Part) (w : List Entry) (e : Entry) → PartHeld w p → PartHeld (e ∷ w) p
   part_later p w e k = record {
@@ -48,7 +48,7 @@ module _ (config : Config) (small : config.server_szx ≤ 6) where
 
   -- each part that was taken
   took_held : (number : ℕ) (p : Part) (w : List Entry) → Lawful config w → FormatsIn w
-      → TookPart config.client_szx number p (client_of w) → PartHeld w p
+      → TookPart config.client_sizes number p (client_of w) → PartHeld w p
   took_held number p [] law formats h = absurd h
   took_held number p (OfServer c ∷ past) law formats h =
       part_later p past (OfServer c) (took_held number p past (lawful_back config past (OfServer c) law) formats.1 h)
@@ -56,10 +56,10 @@ module _ (config : Config) (small : config.server_szx ≤ 6) where
       took_held number p past (lawful_back config past (OfClient c) law) formats h
   took_held number p (OfClient c ∷ past) law formats (first, inl h) =
       let k = some_shown config h.message past (heard_shown past c law formats h.message h.heard.heard h.part.code) in
-      part_held config.limit config.server_szx (server_trace config past) p h.message k.path k.held h.part k.was k.shown
+      part_held config.limits config.server_szx (server_trace config past) p h.message k.path k.held h.part k.was k.shown
 
   module _ (number : ℕ) (tag : Option (List ℕ)) (format : Option ℕ) (body : List ℕ) (all : List Entry)
-      (law : Lawful config all) (c : C.Call) (f : IsFetched config.client_szx number tag format body (client_of all) c)
+      (law : Lawful config all) (c : C.Call) (f : IsFetched config.client_sizes number tag format body (client_of all) c)
       (parts : Each (PartHeld all) f.parts) where
     -- the last part shows it
     since : (w : List Entry) → Within config w all → Sometime (ShownAt config f.message) w
@@ -73,9 +73,9 @@ module _ (config : Config) (small : config.server_szx ≤ 6) where
         let of = one_of_call config all law k.sending f.heard.sending number
         (before.sent k.sending k.sent) f.heard.sent f.heard.of_call (k.token ∙ sym f.heard.token) in
         let g = of_call config number k.sending past k.sent of in
-        let tags = server_facts.tags config.limit config.server_szx config.server_word
+        let tags = server_facts.tags config.limits config.server_szx config.server_word
         (server_trace config all) law.server in
-        let body_is : body ≡ k.held.body = body_held config.limit config.server_szx
+        let body_is : body ≡ k.held.body = body_held config.limits config.server_szx
         (server_trace config all) tags path k.held was f.parts f.message f.block body parts k.shown f.last f.whole
         in
         let format_is : format ≡ k.held.format = f.format_is ∙ k.shown.format in
@@ -97,7 +97,7 @@ module _ (config : Config) (small : config.server_szx ≤ 6) where
         })
 
   each_took : (number : ℕ) (w : List Entry) → Lawful config w → FormatsIn w → (ps : List Part)
-      → Each (λ p. TookPart config.client_szx number p (client_of w)) ps → Each (PartHeld w) ps
+      → Each (λ p. TookPart config.client_sizes number p (client_of w)) ps → Each (PartHeld w) ps
   each_took number w law formats [] h = tt
   each_took number w law formats (p ∷ ps) h = (
     took_held number p w law formats h.0,
@@ -118,7 +118,7 @@ module _ (config : Config) (small : config.server_szx ≤ 6) where
       go (OfClient c ∷ past) law formats = (
         λ made. (
             let before = lawful_back config past (OfClient c) law in
-            let f = (client_facts.bodies server_end config.client_szx config.client_word
+            let f = (client_facts.bodies server_end config.client_sizes config.client_word
             (c ∷ client_of past) law.client).0 number tag format body made in
             since number tag format body past before c f (each_took number past before formats f.parts f.took) past
             (within_self config past) (heard_shown past c law formats f.message f.heard.heard f.code)),

@@ -5,6 +5,7 @@ use Rattle.std.specs.Prelude.{nat_le, is_some}
 use Rattle.coap_types.specs.declared.message.TheConstants.Code as codes
 use Rattle.coap_types.specs.declared.request.Method.{Method}
 use Rattle.coap_types.specs.declared.request.Method.TheVariants.{Get, Post, Put, Delete}
+use Rattle.coap_block.specs.Sizes.{Sizes}
 use Rattle.coap_block.specs.UploadStep.{UploadState, more_follows}
 use Rattle.coap_resource.specs.Content.{Content, Held, append_refusal, put_refusal}
 use Rattle.coap_resource.specs.Rate.{rate_refusal}
@@ -50,34 +51,34 @@ succeeds_applied (Cancelling k) code h = absurd h
 succeeds_applied Dropped code h = absurd h
 
 -- .. and failure of the last request of a call is not
-module _ (szx k : ℕ) (r : C.Request) (body : List ℕ) (code : ℕ) where
+module _ (sizes : Sizes) (k : ℕ) (r : C.Request) (body : List ℕ) (code : ℕ) where
   none_of_upload : (u : UploadState) (b : Bool) → not b ≡ true
       → Rattle.coap_client.specs.Follows.Codes.FailsBlock b u code
       → ((code == created) || (code == changed)) ≡ false
   none_of_upload u true last h = absurd (cc last)
   none_of_upload u false last h = ap (λ b. b || (code == changed)) (apart code created h.0) ∙ apart code changed h.1
 
-  of_upload : (method : Method) (u : UploadState) → CarriesBody szx method body (Uploads u)
+  of_upload : (method : Method) (u : UploadState) → CarriesBody sizes method body (Uploads u)
       → ((code == created) || (code == changed)) ≡ false → applied_by method code ≡ false
   of_upload Get u carries h = refl
   of_upload Post u carries h = h
   of_upload Put u carries h = h
   of_upload Delete u carries h = absurd carries
 
-  of_single : (method : Method) → CarriesBody szx method body Single → (code == deleted) ≡ false
+  of_single : (method : Method) → CarriesBody sizes method body Single → (code == deleted) ≡ false
       → applied_by method code ≡ false
   of_single Get carries h = refl
   of_single Post carries h = absurd carries
   of_single Put carries h = absurd carries
   of_single Delete carries h = h
 
-  of_fetch : (method : Method) (f : _) → CarriesBody szx method body (Fetches f) → applied_by method code ≡ false
+  of_fetch : (method : Method) (f : _) → CarriesBody sizes method body (Fetches f) → applied_by method code ≡ false
   of_fetch Get f carries = refl
   of_fetch Post f carries = absurd carries
   of_fetch Put f carries = absurd carries
   of_fetch Delete f carries = absurd carries
 
-  pub fails_none : (method : Method) (tr : Transfer) → CarriesBody szx method body tr → is_last (Calling k r tr) ≡ true
+  pub fails_none : (method : Method) (tr : Transfer) → CarriesBody sizes method body tr → is_last (Calling k r tr) ≡ true
       → Fails (Calling k r tr) code → applied_by method code ≡ false
   fails_none method (Fetches f) carries last h = of_fetch method f carries
   fails_none method (Uploads u) carries last h = of_upload method u carries (none_of_upload u (more_follows u) last h)

@@ -9,6 +9,7 @@ use Rattle.coap_types.specs.declared.request.Method.{Method}
 use Rattle.coap_types.specs.declared.request.Method.TheVariants.{Get, Post, Put, Delete}
 use Rattle.coap_types.specs.OptionValues.{uint_at}
 use Rattle.coap_types.specs.declared.option_number.TheConstants.{CONTENT_FORMAT as content_format}
+use Rattle.coap_resource.specs.Limits.{Limits}
 use Rattle.coap_resource.specs.Content.{Content, Held, later, put_refusal}
 use Rattle.coap_resource.specs.Rate.{rate_refusal}
 use Rattle.coap_resource.specs.RequestOptions.{within_16}
@@ -51,16 +52,16 @@ change_held path old left x h = by (left.tally.version == old.tally.version) h
         { path = path; version = left.tally.version; held = left.holds path }) x =
         cc k in ap (λ (y : Change). y.held) same
 
-module _ (limit szx : ℕ) where
+module _ (limits : Limits) (szx : ℕ) where
   abbrev AllSmall : List S.Call → Type 0
-  AllSmall t = (path : List (List ℕ)) → IsSmall (held_at limit szx path t)
+  AllSmall t = (path : List (List ℕ)) → IsSmall (held_at limits szx path t)
 
-  module _ (t : List S.Call) (rows : ServerRows limit szx t) (small : AllSmall t) where
+  module _ (t : List S.Call) (rows : ServerRows limits szx t) (small : AllSmall t) where
     abbrev store : Content
-    store = (own_of limit szx t).store
+    store = (own_of limits szx t).store
 
     store_small : (path : List (List ℕ)) → IsSmall (store.holds path)
-    store_small path = subst IsSmall (sym (held_is limit szx t rows path)) (small path)
+    store_small path = subst IsSmall (sym (held_is limits szx t rows path)) (small path)
 
     same_small : (left : Content) (at : ℕ) (path : List (List ℕ)) → left ≡ later store at → IsSmall (left.holds path)
     same_small left at path h = subst IsSmall (sym (ap (λ (s : Content). s.holds path) h)) (store_small path)
@@ -84,27 +85,27 @@ module _ (limit szx : ℕ) where
     does_small Post q left h = subst IsSmall (sym h.2) (subst IsSmall h.1 (store_small q.path))
     does_small Delete q left h = subst IsSmall (sym h) tt
 
-  module _ (t : List S.Call) (c : S.Call) (rows : ServerRows limit szx (c ∷ t)) (small : AllSmall t) where
-    serving_small : (x : Change) (o : Option Serving) → serving (own_of limit szx t) c ≡ o
-        → change (own_of limit szx t) c ≡ Some x → changed_by o ≡ Some x → IsSmall x.held
+  module _ (t : List S.Call) (c : S.Call) (rows : ServerRows limits szx (c ∷ t)) (small : AllSmall t) where
+    serving_small : (x : Change) (o : Option Serving) → serving (own_of limits szx t) c ≡ o
+        → change (own_of limits szx t) c ≡ Some x → changed_by o ≡ Some x → IsSmall x.held
     serving_small x None is made h = absurd (cc h)
     serving_small x (Some y) is made h =
-        let right = (all_served limit szx (c ∷ t) rows).0 in
+        let right = (all_served limits szx (c ∷ t) rows).0 in
         let does = (right.applied y is (right.changes_by y x is made)).does in
-        let old = (leaves (own_of limit szx t) c y is).found in
+        let old = (leaves (own_of limits szx t) c y is).found in
         subst IsSmall (change_held y.question.path y.old y.left x h)
         (does_small t rows.1 small y.question.method y.question y.left
         (subst (λ s. Does y.question.method y.question s y.left) old does))
 
-  change_small : (t : List S.Call) (c : S.Call) → ServerRows limit szx (c ∷ t) → FormatIn c → AllSmall t → (x : Change)
-      → change (own_of limit szx t) c ≡ Some x → IsSmall x.held
+  change_small : (t : List S.Call) (c : S.Call) → ServerRows limits szx (c ∷ t) → FormatIn c → AllSmall t → (x : Change)
+      → change (own_of limits szx t) c ≡ Some x → IsSmall x.held
   change_small t (S.Sets now path format body answer left) rows f small x h =
-      let s = own_of limit szx t in
+      let s = own_of limits szx t in
       subst IsSmall (change_held path s.store left x h)
       (sets_small t rows.1 small (put_refusal s.store (max s.clock now) path (length body))
       (max s.clock now) path format body answer left f rows.0)
   change_small t (S.Removes now path answer left) rows f small x h =
-      let s = own_of limit szx t in
+      let s = own_of limits szx t in
       subst IsSmall (change_held path s.store left x h)
       (removes_small t rows.1 small (s.store.holds path) (rate_refusal s.store.tally (max s.clock now))
       (max s.clock now) path answer left rows.0)
@@ -117,22 +118,22 @@ module _ (limit szx : ℕ) where
   change_small t (S.Gets path answer) rows f small x h = absurd (cc h)
   change_small t (S.TellsApplied answer) rows f small x h = absurd (cc h)
 
-  small_step : (t : List S.Call) (c : S.Call) → ServerRows limit szx (c ∷ t) → FormatIn c → AllSmall t
+  small_step : (t : List S.Call) (c : S.Call) → ServerRows limits szx (c ∷ t) → FormatIn c → AllSmall t
       → AllSmall (c ∷ t)
-  small_step t c rows f small path = by (change (own_of limit szx t) c) refl
+  small_step t c rows f small path = by (change (own_of limits szx t) c) refl
     where
-      then : (x : Change) (b : Bool) → IsSmall x.held → IsSmall (cond b x.held (held_at limit szx path t))
+      then : (x : Change) (b : Bool) → IsSmall x.held → IsSmall (cond b x.held (held_at limits szx path t))
       then x true h = h
       then x false h = small path
 
-      by : (o : Option Change) → change (own_of limit szx t) c ≡ o
-          → IsSmall (held_then path o (held_at limit szx path t))
+      by : (o : Option Change) → change (own_of limits szx t) c ≡ o
+          → IsSmall (held_then path o (held_at limits szx path t))
       by None is = small path
       by (Some x) is = then x (same_path x.path path) (change_small t c rows f small x is)
 
 module _ (config : Config) where
   begun_small : (ds : List S.Delay) (path : List (List ℕ))
-      → IsSmall (held_at config.limit config.server_szx path (map (λ (d : S.Delay). S.Delays d.path d.ms true) ds))
+      → IsSmall (held_at config.limits config.server_szx path (map (λ (d : S.Delay). S.Delays d.path d.ms true) ds))
   begun_small [] path = tt
   begun_small (d ∷ ds) path = begun_small ds path
 
@@ -140,5 +141,5 @@ module _ (config : Config) where
       → IsSmall (last_at config path all)
   formats_held [] rows f = begun_small config.delays
   formats_held (OfClient c ∷ past) rows f = formats_held past rows f
-  formats_held (OfServer c ∷ past) rows f = small_step config.limit config.server_szx
+  formats_held (OfServer c ∷ past) rows f = small_step config.limits config.server_szx
       (server_trace config past) c rows f.0 (formats_held past (rows_back config (OfServer c) past rows) f.1)

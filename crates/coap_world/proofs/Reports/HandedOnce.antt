@@ -2,6 +2,7 @@
 use Rattle.std.proofs.Common.{◌≡◌, ◌⊎◌, ◌≤◌, inl, inr, ℕ, Option, Some, List, [], ◌∷◌, ap, ◌∙◌, arith}
 use Rattle.coap_types.specs.Past.{Sometime, Always}
 use Rattle.coap_types.proofs.Facts.Traces.{Sometime_map}
+use Rattle.coap_resource.specs.Limits.{Limits}
 use Rattle.coap_exchange.specs.declared.answerer.Asked.{Asked}
 use Rattle.coap_exchange.specs.AnswererFollows.{hits, same_asked}
 use Rattle.coap_exchange.proofs.Facts.ServerSide.{self_hits}
@@ -38,36 +39,36 @@ never P f [] h = h
 never P f (e ∷ past) (inl h) = f past e h
 never P f (e ∷ past) (inr h) = never P f past h
 
-module _ (limit szx : ℕ) (a : Asked) where
+module _ (limits : Limits) (szx : ℕ) (a : Asked) where
   abbrev pub HandsIt : List Call → Call → Type 0
   HandsIt past c = hands c ≡ Some a
 
   abbrev pub ServesIt : List Call → Call → Type 0
-  ServesIt past c = (x : Serving) × (serving (own_of limit szx past) c ≡ Some x) × (x.asked ≡ a)
+  ServesIt past c = (x : Serving) × (serving (own_of limits szx past) c ≡ Some x) × (x.asked ≡ a)
 
   hit : (o : Option Asked) → o ≡ Some a → hits (same_asked a) o ≡ 1
   hit o h = ap (λ z. hits (same_asked a) z) h ∙ self_hits a
 
   served_hit : (past : List Call) (c : Call) → ServesIt past c
-      → hits (same_asked a) (asked_of (serving (own_of limit szx past) c)) ≡ 1
-  served_hit past c h = hit (asked_of (serving (own_of limit szx past) c)) (ap asked_of h.1 ∙ ap (λ z. Some z) h.2)
+      → hits (same_asked a) (asked_of (serving (own_of limits szx past) c)) ≡ 1
+  served_hit past c h = hit (asked_of (serving (own_of limits szx past) c)) (ap asked_of h.1 ∙ ap (λ z. Some z) h.2)
 
-  times_up : (t : List Call) → Sometime HandsIt t → 1 ≤ times_handed limit szx a t
+  times_up : (t : List Call) → Sometime HandsIt t → 1 ≤ times_handed limits szx a t
   times_up [] h = absurd h
   times_up (c ∷ t) (inl h) = let e = hit (hands c) h in omega (arith, e)
   times_up (c ∷ t) (inr h) = let k = times_up t h in omega (arith, k)
 
-  times_at_store : (t : List Call) → Sometime ServesIt t → 1 ≤ times_served limit szx a t
+  times_at_store : (t : List Call) → Sometime ServesIt t → 1 ≤ times_served limits szx a t
   times_at_store [] h = absurd h
   times_at_store (c ∷ t) (inl h) = let e = served_hit t c h in omega (arith, e)
   times_at_store (c ∷ t) (inr h) = let k = times_at_store t h in omega (arith, k)
 
-  pub counted_in : (word : ℕ) (t : List Call) → Counted limit szx word t
-      → times_handed limit szx a t ≤ ups a (layer_of limit szx word t)
+  pub counted_in : (word : ℕ) (t : List Call) → Counted limits szx word t
+      → times_handed limits szx a t ≤ ups a (layer_of limits szx word t)
   counted_in word [] h = omega arith
   counted_in word (c ∷ t) h = h.0 a
 
-  pub handed_once : (t : List Call) → times_handed limit szx a t ≤ 1
+  pub handed_once : (t : List Call) → times_handed limits szx a t ≤ 1
       → Always (λ past c. HandsIt past c → Sometime HandsIt past → ⊥) t
   handed_once [] few = tt
   handed_once (c ∷ t) few = (
@@ -76,14 +77,14 @@ module _ (limit szx : ℕ) (a : Asked) where
     handed_once t (omega (arith, few)),
   )
 
-  pub served_once : (t : List Call) → ServedOnce limit szx t → times_handed limit szx a t ≤ 1
+  pub served_once : (t : List Call) → ServedOnce limits szx t → times_handed limits szx a t ≤ 1
       → Always (λ past c. ServesIt past c → Sometime ServesIt past → ⊥) t
   served_once [] law few = tt
   served_once (c ∷ t) law few = (
     λ h before.
         let fewer = law.0 h.0 h.1 in
-        let same_served = ap (λ b. times_served limit szx b t) h.2 in
-        let same_handed = ap (λ b. times_handed limit szx b (c ∷ t)) h.2 in
+        let same_served = ap (λ b. times_served limits szx b t) h.2 in
+        let same_handed = ap (λ b. times_handed limits szx b (c ∷ t)) h.2 in
         let k = times_at_store t before in
         omega (arith, few, fewer, same_served, same_handed, k),
     served_once t law.1 (omega (arith, few)),

@@ -11,10 +11,11 @@ use Rattle.coap_codec.specs.Message.{Message, Spells}
 use Rattle.coap_layer.specs.Arrivals.{Arrival, Unreadable, Faulted, Whole, Shows}
 use Rattle.coap_layer.specs.Channel.{Hop, Near, Far, near_of, OnFar, GaveOut, ChannelLaw}
 use Rattle.coap_layer.specs.Rows.{Stands, Row, Sorts, HandedAs, Arrives, rejects, drops, takes_ack, takes_reset}
-use Rattle.coap_layer.specs.Rows.{takes_answer, replays, hands_over}
+use Rattle.coap_layer.specs.Rows.{passes_reset, takes_answer, replays, hands_over}
 use Rattle.coap_layer.specs.Sends.{IsIn}
 use Rattle.coap_layer.specs.Trace as T
 use Rattle.coap_layer.proofs.Facts.Hops.{earlier}
+use Rattle.coap_layer.specs.declared.setup.Setup.{Setup}
 use Rattle.coap_client.specs.Follows.Hears.{Hears}
 
 -- a response that is handed up is what the datagram spells
@@ -38,6 +39,7 @@ module _ (word : ℕ) (past : List T.Entry) (e : T.Entry) (from : Endpoint) (byt
   sorted n s (drops r) = absurd (cc (r.answer, up))
   sorted n s (takes_ack r) = absurd (cc (r.answer, up))
   sorted n s (takes_reset r) = absurd (cc (r.answer, up))
+  sorted n s (passes_reset r) = absurd (cc (r.answer, up))
   sorted n s (takes_answer r) = reads_this n s r.class r.answer
   sorted n s (replays r) = absurd (cc (r.answer, up))
   sorted n s (hands_over r) = go r.answer
@@ -78,7 +80,7 @@ gave_out near bytes at (Far e) k = k.out
 given_later : (near : Endpoint) (m : Message) (h : Hop) (hs : List Hop) → WasGiven near m hs → WasGiven near m (h ∷ hs)
 given_later near m h hs k = record { bytes = k.bytes; reads = k.reads; sent = inr k.sent }
 
-module _ (one other : ℕ) (near far : Endpoint) (m : Message) where
+module _ (one other : Setup) (near far : Endpoint) (m : Message) where
   pub was_given : (hs : List Hop) → ChannelLaw one other near far hs → Ever (Hears far m) (near_of hs)
       → WasGiven near m hs
   was_given [] law h = absurd h

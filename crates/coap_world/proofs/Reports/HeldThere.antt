@@ -26,7 +26,7 @@ use Rattle.coap_world.proofs.Reports.Shown.{ShownAt}
 
 module _ (config : Config) where
   abbrev pub HeldIn : List (List ℕ) → Held → List Entry → Type 0
-  HeldIn path held w = WasHeld config.limit config.server_szx path held (server_trace config w)
+  HeldIn path held w = WasHeld config.limits config.server_szx path held (server_trace config w)
 
   pub held_later : (path : List (List ℕ)) (held : Held) (w : List Entry) (e : Entry) → HeldIn path held w
       → HeldIn path held (e ∷ w)
@@ -35,7 +35,7 @@ module _ (config : Config) where
 
   -- what was so after some entries is so after all
   pub record Within (w all : List Entry) : Type 0 where
-    pub sent : (x : Sending) → WasSent config.client_szx x (client_of w) → WasSent config.client_szx x (client_of all)
+    pub sent : (x : Sending) → WasSent config.client_sizes x (client_of w) → WasSent config.client_sizes x (client_of all)
     pub held : (path : List (List ℕ)) (held : Held) → HeldIn path held w → HeldIn path held all
 
   pub within_back : (all w : List Entry) (e : Entry) → Within (e ∷ w) all → Within w all
@@ -78,11 +78,11 @@ module _ (config : Config) where
     pub options : x.request.options ≡ options_of request ++ block_option transfer
     pub path : path_of x.request.options ≡ request.path
 
-  pub of_call : (number : ℕ) (x : Sending) (w : List Entry) → WasSent config.client_szx x (client_of w)
+  pub of_call : (number : ℕ) (x : Sending) (w : List Entry) → WasSent config.client_sizes x (client_of w)
       → call_of x.operation ≡ Some number → OfCall number x w
   of_call number x w sent of =
-      let g = of_call_at config.client_szx (client_of w)
-      (client_facts.of_calls config.client_szx (client_of w)) x number sent of in
+      let g = of_call_at config.client_sizes (client_of w)
+      (client_facts.of_calls config.client_sizes (client_of w)) x number sent of in
       let options = ap (λ r. r.options) g.message ∙ bare_options g.request g.transfer in
       record {
         request = g.request;
@@ -94,11 +94,11 @@ module _ (config : Config) where
 
   -- one token of a call, one request
   pub one_of_call : (all : List Entry) → Lawful config all → (x y : Sending) (number : ℕ)
-      → WasSent config.client_szx x (client_of all) → WasSent config.client_szx y (client_of all)
+      → WasSent config.client_sizes x (client_of all) → WasSent config.client_sizes y (client_of all)
       → call_of y.operation ≡ Some number
       → x.token ≡ y.token → call_of x.operation ≡ Some number
   one_of_call all law x y number sent there of token =
-      by (client_facts.tokens server_end config.client_szx config.client_word
+      by (client_facts.tokens server_end config.client_sizes config.client_word
       (client_of all) law.client x y sent there token)
     where
       by : (x ≡ y) ⊎ (Deregisters x y ⊎ Deregisters y x) → call_of x.operation ≡ Some number

@@ -3,6 +3,7 @@ use Rattle.std.proofs.Common.{◌≡◌, inl, inr, ℕ, true, Option, Some, None
 use Rattle.coap_types.specs.Past.{Sometime}
 use Rattle.coap_types.proofs.Facts.Traces.{Sometime_map}
 use Rattle.coap_types.specs.declared.endpoint.Endpoint.{Endpoint}
+use Rattle.coap_block.specs.Sizes.{Sizes}
 use Rattle.coap_client.specs.Trace.{Failed, Reported, Call}
 use Rattle.coap_client.specs.Own.{Operation, Calling, Registering, Fetching, Cancelling, Dropped}
 use Rattle.coap_client.specs.Follows.Answered.{of_call, HasReport, IsFinal, NoneAfter}
@@ -20,35 +21,35 @@ of_it (Fetching n) k h = absurd (cc h)
 of_it (Cancelling n) k h = absurd (cc h)
 of_it Dropped k h = absurd (cc h)
 
-module _ (szx : ℕ) where
+module _ (sizes : Sizes) where
   -- the failure of the call is reported here, by the answer to this request, which was sent last
   abbrev pub FailsBy : ℕ → ℕ → Sending → List Call → Call → Type 0
-  FailsBy number code x past c = (reports (own_of szx past) c ≡ of number (Failed code)) × (last_sent szx past ≡ Some x)
+  FailsBy number code x past c = (reports (own_of sizes past) c ≡ of number (Failed code)) × (last_sent sizes past ≡ Some x)
 
   module _ (server : Endpoint) (word : ℕ) (number code : ℕ) (x y : Sending) (first : call_of x.operation ≡ Some number)
       (second : call_of y.operation ≡ Some number) (final : is_last y.operation ≡ true) where
     -- the last request of the call is the one that was sent last
-    sent_last : (t : List Call) → AreInOrder szx t → last_sent szx t ≡ Some x → WasSent szx y t → y ≡ x
+    sent_last : (t : List Call) → AreInOrder sizes t → last_sent sizes t ≡ Some x → WasSent sizes y t → y ≡ x
     sent_last [] law last was = absurd was
-    sent_last (c ∷ t) law last was = by (sends (own_of szx t) c) refl last was (λ l b. sent_last t law.1 l b)
+    sent_last (c ∷ t) law last was = by (sends (own_of sizes t) c) refl last was (λ l b. sent_last t law.1 l b)
       where
-        by : (o : Option Sending) → sends (own_of szx t) c ≡ o
-            → elim o [ Some z ↦ Some z | None ↦ last_sent szx t ] ≡ Some x → WasSent szx y (c ∷ t)
-            → (last_sent szx t ≡ Some x → WasSent szx y t → y ≡ x) → y ≡ x
+        by : (o : Option Sending) → sends (own_of sizes t) c ≡ o
+            → elim o [ Some z ↦ Some z | None ↦ last_sent sizes t ] ≡ Some x → WasSent sizes y (c ∷ t)
+            → (last_sent sizes t ≡ Some x → WasSent sizes y t → y ≡ x) → y ≡ x
         by (Some z) is last (inl now) earlier = let e : Some y ≡ Some x = sym now ∙ (is ∙ last) in cc e
         by (Some z) is last (inr before) earlier =
             absurd (law.0.none_behind y x number (is ∙ last) before second first final)
         by None is last (inl now) earlier = let e : Some y ≡ None = sym now ∙ is in absurd (cc e)
         by None is last (inr before) earlier = earlier last before
 
-    reported : (t : List Call) → Sometime (FailsBy number code x) t → HasReport server szx word number t
+    reported : (t : List Call) → Sometime (FailsBy number code x) t → HasReport server sizes word number t
     reported t h =
         Sometime_map (FailsBy number code x) (λ past c. (z : Reported) × (z.number ≡ number)
-        × IsFinal server szx word past c z)
+        × IsFinal server sizes word past c z)
         (λ past c k. (record { number = number; report = Failed code }, refl, record { made = k.0; final = refl })) t h
 
-    pub same_last : (t : List Call) → AreInOrder szx t → NoneAfter server szx word t
-        → Sometime (FailsBy number code x) t → WasSent szx y t → y ≡ x
+    pub same_last : (t : List Call) → AreInOrder sizes t → NoneAfter server sizes word t
+        → Sometime (FailsBy number code x) t → WasSent sizes y t → y ≡ x
     same_last [] law after h was = absurd h
     same_last (c ∷ t) law after (inl h) (inl now) = let e : of number (Failed code) ≡ None = sym h.0
         ∙ law.0.none_with y now in absurd (cc e)

@@ -61,7 +61,7 @@ takes_handed s (S.NextOut answer) y is = absurd (cc is)
 -- here the request is handed up, and its block is taken
 abbrev pub TakesIn : Config → Asked → List S.Call → S.Call → Type 0
 TakesIn config a past c = (hands c ≡ Some a) × ((y : Took)
-    × (takes_block (own_of config.limit config.server_szx past) c ≡ Some y))
+    × (takes_block (own_of config.limits config.server_szx past) c ≡ Some y))
 
 -- what happened at the server by an entry, happened by a later one
 pub server_later : (config : Config) (P : List S.Call → S.Call → Type 0) (e : Entry) (w : List Entry)
@@ -69,7 +69,7 @@ pub server_later : (config : Config) (P : List S.Call → S.Call → Type 0) (e 
 server_later config P (OfClient c) w h = h
 server_later config P (OfServer c) w h = inr h
 
-module _ (config : Config) (number : ℕ) (all : List Entry) (small : config.client_szx ≤ 6) (whole : Lawful config all)
+module _ (config : Config) (number : ℕ) (all : List Entry) (small : config.client_sizes ≤ 6) (whole : Lawful config all)
     (in_range : (x : Taken) → WasTaken x (client_of all) → IsRequest x.request) where
   abbrev pub LaterAll : List Entry → Type 0
   LaterAll t = Later config number all small whole in_range t
@@ -108,16 +108,16 @@ module _ (config : Config) (number : ℕ) (all : List Entry) (small : config.cli
     pub verdict : Verdict
     pub final : Final verdict
     pub origin : Origin a verdict
-    pub before : WasSent config.client_szx origin.sending (client_of t)
+    pub before : WasSent config.client_sizes origin.sending (client_of t)
     pub method : method_of (request_of origin.con.id origin.sending).code ≡ Some q.method
     pub took : (p : Question) (b : _) → verdict ≡ Uploads p b → Sometime (TakesIn config a) (server_trace config t)
 
   took_here : (w : List Entry) (c : S.Call) (a : Asked) (q : Question) (v : Verdict)
-      → AsksBy config.limit config.server_szx (server_trace config w) c a q v → (p : Question) (b : _) → v ≡ Uploads p b
+      → AsksBy config.limits config.server_szx (server_trace config w) c a q v → (p : Question) (b : _) → v ≡ Uploads p b
       → TakesIn config a (server_trace config w) c
   took_here w c a q v h p b is =
-      let k = subst (AsksBy config.limit config.server_szx (server_trace config w) c a q) is h in (
-        takes_handed (own_of config.limit config.server_szx (server_trace config w)) c (took a p b) k.takes,
+      let k = subst (AsksBy config.limits config.server_szx (server_trace config w) c a q) is h in (
+        takes_handed (own_of config.limits config.server_szx (server_trace config w)) c (took a p b) k.takes,
         (took a p b, k.takes),
       )
 
@@ -130,7 +130,7 @@ module _ (config : Config) (number : ℕ) (all : List Entry) (small : config.cli
       let read = subst (ReadsOf config.server_szx m) k.verdict (server_facts.reads config.server_szx m) in
       record {
         verdict = h.verdict;
-        final = final_of config.limit config.server_szx (server_trace config w) c a q h.verdict h.asks;
+        final = final_of config.limits config.server_szx (server_trace config w) c a q h.verdict h.asks;
         origin = record {
           sending = k.sending;
           con = k.con;
@@ -142,7 +142,7 @@ module _ (config : Config) (number : ℕ) (all : List Entry) (small : config.cli
           verdict = k.verdict;
         };
         before = k.sent;
-        method = method_asked config.limit config.server_szx (server_trace config w) c a q m h.verdict h.asks read;
+        method = method_asked config.limits config.server_szx (server_trace config w) c a q m h.verdict h.asks read;
         took = λ p b is. inl (took_here w c a q h.verdict h.asks p b is);
       }
 
@@ -168,6 +168,6 @@ module _ (config : Config) (number : ℕ) (all : List Entry) (small : config.cli
       → Brought x.asked x.question (OfServer c ∷ w)
   brought_served w c later law x here from =
       let t : List Entry = OfServer c ∷ w in
-      let brings = (server_facts.handed config.limit config.server_szx config.server_word
+      let brings = (server_facts.handed config.limits config.server_szx config.server_word
       (server_trace config t) law.server).0 x here in
       brought_by x.asked x.question t later law.came from (brought_in config x.asked x.question t brings)

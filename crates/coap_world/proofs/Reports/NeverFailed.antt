@@ -6,6 +6,7 @@ use Rattle.coap_types.specs.Past.{Sometime}
 use Rattle.coap_types.specs.declared.request.Method.{Method}
 use Rattle.coap_types.specs.declared.request.Method.TheVariants.{Get, Post, Put, Delete}
 use Rattle.coap_types.proofs.Facts.Traces.{Sometime_map}
+use Rattle.coap_resource.specs.Limits.{Limits}
 use Rattle.coap_block.specs.AssemblyState.{AssemblyState}
 use Rattle.coap_block.specs.declared.block_verdict.BlockVerdict.{BlockVerdict}
 use Rattle.coap_block.specs.declared.block_verdict.BlockVerdict.TheVariants as ruling
@@ -83,39 +84,39 @@ get_is Put b h = absurd (cc h)
 get_is Delete b h = absurd (cc h)
 
 -- the request that is refused in a call, and what it comes to
-record RefusedIn (limit szx word : ℕ) (past : List S.Call) (c : S.Call) (a : Asked) : Type 0 where
+record RefusedIn (limits : Limits) (szx word : ℕ) (past : List S.Call) (c : S.Call) (a : Asked) : Type 0 where
   verdict : Verdict
-  comes : Comes limit szx word past c a verdict
+  comes : Comes limits szx word past c a verdict
   uploads : AssemblyState
   at : ℕ
   code : ℕ
   refuses_so : refusal_of uploads at a verdict ≡ Some code
 
-refused_in : (limit szx word : ℕ) (past : List S.Call) (c : S.Call) (a : Asked) (code : ℕ)
-    → Rattle.coap_server.specs.Law.ServerLaw limit szx word (c ∷ past)
-    → hands c ≡ Some a → refusal_in (own_of limit szx past) c ≡ Some code → RefusedIn limit szx word past c a
-refused_in limit szx word past (S.Feeds now from bytes w up (Some p) h below) a code law is refuses_so =
-    let s : S.Own = own_of limit szx past in
+refused_in : (limits : Limits) (szx word : ℕ) (past : List S.Call) (c : S.Call) (a : Asked) (code : ℕ)
+    → Rattle.coap_server.specs.Law.ServerLaw limits szx word (c ∷ past)
+    → hands c ≡ Some a → refusal_in (own_of limits szx past) c ≡ Some code → RefusedIn limits szx word past c a
+refused_in limits szx word past (S.Feeds now from bytes w up (Some p) h below) a code law is refuses_so =
+    let s : S.Own = own_of limits szx past in
     let same : p.0 ≡ a = cc is in
     record {
       verdict = verdict_on szx p.1;
-      comes = subst (λ z. Comes limit szx word past (S.Feeds now from bytes w up (Some p) h below) z
-          (verdict_on szx p.1)) same (comes_here limit szx word past now from bytes w up p h below law);
+      comes = subst (λ z. Comes limits szx word past (S.Feeds now from bytes w up (Some p) h below) z
+          (verdict_on szx p.1)) same (comes_here limits szx word past now from bytes w up p h below law);
       uploads = s.uploads;
       at = max s.clock now;
       code = code;
       refuses_so = ap (λ z. refusal_of s.uploads (max s.clock now) z (verdict_on szx p.1)) (sym same)
-          ∙ (ap (λ n. refusal_of s.uploads (max s.clock now) p.0 (verdict_on n p.1)) (sym (szx_is limit szx past))
+          ∙ (ap (λ n. refusal_of s.uploads (max s.clock now) p.0 (verdict_on n p.1)) (sym (szx_is limits szx past))
           ∙ refuses_so);
     }
-refused_in limit szx word past (S.Feeds now from bytes w up None h below) a code law is refuses_so = absurd (cc is)
-refused_in limit szx word past (S.Sets now path format body answer left) a code law is refuses_so = absurd (cc is)
-refused_in limit szx word past (S.Removes now path answer left) a code law is refuses_so = absurd (cc is)
-refused_in limit szx word past (S.Delays path ms answer) a code law is refuses_so = absurd (cc is)
-refused_in limit szx word past (S.Gets path answer) a code law is refuses_so = absurd (cc is)
-refused_in limit szx word past (S.TellsApplied answer) a code law is refuses_so = absurd (cc is)
-refused_in limit szx word past (S.Ticks now w below room d passed h id answer) a code law is refuses_so = absurd (cc is)
-refused_in limit szx word past (S.NextOut answer) a code law is refuses_so = absurd (cc is)
+refused_in limits szx word past (S.Feeds now from bytes w up None h below) a code law is refuses_so = absurd (cc is)
+refused_in limits szx word past (S.Sets now path format body answer left) a code law is refuses_so = absurd (cc is)
+refused_in limits szx word past (S.Removes now path answer left) a code law is refuses_so = absurd (cc is)
+refused_in limits szx word past (S.Delays path ms answer) a code law is refuses_so = absurd (cc is)
+refused_in limits szx word past (S.Gets path answer) a code law is refuses_so = absurd (cc is)
+refused_in limits szx word past (S.TellsApplied answer) a code law is refuses_so = absurd (cc is)
+refused_in limits szx word past (S.Ticks now w below room d passed h id answer) a code law is refuses_so = absurd (cc is)
+refused_in limits szx word past (S.NextOut answer) a code law is refuses_so = absurd (cc is)
 
 -- what is known wherever it happens
 known_so : {E : Type 0} (P : List E → E → Type 0) (X : Type 0) → (t : List E) → Sometime (λ past e. P past e × X) t → X
@@ -131,7 +132,7 @@ uploads_it uploads at a code (Refused n) final h = absurd final
 uploads_it uploads at a code (Asks q) final h = absurd (cc h)
 uploads_it uploads at a code (Uploads q b) final h = (q, b, refl)
 
-module _ (config : Config) (number : ℕ) (all : List Entry) (small : config.client_szx ≤ 6) (whole : Lawful config all)
+module _ (config : Config) (number : ℕ) (all : List Entry) (small : config.client_sizes ≤ 6) (whole : Lawful config all)
     (in_range : (x : Taken) → WasTaken x (client_of all) → IsRequest x.request) where
   abbrev Later : List Entry → Type 0
   Later t = LaterAll config number all small whole in_range t
@@ -144,7 +145,7 @@ module _ (config : Config) (number : ℕ) (all : List Entry) (small : config.cli
     token : sending.token ≡ message.token
     code_is : message.code ≡ code
     means : Fails sending.operation code
-    there : Sometime (FailsBy config.client_szx number code sending) (client_of t)
+    there : Sometime (FailsBy config.client_sizes number code sending) (client_of t)
     answered : Sometime (AnswersAt config message) t
 
   fails_here : (code : ℕ) (w : List Entry) (c : C.Call) → Lawful config (OfClient c ∷ w)
@@ -152,7 +153,7 @@ module _ (config : Config) (number : ℕ) (all : List Entry) (small : config.cli
       → FailsSo code (OfClient c ∷ w)
   fails_here code w c law made =
       let t : List Entry = OfClient c ∷ w in
-      let r = (reports_codes server_end config.client_szx config.client_word (client_of t) law.client).0.failed number
+      let r = (reports_codes server_end config.client_sizes config.client_word (client_of t) law.client).0.failed number
       code made in
       record {
         message = r.message;
@@ -184,7 +185,7 @@ module _ (config : Config) (number : ℕ) (all : List Entry) (small : config.cli
         token = k.token;
         code_is = k.code_is;
         means = k.means;
-        there = client_later (FailsBy config.client_szx number code k.sending) e w k.there;
+        there = client_later (FailsBy config.client_sizes number code k.sending) e w k.there;
         answered = inr k.answered;
       }
 
@@ -210,25 +211,25 @@ module _ (config : Config) (number : ℕ) (all : List Entry) (small : config.cli
         a.verdict o a.comes (same ∙ (sym token ∙ own_token)) own_token
 
     abbrev ServedSo : List S.Call → S.Call → Type 0
-    ServedSo past c = (x : Serving) × (serving (own_of config.limit config.server_szx past) c ≡ Some x)
+    ServedSo past c = (x : Serving) × (serving (own_of config.limits config.server_szx past) c ≡ Some x)
         × (x.reply.code ≡ m.code)
 
     abbrev RefusedSo : List S.Call → S.Call → Type 0
-    RefusedSo past c = (code : ℕ) × (refusal_in (own_of config.limit config.server_szx past) c ≡ Some code)
+    RefusedSo past c = (code : ℕ) × (refusal_in (own_of config.limits config.server_szx past) c ≡ Some code)
 
     -- the request is served with the code, or its block is refused
     abbrev Outcome : List S.Call → S.Call → Type 0
     Outcome past c =
-        (ServesIt config.limit config.server_szx it past c × ServedSo past c)
-        ⊎ ((HandsIt config.limit config.server_szx it past c × RefusedSo past c)
+        (ServesIt config.limits config.server_szx it past c × ServedSo past c)
+        ⊎ ((HandsIt config.limits config.server_szx it past c × RefusedSo past c)
         × ((q : Question) × (b : _) × (a.verdict ≡ Uploads q b)))
 
     -- a request of the call that changes something is no registration
     none_made : (o : Observer) (w : List Entry) → Later w → Lawful config w → o.to ≡ client_end → o.token ≡ m.token
-        → WasMade config.limit config.server_szx (server_trace config w) o → ⊥
+        → WasMade config.limits config.server_szx (server_trace config w) o → ⊥
     none_made o [] later law to same h = none_begun (config.delays) h
       where
-        none_begun : (ds : List S.Delay) → WasMade config.limit config.server_szx
+        none_begun : (ds : List S.Delay) → WasMade config.limits config.server_szx
             (map (λ (d : S.Delay). S.Delays d.path d.ms true) ds) o → ⊥
         none_begun [] h = h
         none_begun (d ∷ ds) (inl h) = let here = h.made.here in cc here
@@ -263,7 +264,7 @@ module _ (config : Config) (number : ℕ) (all : List Entry) (small : config.cli
         inl ((x, is, is_it x.asked b.verdict b.origin r.token_is), (x, is, sym r.code))
     outcome_here w c later law (continues x size is more asks r) =
         let t : List Entry = OfServer c ∷ w in
-        let k = (server_facts.blocks config.limit config.server_szx config.server_word
+        let k = (server_facts.blocks config.limits config.server_szx config.server_word
         (server_trace config t) law.server).0 x is in
         let v : Verdict = Uploads k.question k.block in
         let o = origin_of config number all small whole in_range w (OfServer c) later x.asked v
@@ -273,7 +274,7 @@ module _ (config : Config) (number : ℕ) (all : List Entry) (small : config.cli
         absurd (cc (more, not_more))
     outcome_here w c later law (refuses b v code comes handed none is r) =
         let t : List Entry = OfServer c ∷ w in
-        let k = refused_in config.limit config.server_szx config.server_word
+        let k = refused_in config.limits config.server_szx config.server_word
         (server_trace config w) c b code law.server handed is in
         let o = origin_of config number all small whole in_range w (OfServer c) later b k.verdict
         (law.came.0 b k.verdict k.comes r.to_client) in
@@ -298,15 +299,15 @@ module _ (config : Config) (number : ℕ) (all : List Entry) (small : config.cli
       abbrev t : List S.Call
       t = server_trace config all
 
-      few : times_handed config.limit config.server_szx it t ≤ 1
+      few : times_handed config.limits config.server_szx it t ≤ 1
       few = handed_few config number all small whole in_range last a.known.sent a.known.of_call it a.from own_token
 
       abbrev AppliedSo : List S.Call → S.Call → Type 0
-      AppliedSo past c = serving (own_of config.limit config.server_szx past) c ≡ Some a.request
+      AppliedSo past c = serving (own_of config.limits config.server_szx past) c ≡ Some a.request
 
       failed_so : applied_by a.known.request.method code ≡ false
       failed_so =
-          fails_none config.client_szx number (record a.known.request { body = [] }) a.known.request.body code
+          fails_none config.client_sizes number (record a.known.request { body = [] }) a.known.request.body code
           a.known.request.method a.known.transfer a.known.carries
           (sym (ap is_last a.known.operation) ∙ a.known.last)
           (subst (λ o. Fails o code) a.known.operation means)
@@ -320,32 +321,32 @@ module _ (config : Config) (number : ℕ) (all : List Entry) (small : config.cli
           ∙ (ap (λ n. applied_by n a.request.reply.code) (sym a.known.method) ∙ a.right) in
           cc (yes, failed_so)
 
-      none_served : Sometime (λ past c. ServesIt config.limit config.server_szx it past c × ServedSo past c) t → ⊥
+      none_served : Sometime (λ past c. ServesIt config.limits config.server_szx it past c × ServedSo past c) t → ⊥
       none_served h =
-          let S1 = ServesIt config.limit config.server_szx it in
-          let once = served_once config.limit config.server_szx it t
-          (server_facts.served config.limit config.server_szx config.server_word t whole.server) few in
+          let S1 = ServesIt config.limits config.server_szx it in
+          let once = served_once config.limits config.server_szx it t
+          (server_facts.served config.limits config.server_szx config.server_word t whole.server) few in
           let applied = Sometime_map AppliedSo (λ past c. S1 past c × AppliedSo past c)
           (λ past c k. ((a.request, k, refl), k)) t a.served in
           never (λ past c. ServedSo past c × AppliedSo past c) served_both t
           (once_same S1 ServedSo AppliedSo t once h applied)
 
       abbrev TakenSo : List S.Call → S.Call → Type 0
-      TakenSo past c = (y : Took) × (takes_block (own_of config.limit config.server_szx past) c ≡ Some y)
+      TakenSo past c = (y : Took) × (takes_block (own_of config.limits config.server_szx past) c ≡ Some y)
 
-      none_refused : Sometime (λ past c. HandsIt config.limit config.server_szx it past c × RefusedSo past c) t
+      none_refused : Sometime (λ past c. HandsIt config.limits config.server_szx it past c × RefusedSo past c) t
           → (q : Question) (b : _) → a.verdict ≡ Uploads q b → ⊥
       none_refused h q b is =
-          let once = handed_once config.limit config.server_szx it t few in
+          let once = handed_once config.limits config.server_szx it t few in
           never (λ past c. RefusedSo past c × TakenSo past c)
-          (λ past c k. not_both (own_of config.limit config.server_szx past) c k.1.0 k.0.0 k.1.1 k.0.1) t
-          (once_same (HandsIt config.limit config.server_szx it) RefusedSo TakenSo t once h (a.took q b is))
+          (λ past c k. not_both (own_of config.limits config.server_szx past) c k.1.0 k.0.0 k.1.1 k.0.1) t
+          (once_same (HandsIt config.limits config.server_szx it) RefusedSo TakenSo t once h (a.took q b is))
 
       none_applied : Sometime Outcome t → ⊥
       none_applied h =
-          let P = λ (past : List S.Call) (c : S.Call). ServesIt config.limit config.server_szx it past c
+          let P = λ (past : List S.Call) (c : S.Call). ServesIt config.limits config.server_szx it past c
           × ServedSo past c in
-          let R = λ (past : List S.Call) (c : S.Call). HandsIt config.limit config.server_szx it past c
+          let R = λ (past : List S.Call) (c : S.Call). HandsIt config.limits config.server_szx it past c
           × RefusedSo past c in
           let U : Type 0 = (q : Question) × (b : _) × (a.verdict ≡ Uploads q b) in
           elim (once_either P (λ past c. R past c × U) t h) [
@@ -357,10 +358,10 @@ module _ (config : Config) (number : ℕ) (all : List Entry) (small : config.cli
   fails_not : (code : ℕ) → FailsSo code all → Applied config number all small whole in_range all → ⊥
   fails_not code f a =
       let y : Sending = a.known.sending in
-      let same : y ≡ f.sending = same_last config.client_szx server_end config.client_word number code f.sending y f.of
+      let same : y ≡ f.sending = same_last config.client_sizes server_end config.client_word number code f.sending y f.of
       a.known.of_call a.known.last (client_of all)
-      (client_facts.order server_end config.client_szx config.client_word (client_of all) whole.client)
-      (client_facts.none_after server_end config.client_szx config.client_word (client_of all) whole.client) f.there
+      (client_facts.order server_end config.client_sizes config.client_word (client_of all) whole.client)
+      (client_facts.none_after server_end config.client_sizes config.client_word (client_of all) whole.client) f.there
       a.known.sent
       in
       let token : a.request.asked.token ≡ f.message.token = ap (λ (z : Asked). z.token) a.known.asked
@@ -368,7 +369,7 @@ module _ (config : Config) (number : ℕ) (all : List Entry) (small : config.cli
       none_applied a f.message token code f.code_is (subst (λ (z : Sending). Fails z.operation code) (sym same) f.means)
       (outcome_in a f.message token all (λ x h. h, λ con h. h, λ x h. h) whole f.answered)
 
-pub never_failed : (config : Config) (all : List Entry) → config.client_szx ≤ 6 → Lawful config all
+pub never_failed : (config : Config) (all : List Entry) → config.client_sizes ≤ 6 → Lawful config all
     → ((x : Taken) → WasTaken x (client_of all) → IsRequest x.request) → NeverFailed config all
 never_failed config all small law in_range number code failed applied =
     fails_not config number all small law in_range code

@@ -1,6 +1,7 @@
 -- Which observation it is that a request is for, by its token, and which path it asks for.
 use Rattle.std.proofs.Common.{◌≡◌, ◌⊎◌, inl, inr, ℕ, Some, List, [], ◌∷◌, ap, sym, ◌∙◌}
 use Rattle.coap_types.specs.RequestPath.{path_of}
+use Rattle.coap_block.specs.Sizes.{Sizes}
 use Rattle.coap_client.specs.Follows.Begins.{WasSent}
 use Rattle.coap_client.specs.Follows.OfObservations.{AsksFor, AreOfObservations}
 use Rattle.coap_client.specs.Follows.OfObservations.{observation_for}
@@ -17,8 +18,8 @@ use Rattle.coap_world.proofs.Requests.OfACall.{Lawful}
 use Rattle.coap_world.specs.Held.{WasObserved}
 use Rattle.coap_world.proofs.Reports.PathRead.{path_of_observe, path_of_fetch}
 
-module _ (szx : ℕ) (path : List (List ℕ)) (x : Sending) (past : List C.Call) where
-  asked_path : (op : Operation) → AsksFor szx op path x past → path_of x.request.options ≡ path
+module _ (sizes : Sizes) (path : List (List ℕ)) (x : Sending) (past : List C.Call) where
+  asked_path : (op : Operation) → AsksFor sizes op path x past → path_of x.request.options ≡ path
   asked_path (Registering n p) h = ap (λ r. path_of r.options) h.1 ∙ path_of_observe 0 path
   asked_path (Fetching n) h = ap (λ r. path_of r.options) h.1 ∙ path_of_fetch path (Some h.0)
   asked_path (Cancelling n) h = ap (λ r. path_of r.options) h.0 ∙ path_of_observe 1 path
@@ -31,17 +32,17 @@ record IsOf (number : ℕ) (x : Sending) (t : List C.Call) : Type 0 where
   taken : of.WasObserved (record { number = number; path = path }) t
   asks : path_of x.request.options ≡ path
 
-of_at : (szx : ℕ) (t : List C.Call) → AreOfObservations szx t → (x : Sending) (number : ℕ) → WasSent szx x t
+of_at : (sizes : Sizes) (t : List C.Call) → AreOfObservations sizes t → (x : Sending) (number : ℕ) → WasSent sizes x t
     → observation_for x.operation ≡ Some number → IsOf number x t
-of_at szx [] law x number h is = absurd h
-of_at szx (c ∷ t) law x number (inl h) is = let k =
+of_at sizes [] law x number h is = absurd h
+of_at sizes (c ∷ t) law x number (inl h) is = let k =
     law.0 x number h is in record {
       path = k.path;
       taken = inr k.taken;
-      asks = asked_path szx k.path x t x.operation k.asks;
+      asks = asked_path sizes k.path x t x.operation k.asks;
     }
-of_at szx (c ∷ t) law x number (inr h) is = let k =
-    of_at szx t law.1 x number h is in record { path = k.path; taken = inr k.taken; asks = k.asks }
+of_at sizes (c ∷ t) law x number (inr h) is = let k =
+    of_at sizes t law.1 x number h is in record { path = k.path; taken = inr k.taken; asks = k.asks }
 
 numbered_alike : (x y : Sending) (number : ℕ) → Deregisters x y → observation_for y.operation ≡ Some number
     → observation_for x.operation ≡ Some number
@@ -58,19 +59,19 @@ module _ (config : Config) where
     pub asks : path_of x.request.options ≡ path
 
   pub of_observation : (number : ℕ) (x : Sending) (w : List Entry) → Lawful config w
-      → WasSent config.client_szx x (client_of w) → observation_for x.operation ≡ Some number → OfObservation number x w
+      → WasSent config.client_sizes x (client_of w) → observation_for x.operation ≡ Some number → OfObservation number x w
   of_observation number x w law sent is =
-      let k = of_at config.client_szx (client_of w)
-      (are_of_observations config.client_szx server_end config.client_word (client_of w) law.client) x number sent
+      let k = of_at config.client_sizes (client_of w)
+      (are_of_observations config.client_sizes server_end config.client_word (client_of w) law.client) x number sent
       is in
       record { path = k.path; observed = k.taken; asks = k.asks }
 
   -- one token of an observation, one path
   pub one_of_observation : (all : List Entry) → Lawful config all → (x y : Sending) (number : ℕ)
-      → WasSent config.client_szx x (client_of all) → WasSent config.client_szx y (client_of all)
+      → WasSent config.client_sizes x (client_of all) → WasSent config.client_sizes y (client_of all)
       → observation_for y.operation ≡ Some number → x.token ≡ y.token → observation_for x.operation ≡ Some number
   one_of_observation all law x y number sent there is token =
-      by (client_facts.tokens server_end config.client_szx config.client_word
+      by (client_facts.tokens server_end config.client_sizes config.client_word
       (client_of all) law.client x y sent there token)
     where
       by : (x ≡ y) ⊎ (Deregisters x y ⊎ Deregisters y x) → observation_for x.operation ≡ Some number

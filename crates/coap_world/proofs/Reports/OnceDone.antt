@@ -23,7 +23,7 @@ use Rattle.coap_world.specs.Done.{AppliesSince, OnceDone}
 use Rattle.coap_world.proofs.Reports.Codes.{succeeds_applied, refusal_none, notice_none}
 use Rattle.coap_world.proofs.Reports.Located.{LaterAll, SentAll, brought_served}
 
-module _ (config : Config) (number : ℕ) (all : List Entry) (small : config.client_szx ≤ 6) (whole : Lawful config all)
+module _ (config : Config) (number : ℕ) (all : List Entry) (small : config.client_sizes ≤ 6) (whole : Lawful config all)
     (in_range : (x : Taken) → WasTaken x (client_of all) → IsRequest x.request) where
   abbrev Later : List Entry → Type 0
   Later t = LaterAll config number all small whole in_range t
@@ -43,8 +43,8 @@ module _ (config : Config) (number : ℕ) (all : List Entry) (small : config.cli
         let same : y ≡ s = one_sending config number all small whole in_range y s k.origin.sent sent of
         (y_token ∙ (r.token_is ∙ sym token)) in
         let of_it : call_of y.operation ≡ Some number = ap (λ (z : Sending). call_of z.operation) same ∙ of in
-        let g = of_call_at config.client_szx (client_of w)
-        (client_facts.of_calls config.client_szx (client_of w)) y number k.before of_it in
+        let g = of_call_at config.client_sizes (client_of w)
+        (client_facts.of_calls config.client_sizes (client_of w)) y number k.before of_it in
         record {
           applies = record {
             request = x;
@@ -59,10 +59,10 @@ module _ (config : Config) (number : ℕ) (all : List Entry) (small : config.cli
     applies_here w c later law (continues x size is more asks r) = absurd (not_this 95 r.code refl)
     applies_here w c later law (refuses a v code comes handed none is r) =
         absurd (not_this code r.code (refusal_none
-        (own_of config.limit config.server_szx (server_trace config w)) c code is))
+        (own_of config.limits config.server_szx (server_trace config w)) c code is))
     applies_here w c later law (notifies o reply here made shows so) =
         absurd (not_this _ so.code (notice_none o.szx
-        ((own_of config.limit config.server_szx (server_trace config w)).store.holds o.path) _ shows))
+        ((own_of config.limits config.server_szx (server_trace config w)).store.holds o.path) _ shows))
 
     applies_in : (w : List Entry) → Later w → Lawful config w → Sometime (AnswersAt config m) w
         → Sometime (AppliesSince config number all) w
@@ -78,7 +78,7 @@ module _ (config : Config) (number : ℕ) (all : List Entry) (small : config.cli
         → Sometime (AppliesSince config number all) w
     done_here w c later law made =
         let t : List Entry = OfClient c ∷ w in
-        let r = (reports_codes server_end config.client_szx config.client_word (client_of t) law.client).0.done number
+        let r = (reports_codes server_end config.client_sizes config.client_word (client_of t) law.client).0.done number
         code made in
         let before = later_back config number all small whole in_range (OfClient c) w later in
         applies_in r.message r.heard.sending (before.0 r.heard.sending r.heard.sent) r.heard.of_call r.heard.token
@@ -101,7 +101,7 @@ module _ (config : Config) (number : ℕ) (all : List Entry) (small : config.cli
           (lawful_back config w (OfServer c) law),
     )
 
-pub once_done : (config : Config) (all : List Entry) → config.client_szx ≤ 6 → Lawful config all
+pub once_done : (config : Config) (all : List Entry) → config.client_sizes ≤ 6 → Lawful config all
     → ((x : Taken) → WasTaken x (client_of all) → IsRequest x.request) → OnceDone config all
 once_done config all small law in_range number code =
     done_in config number all small law in_range code all (λ x h. h, λ con h. h, λ x h. h) law

@@ -2,6 +2,7 @@
 -- is that.
 use Rattle.std.proofs.Common.{◌≡◌, ℕ, Option, Some, None, List, [], ◌∷◌, ◌++◌, ap, sym, subst, ◌∙◌}
 use Rattle.coap_types.specs.declared.block.Block.{Block}
+use Rattle.coap_resource.specs.Limits.{Limits}
 use Rattle.coap_codec.specs.Message.{Message}
 use Rattle.coap_block.specs.Gathered.{part, payloads_of}
 use Rattle.coap_block.specs.Whole.{Part, Each, IsPieceOf, HasTag, OneTag, Blocks, Whole}
@@ -39,18 +40,18 @@ tags_alike (x ∷ z ∷ xs) y h =
     let s = each_split (HasTag h.0) (x ∷ z ∷ xs) y h.1 in
     each_map (HasTag h.0) (λ p. p.tag ≡ y.tag) (λ p k. k ∙ sym s.1) (x ∷ z ∷ xs) s.0
 
-module _ (limit szx : ℕ) (all : List S.Call) where
+module _ (limits : Limits) (szx : ℕ) (all : List S.Call) where
   -- the part is one of what was held, and has its tag
   pub record IsPartHeld (p : Part) : Type 0 where
     pub path : List (List ℕ)
     pub held : Held
-    pub was : server.WasHeld limit szx path held all
+    pub was : server.WasHeld limits szx path held all
     pub tag : p.tag ≡ Some (tag_of held.version)
     pub piece : IsPieceOf held.body p
 
   -- a part, by the message that carries it
   pub part_held : (p : Part) (m : Message) (path : List (List ℕ)) (held : Held) → ComesAs p m
-      → server.WasHeld limit szx path held all → IsShown held m → IsPartHeld p
+      → server.WasHeld limits szx path held all → IsShown held m → IsPartHeld p
   part_held p m path held comes was shown =
       record {
         path = path;
@@ -60,8 +61,8 @@ module _ (limit szx : ℕ) (all : List S.Call) where
         piece = subst (IsPieceOf held.body) (sym comes.is) (shown.part.piece comes.block comes.says);
       }
 
-  module _ (tags : server.OneTag limit szx all) (path : List (List ℕ)) (held : Held)
-      (was : server.WasHeld limit szx path held all) where
+  module _ (tags : server.OneTag limits szx all) (path : List (List ℕ)) (held : Held)
+      (was : server.WasHeld limits szx path held all) where
     piece_of : (p : Part) → IsPartHeld p → p.tag ≡ Some (tag_of held.version) → IsPieceOf held.body p
     piece_of p k tag =
         let same : Some (tag_of k.held.version) ≡ Some (tag_of held.version) = sym k.tag ∙ tag in
@@ -79,7 +80,7 @@ module _ (limit szx : ℕ) (all : List S.Call) where
         (tags_alike parts z whole.1)
 
     -- what was held under that tag is this
-    pub same_held : (other : List (List ℕ)) (k : Held) → server.WasHeld limit szx other k all
+    pub same_held : (other : List (List ℕ)) (k : Held) → server.WasHeld limits szx other k all
         → Some (tag_of k.version) ≡ Some (tag_of held.version) → k ≡ held
     same_held other k there same = (tags other path k held there was (cc same)).0
 

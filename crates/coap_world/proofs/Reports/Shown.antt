@@ -114,7 +114,7 @@ module _ (config : Config) where
   pub record ShownAt (m : Message) (past : List Entry) (e : Entry) : Type 0 where
     pub answers : AnswersAt config m past e
     pub sending : Sending
-    pub sent : WasSent config.client_szx sending (client_of past)
+    pub sent : WasSent config.client_sizes sending (client_of past)
     pub token : sending.token ≡ m.token
     pub held : Held
     pub is_held : last_at config (path_of sending.request.options) (e ∷ past) ≡ Some held
@@ -127,21 +127,21 @@ module _ (config : Config) where
     t = server_trace config past
 
     abbrev own : Own
-    own = own_of config.limit config.server_szx t
+    own = own_of config.limits config.server_szx t
 
     -- what is held here is small, and is the last change
     last_here : (path : List (List ℕ)) (held : Held) → (after own c).store.holds path ≡ Some held
         → (last_at config path (OfServer c ∷ past) ≡ Some held) × IfSome held.format (λ f. f < 65536)
     last_here path held is =
         let last : last_at config path (OfServer c ∷ past)
-        ≡ Some held = sym (held_is config.limit config.server_szx (c ∷ t) law.server.rows path) ∙ is in
+        ≡ Some held = sym (held_is config.limits config.server_szx (c ∷ t) law.server.rows path) ∙ is in
         (last, subst IsSmall last (formats_held config (OfServer c ∷ past) law.server.rows formats path))
 
     by_reply : (x : Serving) → serving own c ≡ Some x
         → IsResponse m x.asked.from x.asked.token (response_with x.reply x.sequence (last_block x.question))
         → ShownAt m past (OfServer c)
     by_reply x here r =
-        let right = (server_facts.right config.limit config.server_szx config.server_word (c ∷ t) law.server).0.serves x
+        let right = (server_facts.right config.limits config.server_szx config.server_word (c ∷ t) law.server).0.serves x
         here in
         let replied : x.reply.code ≡ content = sym r.code ∙ code in
         let w = content_law x.old x.left right.0 x.question x.reply right.1 replied in
@@ -175,7 +175,7 @@ module _ (config : Config) where
         }
 
     by_notice : (o : Observer) (reply : Reply) (held : Held) → own.store.holds o.path ≡ Some held
-        → notice_in c ≡ Some (o, reply) → WasMade config.limit config.server_szx t o
+        → notice_in c ≡ Some (o, reply) → WasMade config.limits config.server_szx t o
         → IsResponse m o.to o.token (notification own.store o reply)
         → notification own.store o reply ≡ response_with (content_reply held false 0 o.szx)
         (sequence_if true (Some held)) None
@@ -205,7 +205,7 @@ module _ (config : Config) where
     refused_not n h = apart n content (λ is. omega (arith, h, is))
 
     by_held : (o : Observer) (reply : Reply) (h : Option Held) → own.store.holds o.path ≡ h
-        → notice_in c ≡ Some (o, reply) → WasMade config.limit config.server_szx t o
+        → notice_in c ≡ Some (o, reply) → WasMade config.limits config.server_szx t o
         → NoticeOf o.szx h (notification own.store o reply)
         → IsResponse m o.to o.token (notification own.store o reply) → AnswersAt config m past (OfServer c)
         → ShownAt m past (OfServer c)

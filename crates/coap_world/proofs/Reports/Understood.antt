@@ -3,6 +3,7 @@ use Rattle.std.proofs.Common.{◌≡◌, ℕ, max, Bool, false, Option, Some, No
 use Rattle.coap_types.specs.Recognised.{lacks_critical}
 use Rattle.coap_types.specs.declared.direction.Direction.TheVariants.{Response}
 use Rattle.coap_types.specs.declared.endpoint.Endpoint.{Endpoint}
+use Rattle.coap_block.specs.Sizes.{Sizes}
 use Rattle.coap_codec.specs.Message.{Message}
 use Rattle.coap_layer.specs.Trace as L
 use Rattle.coap_exchange.specs.declared.asker.AskRefusal.{AskRefusal}
@@ -22,22 +23,22 @@ use Rattle.coap_client.specs.Trace.{NextReport, Asked}
 use Rattle.coap_client.specs.Follows.Words.{hears}
 use Rattle.coap_client.proofs.Facts.EachCall.{stripped}
 
-module _ (server : Endpoint) (szx word : ℕ) where
+module _ (server : Endpoint) (sizes : Sizes) (word : ℕ) where
   understood_here :
       (t : List Call) (now : ℕ) (from : Endpoint) (bytes : List ℕ) (w : ℕ) (up : L.Answer) (settled : Bool)
       (event : Option Event) (sent : L.Answer) (token : Result (List ℕ) AskRefusal) (kept : Bool) (m : Message)
-      → ClientLaw server szx word (Feeds now from bytes w up settled event sent token kept ∷ t)
+      → ClientLaw server sizes word (Feeds now from bytes w up settled event sent token kept ∷ t)
       → message_told event ≡ Some m → lacks_critical Response m.options ≡ false
   understood_here t now from bytes w up settled event sent token kept m law told =
-      let own : Own = own_of szx t in
+      let own : Own = own_of sizes t in
       let moment : ℕ = max own.clock now in
       let input : E.Call = E.Receive moment from bytes up settled event in
-      let p : ExchangeLaw server word (input ∷ lower_of szx t) =
+      let p : ExchangeLaw server word (input ∷ lower_of sizes t) =
       stripped server word moment w sent sent token token kept kept (happened (at now own) moment event) input
-      (lower_of szx t) law.exchanges in
-      (matched server word (input ∷ lower_of szx t) p.rows).0.understood m told
+      (lower_of sizes t) law.exchanges in
+      (matched server word (input ∷ lower_of sizes t) p.rows).0.understood m told
 
-  pub heard_understood : (t : List Call) (c : Call) → ClientLaw server szx word (c ∷ t) → (m : Message)
+  pub heard_understood : (t : List Call) (c : Call) → ClientLaw server sizes word (c ∷ t) → (m : Message)
       → hears c ≡ Some m → lacks_critical Response m.options ≡ false
   heard_understood t (Feeds now from bytes w up settled (Some (event_of.Answer a)) sent token kept) law m h =
       understood_here t now from bytes w up settled (Some (event_of.Answer a)) sent token kept m law h
@@ -57,7 +58,7 @@ module _ (server : Endpoint) (szx word : ℕ) where
   heard_understood t (NextReport answer) law m h = absurd (cc h)
   heard_understood t (Asked answer) law m h = absurd (cc h)
 
-  pub noted_understood : (t : List Call) (c : Call) → ClientLaw server szx word (c ∷ t) → (m : Message)
+  pub noted_understood : (t : List Call) (c : Call) → ClientLaw server sizes word (c ∷ t) → (m : Message)
       → notes c ≡ Some m → lacks_critical Response m.options ≡ false
   noted_understood t (Feeds now from bytes w up settled (Some (event_of.Notice a)) sent token kept) law m h =
       understood_here t now from bytes w up settled (Some (event_of.Notice a)) sent token kept m law h

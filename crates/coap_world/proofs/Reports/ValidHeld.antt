@@ -21,7 +21,7 @@ use Rattle.coap_world.proofs.Reports.ValidShown.{NamedAt, named_in}
 
 module _ (config : Config) where
   module _ (number : ℕ) (tag : Option (List ℕ)) (all : List Entry) (law : Lawful config all) (c : C.Call)
-      (f : IsValidated config.client_szx number tag (client_of all) c) where
+      (f : IsValidated config.client_sizes number tag (client_of all) c) where
     since : (w : List Entry) → Within config w all → Sometime (NamedAt config f.message) w
         → Sometime (ValidSince config number tag) w
     since [] in_all h = h
@@ -58,10 +58,10 @@ module _ (config : Config) where
       go (OfClient c ∷ past) law = (
         λ made. (
             let before = lawful_back config past (OfClient c) law in
-            let f = (client_facts.valid server_end config.client_szx config.client_word
+            let f = (client_facts.valid server_end config.client_sizes config.client_word
             (c ∷ client_of past) law.client).0 number tag made in
             since number tag past before c f past (within_self config past)
-            (named_in config f.message f.code (heard_understood server_end config.client_szx config.client_word
+            (named_in config f.message f.code (heard_understood server_end config.client_sizes config.client_word
             (client_of past) c law.client f.message f.heard.heard) past before
             ((all_answered config (OfClient c ∷ past) law).0 f.message f.heard.heard))),
         go past (lawful_back config past (OfClient c) law),

@@ -45,7 +45,7 @@ use Rattle.coap_world.proofs.Reports.TagsOwn.{names_read}
 module _ (config : Config) where
   pub record NamedAt (m : Message) (past : List Entry) (e : Entry) : Type 0 where
     pub sending : Sending
-    pub sent : WasSent config.client_szx sending (client_of past)
+    pub sent : WasSent config.client_sizes sending (client_of past)
     pub token : sending.token ≡ m.token
     pub held : Held
     pub is_held : last_at config (path_of sending.request.options) (e ∷ past) ≡ Some held
@@ -58,13 +58,13 @@ module _ (config : Config) where
     t = server_trace config past
 
     abbrev own : S.Own
-    own = own_of config.limit config.server_szx t
+    own = own_of config.limits config.server_szx t
 
     by_reply : (x : Serving) → serving own c ≡ Some x
         → IsResponse m x.asked.from x.asked.token (response_with x.reply x.sequence (last_block x.question))
         → NamedAt m past (OfServer c)
     by_reply x here r =
-        let right = (server_facts.right config.limit config.server_szx config.server_word (c ∷ t) law.server).0.serves x
+        let right = (server_facts.right config.limits config.server_szx config.server_word (c ∷ t) law.server).0.serves x
         here in
         let w = valid_law x.old x.left right.0 x.question x.reply right.1 (sym r.code ∙ code) in
         let l = leaves own c x here in
@@ -73,7 +73,7 @@ module _ (config : Config) where
         let now : (after own c).store.holds x.question.path
         ≡ Some w.held = ap (λ (s : Content). s.holds x.question.path) (l.left ∙ w.same) ∙ w.is_held in
         let last : last_at config x.question.path (OfServer c ∷ past)
-        ≡ Some w.held = sym (held_is config.limit config.server_szx (c ∷ t) law.server.rows x.question.path)
+        ≡ Some w.held = sym (held_is config.limits config.server_szx (c ∷ t) law.server.rows x.question.path)
         ∙ now in
         let number : x.sequence ≡ sequence_if n.told_it (Some w.held) = n.is ∙ ap (sequence_if n.told_it) w.is_held in
         record {

@@ -36,7 +36,7 @@ use Rattle.coap_world.proofs.Reports.ValuesShown.{TakesAt, taken_shown, newest_s
 module _ (config : Config) (small : config.server_szx ≤ 6) where
   -- each part that was fetched
   rest_held : (number : ℕ) (p : Part) (w : List Entry) → Lawful config w → FormatsIn w
-      → TookRest config.client_szx number p (client_of w) → PartHeld config small w p
+      → TookRest config.client_sizes number p (client_of w) → PartHeld config small w p
   rest_held number p [] law formats h = absurd h
   rest_held number p (OfServer c ∷ past) law formats h =
       part_later config small p past (OfServer c)
@@ -46,10 +46,10 @@ module _ (config : Config) (small : config.server_szx ≤ 6) where
   rest_held number p (OfClient c ∷ past) law formats (apart, inl h) =
       let k = some_shown config h.message past (heard_shown config small past c law formats h.message h.heard.heard
       h.part.code) in
-      part_held config.limit config.server_szx (server_trace config past) p h.message k.path k.held h.part k.was k.shown
+      part_held config.limits config.server_szx (server_trace config past) p h.message k.path k.held h.part k.was k.shown
 
   each_rest : (number : ℕ) (w : List Entry) → Lawful config w → FormatsIn w → (ps : List Part)
-      → Each (λ p. TookRest config.client_szx number p (client_of w)) ps → Each (PartHeld config small w) ps
+      → Each (λ p. TookRest config.client_sizes number p (client_of w)) ps → Each (PartHeld config small w) ps
   each_rest number w law formats [] h = tt
   each_rest number w law formats (p ∷ ps) h = (
     rest_held number p w law formats h.0,
@@ -79,9 +79,9 @@ module _ (config : Config) (small : config.server_szx ≤ 6) where
   first_notifies number n (e ∷ past) (inr h) = first_notifies number n past h
 
   module _ (number sequence : ℕ) (tag : Option (List ℕ)) (format : Option ℕ) (body : List ℕ) (all : List Entry)
-      (law : Lawful config all) (c : C.Call) (f : IsObserved config.client_szx number sequence tag format body
+      (law : Lawful config all) (c : C.Call) (f : IsObserved config.client_sizes number sequence tag format body
       (client_of all) c)
-      (x : Sending) (sent : WasSent config.client_szx x (client_of all))
+      (x : Sending) (sent : WasSent config.client_sizes x (client_of all))
       (of : observation_for x.operation ≡ Some number) (token : x.token ≡ f.last.token)
       (parts : Each (PartHeld config small all) f.parts)
       (numbered : (path : List (List ℕ)) (held : Held) → HeldIn config path held all → IsShown held f.last
@@ -99,9 +99,9 @@ module _ (config : Config) (small : config.server_szx ≤ 6) where
         let mine = one_of_observation config all law k.sending x number (before.sent k.sending k.sent) sent of
         (k.token ∙ sym token) in
         let g = of_observation config number k.sending past (lawful_back config past e here) k.sent mine in
-        let tags = server_facts.tags config.limit config.server_szx config.server_word
+        let tags = server_facts.tags config.limits config.server_szx config.server_word
         (server_trace config all) law.server in
-        let body_is : body ≡ k.held.body = body_held config.limit config.server_szx
+        let body_is : body ≡ k.held.body = body_held config.limits config.server_szx
         (server_trace config all) tags path k.held was f.parts f.last f.block body parts k.shown f.comes_last
         f.whole in
         let format_is : format ≡ k.held.format = f.format_is ∙ k.shown.format in
@@ -132,14 +132,14 @@ module _ (config : Config) (small : config.server_szx ≤ 6) where
 
   module _ (number sequence : ℕ) (tag : Option (List ℕ)) (format : Option ℕ) (body : List ℕ) (past : List Entry)
       (c : C.Call) (law : Lawful config (OfClient c ∷ past)) (formats : FormatsIn past)
-      (f : IsObserved config.client_szx number sequence tag format body (client_of past) c) where
+      (f : IsObserved config.client_sizes number sequence tag format body (client_of past) c) where
     abbrev before : Lawful config past
     before = lawful_back config past (OfClient c) law
 
     taken : Sometime (TakesAt config small number f.first) (OfClient c ∷ past)
     taken = newest_shown config small number f.first (OfClient c ∷ past) law formats f.is_newest
 
-    by_one : IsAlone config.client_szx f.first f.parts f.last (client_of past) c
+    by_one : IsAlone config.client_sizes f.first f.parts f.last (client_of past) c
         → Sometime (ValueSince config number sequence tag format body) past
     by_one a =
         let k = taken_shown config small number f.first past c law formats a.now
@@ -152,13 +152,13 @@ module _ (config : Config) (small : config.server_szx ≤ 6) where
         (within_self config past)
         (subst (λ m. Sometime (ShownAt config m) past) (sym a.is) k.shown)
 
-    by_more : IsFetchedFor config.client_szx number f.first f.parts f.last (client_of past) c
+    by_more : IsFetchedFor config.client_sizes number f.first f.parts f.last (client_of past) c
         → Sometime (ValueSince config number sequence tag format body) past
     by_more b =
         let t = server_trace config past in
-        let tags = server_facts.tags config.limit config.server_szx config.server_word t before.server in
+        let tags = server_facts.tags config.limits config.server_szx config.server_word t before.server in
         let k = first_shown number f.first (OfClient c ∷ past) taken in
-        let begins = part_held config.limit config.server_szx t b.part f.first.message k.path k.held b.begins k.was
+        let begins = part_held config.limits config.server_szx t b.part f.first.message k.path k.held b.begins k.was
         k.shown in
         let parts = subst (Each (PartHeld config small past)) (sym b.split)
         (begins, each_rest number past before formats b.rest b.took) in
@@ -166,9 +166,9 @@ module _ (config : Config) (small : config.server_szx ≤ 6) where
         → sequence ≡ sequence_number held.version =
         λ path held was shown. (
         let alike = subst (Each (λ p. p.tag ≡ Some (tag_of held.version))) b.split
-        (tags_of config.limit config.server_szx t tags path held was f.parts f.last f.block body shown f.comes_last
+        (tags_of config.limits config.server_szx t tags path held was f.parts f.last f.block body shown f.comes_last
         f.whole) in
-        let same : k.held ≡ held = same_held config.limit config.server_szx t tags path held was k.path k.held k.was
+        let same : k.held ≡ held = same_held config.limits config.server_szx t tags path held was k.path k.held k.was
         (sym k.shown.tag ∙ (sym (ap (λ (p : Part). p.tag) b.begins.is) ∙ alike.0)) in
         f.sequence_is ∙ (k.shown.sequence (first_notifies number f.first (OfClient c ∷ past) taken)
         ∙ ap (λ (h : Held). sequence_number h.version) same))
@@ -193,7 +193,7 @@ module _ (config : Config) (small : config.server_szx ≤ 6) where
       )
       go (OfClient c ∷ past) law formats = (
         λ made. value_held number sequence tag format body past c law formats
-            ((values_are_whole config.client_szx server_end config.client_word (c ∷ client_of past) law.client).0 number
+            ((values_are_whole config.client_sizes server_end config.client_word (c ∷ client_of past) law.client).0 number
             sequence tag format body made),
         go past (lawful_back config past (OfClient c) law) formats,
       )

@@ -40,10 +40,10 @@ module _ (config : Config) (small : config.server_szx ≤ 6) where
   -- here the client takes a notification, of this observation, which the server made before: it shows the version that
   -- the path held then, under the number of that version
   pub record TakesFirst (number : ℕ) (n : Newly) (past : List Entry) (c : C.Call) : Type 0 where
-    pub takes : notifies (own_of config.client_szx (client_of past)) c ≡ Some n
+    pub takes : notifies (own_of config.client_sizes (client_of past)) c ≡ Some n
     pub number_is : n.number ≡ number
     pub notification : is_notification n.message ≡ true
-    pub registered : WasRegistered config.client_szx number n.message.token (client_of past)
+    pub registered : WasRegistered config.client_sizes number n.message.token (client_of past)
     pub shown : Sometime (ShownAt config n.message) past
 
   abbrev pub TakesAt : ℕ → Newly → List Entry → Entry → Type 0
@@ -53,22 +53,22 @@ module _ (config : Config) (small : config.server_szx ≤ 6) where
   noted_shown : (past : List Entry) (c : C.Call) → Lawful config (OfClient c ∷ past) → FormatsIn past → (m : Message)
       → notes c ≡ Some m → m.code ≡ content → Sometime (ShownAt config m) past
   noted_shown past c law formats m noted code =
-      shown_in config m code (noted_understood server_end config.client_szx config.client_word
+      shown_in config m code (noted_understood server_end config.client_sizes config.client_word
       (client_of past) c law.client m noted) small past (lawful_back config past (OfClient c) law) formats
       (noticed config past c law m noted)
 
   pub taken_shown : (number : ℕ) (n : Newly) (past : List Entry) (c : C.Call) → Lawful config (OfClient c ∷ past)
-      → FormatsIn past → notifies (own_of config.client_szx (client_of past)) c ≡ Some n → n.number ≡ number
+      → FormatsIn past → notifies (own_of config.client_sizes (client_of past)) c ≡ Some n → n.number ≡ number
       → TakesFirst number n past c
   taken_shown number n past c law formats is of =
-      let k = (are_taken server_end config.client_szx config.client_word (client_of (OfClient c ∷ past)) law.client).0 n
+      let k = (are_taken server_end config.client_sizes config.client_word (client_of (OfClient c ∷ past)) law.client).0 n
       is in
       let code = notification_code n.message k.notification in
       record {
         takes = is;
         number_is = of;
         notification = k.notification;
-        registered = subst (λ i. WasRegistered config.client_szx i n.message.token (client_of past)) of k.registered;
+        registered = subst (λ i. WasRegistered config.client_sizes i n.message.token (client_of past)) of k.registered;
         shown = elim k.comes [
           | inl first ↦ heard_shown config small past c law formats n.message first.heard code
           | inr later ↦ noted_shown past c law formats n.message later.noted code
@@ -77,19 +77,19 @@ module _ (config : Config) (small : config.server_szx ≤ 6) where
 
   -- the newest notification of an observation was taken so, at some entry
   pub newest_shown : (number : ℕ) (n : Newly) (w : List Entry) → Lawful config w → FormatsIn w
-      → newest config.client_szx number (client_of w) ≡ Some n → Sometime (TakesAt number n) w
+      → newest config.client_sizes number (client_of w) ≡ Some n → Sometime (TakesAt number n) w
   newest_shown number n [] law formats h = absurd (cc h)
   newest_shown number n (OfServer c ∷ past) law formats h =
       inr (newest_shown number n past (lawful_back config past (OfServer c) law) formats.1 h)
   newest_shown number n (OfClient c ∷ past) law formats h =
-      by (is_newly_of number (notifies (own_of config.client_szx (client_of past)) c)) refl h
+      by (is_newly_of number (notifies (own_of config.client_sizes (client_of past)) c)) refl h
       (newest_shown number n past (lawful_back config past (OfClient c) law) formats)
     where
-      by : (b : Bool) → is_newly_of number (notifies (own_of config.client_szx (client_of past)) c) ≡ b
-          → newest_if (notifies (own_of config.client_szx (client_of past)) c) b
-          (newest config.client_szx number (client_of past)) ≡ Some n
-          → (newest config.client_szx number (client_of past) ≡ Some n → Sometime (TakesAt number n) past)
+      by : (b : Bool) → is_newly_of number (notifies (own_of config.client_sizes (client_of past)) c) ≡ b
+          → newest_if (notifies (own_of config.client_sizes (client_of past)) c) b
+          (newest config.client_sizes number (client_of past)) ≡ Some n
+          → (newest config.client_sizes number (client_of past) ≡ Some n → Sometime (TakesAt number n) past)
           → Sometime (TakesAt number n) (OfClient c ∷ past)
       by true mine is f = inl (taken_shown number n past c law formats is
-          (newly_number number n (notifies (own_of config.client_szx (client_of past)) c) is mine))
+          (newly_number number n (notifies (own_of config.client_sizes (client_of past)) c) is mine))
       by false mine is f = inr (f is)

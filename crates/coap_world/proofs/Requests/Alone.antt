@@ -12,6 +12,7 @@ use Rattle.coap_types.specs.declared.option_number.TheConstants.{BLOCK1 as block
 use Rattle.coap_types.specs.declared.request.Method.{Method}
 use Rattle.coap_types.specs.declared.request.Method.TheVariants.{Get, Post, Put, Delete}
 use Rattle.coap_types.proofs.Facts.Uints.{uint_read}
+use Rattle.coap_block.specs.Sizes.{Sizes}
 use Rattle.coap_codec.specs.Message.{Message}
 use Rattle.coap_block.specs.UploadStep.{UploadState, block_to_send, more_follows}
 use Rattle.coap_resource.specs.Serves.{Question}
@@ -42,7 +43,7 @@ record CameSo (config : Config) (a : Asked) (v : Verdict) (w : List Entry) : Typ
   past : List Entry
   entry : Entry
   came : CameFrom config past entry a v
-  sent : WasSent config.client_szx came.sending (client_of w)
+  sent : WasSent config.client_sizes came.sending (client_of w)
 
 came_so : (config : Config) (a : Asked) (v : Verdict) (w : List Entry) → CamesFrom config w → a.from ≡ client_end
     → Sometime (ComesAt config a v) w → CameSo config a v w
@@ -54,11 +55,11 @@ came_so config a v (e ∷ w) came from (inr h) = let k =
     { past = k.past; entry = k.entry; came = k.came; sent = sent_later config k.came.sending w e k.sent }
 
 -- a block that is sent begins in its body
-begins_at : (szx : ℕ) (t : List C.Call) → SendsPieces szx t → (x : Sending) (number : ℕ) (u : UploadState)
-    → WasSent szx x t → carried x.operation ≡ Some (record { number = number; upload = u }) → Begins u.body u.num u.szx
-begins_at szx [] law x number u h of = absurd h
-begins_at szx (c ∷ t) law x number u (inl h) of = (law.0 x (record { number = number; upload = u }) h of).sent.begins
-begins_at szx (c ∷ t) law x number u (inr h) of = begins_at szx t law.1 x number u h of
+begins_at : (sizes : Sizes) (t : List C.Call) → SendsPieces sizes t → (x : Sending) (number : ℕ) (u : UploadState)
+    → WasSent sizes x t → carried x.operation ≡ Some (record { number = number; upload = u }) → Begins u.body u.num u.szx
+begins_at sizes [] law x number u h of = absurd h
+begins_at sizes (c ∷ t) law x number u (inl h) of = (law.0 x (record { number = number; upload = u }) h of).sent.begins
+begins_at sizes (c ∷ t) law x number u (inr h) of = begins_at sizes t law.1 x number u h of
 
 -- a body that fits a block is its first block
 
@@ -90,13 +91,13 @@ whole_part body num szx zero_num short =
 fits : (s l : ℕ) → nat_lt s l ≡ false → l ≤ s
 fits s l h = grind (arith, nat_tests, h)
 
-single_is : (szx : ℕ) (m : Method) (body : List ℕ) → CarriesBody szx m body Single → m ≡ Delete
-single_is szx Get body h = absurd h
-single_is szx Post body h = absurd h
-single_is szx Put body h = absurd h
-single_is szx Delete body h = refl
+single_is : (sizes : Sizes) (m : Method) (body : List ℕ) → CarriesBody sizes m body Single → m ≡ Delete
+single_is sizes Get body h = absurd h
+single_is sizes Post body h = absurd h
+single_is sizes Put body h = absurd h
+single_is sizes Delete body h = refl
 
-module _ (config : Config) (number : ℕ) (all : List Entry) (small : config.client_szx ≤ 6) (whole : Lawful config all)
+module _ (config : Config) (number : ℕ) (all : List Entry) (small : config.client_sizes ≤ 6) (whole : Lawful config all)
     (in_range : (x : Taken) → WasTaken x (client_of all) → IsRequest x.request) (w : List Entry)
     (later : Later config number all small whole in_range w) (law : Lawful config w) (x : Serving)
     (from : x.asked.from ≡ client_end) (k : Known config number all small whole in_range w x)
@@ -126,16 +127,16 @@ module _ (config : Config) (number : ℕ) (all : List Entry) (small : config.cli
       ∙ (ap (uint_at block1) (sym k.options) ∙ (ap (λ (q : Question). uint_at block1 q.options) read.0.is ∙ read.1))
 
   body_by : (t : Transfer) → k.transfer ≡ t → (k.request.method ≡ Delete) ⊎ (payload_of t ≡ k.request.body)
-  body_by Single e = inl (single_is config.client_szx k.request.method k.request.body
-      (subst (CarriesBody config.client_szx k.request.method k.request.body) e k.carries))
-  body_by (Fetches f) e = absurd (no_fetch config.client_szx k.request.method k.request.body f k.change
-      (subst (CarriesBody config.client_szx k.request.method k.request.body) e k.carries))
+  body_by Single e = inl (single_is config.client_sizes k.request.method k.request.body
+      (subst (CarriesBody config.client_sizes k.request.method k.request.body) e k.carries))
+  body_by (Fetches f) e = absurd (no_fetch config.client_sizes k.request.method k.request.body f k.change
+      (subst (CarriesBody config.client_sizes k.request.method k.request.body) e k.carries))
   body_by (Uploads u) e = inr (by (is_longer u) refl)
     where
       by : (b : Bool) → is_longer u ≡ b → part_of u.body u.num u.szx ≡ k.request.body
       by true long =
-          let s = sends_body config.client_szx k.request.method k.request.body u k.change
-          (subst (CarriesBody config.client_szx k.request.method k.request.body) e k.carries) in
+          let s = sends_body config.client_sizes k.request.method k.request.body u k.change
+          (subst (CarriesBody config.client_sizes k.request.method k.request.body) e k.carries) in
           let z = s.size in
           let size : u.szx ≤ 6 = omega (arith, z, small) in
           let n : ℕ = block_value (block_to_send u) in
@@ -147,11 +148,11 @@ module _ (config : Config) (number : ℕ) (all : List Entry) (small : config.cli
           let both : Some n ≡ None = sym said ∙ none in
           absurd (cc both)
       by false short =
-          let s = sends_body config.client_szx k.request.method k.request.body u k.change
-          (subst (CarriesBody config.client_szx k.request.method k.request.body) e k.carries) in
+          let s = sends_body config.client_sizes k.request.method k.request.body u k.change
+          (subst (CarriesBody config.client_sizes k.request.method k.request.body) e k.carries) in
           let few = fits (size_of u.szx) (length u.body) short in
-          let begins = begins_at config.client_szx (client_of all)
-          (client_facts.pieces server_end config.client_szx config.client_word (client_of all) whole.client)
+          let begins = begins_at config.client_sizes (client_of all)
+          (client_facts.pieces server_end config.client_sizes config.client_word (client_of all) whole.client)
           k.sending number u k.sent
           (ap carried k.operation ∙ ap (λ t. carried (Calling number (record k.request { body = [] }) t)) e)
           in

@@ -6,6 +6,7 @@ use Rattle.coap_types.specs.Past.{Ever, Sometime, Always}
 use Rattle.coap_codec.specs.Message.{Message, Spells}
 use Rattle.coap_layer.specs.Channel.{near_of}
 use Rattle.coap_layer.specs.Words.{Open, begun}
+use Rattle.coap_layer.specs.Machine.State.{usual}
 use Rattle.coap_exchange.specs.declared.answerer.Asked.{Asked}
 use Rattle.coap_exchange.specs.AnswererFollows.{hits, same_asked}
 use Rattle.coap_exchange.specs.AnswererSteps.{asked_of}
@@ -33,7 +34,7 @@ use Rattle.coap_world.proofs.Requests.CameFrom.{same_request}
 use Rattle.coap_world.proofs.Requests.OfACall.{no_call, Lawful, lawful_back, Sent, Later, later_back, Known}
 use Rattle.coap_world.proofs.Requests.OfACall.{one_sending, known}
 
-module _ (config : Config) (number : ℕ) (all : List Entry) (small : config.client_szx ≤ 6) (whole : Lawful config all)
+module _ (config : Config) (number : ℕ) (all : List Entry) (small : config.client_sizes ≤ 6) (whole : Lawful config all)
     (in_range : (x : Taken) → WasTaken x (client_of all) → IsRequest x.request) where
   abbrev Knows : List Entry → Serving → Type 0
   Knows w x = Known config number all small whole in_range w x
@@ -44,7 +45,7 @@ module _ (config : Config) (number : ℕ) (all : List Entry) (small : config.cli
   -- one CON has the token of a request of a call: no cancel of an observation has it, nor a registration
   not_registers : (k : Sending) → Sent config number all small whole in_range k all → call_of k.operation ≡ Some number
       → (con other : Open) (m : Message) → AreBytes con.bytes → Spells con.bytes m → con.id ≡ m.id → m.token ≡ k.token
-      → Ends server_end config.client_szx (client_of all) con other → ⊥
+      → Ends server_end config.client_sizes (client_of all) con other → ⊥
   not_registers k sent of con other m are spells id token e =
       let same = one_sending config number all small whole in_range e.first k e.first_sent sent of
       (sym (ap (λ (z : Message). z.token) (same_request con m e.first e.begins are spells id)) ∙ token) in
@@ -54,12 +55,12 @@ module _ (config : Config) (number : ℕ) (all : List Entry) (small : config.cli
       → OneConBy k.token (near_of (hops_in config all))
   one_con k sent of a b i j x y ab bb sa sb ia ib ta tb =
       let near = near_is config all in
-      by (client_facts.one_con server_end config.client_szx config.client_word (client_of all) whole.client a b
+      by (client_facts.one_con server_end config.client_sizes config.client_word (client_of all) whole.client a b
       (subst (Ever (λ e. begun e ≡ Some a)) near i) (subst (Ever (λ e. begun e ≡ Some b)) near j) x y ab bb sa sb
       (ta ∙ sym tb))
     where
-      by : (a ≡ b) ⊎ (Ends server_end config.client_szx (client_of all) a b
-          ⊎ Ends server_end config.client_szx (client_of all) b a) → a ≡ b
+      by : (a ≡ b) ⊎ (Ends server_end config.client_sizes (client_of all) a b
+          ⊎ Ends server_end config.client_sizes (client_of all) b a) → a ≡ b
       by (inl same) = same
       by (inr (inl e)) = absurd (not_registers k sent of a b x ab sa ia ta e)
       by (inr (inr e)) = absurd (not_registers k sent of b a y bb sb ib tb e)
@@ -67,7 +68,7 @@ module _ (config : Config) (number : ℕ) (all : List Entry) (small : config.cli
   -- so two are one request: only the last of a call can be applied
   same_asked_by : (v w : List Entry) (x y : Serving) → Knows v x → Knows w y → x.asked ≡ y.asked
   same_asked_by v w x y k l =
-      let s : k.sending ≡ l.sending = client_facts.one_last server_end config.client_szx config.client_word
+      let s : k.sending ≡ l.sending = client_facts.one_last server_end config.client_sizes config.client_word
       (client_of all) whole.client k.sending l.sending number k.sent l.sent k.of_call l.of_call k.last l.last in
       let c : k.con ≡ l.con =
       one_con l.sending l.sent l.of_call k.con l.con k.begun_there l.begun_there (request_of k.con.id k.sending)
@@ -78,12 +79,12 @@ module _ (config : Config) (number : ℕ) (all : List Entry) (small : config.cli
       ∙ (ap (λ z. asked_of client_end (request_of l.con.id z)) s ∙ sym l.asked))
 
   served_now : (past : List Entry) (c : S.Call) (x : Serving) (b : Asked) → x.asked ≡ b
-      → serving (own_of config.limit config.server_szx (server_trace config past)) c ≡ Some x
+      → serving (own_of config.limits config.server_szx (server_trace config past)) c ≡ Some x
       → 1 ≤ hits (same_asked b) (served_as (serving
-      (own_of config.limit config.server_szx (server_trace config past)) c))
+      (own_of config.limits config.server_szx (server_trace config past)) c))
   served_now past c x b is h =
       let e : hits (same_asked b) (served_as (serving
-      (own_of config.limit config.server_szx (server_trace config past)) c))
+      (own_of config.limits config.server_szx (server_trace config past)) c))
       ≡ hits (same_asked b) (Some b) = ap (λ o. hits (same_asked b) (served_as o)) h
       ∙ ap (λ z. hits (same_asked b) (Some z)) is in
       let f = self_hits b in
@@ -91,7 +92,7 @@ module _ (config : Config) (number : ℕ) (all : List Entry) (small : config.cli
 
   served_before : (w : List Entry) (y : Serving) → Knows w y → (t : List Entry) → LaterAll t → Lawful config t
       → Sometime (AppliesFor config number all) t
-      → 1 ≤ times_served config.limit config.server_szx y.asked (server_trace config t)
+      → 1 ≤ times_served config.limits config.server_szx y.asked (server_trace config t)
   served_before w y k [] later law h = absurd h
   served_before w y k (OfClient c ∷ past) later law (inl a) = absurd a.here
   served_before w y k (OfClient c ∷ past) later law (inr h) =
@@ -115,16 +116,16 @@ module _ (config : Config) (number : ℕ) (all : List Entry) (small : config.cli
       let k : Knows (e ∷ past) x = known config number all small whole in_range past c later law a in
       let before = served_before (e ∷ past) x k past (later_back config number all small whole in_range e past later)
       (lawful_back config past e law) h in
-      let fewer = (server_facts.served config.limit config.server_szx config.server_word t law.server).0 x a.here in
-      let counted = (server_facts.counts config.limit config.server_szx config.server_word t law.server).0 x.asked in
+      let fewer = (server_facts.served config.limits config.server_szx config.server_word t law.server).0 x a.here in
+      let counted = (server_facts.counts config.limits config.server_szx config.server_word t law.server).0 x.asked in
       let token : x.asked.token ≡ k.sending.token = ap (λ (z : Asked). z.token) k.asked in
       let cons : OneConBy x.asked.token (near_of (hops_in config (e ∷ past))) = λ p q i j m n pb qb pm qn pi qi tp tq.
       one_con k.sending k.sent k.of_call p q (later.1 p i) (later.1 q j) m n pb qb pm qn pi qi (tp ∙ token) (tq ∙ token)
       in
       let nons = subst NoNons (sym (near_is config (e ∷ past)))
-      (client_facts.nons server_end config.client_szx config.client_word (client_of past)) in
+      (client_facts.nons server_end config.client_sizes config.client_word (client_of past)) in
       let few = once_counted x.asked (hops_in config (e ∷ past))
-      (up_once config.client_word config.server_word client_end server_end x.asked a.from
+      (up_once (usual config.client_word) (usual config.server_word) client_end server_end x.asked a.from
       (hops_in config (e ∷ past)) law.channel nons cons) in
       let same = ap (ups x.asked) (far_is config (e ∷ past)) in
       omega (arith, before, fewer, counted, few, same)
@@ -143,7 +144,7 @@ module _ (config : Config) (number : ℕ) (all : List Entry) (small : config.cli
         (lawful_back config past (OfServer c) law),
   )
 
-pub at_most_once : (config : Config) (all : List Entry) → config.client_szx ≤ 6 → Lawful config all
+pub at_most_once : (config : Config) (all : List Entry) → config.client_sizes ≤ 6 → Lawful config all
     → ((x : Taken) → WasTaken x (client_of all) → IsRequest x.request) → AtMostOnce config all
 at_most_once config all small law in_range number =
     at_most config number all small law in_range all (λ x h. h, λ con h. h, λ x h. h) law

@@ -3,6 +3,7 @@ use Rattle.std.proofs.Common.{◌≡◌, inl, inr, ℕ, true, Option, Some, None
 use Rattle.coap_types.specs.MethodCode.{method_code, method_of}
 use Rattle.coap_types.specs.Past.{Always}
 use Rattle.coap_types.specs.declared.request.Method.TheVariants.{Get}
+use Rattle.coap_block.specs.Sizes.{Sizes}
 use Rattle.coap_codec.specs.Message.{Message}
 use Rattle.coap_exchange.specs.declared.answerer.Asked.{Asked}
 use Rattle.coap_client.specs.Follows.Begins.{WasSent}
@@ -27,15 +28,15 @@ use Rattle.coap_world.proofs.Requests.OfACall.{method_asked, Lawful, lawful_back
 use Rattle.coap_world.proofs.Requests.Traced.{Traced, traced, brought_in}
 
 -- what is sent for no call is a GET
-get_at : (szx : ℕ) (t : List C.Call) → OthersAreGets szx t → (x : Sending) → WasSent szx x t
+get_at : (sizes : Sizes) (t : List C.Call) → OthersAreGets sizes t → (x : Sending) → WasSent sizes x t
     → call_of x.operation ≡ None → x.request.code ≡ (method_code Get).0
-get_at szx [] law x h none = absurd h
-get_at szx (c ∷ t) law x (inl h) none = law.0 x h none
-get_at szx (c ∷ t) law x (inr h) none = get_at szx t law.1 x h none
+get_at sizes [] law x h none = absurd h
+get_at sizes (c ∷ t) law x (inl h) none = law.0 x h none
+get_at sizes (c ∷ t) law x (inr h) none = get_at sizes t law.1 x h none
 
 module _ (config : Config) (all : List Entry) where
   abbrev Later : List Entry → Type 0
-  Later t = (x : Sending) → WasSent config.client_szx x (client_of t) → WasSent config.client_szx x (client_of all)
+  Later t = (x : Sending) → WasSent config.client_sizes x (client_of t) → WasSent config.client_sizes x (client_of all)
 
   module _ (past : List Entry) (c : S.Call) (later : Later (OfServer c ∷ past))
       (law : Lawful config (OfServer c ∷ past)) (x : Serving) (here : ServesAt config x past (OfServer c))
@@ -49,13 +50,13 @@ module _ (config : Config) (all : List Entry) where
     no_get none =
         let m : Message = request_of k.came.con.id s in
         let read = subst (ReadsOf config.server_szx m) k.came.verdict (server_facts.reads config.server_szx m) in
-        let method = method_asked config.limit config.server_szx
+        let method = method_asked config.limits config.server_szx
         (server_trace config k.past) k.call x.asked x.question m k.verdict k.asks read in
-        let code : m.code ≡ (method_code Get).0 = get_at config.client_szx (client_of past)
-        (client_facts.others config.client_szx (client_of past)) s k.sent none in
+        let code : m.code ≡ (method_code Get).0 = get_at config.client_sizes (client_of past)
+        (client_facts.others config.client_sizes (client_of past)) s k.sent none in
         let methods : Some x.question.method ≡ Some Get = sym method ∙ (ap method_of code ∙ method_is Get) in
         let get : x.question.method ≡ Get = cc methods in
-        let right = (server_facts.right config.limit config.server_szx config.server_word
+        let right = (server_facts.right config.limits config.server_szx config.server_word
         (server_trace config (OfServer c ∷ past)) law.server).0.applied x here applied in
         subst (λ n. Does n x.question x.old x.left) get right.does
 
@@ -74,7 +75,7 @@ module _ (config : Config) (all : List Entry) where
   belongs_in (OfServer c ∷ past) later law = (
     λ x here applied from. (
         let w : List Entry = OfServer c ∷ past in
-        let brings = (server_facts.handed config.limit config.server_szx config.server_word
+        let brings = (server_facts.handed config.limits config.server_szx config.server_word
         (server_trace config w) law.server).0 x here in
         let k = traced config x.asked x.question w law.came from (brought_in config x.asked x.question w brings) in
         belongs_by past c later law x here applied k (call_of k.came.sending.operation) refl),

@@ -31,10 +31,10 @@ path_of path old left y h = by (left.tally.version == old.tally.version) h
 
 module _ (config : Config) (past : List Entry) where
   abbrev own : Own
-  own = own_of config.limit config.server_szx (server_trace config past)
+  own = own_of config.limits config.server_szx (server_trace config past)
 
   abbrev Right : Call → Type 0
-  Right c = ServesRight config.limit config.server_szx (server_trace config past) c
+  Right c = ServesRight config.limits config.server_szx (server_trace config past) c
 
   abbrev Owner : List (List ℕ) → Call → Type 0
   Owner path c = ChangesLocally path (OfServer c) ⊎ AppliesTo config path past (OfServer c)
@@ -75,7 +75,7 @@ owned_here : (config : Config) (past : List Entry) (e : Entry) → Rows config (
     → IsOwned config path past e
 owned_here config past (OfClient c) rows path = inl refl
 owned_here config past (OfServer c) rows path =
-    let right = (all_served config.limit config.server_szx (server_trace config (OfServer c ∷ past)) rows).0 in
+    let right = (all_served config.limits config.server_szx (server_trace config (OfServer c ∷ past)) rows).0 in
     elim (owned_by config past c right path (change (own config past) c) refl) [
       | inl stays ↦ inl (last_is config (OfServer c ∷ past) rows path ∙ (stays ∙ sym (last_is config past rows.1 path)))
       | inr whose ↦ inr whose
@@ -93,7 +93,7 @@ whose_here : (config : Config) (past : List Entry) (e : Entry) → Rows config (
     → Changes config x past e → ChangesLocally x.path e ⊎ AppliesTo config x.path past e
 whose_here config past (OfClient c) rows x h = absurd h
 whose_here config past (OfServer c) rows x h =
-    owner config past c (all_served config.limit config.server_szx (server_trace config (OfServer c ∷ past)) rows).0 x h
+    owner config past c (all_served config.limits config.server_szx (server_trace config (OfServer c ∷ past)) rows).0 x h
 
 whose : (config : Config) (all : List Entry) → Rows config all
     → Always (λ past e. (x : Change) → Changes config x past e

@@ -10,6 +10,7 @@ use Rattle.coap_layer.specs.Trace as T
 use Rattle.coap_layer.specs.Words.{Open, begun}
 use Rattle.coap_layer.proofs.Facts.Hops.{earlier}
 use Rattle.coap_layer.proofs.Facts.Laws.{handed_once}
+use Rattle.coap_layer.specs.declared.setup.Setup.{Setup}
 use Rattle.coap_exchange.specs.declared.answerer.Asked.{Asked}
 use Rattle.coap_exchange.specs.AnswererFollows.{hits, same_asked}
 use Rattle.coap_exchange.specs.AnswererSteps.{asked_of, asked_in, handed_up}
@@ -103,7 +104,7 @@ OneConBy token t =
     → AreBytes b.bytes → Spells a.bytes x → Spells b.bytes y → a.id ≡ x.id → b.id ≡ y.id
     → x.token ≡ token → y.token ≡ token → a ≡ b
 
-module _ (one other : ℕ) (near far : Endpoint) (a : Asked) (from : a.from ≡ near) where
+module _ (one other : Setup) (near far : Endpoint) (a : Asked) (from : a.from ≡ near) where
   one_more : (h : Hop) (past : List Hop) → OneConBy a.token (near_of (h ∷ past)) → OneConBy a.token (near_of past)
   one_more (Near e) past f = λ x y k l. f x y (inr k) (inr l)
   one_more (Far e) past f = f

@@ -2,6 +2,7 @@
 use Rattle.std.proofs.Common.{◌≡◌, ℕ, true, None, Some, List, [], ◌∷◌, refl, ap, ◌∙◌, cond, map}
 use Rattle.coap_types.specs.Past.{Always}
 use Rattle.coap_types.proofs.Facts.Paths.{same_path-decides}
+use Rattle.coap_resource.specs.Limits.{Limits}
 use Rattle.coap_server.specs.Trace as S
 use Rattle.coap_server.specs.Law.{own_of, ServerRows, ServerLaw}
 use Rattle.coap_server.specs.Follows.Holds.{Change, change, held_then}
@@ -13,14 +14,14 @@ use Rattle.coap_world.specs.Record.{Entry, OfClient, OfServer, server_trace}
 use Rattle.coap_world.specs.Words.{holds_at, last_at}
 
 -- a server begins with nothing: its delays change nothing
-begun_empty : (limit szx : ℕ) (ds : List S.Delay) (path : List (List ℕ))
-    → (own_of limit szx (map (λ (d : S.Delay). S.Delays d.path d.ms true) ds)).store.holds path ≡ None
-begun_empty limit szx [] path = refl
-begun_empty limit szx (d ∷ ds) path = begun_empty limit szx ds path
+begun_empty : (limits : Limits) (szx : ℕ) (ds : List S.Delay) (path : List (List ℕ))
+    → (own_of limits szx (map (λ (d : S.Delay). S.Delays d.path d.ms true) ds)).store.holds path ≡ None
+begun_empty limits szx [] path = refl
+begun_empty limits szx (d ∷ ds) path = begun_empty limits szx ds path
 
 module _ (config : Config) where
   abbrev pub Rows : List Entry → Type 0
-  Rows t = ServerRows config.limit config.server_szx (server_trace config t)
+  Rows t = ServerRows config.limits config.server_szx (server_trace config t)
 
   pub rows_back : (e : Entry) (past : List Entry) → Rows (e ∷ past) → Rows past
   rows_back (OfClient c) past rows = rows
@@ -28,10 +29,10 @@ module _ (config : Config) where
 
   -- what it holds is its last change, after any entries
   pub last_is : (t : List Entry) → Rows t → (path : List (List ℕ)) → holds_at config path t ≡ last_at config path t
-  last_is t rows path = held_is config.limit config.server_szx (server_trace config t) rows path
+  last_is t rows path = held_is config.limits config.server_szx (server_trace config t) rows path
 
   abbrev Stamped : List Entry → Type 0
-  Stamped t = AreStamped config.limit config.server_szx (server_trace config t)
+  Stamped t = AreStamped config.limits config.server_szx (server_trace config t)
 
   stamped_back : (e : Entry) (past : List Entry) → Stamped (e ∷ past) → Stamped past
   stamped_back (OfClient c) past h = h
@@ -39,7 +40,7 @@ module _ (config : Config) where
 
   -- a change says what its path holds
   made_here : (past : List Entry) (c : S.Call) (x : Change)
-      → change (own_of config.limit config.server_szx (server_trace config past)) c ≡ Some x
+      → change (own_of config.limits config.server_szx (server_trace config past)) c ≡ Some x
       → last_at config x.path (OfServer c ∷ past) ≡ x.held
   made_here past c x is =
       ap (λ o. held_then x.path o (last_at config x.path past)) is
@@ -55,7 +56,7 @@ module _ (config : Config) where
   holds_here (OfServer c) past rows h =
       record {
         last = last_is (OfServer c ∷ past) rows;
-        version = (holds_changes config.limit config.server_szx
+        version = (holds_changes config.limits config.server_szx
             (server_trace config (OfServer c ∷ past)) rows).0.version;
         made = λ x is. last_is (OfServer c ∷ past) rows x.path ∙ made_here past c x is;
         under = h.0.held;
@@ -68,11 +69,11 @@ module _ (config : Config) where
     each_holds past (rows_back e past rows) (stamped_back e past h),
   )
 
-  pub changes_held : (all : List Entry) → ServerLaw config.limit config.server_szx config.server_word
+  pub changes_held : (all : List Entry) → ServerLaw config.limits config.server_szx config.server_word
       (server_trace config all) → HoldsChanges config all
   changes_held all law =
       record {
-        first = begun_empty config.limit config.server_szx config.delays;
-        each = each_holds all law.rows (stamped config.limit config.server_szx config.server_word
+        first = begun_empty config.limits config.server_szx config.delays;
+        each = each_holds all law.rows (stamped config.limits config.server_szx config.server_word
             (server_trace config all) law);
       }

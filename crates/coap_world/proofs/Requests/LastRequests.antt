@@ -17,6 +17,7 @@ use Rattle.coap_types.specs.declared.request.Method.{Method}
 use Rattle.coap_types.specs.declared.request.Method.TheVariants.{Get, Post, Put, Delete}
 use Rattle.coap_types.proofs.Facts.Blocks.{block_reads_back}
 use Rattle.coap_types.proofs.Facts.Uints.{uint_read}
+use Rattle.coap_block.specs.Sizes.{Sizes}
 use Rattle.coap_codec.specs.Message.{Message}
 use Rattle.coap_block.specs.UploadStep.{UploadState, block_to_send, more_follows}
 use Rattle.coap_client.specs.Follows.Begins.{WasSent}
@@ -35,10 +36,10 @@ use Rattle.coap_world.specs.CameFrom.{request_of}
 use Rattle.coap_world.proofs.Requests.ReadBack.{Changes, options_in, in_order, bare_options, reads_all, block_back}
 
 -- what was sent for a call, of the whole of its calls so far
-pub of_call_at : (szx : ℕ) (t : List C.Call) → AreOfCalls szx t → (x : Sending) (k : ℕ) → WasSent szx x t
-    → call_of x.operation ≡ Some k → IsOfCall szx k x t
-of_call_at szx [] law x k h of = absurd h
-of_call_at szx (c ∷ t) law x k (inl h) of =
+pub of_call_at : (sizes : Sizes) (t : List C.Call) → AreOfCalls sizes t → (x : Sending) (k : ℕ) → WasSent sizes x t
+    → call_of x.operation ≡ Some k → IsOfCall sizes k x t
+of_call_at sizes [] law x k h of = absurd h
+of_call_at sizes (c ∷ t) law x k (inl h) of =
     let g = law.0 x k h of in
     record {
       request = g.request;
@@ -48,8 +49,8 @@ of_call_at szx (c ∷ t) law x k (inl h) of =
       carries = g.carries;
       message = g.message;
     }
-of_call_at szx (c ∷ t) law x k (inr h) of =
-    let g = of_call_at szx t law.1 x k h of in
+of_call_at sizes (c ∷ t) law x k (inr h) of =
+    let g = of_call_at sizes t law.1 x k h of in
     record {
       request = g.request;
       taken = inr g.taken;
@@ -72,18 +73,18 @@ Final (Refused code) = ⊥
 Final (Asks q) = Unit {0}
 Final (UploadsBlock q b) = b.more ≡ false
 
-pub no_fetch : (szx : ℕ) (m : Method) (body : List ℕ) (f : _) → Changes m → CarriesBody szx m body (Fetches f) → ⊥
-no_fetch szx Get body f change h = change
-no_fetch szx Post body f change h = h
-no_fetch szx Put body f change h = h
-no_fetch szx Delete body f change h = h
+pub no_fetch : (sizes : Sizes) (m : Method) (body : List ℕ) (f : _) → Changes m → CarriesBody sizes m body (Fetches f) → ⊥
+no_fetch sizes Get body f change h = change
+no_fetch sizes Post body f change h = h
+no_fetch sizes Put body f change h = h
+no_fetch sizes Delete body f change h = h
 
-pub sends_body : (szx : ℕ) (m : Method) (body : List ℕ) (u : UploadState) → Changes m
-    → CarriesBody szx m body (Uploads u) → SendsBody szx body u
-sends_body szx Get body u change h = absurd change
-sends_body szx Post body u change h = h
-sends_body szx Put body u change h = h
-sends_body szx Delete body u change h = absurd h
+pub sends_body : (sizes : Sizes) (m : Method) (body : List ℕ) (u : UploadState) → Changes m
+    → CarriesBody sizes m body (Uploads u) → SendsBody sizes body u
+sends_body sizes Get body u change h = absurd change
+sends_body sizes Post body u change h = h
+sends_body sizes Put body u change h = h
+sends_body sizes Delete body u change h = absurd h
 
 -- a body that fits a block is sent by one
 no_more : (u : UploadState) → is_longer u ≡ false → more_follows u ≡ false
@@ -102,7 +103,7 @@ pub small_value : (num szx : ℕ) (more : Bool) → num ≤ 1048575 → szx ≤ 
 small_value num szx more n s = let b = bit_small more in omega (arith, n, s, b)
 
 -- the request of a call, as a server with blocks of this size reads it
-module _ (csz szx id k : ℕ) (small : csz ≤ 6) (x : Sending) (t : List C.Call) (g : IsOfCall csz k x t)
+module _ (sizes : Sizes) (szx id k : ℕ) (small : sizes.szx ≤ 6) (x : Sending) (t : List C.Call) (g : IsOfCall sizes k x t)
     (range : IfSome g.request.format (λ f. f < 65536)) where
   abbrev m : Message
   m = request_of id x
@@ -154,15 +155,15 @@ module _ (csz szx id k : ℕ) (small : csz ≤ 6) (x : Sending) (t : List C.Call
     last_by : Changes g.request.method → (tr : Transfer) → g.transfer ≡ tr → (r : C.Request)
         → is_last (Calling k r tr) ≡ true
     last_by change Single e r = refl
-    last_by change (Fetches f) e r = absurd (no_fetch csz g.request.method g.request.body f change
-        (subst (CarriesBody csz g.request.method g.request.body) e g.carries))
+    last_by change (Fetches f) e r = absurd (no_fetch sizes g.request.method g.request.body f change
+        (subst (CarriesBody sizes g.request.method g.request.body) e g.carries))
     last_by change (Uploads u) e r = by (is_longer u) refl
       where
         by : (b : Bool) → is_longer u ≡ b → not (more_follows u) ≡ true
         by false short = ap not (no_more u short)
         by true long =
-            let h = sends_body csz g.request.method g.request.body u change
-            (subst (CarriesBody csz g.request.method g.request.body) e g.carries) in
+            let h = sends_body sizes g.request.method g.request.body u change
+            (subst (CarriesBody sizes g.request.method g.request.body) e g.carries) in
             let z = h.size in
             let size : u.szx ≤ 6 = omega (arith, z, small) in
             let n : ℕ = block_value (block_to_send u) in

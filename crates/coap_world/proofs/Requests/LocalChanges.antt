@@ -16,16 +16,16 @@ use Rattle.coap_world.proofs.Requests.HoldsChanges.{Rows, rows_back}
 
 module _ (config : Config) (past : List Entry) where
   abbrev own : S.Own
-  own = own_of config.limit config.server_szx (server_trace config past)
+  own = own_of config.limits config.server_szx (server_trace config past)
 
   -- the changes so far are the version of the store
   counted : (t : List Entry) → Rows config t → changes_in config t
-      ≡ (own_of config.limit config.server_szx (server_trace config t)).store.tally.version
-  counted t rows = sym (version_is config.limit config.server_szx (server_trace config t) rows)
+      ≡ (own_of config.limits config.server_szx (server_trace config t)).store.tally.version
+  counted t rows = sym (version_is config.limits config.server_szx (server_trace config t) rows)
 
   -- a call that leaves the store like this
   module _ (c : S.Call) (left : Content) (store :
-      (own_of config.limit config.server_szx (server_trace config (OfServer c ∷ past))).store ≡ left)
+      (own_of config.limits config.server_szx (server_trace config (OfServer c ∷ past))).store ≡ left)
       (rows : Rows config (OfServer c ∷ past)) where
     abbrev e : Entry
     e = OfServer c

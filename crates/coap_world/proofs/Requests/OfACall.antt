@@ -7,9 +7,11 @@ use Rattle.coap_types.specs.Past.{Ever}
 use Rattle.coap_types.specs.RequestPath.{path_of}
 use Rattle.coap_types.specs.declared.request.Method.{Method}
 use Rattle.coap_types.specs.declared.request.Method.TheVariants.{Get, Post, Put, Delete}
+use Rattle.coap_resource.specs.Limits.{Limits}
 use Rattle.coap_codec.specs.Message.{Message, Spells}
 use Rattle.coap_layer.specs.Channel.{near_of}
 use Rattle.coap_layer.specs.Words.{Open, begun}
+use Rattle.coap_layer.specs.Machine.State.{usual}
 use Rattle.coap_resource.specs.Content.{Content}
 use Rattle.coap_resource.specs.Serves.{Question}
 use Rattle.coap_exchange.specs.declared.answerer.Asked.{Asked}
@@ -52,30 +54,30 @@ changes_by Put q old left h = tt
 changes_by Delete q old left h = tt
 
 -- what is asked of the store is of the request that was handed up
-pub final_of : (limit szx : ℕ) (past : List S.Call) (c : S.Call) (a : Asked) (q : Question) (v : Verdict)
-    → AsksBy limit szx past c a q v → Final v
-final_of limit szx past c a q Ignored h = h
-final_of limit szx past c a q (Refused code) h = h
-final_of limit szx past c a q (Asks p) h = tt
-final_of limit szx past c a q (Uploads p b) h = h.last
+pub final_of : (limits : Limits) (szx : ℕ) (past : List S.Call) (c : S.Call) (a : Asked) (q : Question) (v : Verdict)
+    → AsksBy limits szx past c a q v → Final v
+final_of limits szx past c a q Ignored h = h
+final_of limits szx past c a q (Refused code) h = h
+final_of limits szx past c a q (Asks p) h = tt
+final_of limits szx past c a q (Uploads p b) h = h.last
 
-pub method_asked : (limit szx : ℕ) (past : List S.Call) (c : S.Call) (a : Asked) (q : Question) (m : Message)
-    (v : Verdict) → AsksBy limit szx past c a q v → ReadsOf szx m v → method_of m.code ≡ Some q.method
-method_asked limit szx past c a q m Ignored h r = absurd h
-method_asked limit szx past c a q m (Refused code) h r = absurd h
-method_asked limit szx past c a q m (Asks p) h r = r.0.method ∙ ap (λ (z : Question). Some z.method) (sym h)
-method_asked limit szx past c a q m (Uploads p b) h r = r.0.method
+pub method_asked : (limits : Limits) (szx : ℕ) (past : List S.Call) (c : S.Call) (a : Asked) (q : Question) (m : Message)
+    (v : Verdict) → AsksBy limits szx past c a q v → ReadsOf szx m v → method_of m.code ≡ Some q.method
+method_asked limits szx past c a q m Ignored h r = absurd h
+method_asked limits szx past c a q m (Refused code) h r = absurd h
+method_asked limits szx past c a q m (Asks p) h r = r.0.method ∙ ap (λ (z : Question). Some z.method) (sym h)
+method_asked limits szx past c a q m (Uploads p b) h r = r.0.method
     ∙ ap (λ (z : Question). Some z.method) (sym h.question)
 
-pub options_asked : (limit szx : ℕ) (past : List S.Call) (c : S.Call) (a : Asked) (q : Question) (m : Message)
-    (v : Verdict) → AsksBy limit szx past c a q v → ReadsOf szx m v → (q.options ≡ asks m) × (q.path ≡ path_of (asks m))
-options_asked limit szx past c a q m Ignored h r = absurd h
-options_asked limit szx past c a q m (Refused code) h r = absurd h
-options_asked limit szx past c a q m (Asks p) h r = (
+pub options_asked : (limits : Limits) (szx : ℕ) (past : List S.Call) (c : S.Call) (a : Asked) (q : Question) (m : Message)
+    (v : Verdict) → AsksBy limits szx past c a q v → ReadsOf szx m v → (q.options ≡ asks m) × (q.path ≡ path_of (asks m))
+options_asked limits szx past c a q m Ignored h r = absurd h
+options_asked limits szx past c a q m (Refused code) h r = absurd h
+options_asked limits szx past c a q m (Asks p) h r = (
   ap (λ (z : Question). z.options) h ∙ ap (λ (z : Question). z.options) r.0.is,
   ap (λ (z : Question). z.path) h ∙ ap (λ (z : Question). z.path) r.0.is,
 )
-options_asked limit szx past c a q m (Uploads p b) h r = (
+options_asked limits szx past c a q m (Uploads p b) h r = (
   ap (λ (z : Question). z.options) h.question ∙ ap (λ (z : Question). z.options) r.0.is,
   ap (λ (z : Question). z.path) h.question ∙ ap (λ (z : Question). z.path) r.0.is,
 )
@@ -95,36 +97,36 @@ taken_later x past (OfServer c) h = h
 -- the laws of a record
 pub record Lawful (config : Config) (t : List Entry) : Type 0 where
   pub channel : IsChannel config t
-  pub client : ClientLaw server_end config.client_szx config.client_word (client_of t)
-  pub server : ServerLaw config.limit config.server_szx config.server_word (server_trace config t)
+  pub client : ClientLaw server_end config.client_sizes config.client_word (client_of t)
+  pub server : ServerLaw config.limits config.server_szx config.server_word (server_trace config t)
   pub came : CamesFrom config t
 
 pub lawful_back : (config : Config) (past : List Entry) (e : Entry) → Lawful config (e ∷ past) → Lawful config past
 lawful_back config past (OfClient c) law =
     record {
-      channel = channel_back config.client_word config.server_word client_end server_end
+      channel = channel_back (usual config.client_word) (usual config.server_word) client_end server_end
           (hops_at config past (OfClient c)) (hops_in config past) law.channel;
-      client = client_facts.back server_end config.client_szx config.client_word (c ∷ []) (client_of past) law.client;
+      client = client_facts.back server_end config.client_sizes config.client_word (c ∷ []) (client_of past) law.client;
       server = law.server;
       came = law.came.1;
     }
 lawful_back config past (OfServer c) law =
     record {
-      channel = channel_back config.client_word config.server_word client_end server_end
+      channel = channel_back (usual config.client_word) (usual config.server_word) client_end server_end
           (hops_at config past (OfServer c)) (hops_in config past) law.channel;
       client = law.client;
-      server = server_facts.back config.limit config.server_szx config.server_word (c ∷ [])
+      server = server_facts.back config.limits config.server_szx config.server_word (c ∷ [])
           (server_trace config past) law.server;
       came = law.came.1;
     }
 
-module _ (config : Config) (number : ℕ) (all : List Entry) (small : config.client_szx ≤ 6) (whole : Lawful config all)
+module _ (config : Config) (number : ℕ) (all : List Entry) (small : config.client_sizes ≤ 6) (whole : Lawful config all)
     (in_range : (x : Taken) → WasTaken x (client_of all) → IsRequest x.request) where
   abbrev pub Begun : Open → List Entry → Type 0
   Begun con t = Ever (λ b. begun b ≡ Some con) (near_of (hops_in config t))
 
   abbrev pub Sent : Sending → List Entry → Type 0
-  Sent x t = WasSent config.client_szx x (client_of t)
+  Sent x t = WasSent config.client_sizes x (client_of t)
 
   -- what was sent, and begun, is so for good
   abbrev pub Later : List Entry → Type 0
@@ -153,7 +155,7 @@ module _ (config : Config) (number : ℕ) (all : List Entry) (small : config.cli
     pub transfer : Transfer
     pub taken : WasTaken (record { number = number; request = request }) (client_of w)
     pub operation : sending.operation ≡ Calling number (record request { body = [] }) transfer
-    pub carries : CarriesBody config.client_szx request.method request.body transfer
+    pub carries : CarriesBody config.client_sizes request.method request.body transfer
     pub message : sending.request ≡ message_of [] (Calling number (record request { body = [] }) transfer)
     pub change : Changes request.method
     pub range : IsRequest request
@@ -164,7 +166,7 @@ module _ (config : Config) (number : ℕ) (all : List Entry) (small : config.cli
   -- a token of the call is of that request alone
   pub one_sending : (x y : Sending) → Sent x all → Sent y all → call_of y.operation ≡ Some number → x.token ≡ y.token
       → x ≡ y
-  one_sending x y sent there of token = by (client_facts.tokens server_end config.client_szx config.client_word
+  one_sending x y sent there of token = by (client_facts.tokens server_end config.client_sizes config.client_word
       (client_of all) whole.client x y sent there token)
     where
       by : (x ≡ y) ⊎ (Deregisters x y ⊎ Deregisters y x) → x ≡ y
@@ -178,7 +180,7 @@ module _ (config : Config) (number : ℕ) (all : List Entry) (small : config.cli
       let x : Serving = a.request in
       let t : List S.Call = server_trace config past in
       let w : List Entry = OfServer c ∷ past in
-      let brings = (server_facts.handed config.limit config.server_szx config.server_word (c ∷ t) law.server).0 x a.here
+      let brings = (server_facts.handed config.limits config.server_szx config.server_word (c ∷ t) law.server).0 x a.here
       in
       let k = traced config x.asked x.question w law.came a.from (brought_in config x.asked x.question w brings) in
       let s : Sending = k.came.sending in
@@ -186,29 +188,29 @@ module _ (config : Config) (number : ℕ) (all : List Entry) (small : config.cli
       let token : s.token ≡ x.asked.token = sym (ap (λ (z : Asked). z.token) k.came.asked) in
       let same : s ≡ a.belongs.0 = one_sending s a.belongs.0 sent a.belongs.1 a.belongs.2 (token ∙ sym a.belongs.3) in
       let of : call_of s.operation ≡ Some number = ap (λ (z : Sending). call_of z.operation) same ∙ a.belongs.2 in
-      let g = of_call_at config.client_szx (client_of past)
-      (client_facts.of_calls config.client_szx (client_of past)) s number k.sent of in
+      let g = of_call_at config.client_sizes (client_of past)
+      (client_facts.of_calls config.client_sizes (client_of past)) s number k.sent of in
       let ranges = in_range (record { number = number; request = g.request })
       (later.2 (record { number = number; request = g.request }) g.taken) in
       let range = ranges.format in
-      let final = final_of config.limit config.server_szx
+      let final = final_of config.limits config.server_szx
       (server_trace config k.past) k.call x.asked x.question k.verdict k.asks in
-      let read = reads config.client_szx config.server_szx k.came.con.id number small s
+      let read = reads config.client_sizes config.server_szx k.came.con.id number small s
       (client_of past) g range k.verdict k.came.verdict final in
-      let method = method_asked config.limit config.server_szx (server_trace config k.past) k.call x.asked x.question
+      let method = method_asked config.limits config.server_szx (server_trace config k.past) k.call x.asked x.question
       (request_of k.came.con.id s) k.verdict k.asks read in
-      let code = code_is config.client_szx config.server_szx k.came.con.id number small s (client_of past) g range in
+      let code = code_is config.client_sizes config.server_szx k.came.con.id number small s (client_of past) g range in
       let methods : Some x.question.method ≡ Some g.request.method = sym method
       ∙ (ap method_of code ∙ method_is g.request.method) in
       let method_same : x.question.method ≡ g.request.method = cc methods in
-      let right = (server_facts.right config.limit config.server_szx config.server_word (c ∷ t) law.server).0.applied x
+      let right = (server_facts.right config.limits config.server_szx config.server_word (c ∷ t) law.server).0.applied x
       a.here a.applied in
       let change = subst Changes method_same (changes_by x.question.method x.question x.old x.left right.does) in
-      let faultless = good config.client_szx config.server_szx k.came.con.id number small s
+      let faultless = good config.client_sizes config.server_szx k.came.con.id number small s
       (client_of past) g range k.verdict k.came.verdict final in
-      let all_read = options_read config.client_szx config.server_szx k.came.con.id number small s
+      let all_read = options_read config.client_sizes config.server_szx k.came.con.id number small s
       (client_of past) g range faultless change in
-      let read_as = options_asked config.limit config.server_szx (server_trace config k.past) k.call x.asked x.question
+      let read_as = options_asked config.limits config.server_szx (server_trace config k.past) k.call x.asked x.question
       (request_of k.came.con.id s) k.verdict k.asks read in
       record {
         sending = s;
@@ -219,7 +221,7 @@ module _ (config : Config) (number : ℕ) (all : List Entry) (small : config.cli
         spells = k.came.spells;
         asked = k.came.asked;
         of_call = of;
-        last = is_the_last config.client_szx config.server_szx k.came.con.id number small s
+        last = is_the_last config.client_sizes config.server_szx k.came.con.id number small s
             (client_of past) g range k.verdict k.came.verdict final change;
         request = g.request;
         transfer = g.transfer;

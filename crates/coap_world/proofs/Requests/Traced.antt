@@ -27,8 +27,8 @@ near_later P (Far e ∷ front) hs h = near_later P front hs h
 
 module _ (config : Config) where
   -- .. and what was sent
-  pub sent_later : (x : Sending) (past : List Entry) (e : Entry) → WasSent config.client_szx x (client_of past)
-      → WasSent config.client_szx x (client_of (e ∷ past))
+  pub sent_later : (x : Sending) (past : List Entry) (e : Entry) → WasSent config.client_sizes x (client_of past)
+      → WasSent config.client_sizes x (client_of (e ∷ past))
   sent_later x past (OfClient c) h = inr h
   sent_later x past (OfServer c) h = h
 
@@ -36,7 +36,7 @@ module _ (config : Config) where
   delays ds = map (λ (d : S.Delay). S.Delays d.path d.ms true) ds
 
   none_brought : (a : Asked) (q : Question) (ds : List S.Delay)
-      → Sometime (λ old b. Brings config.limit config.server_szx config.server_word old b a q) (delays ds) → ⊥
+      → Sometime (λ old b. Brings config.limits config.server_szx config.server_word old b a q) (delays ds) → ⊥
   none_brought a q [] h = h
   none_brought a q (d ∷ ds) (inr h) = none_brought a q ds h
   none_brought a q (d ∷ ds) (inl k) =
@@ -44,7 +44,7 @@ module _ (config : Config) where
       subst (Ever (HandsUp config.server_szx a k.verdict)) (sym none) k.comes.here
 
   pub brought_in : (a : Asked) (q : Question) (w : List Entry)
-      → Sometime (λ old b. Brings config.limit config.server_szx config.server_word old b a q) (server_trace config w)
+      → Sometime (λ old b. Brings config.limits config.server_szx config.server_word old b a q) (server_trace config w)
       → Sometime (BroughtAt config a q) w
   brought_in a q [] h = absurd (none_brought a q config.delays h)
   brought_in a q (OfClient c ∷ past) h = inr (brought_in a q past h)
@@ -56,9 +56,9 @@ module _ (config : Config) where
     pub past : List Entry
     pub call : S.Call
     pub verdict : Verdict
-    pub asks : AsksBy config.limit config.server_szx (server_trace config past) call a q verdict
+    pub asks : AsksBy config.limits config.server_szx (server_trace config past) call a q verdict
     pub came : CameFrom config past (OfServer call) a verdict
-    pub sent : WasSent config.client_szx came.sending (client_of w)
+    pub sent : WasSent config.client_sizes came.sending (client_of w)
     pub begun_before : Ever (λ b. begun b ≡ Some came.con) (near_of (hops_in config w))
 
   later : (a : Asked) (q : Question) (e : Entry) (w : List Entry) → Traced a q w → Traced a q (e ∷ w)

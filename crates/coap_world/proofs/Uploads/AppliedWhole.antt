@@ -5,6 +5,7 @@ use Rattle.coap_types.specs.Past.{Sometime, Always}
 use Rattle.coap_types.specs.declared.request.Method.{Method}
 use Rattle.coap_types.specs.declared.request.Method.TheVariants.{Get, Post, Put, Delete}
 use Rattle.coap_types.specs.declared.block.Block.{Block}
+use Rattle.coap_block.specs.Sizes.{Sizes}
 use Rattle.coap_layer.specs.Words.{Open}
 use Rattle.coap_resource.specs.Content.{Content, Held}
 use Rattle.coap_resource.specs.RequestOptions.{format_of, precondition_fails}
@@ -66,15 +67,15 @@ does_of Post q old left r n before after b a v body format h = (
 does_of Delete q old left r n before after b a v body format h = sym a ∙ h
 
 -- a DELETE carries no block, and no payload
-none_sent : (szx : ℕ) (m : Method) (body : List ℕ) (t : Transfer) → CarriesBody szx m body t → m ≡ Delete → t ≡ Single
-none_sent szx Delete body Single h is = refl
-none_sent szx Delete body (Fetches f) h is = absurd h
-none_sent szx Delete body (Uploads u) h is = absurd h
-none_sent szx Get body t h is = absurd (cc is)
-none_sent szx Put body t h is = absurd (cc is)
-none_sent szx Post body t h is = absurd (cc is)
+none_sent : (sizes : Sizes) (m : Method) (body : List ℕ) (t : Transfer) → CarriesBody sizes m body t → m ≡ Delete → t ≡ Single
+none_sent sizes Delete body Single h is = refl
+none_sent sizes Delete body (Fetches f) h is = absurd h
+none_sent sizes Delete body (Uploads u) h is = absurd h
+none_sent sizes Get body t h is = absurd (cc is)
+none_sent sizes Put body t h is = absurd (cc is)
+none_sent sizes Post body t h is = absurd (cc is)
 
-module _ (config : Config) (number : ℕ) (all : List Entry) (small : config.client_szx ≤ 6) (whole : Lawful config all)
+module _ (config : Config) (number : ℕ) (all : List Entry) (small : config.client_sizes ≤ 6) (whole : Lawful config all)
     (in_range : (x : Taken) → WasTaken x (client_of all) → IsRequest x.request) where
   abbrev LaterAll : List Entry → Type 0
   LaterAll t = Later config number all small whole in_range t
@@ -89,7 +90,7 @@ module _ (config : Config) (number : ℕ) (all : List Entry) (small : config.cli
   one_called : (r s : C.Request) → WasTaken (record { number = number; request = r }) (client_of all)
       → WasTaken (record { number = number; request = s }) (client_of all) → r ≡ s
   one_called r s a b = one_request number r s (client_of all)
-      (client_facts.numbers server_end config.client_szx config.client_word (client_of all) whole.client) a b
+      (client_facts.numbers server_end config.client_sizes config.client_word (client_of all) whole.client) a b
 
   module _ (w : List Entry) (later : LaterAll w) (law : Lawful config w) (x : Serving)
       (from : (x.asked).from ≡ client_end) (k : Known config number all small whole in_range w x) where
@@ -109,7 +110,7 @@ module _ (config : Config) (number : ℕ) (all : List Entry) (small : config.cli
         (sym (ap (λ (a : Asked). a.token) is) ∙ ap (λ (a : Asked). a.token) k.asked)
 
     by_blocks : (past : List Entry) (c : S.Call) → PartOf (OfServer c ∷ past) → (p : Question) (b : Block)
-        → AsksBy config.limit config.server_szx (server_trace config past) c x.asked x.question (UploadsBlock p b)
+        → AsksBy config.limits config.server_szx (server_trace config past) c x.asked x.question (UploadsBlock p b)
         → ByBlocks
     by_blocks past c part p b h =
         let z = took x.asked p b in
@@ -133,7 +134,7 @@ module _ (config : Config) (number : ℕ) (all : List Entry) (small : config.cli
         }
 
     as_it_came : (past : List Entry) (c : S.Call) → PartOf (OfServer c ∷ past)
-        → Comes config.limit config.server_szx config.server_word (server_trace config past) c x.asked (Asks x.question)
+        → Comes config.limits config.server_szx config.server_word (server_trace config past) c x.asked (Asks x.question)
         → (x.question).body ≡ payload_of k.transfer
     as_it_came past c part comes =
         let f = part.law.came.0 x.asked (Asks x.question) comes from in
@@ -145,11 +146,11 @@ module _ (config : Config) (number : ℕ) (all : List Entry) (small : config.cli
         ∙ ap (λ r. r.payload) k.message)
 
     by_verdict : (past : List Entry) (c : S.Call) → PartOf (OfServer c ∷ past) → (v : Verdict)
-        → Comes config.limit config.server_szx config.server_word (server_trace config past) c x.asked v
-        → AsksBy config.limit config.server_szx (server_trace config past) c x.asked x.question v
+        → Comes config.limits config.server_szx config.server_word (server_trace config past) c x.asked v
+        → AsksBy config.limits config.server_szx (server_trace config past) c x.asked x.question v
         → AsItCame (OfServer c ∷ past) ⊎ ByBlocks
     by_verdict past c part (Asks p) comes h =
-        let here = subst (λ q. Comes config.limit config.server_szx config.server_word
+        let here = subst (λ q. Comes config.limits config.server_szx config.server_word
         (server_trace config past) c x.asked (Asks q)) (sym h) comes in inl (inl here, as_it_came past c part here)
     by_verdict past c part (UploadsBlock p b) comes h = inr (by_blocks past c part p b h)
     by_verdict past c part Ignored comes h = absurd h
@@ -168,10 +169,10 @@ module _ (config : Config) (number : ℕ) (all : List Entry) (small : config.cli
     with_body m is not_delete (inr b) = b
 
     none_there : (k.request).method ≡ Delete → AsItCame w ⊎ ByBlocks → (x.question).body ≡ []
-    none_there is (inl z) = z.1 ∙ ap payload_of (none_sent config.client_szx (k.request).method
+    none_there is (inl z) = z.1 ∙ ap payload_of (none_sent config.client_sizes (k.request).method
         (k.request).body k.transfer k.carries is)
     none_there is (inr z) =
-        let single = none_sent config.client_szx (k.request).method (k.request).body k.transfer k.carries is in
+        let single = none_sent config.client_sizes (k.request).method (k.request).body k.transfer k.carries is in
         let none : None ≡ Some z.block = sym (ap carried k.operation
         ∙ ap (λ t. carried (Calling number (record k.request { body = [] }) t)) single) ∙ z.carries in
         absurd (cc none)
@@ -198,8 +199,8 @@ module _ (config : Config) (number : ℕ) (all : List Entry) (small : config.cli
       let t : List S.Call = server_trace config (e ∷ past) in
       let k = known config number all small whole in_range past c later law a in
       let r : C.Request = k.request in
-      let l = leaves (own_of config.limit config.server_szx (server_trace config past)) c x a.here in
-      let right = (server_facts.right config.limit config.server_szx config.server_word t law.server).0.applied x a.here
+      let l = leaves (own_of config.limits config.server_szx (server_trace config past)) c x a.here in
+      let right = (server_facts.right config.limits config.server_szx config.server_word t law.server).0.applied x a.here
       a.applied in
       let before : x.old.holds x.question.path ≡ holds_at config r.path past =
       ap (λ (s : Content). s.holds x.question.path) l.found ∙ ap (λ p. holds_at config p past) k.path in
@@ -207,9 +208,9 @@ module _ (config : Config) (number : ℕ) (all : List Entry) (small : config.cli
       ap (λ (s : Content). s.holds x.question.path) (sym l.left) ∙ ap (λ p. holds_at config p (e ∷ past)) k.path in
       let version : x.old.tally.version + 1 ≡ changes_in config past + 1 =
       ap (λ (s : Content). s.tally.version + 1) l.found
-      ∙ ap (λ n. n + 1) (version_is config.limit config.server_szx (server_trace config past) law.server.rows.1)
+      ∙ ap (λ n. n + 1) (version_is config.limits config.server_szx (server_trace config past) law.server.rows.1)
       in
-      let brings = (server_facts.handed config.limit config.server_szx config.server_word t law.server).0 x a.here in
+      let brings = (server_facts.handed config.limits config.server_szx config.server_word t law.server).0 x a.here in
       let body = body_whole (e ∷ past) later law x a.from k (brought_in config x.asked x.question (e ∷ past) brings) in
       record {
         request = r;
@@ -242,7 +243,7 @@ module _ (config : Config) (number : ℕ) (all : List Entry) (small : config.cli
         (lawful_back config past (OfServer c) law),
   )
 
-pub applied_whole : (config : Config) (all : List Entry) → config.client_szx ≤ 6 → Lawful config all
+pub applied_whole : (config : Config) (all : List Entry) → config.client_sizes ≤ 6 → Lawful config all
     → ((x : Taken) → WasTaken x (client_of all) → IsRequest x.request) → AppliedWhole config all
 applied_whole config all small law in_range number =
     whole_in config number all small law in_range all (λ x h. h, λ con h. h, λ x h. h) law

@@ -7,6 +7,7 @@ use Rattle.coap_layer.specs.Channel.{near_of, OnFar, HandsUpAs}
 use Rattle.coap_layer.specs.Trace as T
 use Rattle.coap_layer.specs.Words.{Open, begun}
 use Rattle.coap_layer.proofs.Facts.Laws.{cons_apart}
+use Rattle.coap_layer.specs.Machine.State.{usual}
 use Rattle.coap_client.specs.Follows.Begins.{IsRequestOf}
 use Rattle.coap_client.specs.Follows.Order.{call_of}
 use Rattle.coap_client.specs.Follows.Words.{Taken, WasTaken, Sending}
@@ -45,7 +46,7 @@ order_first B old new (e ∷ t) (inr a) (inr b) =
     ⊎_elim (λ x. inl (inr x)) (λ y. ⊎_elim (λ x. inr (inl (inr x))) (λ x. inr (inr (inr x))) y)
     (order_first B old new t a b)
 
-module _ (config : Config) (all : List Entry) (small : config.client_szx ≤ 6) (whole : Lawful config all)
+module _ (config : Config) (all : List Entry) (small : config.client_sizes ≤ 6) (whole : Lawful config all)
     (in_range : (x : Taken) → WasTaken x (client_of all) → IsRequest x.request) where
   abbrev PartOf : List Entry → Type 0
   PartOf w = Part config all small whole in_range w
@@ -137,7 +138,7 @@ module _ (config : Config) (all : List Entry) (small : config.client_szx ≤ 6) 
       let f = follows config all small whole in_range k.con con k.sending y o.number j knows u.known differ
       ((k.is).to ∙ sym u.to) past earlier found in
       apart_at client_end k.con con (server_adds config (server_trace config past) c) (hops_in config past)
-      (cons_apart config.client_word config.server_word client_end server_end
+      (cons_apart (usual config.client_word) (usual config.server_word) client_end server_end
       (hops_in config (OfServer c ∷ past)) p.law.channel) f u.up k.arrives
 
   turn_of : (w : List Entry) → PartOf w → (a b : Open) (x y : Sending) (i j : ℕ) → KnownTo a x i → KnownTo b y j → i ≢ j

@@ -22,6 +22,7 @@ use Rattle.coap_types.specs.declared.request.Method.{Method}
 use Rattle.coap_types.specs.declared.request.Method.TheVariants.{Get, Post, Put, Delete}
 use Rattle.coap_types.proofs.Facts.Blocks.{block_reads_back}
 use Rattle.coap_types.proofs.Facts.Uints.{uint_read}
+use Rattle.coap_block.specs.Sizes.{Sizes}
 use Rattle.coap_codec.specs.Message.{Message}
 use Rattle.coap_block.specs.UploadStep.{UploadState, block_to_send, more_follows}
 use Rattle.coap_resource.specs.RequestOptions.{block_said}
@@ -103,7 +104,7 @@ pub record ReadsBlock (x : Sending) (number : ℕ) (q : Question) (b : Block) (t
   pub method : q.method ≡ request.method
   pub payload : q.body ≡ part_of upload.body upload.num upload.szx
 
-module _ (csz szx id k : ℕ) (small : csz ≤ 6) (x : Sending) (t : List C.Call) (g : IsOfCall csz k x t)
+module _ (sizes : Sizes) (szx id k : ℕ) (small : sizes.szx ≤ 6) (x : Sending) (t : List C.Call) (g : IsOfCall sizes k x t)
     (range : IfSome g.request.format (λ f. f < 65536)) (q : Question) (b : Block)
     (is : verdict_on szx (request_of id x) ≡ UploadsBlock q b) where
   abbrev m : Message
@@ -117,18 +118,18 @@ module _ (csz szx id k : ℕ) (small : csz ≤ 6) (x : Sending) (t : List C.Call
 
   method_same : q.method ≡ g.request.method
   method_same = let methods : Some q.method ≡ Some g.request.method = sym read.0.method
-      ∙ (ap method_of (code_is csz szx id k small x t g range) ∙ method_is g.request.method) in cc methods
+      ∙ (ap method_of (code_is sizes szx id k small x t g range) ∙ method_is g.request.method) in cc methods
 
   change : Changes g.request.method
   change = subst Changes method_same (uploads_change szx m q b is)
 
   said : uint_at block1 (asks m) ≡ uint_in (value_of block1 (block_option g.transfer))
-  said = ap (uint_at block1) (options_read csz szx id k small x t g range faultless change)
+  said = ap (uint_at block1) (options_read sizes szx id k small x t g range faultless change)
       ∙ ap uint_in (block_back g.request g.request.method g.transfer)
 
   path_same : q.path ≡ g.request.path
   path_same = ap (λ (z : Question). z.path) read.0.is
-      ∙ (ap path_of (options_read csz szx id k small x t g range faultless change)
+      ∙ (ap path_of (options_read sizes szx id k small x t g range faultless change)
       ∙ path_back g.request g.request.method g.transfer)
 
   none_said : (tr : Transfer) → g.transfer ≡ tr → uint_in (value_of block1 (block_option tr)) ≡ None → ⊥
@@ -143,8 +144,8 @@ module _ (csz szx id k : ℕ) (small : csz ≤ 6) (x : Sending) (t : List C.Call
           (ap (λ z. uint_in (value_of block1 (cond z (option block1 (uint (block_value (block_to_send u))) ∷ []) [])))
           short))
       by true long =
-          let h = sends_body csz g.request.method g.request.body u change
-          (subst (CarriesBody csz g.request.method g.request.body) e g.carries) in
+          let h = sends_body sizes g.request.method g.request.body u change
+          (subst (CarriesBody sizes g.request.method g.request.body) e g.carries) in
           let z = h.size in
           let size : u.szx ≤ 6 = omega (arith, z, small) in
           let n : ℕ = block_value (block_to_send u) in
@@ -171,8 +172,8 @@ module _ (csz szx id k : ℕ) (small : csz ≤ 6) (x : Sending) (t : List C.Call
 
   by_transfer : (tr : Transfer) → g.transfer ≡ tr → ReadsBlock x k q b t
   by_transfer Single e = absurd (none_said Single e refl)
-  by_transfer (Fetches f) e = absurd (no_fetch csz g.request.method g.request.body f change
-      (subst (CarriesBody csz g.request.method g.request.body) e g.carries))
+  by_transfer (Fetches f) e = absurd (no_fetch sizes g.request.method g.request.body f change
+      (subst (CarriesBody sizes g.request.method g.request.body) e g.carries))
   by_transfer (Uploads u) e = of_upload u e
 
   pub reads_block : ReadsBlock x k q b t

@@ -32,6 +32,7 @@ use Rattle.coap_world.proofs.Requests.OfACall.{Lawful}
 use Rattle.coap_world.proofs.Requests.Traced.{brought_in}
 use Rattle.coap_world.proofs.Uploads.Parts.{Begun, Sent, Carries, Part, part_back, one_con}
 use Rattle.coap_types.proofs.Facts.Traces.{Sometime_map}
+use Rattle.coap_layer.specs.Machine.State.{usual}
 use Rattle.coap_observe.specs.Observers.{Observer}
 
 off_near : (P : T.Entry → Type 0) (adds : List T.Entry) (hs : List Hop) → Ever (OnFar P) (map Near adds ++ hs)
@@ -40,7 +41,7 @@ off_near P [] hs h = h
 off_near P (e ∷ adds) hs (inl h) = absurd h
 off_near P (e ∷ adds) hs (inr h) = off_near P adds hs h
 
-module _ (config : Config) (all : List Entry) (small : config.client_szx ≤ 6) (whole : Lawful config all)
+module _ (config : Config) (all : List Entry) (small : config.client_sizes ≤ 6) (whole : Lawful config all)
     (in_range : (x : Taken) → WasTaken x (client_of all) → IsRequest x.request) where
   abbrev PartOf : List Entry → Type 0
   PartOf w = Part config all small whole in_range w
@@ -77,17 +78,17 @@ module _ (config : Config) (all : List Entry) (small : config.client_szx ≤ 6) 
         later_up w e (brought_up a q w (part_back config all small whole in_range w e p) h from token)
 
     served_up : (past : List Entry) (c : S.Call) → PartOf (OfServer c ∷ past) → (s : Serving)
-        → serving (own_of config.limit config.server_szx (server_trace config past)) c ≡ Some s
+        → serving (own_of config.limits config.server_szx (server_trace config past)) c ≡ Some s
         → s.asked.from ≡ client_end → s.asked.token ≡ x.token
         → UpIn (hops_in config (OfServer c ∷ past))
     served_up past c p s here from token =
         let w : List Entry = OfServer c ∷ past in
-        let brings = (server_facts.handed config.limit config.server_szx config.server_word
+        let brings = (server_facts.handed config.limits config.server_szx config.server_word
         (server_trace config w) p.law.server).0 s here in
         brought_up s.asked s.question w p (brought_in config s.asked s.question w brings) from token
 
     abbrev MadeIn : Endpoint → List ℕ → List (List ℕ) → List S.Call → Type 0
-    MadeIn to token path t = Sometime (MadeBy config.limit config.server_szx to token path) t
+    MadeIn to token path t = Sometime (MadeBy config.limits config.server_szx to token path) t
 
     none_made : (to : Endpoint) (token : List ℕ) (path : List (List ℕ)) (ds : List S.Delay)
         → MadeIn to token path (map (λ (d : S.Delay). S.Delays d.path d.ms true) ds) → ⊥
@@ -95,10 +96,10 @@ module _ (config : Config) (all : List Entry) (small : config.client_szx ≤ 6) 
     none_made to token path (d ∷ ds) (inr h) = none_made to token path ds h
     none_made to token path (d ∷ ds) (inl h) = let here = h.here in cc here
 
-    made_in : (o : Observer) (t : List S.Call) → WasMade config.limit config.server_szx t o
+    made_in : (o : Observer) (t : List S.Call) → WasMade config.limits config.server_szx t o
         → MadeIn o.to o.token o.path t
-    made_in o t made = Sometime_map (MadeWith config.limit config.server_szx o.to o.token o.path o.szx)
-        (MadeBy config.limit config.server_szx o.to o.token o.path) (λ past c k. k.made) t made
+    made_in o t made = Sometime_map (MadeWith config.limits config.server_szx o.to o.token o.path o.szx)
+        (MadeBy config.limits config.server_szx o.to o.token o.path) (λ past c k. k.made) t made
 
     made_up : (to : Endpoint) (token : List ℕ) (path : List (List ℕ)) (w : List Entry) → PartOf w
         → MadeIn to token path (server_trace config w) → to ≡ client_end → token ≡ x.token → UpIn (hops_in config w)
@@ -116,7 +117,7 @@ module _ (config : Config) (all : List Entry) (small : config.client_szx ≤ 6) 
         → IsAnswer config m (server_trace config past) c → m.token ≡ x.token → UpIn (hops_in config (OfServer c ∷ past))
     answer_by m past c p (replies s here is) token = served_up past c p s here is.to_client (is.token_is ∙ token)
     answer_by m past c p (continues z size here more asks is) token =
-        let k = (server_facts.blocks config.limit config.server_szx config.server_word
+        let k = (server_facts.blocks config.limits config.server_szx config.server_word
         (server_trace config (OfServer c ∷ past)) p.law.server).0 z here in
         comes_up past (OfServer c) z.asked (Uploads k.question k.block) p k.comes is.to_client (is.token_is ∙ token)
     answer_by m past c p (refuses a v code comes handed unserved why is) token =
@@ -153,5 +154,5 @@ module _ (config : Config) (all : List Entry) (small : config.client_szx ≤ 6) 
         (heard_up (OfClient c ∷ past) p h) in
         Ever_by_law (λ q e. OnFar (HandsUpAs client_end old) e → OnFar (Takes client_end old) e)
         (OnFar (HandsUpAs client_end old)) (OnFar (Takes client_end old)) (λ q e l k. l.0 k) (hops_in config past)
-        (only_that_con config.client_word config.server_word client_end server_end
+        (only_that_con (usual config.client_word) (usual config.server_word) client_end server_end
         (hops_in config past) earlier.law.channel old there) up

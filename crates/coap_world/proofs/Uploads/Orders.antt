@@ -67,7 +67,7 @@ call_is x k b = (of_carried x.operation b.block b.carries).0 ∙ ap (λ n. Some 
 turn_is : (x : Sending) (k : ℕ) → IsBlockOf x k → turn_of x.operation ≡ Some k
 turn_is x k b = (of_carried x.operation b.block b.carries).1 ∙ ap (λ n. Some n) b.number_is
 
-module _ (config : Config) (all : List Entry) (small : config.client_szx ≤ 6) (whole : Lawful config all)
+module _ (config : Config) (all : List Entry) (small : config.client_sizes ≤ 6) (whole : Lawful config all)
     (in_range : (x : Taken) → WasTaken x (client_of all) → IsRequest x.request) where
   abbrev PartOf : List Entry → Type 0
   PartOf w = Part config all small whole in_range w
@@ -85,7 +85,7 @@ module _ (config : Config) (all : List Entry) (small : config.client_szx ≤ 6) 
   -- what was begun was sent, by the call that began it
   pub sent_of : (w : List Entry) → PartOf w → (con : Open) → Begun config con w
       → (y : Sending) × Sent config y w × IsRequestOf server_end con y
-  sent_of w p con h = client_facts.begins server_end config.client_szx config.client_word (client_of w) p.law.client con
+  sent_of w p con h = client_facts.begins server_end config.client_sizes config.client_word (client_of w) p.law.client con
       (subst (Ever (λ b. begun b ≡ Some con)) (near_is config w) h)
 
   pub is_that : (con : Open) (x z : Sending) (k : ℕ) → Known con x k → Sent config z all → IsRequestOf server_end con z
@@ -97,7 +97,7 @@ module _ (config : Config) (all : List Entry) (small : config.client_szx ≤ 6) 
       (differ : i ≢ j) where
     -- the call that sends the later one finds the earlier one sent, and begun
     pub record Finds (past : List Entry) (c : C.Call) : Type 0 where
-      pub sends_it : sends (own_of config.client_szx (client_of past)) c ≡ Some y
+      pub sends_it : sends (own_of config.client_sizes (client_of past)) c ≡ Some y
       pub sent : Sent config x past
       pub old_begun : Begun config old past
       pub new_begun : Ever (λ b. begun b ≡ Some new) (client_adds config (client_of past) c)
@@ -122,12 +122,12 @@ module _ (config : Config) (all : List Entry) (small : config.client_szx ≤ 6) 
         new_begun = new_there old new adds rest h
 
         now_sent : (con : Open) → Ever (λ b. begun b ≡ Some con) adds
-            → (z : Sending) × (sends (own_of config.client_szx (client_of past)) c ≡ Some z)
+            → (z : Sending) × (sends (own_of config.client_sizes (client_of past)) c ≡ Some z)
             × IsRequestOf server_end con z
-        now_sent con k = let s = (client_facts.begins_now server_end config.client_szx config.client_word
+        now_sent con k = let s = (client_facts.begins_now server_end config.client_sizes config.client_word
             (client_of (OfClient c ∷ past)) p.law.client).0 con k in (s.sending, s.sends_it, s.is)
 
-        sends_y : sends (own_of config.client_szx (client_of past)) c ≡ Some y
+        sends_y : sends (own_of config.client_sizes (client_of past)) c ≡ Some y
         sends_y = let r = now_sent new new_begun in r.1
             ∙ ap (λ (z : Sending). Some z) (is_that new y r.0 j known (p.sent r.0 (inl r.1)) r.2)
 
@@ -168,7 +168,7 @@ module _ (config : Config) (all : List Entry) (small : config.client_szx ≤ 6) 
     in_turn [] p h = absurd h
     in_turn (OfServer c ∷ past) p (inl h) = absurd h
     in_turn (OfClient c ∷ past) p (inl h) =
-        ((client_facts.order server_end config.client_szx config.client_word
+        ((client_facts.order server_end config.client_sizes config.client_word
         (client_of (OfClient c ∷ past)) p.law.client).0).in_turn x y i j h.sends_it h.sent (turn_is x i knows.block)
         (turn_is y j known.block)
     in_turn (e ∷ past) p (inr h) = in_turn past (back past e p) h
@@ -207,11 +207,11 @@ module _ (config : Config) (all : List Entry) (small : config.client_szx ≤ 6) 
           (⊎_elim (λ k. inl (heard_taken config all small whole in_range old x i
           (call_is x i knows.block) knows.sent knows.begun_there knows.carries past c p h.old_begun k))
           (λ k. inr (quiet k))
-          ((blocks_apart server_end config.client_szx config.client_word (client_of (OfClient c ∷ past)) p.law.client).0
+          ((blocks_apart server_end config.client_sizes config.client_word (client_of (OfClient c ∷ past)) p.law.client).0
           x y i j h.sends_it h.sent knows.block known.block differ))
           h.new_begun
         where
-          quiet : IsQuiet server_end config.client_szx config.client_word (client_of past) c x
+          quiet : IsQuiet server_end config.client_sizes config.client_word (client_of past) c x
               → Always (λ t e. SendsIt old t e → e.at + max_latency < new.first)
               (client_adds config (client_of past) c ++ near_of (hops_in config past))
           quiet k =

@@ -5,6 +5,7 @@ use Rattle.coap_types.specs.MethodCode.{method_code, method_of}
 use Rattle.coap_types.specs.Past.{Ever}
 use Rattle.coap_types.specs.declared.block.Block.{Block}
 use Rattle.coap_types.specs.declared.request.Method.TheVariants.{Get}
+use Rattle.coap_block.specs.Sizes.{Sizes}
 use Rattle.coap_codec.specs.Message.{Message, Spells}
 use Rattle.coap_layer.specs.Channel.{near_of}
 use Rattle.coap_layer.specs.Trace as T
@@ -38,11 +39,11 @@ use Rattle.coap_client.specs.Follows.Apart.{IsBlockOf}
 use Rattle.coap_world.proofs.Uploads.BlockRead.{uploads_change, ReadsBlock, reads_block}
 
 -- what is sent for no call is a GET
-get_at : (szx : ℕ) (t : List C.Call) → OthersAreGets szx t → (x : Sending) → WasSent szx x t
+get_at : (sizes : Sizes) (t : List C.Call) → OthersAreGets sizes t → (x : Sending) → WasSent sizes x t
     → call_of x.operation ≡ None → x.request.code ≡ (method_code Get).0
-get_at szx [] law x h none = absurd h
-get_at szx (c ∷ t) law x (inl h) none = law.0 x h none
-get_at szx (c ∷ t) law x (inr h) none = get_at szx t law.1 x h none
+get_at sizes [] law x h none = absurd h
+get_at sizes (c ∷ t) law x (inl h) none = law.0 x h none
+get_at sizes (c ∷ t) law x (inr h) none = get_at sizes t law.1 x h none
 
 taken_later : (x : Taken) (past : List Entry) (e : Entry) → WasTaken x (client_of past)
     → WasTaken x (client_of (e ∷ past))
@@ -54,7 +55,7 @@ module _ (config : Config) where
   Begun con w = Ever (λ b. begun b ≡ Some con) (near_of (hops_in config w))
 
   abbrev pub Sent : Sending → List Entry → Type 0
-  Sent x w = WasSent config.client_szx x (client_of w)
+  Sent x w = WasSent config.client_sizes x (client_of w)
 
   pub begun_later : (past : List Entry) (e : Entry) (P : T.Entry → Type 0) → Ever P (near_of (hops_in config past))
       → Ever P (near_of (hops_in config (e ∷ past)))
@@ -79,10 +80,10 @@ module _ (config : Config) where
     pub came : CameFrom config past (OfServer c) z.asked (Uploads question block)
 
   pub came_block : (z : Took) (past : List Entry) (c : S.Call) → Lawful config (OfServer c ∷ past)
-      → takes_block (own_of config.limit config.server_szx (server_trace config past)) c ≡ Some z
+      → takes_block (own_of config.limits config.server_szx (server_trace config past)) c ≡ Some z
       → z.asked.from ≡ client_end → CameBlock z past c
   came_block z past c law here from =
-      let k = (server_facts.blocks config.limit config.server_szx config.server_word
+      let k = (server_facts.blocks config.limits config.server_szx config.server_word
       (server_trace config (OfServer c ∷ past)) law.server).0 z here in
       record {
         question = k.question;
@@ -91,7 +92,7 @@ module _ (config : Config) where
         came = law.came.0 z.asked (Uploads k.question k.block) k.comes from;
       }
 
-  module _ (all : List Entry) (small : config.client_szx ≤ 6) (whole : Lawful config all)
+  module _ (all : List Entry) (small : config.client_sizes ≤ 6) (whole : Lawful config all)
       (in_range : (x : Taken) → WasTaken x (client_of all) → IsRequest x.request) where
     -- the laws of a part of the record; what was sent then, was sent in the whole of it
     pub record Part (w : List Entry) : Type 0 where
@@ -112,7 +113,7 @@ module _ (config : Config) where
     pub one_sending : (x y : Sending) (number : ℕ) → Sent x all → Sent y all → call_of y.operation ≡ Some number
         → x.token ≡ y.token → x ≡ y
     one_sending x y number sent there of token =
-        by (client_facts.tokens server_end config.client_szx config.client_word
+        by (client_facts.tokens server_end config.client_sizes config.client_word
         (client_of all) whole.client x y sent there token)
       where
         by : (x ≡ y) ⊎ (Deregisters x y ⊎ Deregisters y x) → x ≡ y
@@ -123,7 +124,7 @@ module _ (config : Config) where
     -- .. and of one CON
     not_registers : (k : Sending) (number : ℕ) → Sent k all → call_of k.operation ≡ Some number
         → (con other : Open) (m : Message) → AreBytes con.bytes → Spells con.bytes m → con.id ≡ m.id → m.token ≡ k.token
-        → Ends server_end config.client_szx (client_of all) con other → ⊥
+        → Ends server_end config.client_sizes (client_of all) con other → ⊥
     not_registers k number sent of con other m are spells id token e =
         let same = one_sending e.first k number e.first_sent sent of
         (sym (ap (λ (z : Message). z.token) (same_request con m e.first e.begins are spells id)) ∙ token) in
@@ -135,12 +136,12 @@ module _ (config : Config) where
         → x.token ≡ k.token → y.token ≡ k.token → a ≡ b
     one_con k number sent of a b i j x y ab bb sa sb ia ib ta tb =
         let near = near_is config all in
-        by (client_facts.one_con server_end config.client_szx config.client_word (client_of all) whole.client a b
+        by (client_facts.one_con server_end config.client_sizes config.client_word (client_of all) whole.client a b
         (subst (Ever (λ e. begun e ≡ Some a)) near i) (subst (Ever (λ e. begun e ≡ Some b)) near j) x y ab bb sa sb
         (ta ∙ sym tb))
       where
-        by : (a ≡ b) ⊎ (Ends server_end config.client_szx (client_of all) a b
-            ⊎ Ends server_end config.client_szx (client_of all) b a) → a ≡ b
+        by : (a ≡ b) ⊎ (Ends server_end config.client_sizes (client_of all) a b
+            ⊎ Ends server_end config.client_sizes (client_of all) b a) → a ≡ b
         by (inl same) = same
         by (inr (inl e)) = absurd (not_registers k number sent of a b x ab sa ia ta e)
         by (inr (inr e)) = absurd (not_registers k number sent of b a y bb sb ib tb e)
@@ -154,7 +155,7 @@ module _ (config : Config) where
       pub part_of : IsBlockOf block.came.sending number
 
     pub of_upload : (z : Took) (past : List Entry) (c : S.Call) → Part (OfServer c ∷ past)
-        → takes_block (own_of config.limit config.server_szx (server_trace config past)) c ≡ Some z
+        → takes_block (own_of config.limits config.server_szx (server_trace config past)) c ≡ Some z
         → z.asked.from ≡ client_end → OfUpload z past c
     of_upload z past c p here from = by (call_of k.came.sending.operation) refl
       where
@@ -169,17 +170,17 @@ module _ (config : Config) where
 
         by : (o : Option ℕ) → call_of k.came.sending.operation ≡ o → OfUpload z past c
         by None none =
-            let code = get_at config.client_szx (client_of past)
-            (client_facts.others config.client_szx (client_of past)) k.came.sending k.came.sent none in
+            let code = get_at config.client_sizes (client_of past)
+            (client_facts.others config.client_sizes (client_of past)) k.came.sending k.came.sent none in
             let methods : Some k.question.method ≡ Some Get = sym read.0.method ∙ (ap method_of code ∙ method_is Get) in
             let get : k.question.method ≡ Get = cc methods in
             absurd (subst Changes get (uploads_change config.server_szx m k.question k.block k.came.verdict))
         by (Some number) of =
-            let g = of_call_at config.client_szx (client_of past)
-            (client_facts.of_calls config.client_szx (client_of past)) k.came.sending number k.came.sent of in
+            let g = of_call_at config.client_sizes (client_of past)
+            (client_facts.of_calls config.client_sizes (client_of past)) k.came.sending number k.came.sent of in
             let range = (in_range (record { number = number; request = g.request })
             (p.taken (record { number = number; request = g.request }) g.taken)).format in
-            let r = reads_block config.client_szx config.server_szx k.came.con.id number small k.came.sending
+            let r = reads_block config.client_sizes config.server_szx k.came.con.id number small k.came.sending
             (client_of past) g range k.question k.block k.came.verdict in
             record {
               block = k;

@@ -6,6 +6,7 @@ use Rattle.std.proofs.lemmas.Bool.Decides.{nat_tests}
 use Rattle.coap_types.specs.Past.{Ever}
 use Rattle.coap_types.specs.Piece.{size_of, offset_of, part_of, Begins, Piece}
 use Rattle.coap_types.specs.declared.block.Block.{Block}
+use Rattle.coap_block.specs.Sizes.{Sizes}
 use Rattle.coap_block.specs.Gathered.{part}
 use Rattle.coap_block.specs.UploadStep.{UploadState, block_to_send, more_follows}
 use Rattle.coap_block.specs.Whole.{Part, Each, IsPieceOf, Ends, InOrder, WholeAtServer}
@@ -31,11 +32,11 @@ whole_is parts a b w pieces = one_body_at_server parts a b w (inl (in_order w))
     }
 
 -- what is sent is a piece
-begins_at : (szx : ℕ) (t : List C.Call) → SendsPieces szx t → (x : Sending) (number : ℕ) (u : UploadState)
-    → WasSent szx x t → carried x.operation ≡ Some (record { number = number; upload = u }) → Begins u.body u.num u.szx
-begins_at szx [] law x number u h of = absurd h
-begins_at szx (c ∷ t) law x number u (inl h) of = ((law.0 x (record { number = number; upload = u }) h of).sent).begins
-begins_at szx (c ∷ t) law x number u (inr h) of = begins_at szx t law.1 x number u h of
+begins_at : (sizes : Sizes) (t : List C.Call) → SendsPieces sizes t → (x : Sending) (number : ℕ) (u : UploadState)
+    → WasSent sizes x t → carried x.operation ≡ Some (record { number = number; upload = u }) → Begins u.body u.num u.szx
+begins_at sizes [] law x number u h of = absurd h
+begins_at sizes (c ∷ t) law x number u (inl h) of = ((law.0 x (record { number = number; upload = u }) h of).sent).begins
+begins_at sizes (c ∷ t) law x number u (inr h) of = begins_at sizes t law.1 x number u h of
 
 piece_of_body : (u : UploadState) → Begins u.body u.num u.szx
     → Piece u.body u.num (more_follows u) u.szx (part_of u.body u.num u.szx)
@@ -54,14 +55,14 @@ piece_of_body u h = record {
     over : (a b : ℕ) → b ≤ a → nat_lt a b ≡ false
     over a b k = grind (arith, nat_tests, k)
 
-pub sent_piece : (szx : ℕ) (t : List C.Call) → SendsPieces szx t → (x : Sending) (number : ℕ) (u : UploadState)
-    → WasSent szx x t → carried x.operation ≡ Some (record { number = number; upload = u })
+pub sent_piece : (sizes : Sizes) (t : List C.Call) → SendsPieces sizes t → (x : Sending) (number : ℕ) (u : UploadState)
+    → WasSent sizes x t → carried x.operation ≡ Some (record { number = number; upload = u })
     → (q : Question) (b : Block) → b ≡ block_to_send u → q.body ≡ part_of u.body u.num u.szx
     → IsPieceOf u.body (part b None q.body)
-sent_piece szx t law x number u h of q b is payload =
+sent_piece sizes t law x number u h of q b is payload =
     subst (λ z. IsPieceOf u.body (part z None q.body)) (sym is)
     (subst (λ z. IsPieceOf u.body (part (block_to_send u) None z)) (sym payload)
-    (piece_of_body u (begins_at szx t law x number u h of)))
+    (piece_of_body u (begins_at sizes t law x number u h of)))
 
 -- a number is of one call
 given_by : (x : Taken) (c : C.Call) → takes c ≡ Some x → number_given c ≡ Some x.number

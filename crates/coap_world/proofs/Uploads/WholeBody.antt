@@ -49,7 +49,7 @@ each_map : {X Y : Type 0} (P : Y → Type 0) (f : X → Y) (xs : List X) → Eac
 each_map P f [] h = tt
 each_map P f (x ∷ xs) h = (h.0, each_map P f xs h.1)
 
-module _ (config : Config) (all : List Entry) (small : config.client_szx ≤ 6) (whole : Lawful config all)
+module _ (config : Config) (all : List Entry) (small : config.client_sizes ≤ 6) (whole : Lawful config all)
     (in_range : (x : Taken) → WasTaken x (client_of all) → IsRequest x.request) where
   abbrev PartOf : List Entry → Type 0
   PartOf w = PartOf_ config all small whole in_range w
@@ -58,16 +58,16 @@ module _ (config : Config) (all : List Entry) (small : config.client_szx ≤ 6) 
   Upload z past c = OfUpload config all small whole in_range z past c
 
   abbrev taken_at : List S.Call → S.Call → Option Took
-  taken_at t c = takes_block (own_of config.limit config.server_szx t) c
+  taken_at t c = takes_block (own_of config.limits config.server_szx t) c
 
   abbrev since : Key → List S.Call → List Took
-  since key t = blocks_since config.limit config.server_szx key t
+  since key t = blocks_since config.limits config.server_szx key t
 
   -- the key of a block is of where it came from
   key_from : (past : List Entry) (c : S.Call) → PartOf (OfServer c ∷ past) → (z : Took)
       → taken_at (server_trace config past) c ≡ Some z → (z.key).from ≡ (z.asked).from
   key_from past c p z here =
-      let k = (server_facts.blocks config.limit config.server_szx config.server_word
+      let k = (server_facts.blocks config.limits config.server_szx config.server_word
       (server_trace config (OfServer c ∷ past)) p.law.server).0 z here in
       ap (λ (y : Took). y.key.from) k.is
 
@@ -83,7 +83,7 @@ module _ (config : Config) (all : List Entry) (small : config.client_szx ≤ 6) 
     same_request z past c p o same =
         let earlier = part_back config all small whole in_range past (OfServer c) p in
         one_request n (o.reads).request r (client_of all)
-        (client_facts.numbers server_end config.client_szx config.client_word (client_of all) whole.client)
+        (client_facts.numbers server_end config.client_sizes config.client_word (client_of all) whole.client)
         (subst (λ i. WasTaken (record { number = i; request = (o.reads).request }) (client_of all)) same
         (earlier.taken (record { number = o.number; request = (o.reads).request }) (o.reads).taken)) called
 
@@ -93,8 +93,8 @@ module _ (config : Config) (all : List Entry) (small : config.client_szx ≤ 6) 
     piece_of z past c p o same =
         let earlier = part_back config all small whole in_range past (OfServer c) p in
         let k = o.block in
-        let g = sent_piece config.client_szx (client_of all)
-        (client_facts.pieces server_end config.client_szx config.client_word (client_of all) whole.client)
+        let g = sent_piece config.client_sizes (client_of all)
+        (client_facts.pieces server_end config.client_sizes config.client_word (client_of all) whole.client)
         k.came.sending o.number (o.reads).upload (earlier.sent k.came.sending k.came.sent)
         (o.reads).carries k.question k.block (o.reads).block (o.reads).payload
         in
@@ -244,13 +244,13 @@ module _ (config : Config) (all : List Entry) (small : config.client_szx ≤ 6) 
       zero_by m token code past c p (continues z size here more asks is) =
           zero_here past c p z here is.to_client (is.token_is ∙ token)
       zero_by m token code past c p (replies s here is) =
-          absurd ((server_facts.continues config.limit config.server_szx config.server_word
+          absurd ((server_facts.continues config.limits config.server_szx config.server_word
           (server_trace config (OfServer c ∷ past)) p.law.server).0 s here (sym is.code ∙ code))
       zero_by m token code past c p (refuses a v k comes handed unserved why is) =
-          absurd (refusal_not (own_of config.limit config.server_szx (server_trace config past)) c k why
+          absurd (refusal_not (own_of config.limits config.server_szx (server_trace config past)) c k why
           (sym is.code ∙ code))
       zero_by m token code past c p (notifies o reply here made shows is) =
-          absurd (notice_not o.szx ((own_of config.limit config.server_szx (server_trace config past)).store.holds
+          absurd (notice_not o.szx ((own_of config.limits config.server_szx (server_trace config past)).store.holds
           o.path) _ shows (sym is.code ∙ code))
 
       zeros : (m : Message) → m.token ≡ first.token → m.code ≡ continue → (w : List Entry) → PartOf w
@@ -282,7 +282,7 @@ module _ (config : Config) (all : List Entry) (small : config.client_szx ≤ 6) 
         inr (zero_before y b is number some path method w
         (part_back config all small whole in_range w (OfClient c) p) h)
     zero_before y b is number some path method (OfClient c ∷ w) p (inl h) =
-        let k = (client_facts.continued server_end config.client_szx config.client_word
+        let k = (client_facts.continued server_end config.client_sizes config.client_word
         (client_of (OfClient c ∷ w)) p.law.client).0 y b h is some in
         zero_heard k.first (p.sent k.first (inr k.sent)) k.block k.carries
         ((of_carried (k.first).operation k.block k.carries).0 ∙ ap (λ i. Some i) (k.number_is ∙ number)) k.is_first

@@ -17,6 +17,7 @@ use Rattle.coap_exchange.specs.AnswererSteps.{asked_of, content_of}
 use Rattle.coap_server.specs.Trace as S
 use Rattle.coap_server.specs.Serving.{response_to}
 use Rattle.coap_server.specs.Law.{ServerLaw, ServerRows, lower_of}
+use Rattle.coap_world.specs.LegalRuns.{limits}
 use Rattle.coap_world.specs.Events.{Calls, TickClient, Deliver, client_end}
 use Rattle.coap_world.specs.Legal.{AllLegal}
 use Rattle.coap_world.specs.LegalEvents.{event, comes_at}
@@ -24,6 +25,7 @@ use Rattle.coap_world.specs.Record.{OfClient, OfServer, Turn, Makes}
 use Rattle.coap_world.specs.LegalRuns.{config, from_client, from_server, get, get_bytes, not_found_bytes, Runs}
 use Rattle.coap_world.specs.LegalRuns.{MayComeTill}
 use Rattle.coap_types.proofs.Facts.Bytes.{bytes_are}
+use Rattle.coap_layer.specs.Machine.State.{usual}
 use Rattle.coap_world.proofs.Witness.InWords.{config_range}
 use Rattle.coap_world.proofs.Witness.TurnsMade.{a_turn, client_turn, server_turn, to_server, to_client, on_client}
 use Rattle.coap_world.proofs.Witness.TurnsMade.{on_server, legal_at}
@@ -35,7 +37,7 @@ abbrev reply : Reply
 reply = bare 132 0
 
 sendable : IsSpelled (content_of (asked_of client_end request)
-    (response_to (nothing 4194303) [] (asked_of client_end request) question reply))
+    (response_to (nothing limits) [] (asked_of client_end request) question reply))
 unfolding option_bytes options_bytes
 sendable = (sendable_when_short _ (record {
   some = omega arith;
@@ -50,22 +52,22 @@ sendable = (sendable_when_short _ (record {
 module _ (at : ℕ) where
   abbrev serves : S.Call
   serves = S.Feeds at client_end get_bytes 0 (L.Becomes (L.Request request true))
-      (Some (asked_of client_end request, request)) (S.Serves question reply (nothing 4194303)) L.Nothing
+      (Some (asked_of client_end request, request)) (S.Serves question reply (nothing limits)) L.Nothing
 
   abbrev calls : List S.Call
   calls = server_turn (to_client not_found_bytes ∷ []) (serves ∷ [])
 
-  rows : ServerRows 4194303 6 calls
+  rows : ServerRows limits 6 calls
   unfolding option_bytes options_bytes
-  rows = (tt, (tt, (record { reply = reply; left = nothing 4194303; serves = (refl, refl); is = refl }, tt)))
+  rows = (tt, (tt, (record { reply = reply; left = nothing limits; serves = (refl, refl); is = refl }, tt)))
 
-  answered : answerer.AnswererLaw (lower_of 4194303 6 calls)
+  answered : answerer.AnswererLaw (lower_of limits 6 calls)
   answered = (tt, (tt, ((refl, record { code = refl; spelled = sendable }, refl), (refl, tt))))
 
   abbrev run : List Asked
-  run = answerer.lower_of (lower_of 4194303 6 calls)
+  run = answerer.lower_of (lower_of limits 6 calls)
 
-  steps : Steps (start 0) run (left_after (start 0) run)
+  steps : Steps (start (usual 0)) run (left_after (start (usual 0)) run)
   unfolding decoded frame_fault body_at walk walk_of option_at nibbles_at value_at extended payload_at option_bytes
       options_bytes
   steps = (
@@ -82,11 +84,11 @@ module _ (at : ℕ) where
     record { may = tt; right = refl; new_is = refl },
   )
 
-  pub lawful : ServerLaw 4194303 6 0 calls
+  pub lawful : ServerLaw limits 6 0 calls
   lawful = record {
     rows = rows;
     exchanges = record
-        { rows = answered; left = left_after (start 0) run; layer = steps };
+        { rows = answered; left = left_after (start (usual 0)) run; layer = steps };
   }
 
   module _ (early : at ≤ 100000) where

@@ -31,10 +31,12 @@ pub configured : (delays : List Delay) → All IsDelay delays → length delays 
 configured delays each few = record {
   client_word = omega arith;
   client_szx = omega arith;
+  client_limit = (omega arith, omega arith);
   server_word = omega arith;
   server_szx = omega arith;
   some = omega arith;
   limit = (let most : 4194303 ≤ 4194303 = omega arith in most);
+  server_limit = (omega arith, omega arith);
   delays = each;
   few = few;
 }

@@ -149,10 +149,12 @@ pub by_16_range : IsConfig by_16
 by_16_range = record {
   client_word = omega arith;
   client_szx = omega arith;
+  client_limit = (omega arith, omega arith);
   server_word = omega arith;
   server_szx = omega arith;
   some = omega arith;
   limit = config_range.limit;
+  server_limit = config_range.server_limit;
   delays = config_range.delays;
   few = omega arith;
 }

@@ -4,6 +4,7 @@ use Rattle.std.proofs.Common.{refl, ap, sym, ◌∙◌, cond}
 use Rattle.coap_types.specs.Path.{same_path}
 use Rattle.coap_types.proofs.Facts.Paths.{same_path-decides}
 use Rattle.coap_resource.specs.Content.{Content, Held, Changes, nothing}
+use Rattle.coap_resource.specs.Limits.{Limits}
 use Rattle.coap_resource.specs.Rate.{Tally, counted, unused}
 
 abbrev pub one : List (List ℕ) → Held → Tally → Content
@@ -21,11 +22,11 @@ elsewhere path other held tally apart = go (same_path path other) refl
     go false same = refl
 
 -- the first change
-pub first : (limit now : ℕ) (path : List (List ℕ)) (held : Held)
-    → Changes (nothing limit) now path (Some held) (one path held (counted (unused limit) now))
-first limit now path held = record {
-  there = there path held (counted (unused limit) now);
-  others = λ other apart. elsewhere path other held (counted (unused limit) now) apart;
+pub first : (limits : Limits) (now : ℕ) (path : List (List ℕ)) (held : Held)
+    → Changes (nothing limits) now path (Some held) (one path held (counted (unused limits) now))
+first limits now path held = record {
+  there = there path held (counted (unused limits) now);
+  others = λ other apart. elsewhere path other held (counted (unused limits) now) apart;
   paths = refl;
   tally = refl;
 }

@@ -1,22 +1,31 @@
 -- With what a run begins.
 use Rattle.std.specs.Prelude.{ℕ, true, List, map}
+use Rattle.coap_block.specs.Sizes.{Sizes}
+use Rattle.coap_resource.specs.Limits.{Limits}
 use Rattle.coap_server.specs.declared.server.parts.Delay.{Delay as PathDelay}
 use Rattle.coap_server.specs.Turns.DelaysShown.{delays_as}
 use Rattle.coap_server.specs.Trace as S
 use Rattle.coap_server.specs.Trace.{Delay}
 use Rattle.coap_world.specs.Events.{Config}
 
-abbrev pub config_of : {A : Type 0} → (client_word client_szx server_word server_szx limit : ℕ) → List (PathDelay A)
-    → Config
-config_of client_word client_szx server_word server_szx limit delays =
+abbrev pub config_of : {A : Type 0} → (client_word : ℕ) → Sizes → (server_word server_szx : ℕ) → Limits
+    → List (PathDelay A) → Config
+config_of client_word client_sizes server_word server_szx limits delays =
     record {
       client_word = client_word;
-      client_szx = client_szx;
+      client_sizes = client_sizes;
       server_word = server_word;
       server_szx = server_szx;
-      limit = limit;
+      limits = limits;
       delays = delays_as delays;
     }
+
+-- the same, with other limits of bodies
+abbrev pub with_limits : Config → (client server : ℕ) → Config
+with_limits config client server = record config {
+  client_sizes = record config.client_sizes { limit = client };
+  limits = record config.limits { body = server };
+}
 
 -- the same, with other delays
 abbrev pub with_delays : Config → List Delay → Config

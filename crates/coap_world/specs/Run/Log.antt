@@ -81,7 +81,7 @@ module _ (sender : List ℕ → Option ℕ) where
 
   abbrev pub server_lines : Config → List S.Call → S.Call → List Line
   server_lines config past c =
-      let s = own_of config.limit config.server_szx past in
+      let s = own_of config.limits config.server_szx past in
       answer_lines c ++ (applied_lines (serving s c) ++ line_if Changes (change s c))
 
 -- what calls tell, one after the other, after those before them
@@ -96,7 +96,7 @@ refused_line false = []
 module _ (config : Config) where
   abbrev pub lines_by : List Entry → Entry → List Line
   lines_by past (OfClient c) = client_lines c
-  lines_by past (OfServer c) = server_lines (λ token. sender_of config.client_szx token (client_of past)) config
+  lines_by past (OfServer c) = server_lines (λ token. sender_of config.client_sizes token (client_of past)) config
       (server_trace config past) c
 
   -- the lines of a turn

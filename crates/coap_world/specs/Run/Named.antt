@@ -12,7 +12,7 @@ use Rattle.coap_world.specs.Run.Senders.{sender_of}
 module _ (config : Config) where
   -- the call that is named in the line of a request that is applied
   abbrev pub named : Serving → List Entry → Option ℕ
-  named x past = call_for (λ token. sender_of config.client_szx token (client_of past)) (applied_as x)
+  named x past = call_for (λ token. sender_of config.client_sizes token (client_of past)) (applied_as x)
 
   -- A call is named exactly where the request belongs to it: the client sent its token for that call, here or anywhere.
   abbrev pub EachNamed : List Entry → Type 0

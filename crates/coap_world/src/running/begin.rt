@@ -13,16 +13,19 @@ use crate::running::senders::Senders;
 use coap_ends::{Client, DelayRefusal, Server};
 use coap_resource::Store;
 use std::alloc::{AllocError, Allocator};
+use std::hash::BuildHasherDefault;
 
 /// The client.
 pub(crate) fn client_of<A: Allocator + Copy>(config: &WorldConfig<A>) -> ClientEnd<A>
     ensures { ClientLed config.now [] result }
 {
-    let client = Client::new(
+    let client = Client::with_limit(
         config.alloc,
         SERVER_END,
         config.client_szx,
         config.client_word,
+        config.client_limit,
+        BuildHasherDefault::new(),
     );
     ClientEnd {
         client,
@@ -32,9 +35,9 @@ pub(crate) fn client_of<A: Allocator + Copy>(config: &WorldConfig<A>) -> ClientE
 
 // The server, without the delays.
 fn fresh_server<S: Store<A>, A: Allocator + Copy>(config: &WorldConfig<A>) -> Server<S, A>
-    ensures { Led config.now.limit config.now.server_szx config.now.server_word [] (state_of S.content result) }
+    ensures { Led config.now.limits config.now.server_szx config.now.server_word [] (state_of S.content result) }
 {
-    let Some(store) = S::new(config.alloc, config.changes) else {
+    let Some(store) = S::new_sized(config.alloc, config.changes, config.server_limit) else {
         unreachable!()
     };
     Server::new(config.alloc, store, config.server_szx, config.server_word)
@@ -45,8 +48,8 @@ fn give_delays<S: Store<A>, A: Allocator + Copy>(
     server: &mut Server<S, A>,
     config: &WorldConfig<A>,
 ) -> Result<(), AllocError>
-    requires { Led config.now.limit config.now.server_szx config.now.server_word [] (state_of S.content server.old) }
-    ensures { OnOk result (Led config.now.limit config.now.server_szx config.now.server_word (begun_with config.now)
+    requires { Led config.now.limits config.now.server_szx config.now.server_word [] (state_of S.content server.old) }
+    ensures { OnOk result (Led config.now.limits config.now.server_szx config.now.server_word (begun_with config.now)
         (state_of S.content server.new)) }
 {
     let mut left = config.delays.len();

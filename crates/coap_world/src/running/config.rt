@@ -2,23 +2,27 @@
 ghost use Rattle.std.specs.Prelude.{◌≡◌, ◌≢◌, ◌≤◌, ◌↔◌, [], true, false, Err, is_some, IfSome, IsSome, OnErr, OnOk};
 ghost use Rattle.coap_server.specs.Deferring.{delay_of, delays_with, may_delay};
 ghost use Rattle.coap_server.specs.declared.server.delaying.DelayRefusal.TheVariants as delay_refusals;
-ghost use Rattle.coap_world.specs.Run.Configs.{with_delays};
+ghost use Rattle.coap_block.specs.Sizes.{usual_sizes};
+ghost use Rattle.coap_resource.specs.Limits.{usual_limits};
+ghost use Rattle.coap_world.specs.Run.Configs.{with_delays, with_limits};
 
 use coap_ends::{Delay, DelayRefusal, give_delay};
 use coap_resource::MAX_CHANGES_PER_WINDOW;
-use coap_types::{Path, Szx};
+use coap_types::{BodyLimit, Path, Szx};
 use std::alloc::{Allocator, Global};
 use std::marker::Model;
 
-/// With what a run begins: the words and the block sizes of both ends, how many changes a window
-/// takes, and which paths are answered later.
+/// With what a run begins: the words, the block sizes and the limits of bodies of both ends, how many
+/// changes a window takes, and which paths are answered later.
 #[derive(Drop)]
 pub struct WorldConfig<A: Allocator + Copy = Global> {
     pub(crate) alloc: A,
     pub(crate) client_word: u64,
     pub(crate) client_szx: Szx,
+    pub(crate) client_limit: BodyLimit,
     pub(crate) server_word: u64,
     pub(crate) server_szx: Szx,
+    pub(crate) server_limit: BodyLimit,
     pub(crate) changes: u32,
     pub(crate) delays: Vec<Delay<A>, A>,
 }
@@ -31,14 +35,16 @@ impl<A: Allocator + Copy> Model for WorldConfig<A> {
 
     ghost use Rattle.coap_world.specs.Run.Configs.{config_of};
 
-    ghost view = { λ c. config_of c.client_word c.client_szx c.server_word c.server_szx c.changes c.delays.items };
+    ghost view = { λ c. config_of c.client_word (record { szx = c.client_szx; limit = c.client_limit }) c.server_word
+        c.server_szx (record { changes = c.changes; body = c.server_limit }) c.delays.items };
 
-    ghost invariant = { λ c. IsConfig (config_of c.client_word c.client_szx c.server_word c.server_szx c.changes
-        c.delays.items) };
+    ghost invariant = { λ c. IsConfig (config_of c.client_word (record { szx = c.client_szx; limit = c.client_limit })
+        c.server_word c.server_szx (record { changes = c.changes; body = c.server_limit }) c.delays.items) };
 }
 
 impl<A: Allocator + Copy> WorldConfig<A> {
-    /// With no delays; None where a store does not take so many changes in a window.
+    /// With no delays, and with the limits of `BodyLimit::default()`; None where a store does not take
+    /// so many changes in a window.
     pub fn new(
         alloc: A,
         client_word: u64,
@@ -49,10 +55,10 @@ impl<A: Allocator + Copy> WorldConfig<A> {
     ) -> Option<WorldConfig<A>>
         ensures config { IfSome result (λ c. c ≡ record {
           client_word = client_word;
-          client_szx = client_szx;
+          client_sizes = usual_sizes client_szx;
           server_word = server_word;
           server_szx = server_szx;
-          limit = changes;
+          limits = usual_limits changes;
           delays = [];
         }) }
         ensures when { IsSome result ↔ ((1 ≤ changes) × (changes ≤ MAX_CHANGES_PER_WINDOW)) }
@@ -64,11 +70,21 @@ impl<A: Allocator + Copy> WorldConfig<A> {
             alloc,
             client_word,
             client_szx,
+            client_limit: BodyLimit::default(),
             server_word,
             server_szx,
+            server_limit: BodyLimit::default(),
             changes,
             delays: Vec::new(alloc),
         })
+    }
+
+    /// Has the client and the server begin with these limits of bodies.
+    pub fn limits(&mut self, client: BodyLimit, server: BodyLimit)
+        ensures { self.new ≡ with_limits self.old client server }
+    {
+        self.client_limit = client;
+        self.server_limit = server;
     }
 
     /// Has each Confirmable request of the path wait for so many milliseconds, as

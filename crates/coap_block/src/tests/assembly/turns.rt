@@ -2,7 +2,7 @@ ghost use Rattle.std.specs.Prelude.{IsSome, OnOk};
 
 use crate::tests::{body_of, part};
 use crate::{Assembly, AssemblyRefusal, Block, Took, UploadKey};
-use coap_types::{Endpoint, Method, Moment, Path, Szx};
+use coap_types::{BodyLimit, Endpoint, Method, Moment, Path, Szx};
 use std::alloc::{AllocError, AllocGlobal};
 use std::process::Abort;
 
@@ -61,6 +61,11 @@ pub(super) fn key_of<R: Abort + AllocGlobal>(rt: &R, (port, name, method): Who<'
 
 pub(super) fn assembly_of<R: Abort + AllocGlobal>(rt: &R, szx: u8) -> Assembly {
     Assembly::new(rt.alloc(), Szx::new(szx).expect(rt, "at most 6"))
+}
+
+pub(super) fn assembly_within<R: Abort + AllocGlobal>(rt: &R, szx: u8, limit: usize) -> Assembly {
+    let limit = BodyLimit::new(limit).expect(rt, "in range");
+    Assembly::with_limit(rt.alloc(), Szx::new(szx).expect(rt, "at most 6"), limit)
 }
 
 fn check<R: Abort>(rt: &R, took: &Took, bytes: &[u8], says: Says) {
@@ -210,8 +215,17 @@ pub(super) fn play_turns<R: Abort + AllocGlobal>(
     len: usize,
     turns: &[Turn<'_>],
 ) -> Result<(), AllocError> {
+    play_turns_of(rt, assembly_of(rt, szx), len, turns)
+}
+
+/// The same for that assembly.
+pub(super) fn play_turns_of<R: Abort + AllocGlobal>(
+    rt: &R,
+    mut server: Assembly,
+    len: usize,
+    turns: &[Turn<'_>],
+) -> Result<(), AllocError> {
     let bytes = body_of(rt.alloc(), len)?;
-    let mut server = assembly_of(rt, szx);
     for turn in turns {
         play_turn(rt, &mut server, &bytes, *turn)?;
     }

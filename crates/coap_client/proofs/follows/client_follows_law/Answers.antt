@@ -30,19 +30,19 @@ pub returns-clause-begins : goal.returns-clause-begins
 returns-clause-begins c = cons_are_requests
 
 pub returns-clause-order : goal.returns-clause-order
-returns-clause-order c server szx word t law = are_in_order szx server word t law
+returns-clause-order c server sizes word t law = are_in_order sizes server word t law
 
 pub returns-clause-one_last : goal.returns-clause-one_last
-returns-clause-one_last c server szx word t law = one_last szx server word t law
+returns-clause-one_last c server sizes word t law = one_last sizes server word t law
 
 pub returns-clause-own_tokens : goal.returns-clause-own_tokens
-returns-clause-own_tokens c server szx word t law = own_tokens szx server word t law
+returns-clause-own_tokens c server sizes word t law = own_tokens sizes server word t law
 
 pub returns-clause-tokens : goal.returns-clause-tokens
-returns-clause-tokens c server szx word t law = one_of_token szx server word t law
+returns-clause-tokens c server sizes word t law = one_of_token sizes server word t law
 
 pub returns-clause-short_tokens : goal.returns-clause-short_tokens
-returns-clause-short_tokens c server szx word t law = short_tokens szx server word t law
+returns-clause-short_tokens c server sizes word t law = short_tokens sizes server word t law
 
 pub returns-clause-heard_once : goal.returns-clause-heard_once
 returns-clause-heard_once c = heard_once
@@ -75,10 +75,10 @@ pub returns-clause-continued : goal.returns-clause-continued
 returns-clause-continued c = are_continued
 
 pub returns-clause-of_calls : goal.returns-clause-of_calls
-returns-clause-of_calls c server szx word t law = are_of_calls szx t
+returns-clause-of_calls c server sizes word t law = are_of_calls sizes t
 
 pub returns-clause-others : goal.returns-clause-others
-returns-clause-others c server szx word t law = others_are_gets szx t
+returns-clause-others c server sizes word t law = others_are_gets sizes t
 
 pub returns-clause-bounded : goal.returns-clause-bounded
 returns-clause-bounded c = are_bounded

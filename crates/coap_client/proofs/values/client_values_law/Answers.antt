@@ -10,16 +10,16 @@ pub returns-clause-notified : goal.returns-clause-notified
 returns-clause-notified c = are_taken
 
 pub returns-clause-values : goal.returns-clause-values
-returns-clause-values c server szx word t law = values_are_whole szx server word t law
+returns-clause-values c server sizes word t law = values_are_whole sizes server word t law
 
 pub returns-clause-rising : goal.returns-clause-rising
-returns-clause-rising c server szx word t law = values_rise szx server word t law
+returns-clause-rising c server sizes word t law = values_rise sizes server word t law
 
 pub returns-clause-ended : goal.returns-clause-ended
-returns-clause-ended c server szx word t law = are_over szx server word t law
+returns-clause-ended c server sizes word t law = are_over sizes server word t law
 
 pub returns-clause-noted : goal.returns-clause-noted
 returns-clause-noted c = are_noted
 
 pub returns-clause-of_observations : goal.returns-clause-of_observations
-returns-clause-of_observations c server szx word t law = are_of_observations szx server word t law
+returns-clause-of_observations c server sizes word t law = are_of_observations sizes server word t law

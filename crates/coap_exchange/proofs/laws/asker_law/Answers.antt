@@ -4,6 +4,7 @@ use Rattle.coap_exchange.proofs.Exchanges.OneAtATime.{known}
 use Rattle.coap_exchange.proofs.Exchanges.RefusedWhileOneRuns.{refused}
 use Rattle.coap_exchange.proofs.Exchanges.TokensOnce.{counted}
 use Rattle.coap_exchange.proofs.Ending.NoEarlier.{in_time}
+use Rattle.coap_exchange.proofs.Ending.StillOutstanding.{still_outstanding}
 use Rattle.coap_exchange.proofs.Ending.WhenDue.{when_due}
 use Rattle.coap_exchange.proofs.Exchanges.FewAreKept.{few_kept}
 use Rattle.coap_exchange.proofs.Telling.FromServer.{came_from}
@@ -45,6 +46,9 @@ returns-clause-in_time c server word t law = in_time server word t law.rows law.
 
 pub returns-clause-when_due : goal.returns-clause-when_due
 returns-clause-when_due c server word t law = when_due server word t law.rows law.left law.layer
+
+pub returns-clause-outstanding : goal.returns-clause-outstanding
+returns-clause-outstanding c server word t law = still_outstanding server word t law
 
 pub returns-clause-few_kept : goal.returns-clause-few_kept
 returns-clause-few_kept c server word t law = few_kept server word t law.rows

@@ -10,4 +10,4 @@ returns-clause-ok g c =
     let count = count_in c.args.map.now c.insert.new.self c.in_ok-key.key c.args.held _ put.old put.len in
     enters c.args.map.now c.insert.new.self c.args.path.now (Some c.args.held) (rw (← key) put.updates)
     (rw (← key) count)
-    (λ all fits. rw put.entries (short_insert c.args.map.now.entries _ c.args.held fits all))
+    (λ limit all fits. rw put.entries (short_insert limit c.args.map.now.entries _ c.args.held fits all))

@@ -7,4 +7,4 @@ returns g c =
     let gone = c.remove-gone.ensures in
     enters c.args.map.now c.remove-gone.new.self c.args.path.now None gone.updates
     (count_out c.args.map.now c.remove-gone.new.self c.args.path.now _ gone.value gone.len)
-    (λ all fits. rw gone.entries (short_remove _ c.args.map.now.entries all))
+    (λ limit all fits. rw gone.entries (short_remove limit _ c.args.map.now.entries all))

@@ -8,28 +8,28 @@ use Rattle.coap_server.proofs.Telling.ResponsesGoOut.{all_go_out}
 use Rattle.coap_server.proofs.laws.server_must_law.Goals as goal
 
 pub returns-clause-registers : goal.returns-clause-registers
-returns-clause-registers c limit szx word t law = all_register limit szx word t law
+returns-clause-registers c limits szx word t law = all_register limits szx word t law
 
 pub returns-clause-marks : goal.returns-clause-marks
-returns-clause-marks c limit szx word t law = all_mark limit szx word t law
+returns-clause-marks c limits szx word t law = all_mark limits szx word t law
 
 pub returns-clause-stays_due : goal.returns-clause-stays_due
-returns-clause-stays_due c limit szx word t law = stay_due limit szx t law.rows
+returns-clause-stays_due c limits szx word t law = stay_due limits szx t law.rows
 
 pub returns-clause-current : goal.returns-clause-current
-returns-clause-current c limit szx word t law = are_current limit szx word t law
+returns-clause-current c limits szx word t law = are_current limits szx word t law
 
 pub returns-clause-waits_on : goal.returns-clause-waits_on
-returns-clause-waits_on c limit szx word t law = wait_on limit szx word t law
+returns-clause-waits_on c limits szx word t law = wait_on limits szx word t law
 
 pub returns-clause-goes_out : goal.returns-clause-goes_out
-returns-clause-goes_out c limit szx word t law = all_go_out limit szx word t law
+returns-clause-goes_out c limits szx word t law = all_go_out limits szx word t law
 
 pub returns-clause-none_left : goal.returns-clause-none_left
-returns-clause-none_left c limit szx word t law = none_left limit szx word t law
+returns-clause-none_left c limits szx word t law = none_left limits szx word t law
 
 pub returns-clause-notified : goal.returns-clause-notified
-returns-clause-notified c limit szx word t law = first_is_notified limit szx word t law
+returns-clause-notified c limits szx word t law = first_is_notified limits szx word t law
 
 pub returns-clause-begins : goal.returns-clause-begins
-returns-clause-begins c limit szx word t law = all_begin_next limit szx word t law
+returns-clause-begins c limits szx word t law = all_begin_next limits szx word t law

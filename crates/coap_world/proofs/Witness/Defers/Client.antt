@@ -14,8 +14,10 @@ use Rattle.coap_exchange.specs.declared.asker.Event.TheVariants as event
 use Rattle.coap_exchange.specs.AskerLaw as asker
 use Rattle.coap_client.specs.Trace as C
 use Rattle.coap_client.specs.Law.{ClientLaw, ClientRows, lower_of}
+use Rattle.coap_world.specs.LegalRuns.{sizes}
 use Rattle.coap_world.specs.Events.{server_end}
 use Rattle.coap_types.proofs.Facts.Bytes.{bytes_are}
+use Rattle.coap_layer.specs.Machine.State.{usual}
 use Rattle.coap_world.specs.LegalRuns.{get_bytes, empty_ack, separate_bytes}
 use Rattle.coap_world.proofs.Witness.Gets.Client.{content, got, called, ticked}
 use Rattle.coap_world.proofs.Witness.TurnsMade.{client_turn, to_server}
@@ -37,7 +39,7 @@ abbrev pub calls : List C.Call
 calls = client_turn (got ∷ []) (to_server empty_ack ∷ []) hears
     ++ (client_turn [] [] awaits ++ (client_turn [] (to_server get_bytes ∷ []) ticked ++ client_turn [] [] called))
 
-rows : ClientRows 6 calls
+rows : ClientRows sizes calls
 unfolding option_bytes options_bytes
 rows = (
   refl,
@@ -62,13 +64,13 @@ rows = (
   ),
 )
 
-asked : asker.AskerLaw server_end 0 (lower_of 6 calls)
+asked : asker.AskerLaw server_end 0 (lower_of sizes calls)
 asked = (tt, (tt, (refl, (tt, (refl, (tt, (tt, (refl, (refl, (refl, (tt, tt)))))))))))
 
 abbrev run : List Asked
-run = asker.lower_of server_end 0 (lower_of 6 calls)
+run = asker.lower_of server_end 0 (lower_of sizes calls)
 
-steps : Steps (start 0) run (left_after (start 0) run)
+steps : Steps (start (usual 0)) run (left_after (start (usual 0)) run)
 unfolding decoded frame_fault body_at walk walk_of option_at nibbles_at value_at extended payload_at option_bytes
     options_bytes
 steps = (
@@ -133,5 +135,5 @@ steps = (
   record { may = tt; right = refl; new_is = refl },
 )
 
-pub lawful : ClientLaw server_end 6 0 calls
-lawful = record { rows = rows; exchanges = record { rows = asked; left = left_after (start 0) run; layer = steps } }
+pub lawful : ClientLaw server_end sizes 0 calls
+lawful = record { rows = rows; exchanges = record { rows = asked; left = left_after (start (usual 0)) run; layer = steps } }

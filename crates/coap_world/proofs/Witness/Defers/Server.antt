@@ -11,8 +11,10 @@ use Rattle.coap_exchange.specs.AnswererLaw as answerer
 use Rattle.coap_exchange.specs.AnswererSteps.{asked_of}
 use Rattle.coap_server.specs.Trace as S
 use Rattle.coap_server.specs.Law.{ServerLaw, ServerRows, lower_of}
+use Rattle.coap_world.specs.LegalRuns.{limits}
 use Rattle.coap_world.specs.Events.{client_end}
 use Rattle.coap_types.proofs.Facts.Bytes.{bytes_are}
+use Rattle.coap_layer.specs.Machine.State.{usual}
 use Rattle.coap_exchange.specs.declared.answerer.Asked.{Asked as Request}
 use Rattle.coap_exchange.specs.declared.answerer.Due.TheVariants as due
 use Rattle.coap_world.specs.LegalRuns.{t, get_bytes, empty_ack, separate_bytes}
@@ -43,7 +45,7 @@ calls =
     (server_turn (to_client separate_bytes ∷ []) ticked
     ++ (server_turn (to_client empty_ack ∷ []) waits ++ (server_turn [] (sets ∷ []) ++ S.Delays t 1000 true ∷ [])))
 
-rows : ServerRows 4194303 6 calls
+rows : ServerRows limits 6 calls
 unfolding option_bytes options_bytes
 rows = (
   tt,
@@ -65,7 +67,7 @@ rows = (
   ),
 )
 
-answered : answerer.AnswererLaw (lower_of 4194303 6 calls)
+answered : answerer.AnswererLaw (lower_of limits 6 calls)
 answered = (
   tt,
   (
@@ -87,9 +89,9 @@ answered = (
 )
 
 abbrev run : List Asked
-run = answerer.lower_of (lower_of 4194303 6 calls)
+run = answerer.lower_of (lower_of limits 6 calls)
 
-steps : Steps (start 0) run (left_after (start 0) run)
+steps : Steps (start (usual 0)) run (left_after (start (usual 0)) run)
 unfolding decoded frame_fault body_at walk walk_of option_at nibbles_at value_at extended payload_at option_bytes
     options_bytes
 steps = (
@@ -146,5 +148,5 @@ steps = (
   record { may = tt; right = refl; new_is = refl },
 )
 
-pub lawful : ServerLaw 4194303 6 0 calls
-lawful = record { rows = rows; exchanges = record { rows = answered; left = left_after (start 0) run; layer = steps } }
+pub lawful : ServerLaw limits 6 0 calls
+lawful = record { rows = rows; exchanges = record { rows = answered; left = left_after (start (usual 0)) run; layer = steps } }

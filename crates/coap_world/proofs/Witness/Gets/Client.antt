@@ -15,8 +15,10 @@ use Rattle.coap_exchange.specs.declared.asker.Event.TheVariants as event
 use Rattle.coap_exchange.specs.AskerLaw as asker
 use Rattle.coap_client.specs.Trace as C
 use Rattle.coap_client.specs.Law.{ClientLaw, ClientRows, lower_of}
+use Rattle.coap_world.specs.LegalRuns.{sizes}
 use Rattle.coap_world.specs.Events.{server_end}
 use Rattle.coap_types.proofs.Facts.Bytes.{bytes_are}
+use Rattle.coap_layer.specs.Machine.State.{usual}
 use Rattle.coap_world.specs.LegalRuns.{token, tag, plain, get, get_bytes, content_bytes}
 use Rattle.coap_world.proofs.Witness.TurnsMade.{client_turn, to_server, asks, rests}
 
@@ -50,17 +52,17 @@ abbrev pub calls : List C.Call
 calls = client_turn (got ∷ []) [] (hears ∷ [])
     ++ (client_turn [] (to_server get_bytes ∷ []) ticked ++ client_turn [] [] called)
 
-rows : ClientRows 6 calls
+rows : ClientRows sizes calls
 unfolding option_bytes options_bytes
 rows = (refl, (refl, (tt, (tt, (refl, (tt, (tt, (refl, (refl, (refl, (tt, (refl, tt))))))))))))
 
-asked : asker.AskerLaw server_end 0 (lower_of 6 calls)
+asked : asker.AskerLaw server_end 0 (lower_of sizes calls)
 asked = (tt, (refl, (tt, (tt, (refl, (refl, (refl, (tt, tt))))))))
 
 abbrev run : List Asked
-run = asker.lower_of server_end 0 (lower_of 6 calls)
+run = asker.lower_of server_end 0 (lower_of sizes calls)
 
-steps : Steps (start 0) run (left_after (start 0) run)
+steps : Steps (start (usual 0)) run (left_after (start (usual 0)) run)
 unfolding decoded frame_fault body_at walk walk_of option_at nibbles_at value_at extended payload_at option_bytes
     options_bytes
 steps = (
@@ -109,25 +111,25 @@ steps = (
   record { may = tt; right = refl; new_is = refl },
 )
 
-pub lawful : ClientLaw server_end 6 0 calls
-lawful = record { rows = rows; exchanges = record { rows = asked; left = left_after (start 0) run; layer = steps } }
+pub lawful : ClientLaw server_end sizes 0 calls
+lawful = record { rows = rows; exchanges = record { rows = asked; left = left_after (start (usual 0)) run; layer = steps } }
 
 -- .. where no response comes
 
 abbrev pub calls_before : List C.Call
 calls_before = client_turn [] (to_server get_bytes ∷ []) ticked ++ client_turn [] [] called
 
-rows_before : ClientRows 6 calls_before
+rows_before : ClientRows sizes calls_before
 unfolding option_bytes options_bytes
 rows_before = (refl, (tt, (tt, (refl, (refl, (refl, (tt, (refl, tt))))))))
 
-asked_before : asker.AskerLaw server_end 0 (lower_of 6 calls_before)
+asked_before : asker.AskerLaw server_end 0 (lower_of sizes calls_before)
 asked_before = (tt, (tt, (refl, (refl, (refl, (tt, tt))))))
 
 abbrev run_before : List Asked
-run_before = asker.lower_of server_end 0 (lower_of 6 calls_before)
+run_before = asker.lower_of server_end 0 (lower_of sizes calls_before)
 
-steps_before : Steps (start 0) run_before (left_after (start 0) run_before)
+steps_before : Steps (start (usual 0)) run_before (left_after (start (usual 0)) run_before)
 unfolding decoded frame_fault body_at walk walk_of option_at nibbles_at value_at extended payload_at option_bytes
     options_bytes
 steps_before = (
@@ -164,9 +166,9 @@ steps_before = (
   record { may = tt; right = refl; new_is = refl },
 )
 
-pub lawful_before : ClientLaw server_end 6 0 calls_before
+pub lawful_before : ClientLaw server_end sizes 0 calls_before
 lawful_before = record {
   rows = rows_before;
   exchanges =
-      record { rows = asked_before; left = left_after (start 0) run_before; layer = steps_before };
+      record { rows = asked_before; left = left_after (start (usual 0)) run_before; layer = steps_before };
 }

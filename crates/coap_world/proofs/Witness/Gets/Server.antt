@@ -21,8 +21,10 @@ use Rattle.coap_exchange.specs.AnswererSteps.{asked_of, content_of}
 use Rattle.coap_server.specs.Trace as S
 use Rattle.coap_server.specs.Serving.{response_to}
 use Rattle.coap_server.specs.Law.{ServerLaw, ServerRows, lower_of}
+use Rattle.coap_world.specs.LegalRuns.{limits}
 use Rattle.coap_world.specs.Events.{client_end}
 use Rattle.coap_types.proofs.Facts.Bytes.{bytes_are}
+use Rattle.coap_layer.specs.Machine.State.{usual}
 use Rattle.coap_world.specs.LegalRuns.{token, tag, plain, t, get_bytes, content_bytes}
 use Rattle.coap_world.proofs.Witness.OneHeld.{one, first}
 use Rattle.coap_world.proofs.Witness.TurnsMade.{server_turn, to_client}
@@ -41,7 +43,7 @@ request = record {
 -- what the store holds, and what it answers
 
 abbrev pub stored : Content
-stored = one t (record { version = 1; format = Some plain; body = codes "hi" }) (counted (unused 4194303) 0)
+stored = one t (record { version = 1; format = Some plain; body = codes "hi" }) (counted (unused limits) 0)
 
 abbrev pub question : Question
 question = record { method = Get; path = t; options = request.options; body = []; szx = 6 }
@@ -61,9 +63,9 @@ serves = S.Feeds 5 client_end get_bytes 0 (L.Becomes (L.Request request true))
 abbrev pub calls : List S.Call
 calls = server_turn (to_client content_bytes ∷ []) (serves ∷ []) ++ server_turn [] (sets ∷ [])
 
-pub stores : Changes (nothing 4194303) 0 t (Some (record { version = 1; format = Some plain; body = codes "hi" }))
+pub stores : Changes (nothing limits) 0 t (Some (record { version = 1; format = Some plain; body = codes "hi" }))
     stored
-stores = first 4194303 0 t (record { version = 1; format = Some plain; body = codes "hi" })
+stores = first limits 0 t (record { version = 1; format = Some plain; body = codes "hi" })
 
 pub sendable : IsSpelled (content_of (asked_of client_end request)
     (response_to stored [] (asked_of client_end request) question reply))
@@ -78,7 +80,7 @@ sendable = (sendable_when_short _ (record {
   short = refl;
 }) (omega arith)).spelled
 
-rows : ServerRows 4194303 6 calls
+rows : ServerRows limits 6 calls
 unfolding option_bytes options_bytes
 rows = (
   tt,
@@ -91,13 +93,13 @@ rows = (
   ),
 )
 
-answered : answerer.AnswererLaw (lower_of 4194303 6 calls)
+answered : answerer.AnswererLaw (lower_of limits 6 calls)
 answered = (tt, (tt, ((refl, record { code = refl; spelled = sendable }, refl), (refl, (tt, tt)))))
 
 abbrev run : List Asked
-run = answerer.lower_of (lower_of 4194303 6 calls)
+run = answerer.lower_of (lower_of limits 6 calls)
 
-steps : Steps (start 0) run (left_after (start 0) run)
+steps : Steps (start (usual 0)) run (left_after (start (usual 0)) run)
 unfolding decoded frame_fault body_at walk walk_of option_at nibbles_at value_at extended payload_at option_bytes
     options_bytes
 steps = (
@@ -118,5 +120,5 @@ steps = (
   record { may = tt; right = refl; new_is = refl },
 )
 
-pub lawful : ServerLaw 4194303 6 0 calls
-lawful = record { rows = rows; exchanges = record { rows = answered; left = left_after (start 0) run; layer = steps } }
+pub lawful : ServerLaw limits 6 0 calls
+lawful = record { rows = rows; exchanges = record { rows = answered; left = left_after (start (usual 0)) run; layer = steps } }

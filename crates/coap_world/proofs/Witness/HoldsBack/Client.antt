@@ -11,9 +11,11 @@ use Rattle.coap_exchange.specs.AskerLaw as asker
 use Rattle.coap_client.specs.Trace as C
 use Rattle.coap_client.specs.Law.{ClientLaw, ClientRows, lower_of}
 use Rattle.coap_common.specs.SuccessCodes.{created}
+use Rattle.coap_world.specs.LateRuns.{sizes_16}
 use Rattle.coap_world.specs.Events.{server_end}
 use Rattle.coap_world.specs.LegalRuns.{reported}
 use Rattle.coap_types.proofs.Facts.Bytes.{bytes_are}
+use Rattle.coap_layer.specs.Machine.State.{usual}
 use Rattle.coap_world.proofs.Witness.TurnsMade.{client_turn, to_server, rests}
 use Rattle.coap_world.specs.LateRuns.{answer_bytes}
 use Rattle.coap_world.specs.LateRuns.{continue, second_done, lost_body, held_body, lost_first, lost_second, held_first}
@@ -57,80 +59,80 @@ calls_done =
 
 -- each has its row
 
-rows_begun : ClientRows 0 calls_begun
+rows_begun : ClientRows sizes_16 calls_begun
 unfolding option_bytes options_bytes
 rows_begun = (refl, (tt, (tt, (refl, (refl, (refl, (tt, (refl, tt))))))))
 
-rows_lost : ClientRows 0 calls_lost
+rows_lost : ClientRows sizes_16 calls_lost
 unfolding option_bytes options_bytes
 rows_lost = (refl, (tt, (tt, (tt, rows_begun))))
 
-rows_twice : ClientRows 0 calls_twice
+rows_twice : ClientRows sizes_16 calls_twice
 unfolding option_bytes options_bytes
 rows_twice = (refl, (tt, (tt, (refl, (refl, (refl, (tt, (tt, (refl, (refl, rows_lost))))))))))
 
-rows_copied : ClientRows 0 calls_copied
+rows_copied : ClientRows sizes_16 calls_copied
 unfolding option_bytes options_bytes
 rows_copied = (refl, (tt, (tt, (refl, (refl, (refl, (tt, (tt, (refl, (refl, rows_twice))))))))))
 
-rows_late : ClientRows 0 calls_late
+rows_late : ClientRows sizes_16 calls_late
 unfolding option_bytes options_bytes
 rows_late = (
   refl,
   (tt, (tt, (refl, (tt, (refl, (refl, (tt, (refl, (refl, (refl, (tt, (refl, (refl, rows_copied))))))))))))),
 )
 
-rows_first : ClientRows 0 calls_first
+rows_first : ClientRows sizes_16 calls_first
 unfolding option_bytes options_bytes
 rows_first = (refl, (tt, (tt, (refl, (refl, rows_late)))))
 
-rows_second : ClientRows 0 calls_second
+rows_second : ClientRows sizes_16 calls_second
 unfolding option_bytes options_bytes
 rows_second = (refl, (tt, (tt, (tt, rows_first))))
 
-rows_done : ClientRows 0 calls_done
+rows_done : ClientRows sizes_16 calls_done
 unfolding option_bytes options_bytes
 rows_done = (refl, (refl, (tt, (tt, (refl, (tt, (tt, (tt, rows_second))))))))
 
 -- .. and so have those of its exchanges
 
-asked_begun : asker.AskerLaw server_end 0 (lower_of 0 calls_begun)
+asked_begun : asker.AskerLaw server_end 0 (lower_of sizes_16 calls_begun)
 asked_begun = (tt, (tt, (refl, (refl, (refl, (tt, tt))))))
 
-asked_lost : asker.AskerLaw server_end 0 (lower_of 0 calls_lost)
+asked_lost : asker.AskerLaw server_end 0 (lower_of sizes_16 calls_lost)
 asked_lost = (tt, (tt, (refl, (refl, asked_begun))))
 
-asked_twice : asker.AskerLaw server_end 0 (lower_of 0 calls_twice)
+asked_twice : asker.AskerLaw server_end 0 (lower_of sizes_16 calls_twice)
 asked_twice = (tt, (tt, (refl, (refl, (tt, (tt, (refl, (refl, asked_lost))))))))
 
-asked_copied : asker.AskerLaw server_end 0 (lower_of 0 calls_copied)
+asked_copied : asker.AskerLaw server_end 0 (lower_of sizes_16 calls_copied)
 asked_copied = (tt, (tt, (refl, (refl, (tt, (tt, (refl, (refl, asked_twice))))))))
 
-asked_late : asker.AskerLaw server_end 0 (lower_of 0 calls_late)
+asked_late : asker.AskerLaw server_end 0 (lower_of sizes_16 calls_late)
 asked_late = (tt, (refl, (tt, (refl, (tt, (tt, (refl, (refl, asked_copied))))))))
 
-asked_first : asker.AskerLaw server_end 0 (lower_of 0 calls_first)
+asked_first : asker.AskerLaw server_end 0 (lower_of sizes_16 calls_first)
 asked_first = (tt, (tt, (refl, (refl, (refl, asked_late)))))
 
-asked_second : asker.AskerLaw server_end 0 (lower_of 0 calls_second)
+asked_second : asker.AskerLaw server_end 0 (lower_of sizes_16 calls_second)
 asked_second = (tt, (tt, (refl, (refl, asked_first))))
 
-asked_done : asker.AskerLaw server_end 0 (lower_of 0 calls_done)
+asked_done : asker.AskerLaw server_end 0 (lower_of sizes_16 calls_done)
 asked_done = (tt, (refl, (tt, (tt, (refl, (refl, asked_second))))))
 
 -- the steps of its message layer
 
 abbrev run_begun : List Asked
-run_begun = asker.lower_of server_end 0 (lower_of 0 calls_begun)
+run_begun = asker.lower_of server_end 0 (lower_of sizes_16 calls_begun)
 
 abbrev left_begun : State
-left_begun = record (start 0) {
+left_begun = record (start (usual 0)) {
   upcoming = 1;
   last_used = Some 0 ∷ replicate 15 None;
   open_cons = record { to = server_end; id = 0; bytes = lost_first; timeout = 2000; first = 0; last = 0 } ∷ [];
 }
 
-steps_begun : Steps (start 0) run_begun left_begun
+steps_begun : Steps (start (usual 0)) run_begun left_begun
 unfolding decoded frame_fault body_at walk walk_of option_at nibbles_at value_at extended payload_at option_bytes
     options_bytes
 steps_begun = (
@@ -148,7 +150,7 @@ steps_begun = (
 )
 
 abbrev run_lost : List Asked
-run_lost = asker.lower_of server_end 0 (lower_of 0 calls_lost)
+run_lost = asker.lower_of server_end 0 (lower_of sizes_16 calls_lost)
 
 abbrev left_lost : State
 left_lost = record left_begun {
@@ -156,7 +158,7 @@ left_lost = record left_begun {
   open_cons = record { to = server_end; id = 1; bytes = lost_second; timeout = 2000; first = 0; last = 0 } ∷ [];
 }
 
-steps_lost : Steps (start 0) run_lost left_lost
+steps_lost : Steps (start (usual 0)) run_lost left_lost
 unfolding decoded frame_fault body_at walk walk_of option_at nibbles_at value_at extended payload_at option_bytes
     options_bytes
 steps_lost = (
@@ -174,7 +176,7 @@ steps_lost = (
 )
 
 abbrev run_twice : List Asked
-run_twice = asker.lower_of server_end 0 (lower_of 0 calls_twice)
+run_twice = asker.lower_of server_end 0 (lower_of sizes_16 calls_twice)
 
 abbrev left_twice : State
 left_twice = record left_lost {
@@ -182,7 +184,7 @@ left_twice = record left_lost {
   open_cons = record { to = server_end; id = 1; bytes = lost_second; timeout = 2000; first = 0; last = 6000 } ∷ [];
 }
 
-steps_twice : Steps (start 0) run_twice left_twice
+steps_twice : Steps (start (usual 0)) run_twice left_twice
 unfolding decoded frame_fault body_at walk walk_of option_at nibbles_at value_at extended payload_at option_bytes
     options_bytes
 steps_twice = (
@@ -192,7 +194,7 @@ steps_twice = (
 )
 
 abbrev run_copied : List Asked
-run_copied = asker.lower_of server_end 0 (lower_of 0 calls_copied)
+run_copied = asker.lower_of server_end 0 (lower_of sizes_16 calls_copied)
 
 abbrev left_copied : State
 left_copied = record left_twice {
@@ -200,7 +202,7 @@ left_copied = record left_twice {
   open_cons = record { to = server_end; id = 1; bytes = lost_second; timeout = 2000; first = 0; last = 30000 } ∷ [];
 }
 
-steps_copied : Steps (start 0) run_copied left_copied
+steps_copied : Steps (start (usual 0)) run_copied left_copied
 unfolding decoded frame_fault body_at walk walk_of option_at nibbles_at value_at extended payload_at option_bytes
     options_bytes
 steps_copied = (
@@ -210,12 +212,12 @@ steps_copied = (
 )
 
 abbrev run_late : List Asked
-run_late = asker.lower_of server_end 0 (lower_of 0 calls_late)
+run_late = asker.lower_of server_end 0 (lower_of sizes_16 calls_late)
 
 abbrev left_late : State
 left_late = record left_copied { clock = 130000; open_cons = [] }
 
-steps_late : Steps (start 0) run_late left_late
+steps_late : Steps (start (usual 0)) run_late left_late
 unfolding decoded frame_fault body_at walk walk_of option_at nibbles_at value_at extended payload_at option_bytes
     options_bytes
 steps_late = (
@@ -229,7 +231,7 @@ steps_late = (
 )
 
 abbrev run_first : List Asked
-run_first = asker.lower_of server_end 0 (lower_of 0 calls_first)
+run_first = asker.lower_of server_end 0 (lower_of sizes_16 calls_first)
 
 abbrev left_first : State
 left_first = record left_late {
@@ -240,7 +242,7 @@ left_first = record left_late {
       [];
 }
 
-steps_first : Steps (start 0) run_first left_first
+steps_first : Steps (start (usual 0)) run_first left_first
 unfolding decoded frame_fault body_at walk walk_of option_at nibbles_at value_at extended payload_at option_bytes
     options_bytes
 steps_first = (
@@ -254,7 +256,7 @@ steps_first = (
 )
 
 abbrev run_second : List Asked
-run_second = asker.lower_of server_end 0 (lower_of 0 calls_second)
+run_second = asker.lower_of server_end 0 (lower_of sizes_16 calls_second)
 
 abbrev left_second : State
 left_second = record left_first {
@@ -263,7 +265,7 @@ left_second = record left_first {
       [];
 }
 
-steps_second : Steps (start 0) run_second left_second
+steps_second : Steps (start (usual 0)) run_second left_second
 unfolding decoded frame_fault body_at walk walk_of option_at nibbles_at value_at extended payload_at option_bytes
     options_bytes
 steps_second = (
@@ -281,12 +283,12 @@ steps_second = (
 )
 
 abbrev run_done : List Asked
-run_done = asker.lower_of server_end 0 (lower_of 0 calls_done)
+run_done = asker.lower_of server_end 0 (lower_of sizes_16 calls_done)
 
 abbrev left_done : State
 left_done = record left_second { upcoming = 5; open_cons = [] }
 
-steps_done : Steps (start 0) run_done left_done
+steps_done : Steps (start (usual 0)) run_done left_done
 unfolding decoded frame_fault body_at walk walk_of option_at nibbles_at value_at extended payload_at option_bytes
     options_bytes
 steps_done = (
@@ -315,5 +317,5 @@ steps_done = (
   step tt,
 )
 
-pub lawful : ClientLaw server_end 0 0 calls_done
+pub lawful : ClientLaw server_end sizes_16 0 calls_done
 lawful = record { rows = rows_done; exchanges = record { rows = asked_done; left = left_done; layer = steps_done } }

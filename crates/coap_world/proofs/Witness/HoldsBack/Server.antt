@@ -19,9 +19,11 @@ use Rattle.coap_exchange.specs.AnswererSteps.{asked_of}
 use Rattle.coap_server.specs.Trace as S
 use Rattle.coap_server.specs.Law.{ServerLaw, ServerRows, lower_of}
 use Rattle.coap_common.specs.SuccessCodes.{created}
+use Rattle.coap_world.specs.LegalRuns.{limits}
 use Rattle.coap_world.specs.Events.{client_end}
 use Rattle.coap_world.specs.LegalRuns.{t}
 use Rattle.coap_types.proofs.Facts.Bytes.{bytes_are}
+use Rattle.coap_layer.specs.Machine.State.{usual}
 use Rattle.coap_world.proofs.Witness.OneHeld as store
 use Rattle.coap_world.specs.LateRuns.{answer_bytes}
 use Rattle.coap_world.specs.LateRuns.{continue, held_body, lost_first, lost_second, held_first, held_second, held_third}
@@ -48,10 +50,10 @@ abbrev held : Held
 held = record { version = 1; format = None; body = held_body }
 
 abbrev pub made : Content
-made = store.one t held (counted (unused 4194303) 130001)
+made = store.one t held (counted (unused limits) 130001)
 
-makes : Changes (nothing 4194303) 130001 t (Some held) made
-makes = store.first 4194303 130001 t held
+makes : Changes (nothing limits) 130001 t (Some held) made
+makes = store.first limits 130001 t held
 
 abbrev question : Question
 question = record { method = Put; path = t; options = last_block.options; body = held_body; szx = 6 }
@@ -79,21 +81,21 @@ calls_put = answers (answer_bytes created 4 32) puts ++ calls_held
 
 -- each has its row
 
-rows_lost : ServerRows 4194303 6 calls_lost
+rows_lost : ServerRows limits 6 calls_lost
 unfolding option_bytes options_bytes
 rows_lost = (tt, (tt, (refl, (tt, (tt, (refl, tt))))))
 
-rows_held : ServerRows 4194303 6 calls_held
+rows_held : ServerRows limits 6 calls_held
 unfolding option_bytes options_bytes
 rows_held = (tt, (tt, (refl, (tt, (tt, (refl, rows_lost))))))
 
-rows_put : ServerRows 4194303 6 calls_put
+rows_put : ServerRows limits 6 calls_put
 unfolding option_bytes options_bytes
 rows_put = (tt, (tt, (record { reply = bare created 0; left = made; serves = (refl, makes); is = refl }, rows_held)))
 
 -- .. and so have those of its exchanges
 
-replied_lost : answerer.AnswererLaw (lower_of 4194303 6 calls_lost)
+replied_lost : answerer.AnswererLaw (lower_of limits 6 calls_lost)
 replied_lost = (
   tt,
   (
@@ -117,7 +119,7 @@ replied_lost = (
   ),
 )
 
-replied_held : answerer.AnswererLaw (lower_of 4194303 6 calls_held)
+replied_held : answerer.AnswererLaw (lower_of limits 6 calls_held)
 replied_held = (
   tt,
   (
@@ -141,7 +143,7 @@ replied_held = (
   ),
 )
 
-replied_put : answerer.AnswererLaw (lower_of 4194303 6 calls_put)
+replied_put : answerer.AnswererLaw (lower_of limits 6 calls_put)
 replied_put = (
   tt,
   (
@@ -156,15 +158,15 @@ replied_put = (
 -- the steps of its message layer
 
 abbrev run_lost : List Asked
-run_lost = answerer.lower_of (lower_of 4194303 6 calls_lost)
+run_lost = answerer.lower_of (lower_of limits 6 calls_lost)
 
 abbrev left_lost : State
-left_lost = record (start 0) {
+left_lost = record (start (usual 0)) {
   clock = 130000;
   arrived = answered 0 0 (answer_bytes continue 0 8) ∷ answered 130000 1 (answer_bytes continue 1 24) ∷ [];
 }
 
-steps_lost : Steps (start 0) run_lost left_lost
+steps_lost : Steps (start (usual 0)) run_lost left_lost
 unfolding decoded frame_fault body_at walk walk_of option_at nibbles_at value_at extended payload_at option_bytes
     options_bytes
 steps_lost = (
@@ -186,7 +188,7 @@ steps_lost = (
 )
 
 abbrev run_held : List Asked
-run_held = answerer.lower_of (lower_of 4194303 6 calls_held)
+run_held = answerer.lower_of (lower_of limits 6 calls_held)
 
 abbrev left_held : State
 left_held = record left_lost {
@@ -195,7 +197,7 @@ left_held = record left_lost {
       (answer_bytes continue 3 24) ∷ [];
 }
 
-steps_held : Steps (start 0) run_held left_held
+steps_held : Steps (start (usual 0)) run_held left_held
 unfolding decoded frame_fault body_at walk walk_of option_at nibbles_at value_at extended payload_at option_bytes
     options_bytes
 steps_held = (
@@ -217,15 +219,15 @@ steps_held = (
 )
 
 abbrev run_put : List Asked
-run_put = answerer.lower_of (lower_of 4194303 6 calls_put)
+run_put = answerer.lower_of (lower_of limits 6 calls_put)
 
 abbrev left_put : State
 left_put = record left_held { arrived = left_held.arrived ++ answered 130001 4 (answer_bytes created 4 32) ∷ [] }
 
-steps_put : Steps (start 0) run_put left_put
+steps_put : Steps (start (usual 0)) run_put left_put
 unfolding decoded frame_fault body_at walk walk_of option_at nibbles_at value_at extended payload_at option_bytes
     options_bytes
 steps_put = (_, (_, (_, (_, steps_held, step (bytes_are held_third refl)), step refl), step tt), step tt)
 
-pub lawful : ServerLaw 4194303 6 0 calls_put
+pub lawful : ServerLaw limits 6 0 calls_put
 lawful = record { rows = rows_put; exchanges = record { rows = replied_put; left = left_put; layer = steps_put } }

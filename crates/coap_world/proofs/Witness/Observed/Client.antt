@@ -16,8 +16,10 @@ use Rattle.coap_exchange.specs.AskerLaw as asker
 use Rattle.coap_types.specs.declared.message.Kind.{Kind}
 use Rattle.coap_client.specs.Trace as C
 use Rattle.coap_client.specs.Law.{ClientLaw, ClientRows, lower_of}
+use Rattle.coap_world.specs.LegalRuns.{sizes}
 use Rattle.coap_world.specs.Events.{server_end}
 use Rattle.coap_types.proofs.Facts.Bytes.{bytes_are}
+use Rattle.coap_layer.specs.Machine.State.{usual}
 use Rattle.coap_world.specs.LegalRuns.{token, tag, plain, t, reported, empty_ack}
 use Rattle.coap_world.specs.ObservationRuns.{observe_bytes, first_bytes, second_bytes}
 use Rattle.coap_world.proofs.Witness.TurnsMade.{client_turn, to_server, asks, rests}
@@ -60,7 +62,7 @@ calls_before = client_turn (value 1 (codes "a") ∷ []) [] registered
 abbrev pub calls : List C.Call
 calls = client_turn (value 2 (codes "b") ∷ []) (to_server empty_ack ∷ []) notified ++ calls_before
 
-rows : ClientRows 6 calls
+rows : ClientRows sizes calls
 unfolding option_bytes options_bytes
 rows = (
   refl,
@@ -85,13 +87,13 @@ rows = (
   ),
 )
 
-asked : asker.AskerLaw server_end 0 (lower_of 6 calls)
+asked : asker.AskerLaw server_end 0 (lower_of sizes calls)
 asked = (tt, (tt, (refl, (tt, (refl, (refl, (tt, (tt, (refl, (refl, (refl, (tt, tt))))))))))))
 
 abbrev run : List Asked
-run = asker.lower_of server_end 0 (lower_of 6 calls)
+run = asker.lower_of server_end 0 (lower_of sizes calls)
 
-steps : Steps (start 0) run (left_after (start 0) run)
+steps : Steps (start (usual 0)) run (left_after (start (usual 0)) run)
 unfolding decoded frame_fault body_at walk walk_of option_at nibbles_at value_at extended payload_at option_bytes
     options_bytes
 steps = (
@@ -156,5 +158,5 @@ steps = (
   record { may = tt; right = refl; new_is = refl },
 )
 
-pub lawful : ClientLaw server_end 6 0 calls
-lawful = record { rows = rows; exchanges = record { rows = asked; left = left_after (start 0) run; layer = steps } }
+pub lawful : ClientLaw server_end sizes 0 calls
+lawful = record { rows = rows; exchanges = record { rows = asked; left = left_after (start (usual 0)) run; layer = steps } }

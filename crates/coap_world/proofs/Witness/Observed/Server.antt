@@ -21,8 +21,10 @@ use Rattle.coap_exchange.specs.AnswererSteps.{asked_of, content_of}
 use Rattle.coap_server.specs.Trace as S
 use Rattle.coap_server.specs.Serving.{response_to}
 use Rattle.coap_server.specs.Law.{ServerLaw, ServerRows, lower_of}
+use Rattle.coap_world.specs.LegalRuns.{limits}
 use Rattle.coap_world.specs.Events.{client_end}
 use Rattle.coap_types.proofs.Facts.Bytes.{bytes_are}
+use Rattle.coap_layer.specs.Machine.State.{usual}
 use Rattle.coap_observe.specs.Observers.{Observer}
 use Rattle.coap_exchange.specs.declared.answerer.Asked.{Asked as Request}
 use Rattle.coap_exchange.specs.declared.answerer.Due.TheVariants as due
@@ -39,13 +41,13 @@ abbrev held : ℕ → List ℕ → Held
 held version body = record { version = version; format = Some plain; body = body }
 
 abbrev pub a : Content
-a = one t (held 1 (codes "a")) (counted (unused 4194303) 0)
+a = one t (held 1 (codes "a")) (counted (unused limits) 0)
 
 abbrev pub b : Content
 b = one t (held 2 (codes "b")) (counted a.tally 3)
 
-first_change : Changes (nothing 4194303) 0 t (Some (held 1 (codes "a"))) a
-first_change = first 4194303 0 t (held 1 (codes "a"))
+first_change : Changes (nothing limits) 0 t (Some (held 1 (codes "a"))) a
+first_change = first limits 0 t (held 1 (codes "a"))
 
 second : Changes a 3 t (Some (held 2 (codes "b"))) b
 second = further 3 t (held 1 (codes "a")) (held 2 (codes "b")) a.tally
@@ -134,7 +136,7 @@ notice_sendable = (sendable_when_short _ (record {
   short = refl;
 }) (omega arith)).spelled
 
-rows : ServerRows 4194303 6 calls
+rows : ServerRows limits 6 calls
 unfolding option_bytes options_bytes
 rows = (
   tt,
@@ -171,7 +173,7 @@ rows = (
   ),
 )
 
-answered : answerer.AnswererLaw (lower_of 4194303 6 calls)
+answered : answerer.AnswererLaw (lower_of limits 6 calls)
 answered = (
   tt,
   (
@@ -211,9 +213,9 @@ answered = (
 )
 
 abbrev run : List Asked
-run = answerer.lower_of (lower_of 4194303 6 calls)
+run = answerer.lower_of (lower_of limits 6 calls)
 
-steps : Steps (start 0) run (left_after (start 0) run)
+steps : Steps (start (usual 0)) run (left_after (start (usual 0)) run)
 unfolding decoded frame_fault body_at walk walk_of option_at nibbles_at value_at extended payload_at option_bytes
     options_bytes
 steps = (
@@ -270,5 +272,5 @@ steps = (
   record { may = tt; right = refl; new_is = refl },
 )
 
-pub lawful : ServerLaw 4194303 6 0 calls
-lawful = record { rows = rows; exchanges = record { rows = answered; left = left_after (start 0) run; layer = steps } }
+pub lawful : ServerLaw limits 6 0 calls
+lawful = record { rows = rows; exchanges = record { rows = answered; left = left_after (start (usual 0)) run; layer = steps } }

@@ -9,10 +9,12 @@ use Rattle.coap_layer.proofs.Facts.Sendable.{sendable_when_short}
 use Rattle.coap_layer.specs.Machine.State.{State, start}
 use Rattle.coap_layer.specs.Machine.Steps.{Asked, Steps}
 use Rattle.coap_layer.specs.Trace as L
+use Rattle.coap_layer.specs.Machine.State.{usual}
 use Rattle.coap_exchange.specs.declared.asker.Event.TheVariants as event
 use Rattle.coap_exchange.specs.AskerLaw as asker
 use Rattle.coap_client.specs.Trace as C
 use Rattle.coap_client.specs.Law.{ClientLaw, ClientRows, lower_of}
+use Rattle.coap_world.specs.LegalRuns.{sizes}
 use Rattle.coap_world.specs.Events.{server_end}
 use Rattle.coap_exchange.specs.declared.asker.Turn.TheVariants as turn
 use Rattle.coap_world.specs.LegalRuns.{token, reported, post, call_bytes}
@@ -51,7 +53,7 @@ calls_copied = copied 30000 ++ (copied 14000 ++ calls_twice)
 abbrev pub calls : List C.Call
 calls = client_turn (failed ∷ []) [] expires ++ calls_copied
 
-rows : ClientRows 6 calls
+rows : ClientRows sizes calls
 unfolding option_bytes options_bytes
 rows = (
   refl,
@@ -127,7 +129,7 @@ rows = (
   ),
 )
 
-asked : asker.AskerLaw server_end 0 (lower_of 6 calls)
+asked : asker.AskerLaw server_end 0 (lower_of sizes calls)
 asked = (
   tt,
   (
@@ -175,16 +177,16 @@ asked = (
 -- the steps of its message layer
 
 abbrev run_asked : List Asked
-run_asked = asker.lower_of server_end 0 (lower_of 6 (calls_asked))
+run_asked = asker.lower_of server_end 0 (lower_of sizes (calls_asked))
 
 abbrev pub left_asked : State
-left_asked = record (start 0) {
+left_asked = record (start (usual 0)) {
   upcoming = 1;
   last_used = Some 0 ∷ replicate 15 None;
   open_cons = record { to = server_end; id = 0; bytes = call_bytes; timeout = 2000; first = 0; last = 0 } ∷ [];
 }
 
-pub steps_asked : Steps (start 0) run_asked left_asked
+pub steps_asked : Steps (start (usual 0)) run_asked left_asked
 unfolding decoded frame_fault body_at walk walk_of option_at nibbles_at value_at extended payload_at option_bytes
     options_bytes
 steps_asked = (
@@ -222,7 +224,7 @@ steps_asked = (
 )
 
 abbrev run_twice : List Asked
-run_twice = asker.lower_of server_end 0 (lower_of 6 (calls_twice))
+run_twice = asker.lower_of server_end 0 (lower_of sizes (calls_twice))
 
 abbrev pub left_twice : State
 left_twice = record left_asked {
@@ -230,7 +232,7 @@ left_twice = record left_asked {
   open_cons = record { to = server_end; id = 0; bytes = call_bytes; timeout = 2000; first = 0; last = 6000 } ∷ [];
 }
 
-pub steps_twice : Steps (start 0) run_twice left_twice
+pub steps_twice : Steps (start (usual 0)) run_twice left_twice
 unfolding decoded frame_fault body_at walk walk_of option_at nibbles_at value_at extended payload_at option_bytes
     options_bytes
 steps_twice = (
@@ -264,7 +266,7 @@ steps_twice = (
 )
 
 abbrev run_copied : List Asked
-run_copied = asker.lower_of server_end 0 (lower_of 6 (calls_copied))
+run_copied = asker.lower_of server_end 0 (lower_of sizes (calls_copied))
 
 abbrev pub left_copied : State
 left_copied = record left_twice {
@@ -272,7 +274,7 @@ left_copied = record left_twice {
   open_cons = record { to = server_end; id = 0; bytes = call_bytes; timeout = 2000; first = 0; last = 30000 } ∷ [];
 }
 
-pub steps_copied : Steps (start 0) run_copied left_copied
+pub steps_copied : Steps (start (usual 0)) run_copied left_copied
 unfolding decoded frame_fault body_at walk walk_of option_at nibbles_at value_at extended payload_at option_bytes
     options_bytes
 steps_copied = (
@@ -306,12 +308,12 @@ steps_copied = (
 )
 
 abbrev run_expired : List Asked
-run_expired = asker.lower_of server_end 0 (lower_of 6 (calls))
+run_expired = asker.lower_of server_end 0 (lower_of sizes (calls))
 
 abbrev pub left_expired : State
 left_expired = record left_copied { clock = 62000; open_cons = [] }
 
-pub steps_expired : Steps (start 0) run_expired left_expired
+pub steps_expired : Steps (start (usual 0)) run_expired left_expired
 unfolding decoded frame_fault body_at walk walk_of option_at nibbles_at value_at extended payload_at option_bytes
     options_bytes
 steps_expired = (
@@ -324,5 +326,5 @@ steps_expired = (
   record { may = tt; right = refl; new_is = refl },
 )
 
-pub lawful : ClientLaw server_end 6 0 calls
+pub lawful : ClientLaw server_end sizes 0 calls
 lawful = record { rows = rows; exchanges = record { rows = asked; left = left_expired; layer = steps_expired } }

@@ -21,8 +21,10 @@ use Rattle.coap_exchange.specs.AnswererSteps.{asked_of, content_of}
 use Rattle.coap_server.specs.Trace as S
 use Rattle.coap_server.specs.Serving.{response_to}
 use Rattle.coap_server.specs.Law.{ServerLaw, ServerRows, lower_of}
+use Rattle.coap_world.specs.LegalRuns.{limits}
 use Rattle.coap_world.specs.Events.{client_end}
 use Rattle.coap_types.proofs.Facts.Bytes.{bytes_are}
+use Rattle.coap_layer.specs.Machine.State.{usual}
 use Rattle.coap_world.specs.LegalRuns.{token, plain, log, call_bytes, changed_bytes}
 use Rattle.coap_world.proofs.Witness.OneHeld as store
 use Rattle.coap_world.proofs.Witness.TurnsMade.{server_turn, to_client}
@@ -33,13 +35,13 @@ abbrev held : ℕ → List ℕ → Held
 held version body = record { version = version; format = Some plain; body = body }
 
 abbrev pub a : Content
-a = store.one log (held 1 (codes "x")) (counted (unused 4194303) 0)
+a = store.one log (held 1 (codes "x")) (counted (unused limits) 0)
 
 abbrev pub late : Content
 late = store.one log (held 2 (codes "xa")) (counted a.tally 130000)
 
-first_change : Changes (nothing 4194303) 0 log (Some (held 1 (codes "x"))) a
-first_change = store.first 4194303 0 log (held 1 (codes "x"))
+first_change : Changes (nothing limits) 0 log (Some (held 1 (codes "x"))) a
+first_change = store.first limits 0 log (held 1 (codes "x"))
 
 changes : Changes a 130000 log (Some (held 2 (codes "xa"))) late
 changes = store.further 130000 log (held 1 (codes "x")) (held 2 (codes "xa")) a.tally
@@ -84,7 +86,7 @@ sendable = (sendable_when_short _ (record {
   short = refl;
 }) (omega arith)).spelled
 
-rows : ServerRows 4194303 6 calls
+rows : ServerRows limits 6 calls
 unfolding option_bytes options_bytes
 rows = (
   tt,
@@ -97,13 +99,13 @@ rows = (
   ),
 )
 
-answered : answerer.AnswererLaw (lower_of 4194303 6 calls)
+answered : answerer.AnswererLaw (lower_of limits 6 calls)
 answered = (tt, (tt, ((refl, record { code = refl; spelled = sendable }, refl), (refl, (tt, tt)))))
 
 abbrev run : List Asked
-run = answerer.lower_of (lower_of 4194303 6 calls)
+run = answerer.lower_of (lower_of limits 6 calls)
 
-steps : Steps (start 0) run (left_after (start 0) run)
+steps : Steps (start (usual 0)) run (left_after (start (usual 0)) run)
 unfolding decoded frame_fault body_at walk walk_of option_at nibbles_at value_at extended payload_at option_bytes
     options_bytes
 steps = (
@@ -124,5 +126,5 @@ steps = (
   record { may = tt; right = refl; new_is = refl },
 )
 
-pub lawful : ServerLaw 4194303 6 0 calls
-lawful = record { rows = rows; exchanges = record { rows = answered; left = left_after (start 0) run; layer = steps } }
+pub lawful : ServerLaw limits 6 0 calls
+lawful = record { rows = rows; exchanges = record { rows = answered; left = left_after (start (usual 0)) run; layer = steps } }

@@ -9,4 +9,4 @@ returns-clause-step g c = seen_still (left (own_of c.self.inside.held) c.self.in
     (c.asked.ensures.step c.self.inside.asker.state)
 
 pub returns-clause-led : goal.returns-clause-led
-returns-clause-led g c server szx w t led = led_client server szx w t _ _ _ led (returns-clause-step g c)
+returns-clause-led g c server sizes w t led = led_client server sizes w t _ _ _ led (returns-clause-step g c)

@@ -28,7 +28,7 @@ returns-else-is_err-clause-step g c =
 pub returns-else-is_err-clause-led : goal.returns-else-is_err-clause-led
 returns-else-is_err-clause-led g c =
     on_ok c.happen-done.result
-    (λ s server szx w t led. (s.0, s.1, s.2, s.3, s.4, s.5, led_client server szx w t _ _ _ led s.6))
+    (λ s server sizes w t led. (s.0, s.1, s.2, s.3, s.4, s.5, led_client server sizes w t _ _ _ led s.6))
     (returns-else-is_err-clause-step g c)
 
 pub invariant_of-self-else-is_err : goal.invariant_of-self-else-is_err

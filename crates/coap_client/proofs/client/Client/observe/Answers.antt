@@ -19,4 +19,5 @@ returns-clause-step g c other = seen_step (left (own_of c.self.inside.held) c.se
     c.self.view_is (c.observe.ensures.step other c.self.inside.asker.state)
 
 pub returns-clause-led : goal.returns-clause-led
-returns-clause-led g c server szx w t led other = led_client server szx w t _ _ _ led (returns-clause-step g c other)
+returns-clause-led g c server sizes w t led other = led_client server sizes w t _ _ _ led
+    (returns-clause-step g c other)

@@ -34,8 +34,8 @@ returns-clause-step g c =
     c.tick.ensures.step
 
 pub returns-clause-led : goal.returns-clause-led
-returns-clause-led g c server szx w t led =
-    if_ok c.tick.result (λ did s. (s.0, s.1, s.2, s.3, s.4, led_client server szx w t _ _ _ led s.5))
+returns-clause-led g c server sizes w t led =
+    if_ok c.tick.result (λ did s. (s.0, s.1, s.2, s.3, s.4, led_client server sizes w t _ _ _ led s.5))
     (returns-clause-step g c)
 
 pub returns-clause-less : goal.returns-clause-less

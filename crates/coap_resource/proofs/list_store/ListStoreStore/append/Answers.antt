@@ -5,9 +5,10 @@ use Rattle.coap_resource.proofs.list_store.ListStoreStore.append.Goals as goal
 pub invariant_of-self-2 : goal.invariant_of-self-2
 invariant_of-self-2 g c =
     let body = rw c.deref-2.ensures at c.in_ok-body.ensures in
-    let short = short_joined _ c.in-Some.held.now.body c.args.body.now body
+    let short = short_joined _ _ c.in-Some.held.now.body c.args.body.now body
     (rw c.len.ensures.value at c.in_default-append_refusal.ensures.short refl) in
-    rw c.in_ok-put_in.ensures.ok (unique_put _ _ _ c.self.invariant.0, short_put _ _ _ c.self.invariant.1 short)
+    rw (c.in_ok-put_in.ensures.ok, c.counted-tally.ensures)
+    (unique_put _ _ _ c.self.invariant.0, short_put _ _ _ _ c.self.invariant.1 short)
 
 pub returns-clause-change : goal.returns-clause-change
 returns-clause-change g c = λ held is.

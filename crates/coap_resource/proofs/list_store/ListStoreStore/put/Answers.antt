@@ -3,8 +3,8 @@ use Rattle.coap_resource.proofs.EntryLemmas.{unique_put, short_put, change_put}
 use Rattle.coap_resource.proofs.list_store.ListStoreStore.put.Goals as goal
 
 pub invariant_of-self-2 : goal.invariant_of-self-2
-invariant_of-self-2 g c = rw c.in_ok-put_in.ensures.ok
-    (unique_put _ _ _ c.self.invariant.0, short_put _ _ _ c.self.invariant.1 (search rules))
+invariant_of-self-2 g c = rw (c.in_ok-put_in.ensures.ok, c.counted-tally.ensures)
+    (unique_put _ _ _ c.self.invariant.0, short_put _ _ _ _ c.self.invariant.1 (search rules))
 
 pub returns-clause-change : goal.returns-clause-change
 returns-clause-change g c =

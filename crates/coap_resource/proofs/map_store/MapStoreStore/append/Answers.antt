@@ -5,9 +5,9 @@ use Rattle.coap_resource.proofs.map_store.MapStoreStore.append.Goals as goal
 pub invariant_of-self-2 : goal.invariant_of-self-2
 invariant_of-self-2 g c =
     let body = rw c.deref.ensures at c.in_ok-body.ensures in
-    let short = short_joined _ c.in-Some.held.now.body c.args.body.now body
+    let short = short_joined _ _ c.in-Some.held.now.body c.args.body.now body
     (rw c.len.ensures.value at c.in_default-append_refusal.ensures.short refl) in
-    c.in_ok-put_in.ensures.ok.short c.self.invariant short
+    rw c.counted-tally.ensures (c.in_ok-put_in.ensures.ok.short _ c.self.invariant short)
 
 pub returns-clause-change : goal.returns-clause-change
 returns-clause-change g c = λ held is.

@@ -15,6 +15,6 @@ returns-clause-step g c =
     in (s.0, s.1, s.2, s.3, seen_step g.S.Store.content _ _ _ _ c.self.view_is s.4)) c.feed_parts.ensures.step
 
 pub returns-clause-led : goal.returns-clause-led
-returns-clause-led g c limit szx begin t led =
-    on_ok c.feed_parts.result (λ s. (s.0, s.1, s.2, s.3, led_further limit szx begin t _ _ _ led s.4))
+returns-clause-led g c limits szx begin t led =
+    on_ok c.feed_parts.result (λ s. (s.0, s.1, s.2, s.3, led_further limits szx begin t _ _ _ led s.4))
     (returns-clause-step g c)

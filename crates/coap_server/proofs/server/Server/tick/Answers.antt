@@ -22,8 +22,8 @@ returns-clause-step g c =
     )) c.tick_parts.ensures.step
 
 pub returns-clause-led : goal.returns-clause-led
-returns-clause-led g c limit szx begin t led =
-    if_ok c.tick_parts.result (λ did s. (s.0, s.1, s.2, s.3, s.4, s.5, led_further limit szx begin t _ _ _ led s.6))
+returns-clause-led g c limits szx begin t led =
+    if_ok c.tick_parts.result (λ did s. (s.0, s.1, s.2, s.3, s.4, s.5, led_further limits szx begin t _ _ _ led s.6))
     (returns-clause-step g c)
 
 pub returns-clause-less : goal.returns-clause-less

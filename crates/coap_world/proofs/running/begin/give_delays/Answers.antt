@@ -17,7 +17,7 @@ delays-init g c =
     (ap (λ (k : Config). k.delays) c.config.view_is) (c.len-left.ensures ∙ c.config.inside.delays.ok.0) in
     record {
       within = none.0;
-      led = subst (λ t. Led k.limit k.server_szx k.server_word t (state_of g.S.Store.content c.args.server.now)) none.1
+      led = subst (λ t. Led k.limits k.server_szx k.server_word t (state_of g.S.Store.content c.args.server.now)) none.1
           c.requires;
     }
 
@@ -31,14 +31,14 @@ delays-preserved g c =
     record {
       within = omega (arith, c.delays.invariant.within);
       led =
-          subst (λ t. Led k.limit k.server_szx k.server_word t (state_of g.S.Store.content c.set_delay.new.self))
+          subst (λ t. Led k.limits k.server_szx k.server_word t (state_of g.S.Store.content c.set_delay.new.self))
           (next_given c.config.inside.delays.items k.delays n c.delays.left c.index-delay.result.now are
           (omega (arith, c.delays-test.true)) (omega (arith, long, c.delays.invariant.within, c.delays-test.true))
           c.index-delay.ensures)
-          (subst (λ b. Led k.limit k.server_szx k.server_word
+          (subst (λ b. Led k.limits k.server_szx k.server_word
           (Delays c.index-delay.result.now.path c.index-delay.result.now.ms b ∷ gives (drop c.delays.left k.delays))
           (state_of g.S.Store.content c.set_delay.new.self)) ok
-          (c.set_delay.ensures.led k.limit k.server_szx k.server_word
+          (c.set_delay.ensures.led k.limits k.server_szx k.server_word
           (gives (drop c.delays.left k.delays)) c.delays.invariant.led
           (λ e. let clash = sym c.in-Ok.is ∙ e in cc)));
     }
@@ -50,6 +50,6 @@ unreachable-requires g c =
     let step = c.set_delay.ensures.step (λ e. let clash = sym is ∙ e in cc) in
     let few = few_left k.delays c.delays.left c.delays-test.true c.delays.invariant.within
     (subst (λ (k : Config). length k.delays ≤ max_delays) c.config.view_is c.config.invariant.few) in
-    none_full k.limit k.server_szx (drop c.delays.left k.delays) c.index-delay.result.now.path few
+    none_full k.limits k.server_szx (drop c.delays.left k.delays) c.index-delay.result.now.path few
     (sym (ap is_ok is) ∙ step.right ∙ ap (λ (o : Own). may_delay c.index-delay.result.now.path o.delays)
     c.delays.invariant.led.own_is)

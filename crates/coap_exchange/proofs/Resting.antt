@@ -1,0 +1,3 @@
+-- When a tick does nothing, and when it does something.
+pub mod ClientRests
+pub mod ServerRests
