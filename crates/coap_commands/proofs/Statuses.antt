@@ -9,11 +9,11 @@ use Rattle.hex.specs.Hex.{decode_of}
 use Rattle.coap_words.specs.CommandLine.{coap_app}
 use Rattle.coap_commands.specs.Statuses.{CarriesOut, Ends, IsAnswered, IsCarriedOut, IsTold, RunsScript}
 use Rattle.coap_commands.specs.Statuses.{status_number, status_of}
-use Rattle.coap_words.specs.Numbers.{IsNumber, argument_of, most_of}
+use Rattle.coap_words.specs.Numbers.{IsNumber, argument_of, least_of, most_of}
 use Rattle.coap_words.specs.Words.{AsksFor, AsksForIn, Enters, HasBadHex, HasBytes, HasNoBytes, HasNoNumber}
-use Rattle.coap_words.specs.Words.{HasNoPath, HasNoStore, HasNumber, HasPath, HasStore, HasWord, IsPathFine}
-use Rattle.coap_words.specs.Words.{IsRefusedBy, IsValue, IsWrong, NamesNoNumber, NamesNoPath, NamesNoStore}
-use Rattle.coap_words.specs.Words.{TakesNumber, TakesPath, store_name}
+use Rattle.coap_words.specs.Words.{HasLimit, HasNoPath, HasNoStore, HasNumber, HasPath, HasStore, HasWord}
+use Rattle.coap_words.specs.Words.{IsPathFine, IsRefusedBy, IsValue, IsWrong, NamesNoNumber, NamesNoPath, NamesNoStore}
+use Rattle.coap_words.specs.Words.{MakesEnd, TakesNumber, TakesPath, store_name}
 use Rattle.coap_commands.specs.declared.status.Status.{Status}
 use Rattle.coap_commands.specs.declared.status.Status.TheVariants as status
 use Rattle.coap_commands.specs.declared.status.Stop.{Stop}
@@ -22,7 +22,7 @@ use Rattle.coap_words.specs.declared.orders.Order.{Order}
 use Rattle.coap_words.specs.declared.orders.Order.TheVariants.{Show, Answer, Pair, Serve, Get, Sim}
 use Rattle.coap_words.specs.declared.orders.StoreKind.{StoreKind}
 use Rattle.coap_words.specs.declared.orders.NumberRefusal.{NumberRefusal}
-use Rattle.coap_words.specs.declared.orders.NumberRefusal.TheVariants.{Port, Count, Word}
+use Rattle.coap_words.specs.declared.orders.NumberRefusal.TheVariants.{Port, Count, Word, Limit}
 use Rattle.coap_words.specs.declared.orders.Wrong.{Wrong}
 use Rattle.coap_words.specs.declared.orders.Wrong.TheVariants.{Words, Path, Number, Store, Hex, Memory}
 use Rattle.coap_types.specs.declared.path.PathRefusal.{PathRefusal}
@@ -80,15 +80,21 @@ takes_none known name a p g is (inl e) = differ known (codes "answer") name a is
 takes_none known name a p g is (inr (inl e)) = differ known (codes "pair") name p is e
 takes_none known name a p g is (inr (inr e)) = differ known (codes "get") name g is e
 
+makes_none : (known name : Text) → bytes_eq known (codes "pair") ≡ false → bytes_eq known (codes "serve") ≡ false
+    → bytes_eq known (codes "get") ≡ false
+    → name ≡ known → MakesEnd name → ⊥
+makes_none known name p s g is (inl e) = differ known (codes "pair") name p is e
+makes_none known name p s g is (inr (inl e)) = differ known (codes "serve") name s is e
+makes_none known name p s g is (inr (inr e)) = differ known (codes "get") name g is e
+
 counts_none : (known name : Text) (why : NumberRefusal) → bytes_eq known (codes "pair") ≡ false
     → bytes_eq known (codes "serve") ≡ false → bytes_eq known (codes "get") ≡ false
     → name ≡ known → TakesNumber why name → ⊥
 counts_none known name Port p s g is (inl e) = differ known (codes "serve") name s is e
 counts_none known name Port p s g is (inr e) = differ known (codes "get") name g is e
 counts_none known name Count p s g is e = differ known (codes "serve") name s is e
-counts_none known name Word p s g is (inl e) = differ known (codes "pair") name p is e
-counts_none known name Word p s g is (inr (inl e)) = differ known (codes "serve") name s is e
-counts_none known name Word p s g is (inr (inr e)) = differ known (codes "get") name g is e
+counts_none known name Word p s g is e = makes_none known name p s g is e
+counts_none known name Limit p s g is e = makes_none known name p s g is e
 
 -- who takes no HEX
 hexless : (known name : Text) (v : List Row) → bytes_eq known (codes "show") ≡ false
@@ -101,9 +107,9 @@ has_path : (name : Text) (v : List Row) (order : Order) → TakesPath name → A
     → (path : List (List ℕ)) × HasPath v path × HoldsAtMost max_segments max_segment_len path
 has_path name v (Show datagram) takes h = absurd (takes_none (codes "show") name refl refl refl h.0 takes)
 has_path name v (Answer path body datagram) takes h = (path, h.1, h.2)
-has_path name v (Pair path body word) takes h = (path, h.1, h.2)
-has_path name v (Serve port count word) takes h = absurd (takes_none (codes "serve") name refl refl refl h.0 takes)
-has_path name v (Get port path word) takes h = (path, h.2, h.3)
+has_path name v (Pair path body word limit) takes h = (path, h.1, h.2)
+has_path name v (Serve port count word limit) takes h = absurd (takes_none (codes "serve") name refl refl refl h.0 takes)
+has_path name v (Get port path word limit) takes h = (path, h.2, h.3)
 has_path name v (Sim file store) takes h = absurd (takes_none (codes "sim") name refl refl refl h.0 takes)
 
 asked_path : (words : List Text) (order : Order) (why : PathRefusal) → AsksFor words order → NamesNoPath words why → ⊥
@@ -120,21 +126,28 @@ of_word : (v : List Row) (n : ℕ) → HasWord v n → MayHave Word v
 of_word v n (inl none) = inl none.0
 of_word v n (inr has) = inr (n, has)
 
+of_limit : (v : List Row) (n : ℕ) → HasLimit v n → MayHave Limit v
+of_limit v n (inl none) = inl none.0
+of_limit v n (inr has) = inr (n, has)
+
 has_number : (name : Text) (v : List Row) (order : Order) (why : NumberRefusal) → TakesNumber why name
     → AsksForIn name v order → MayHave why v
 has_number name v (Show datagram) why takes h = absurd (counts_none (codes "show") name why refl refl refl h.0 takes)
 has_number name v (Answer path body datagram) why takes h =
     absurd (counts_none (codes "answer") name why refl refl refl h.0 takes)
-has_number name v (Pair path body word) Port (inl e) h = absurd (differ (codes "pair") (codes "serve") name refl h.0 e)
-has_number name v (Pair path body word) Port (inr e) h = absurd (differ (codes "pair") (codes "get") name refl h.0 e)
-has_number name v (Pair path body word) Count e h = absurd (differ (codes "pair") (codes "serve") name refl h.0 e)
-has_number name v (Pair path body word) Word takes h = of_word v word h.4
-has_number name v (Serve port count word) Port takes h = inr (port, h.1)
-has_number name v (Serve port count word) Count takes h = inr (count, h.2)
-has_number name v (Serve port count word) Word takes h = of_word v word h.3
-has_number name v (Get port path word) Port takes h = inr (port, h.1)
-has_number name v (Get port path word) Count e h = absurd (differ (codes "get") (codes "serve") name refl h.0 e)
-has_number name v (Get port path word) Word takes h = of_word v word h.4
+has_number name v (Pair path body word limit) Port (inl e) h = absurd (differ (codes "pair") (codes "serve") name refl h.0 e)
+has_number name v (Pair path body word limit) Port (inr e) h = absurd (differ (codes "pair") (codes "get") name refl h.0 e)
+has_number name v (Pair path body word limit) Count e h = absurd (differ (codes "pair") (codes "serve") name refl h.0 e)
+has_number name v (Pair path body word limit) Word takes h = of_word v word h.4
+has_number name v (Pair path body word limit) Limit takes h = of_limit v limit h.5
+has_number name v (Serve port count word limit) Port takes h = inr (port, h.1)
+has_number name v (Serve port count word limit) Count takes h = inr (count, h.2)
+has_number name v (Serve port count word limit) Word takes h = of_word v word h.3
+has_number name v (Serve port count word limit) Limit takes h = of_limit v limit h.4
+has_number name v (Get port path word limit) Port takes h = inr (port, h.1)
+has_number name v (Get port path word limit) Count e h = absurd (differ (codes "get") (codes "serve") name refl h.0 e)
+has_number name v (Get port path word limit) Word takes h = of_word v word h.4
+has_number name v (Get port path word limit) Limit takes h = of_limit v limit h.5
 has_number name v (Sim file store) why takes h = absurd (counts_none (codes "sim") name why refl refl refl h.0 takes)
 
 number_or_not : (v : List Row) (why : NumberRefusal) → MayHave why v → HasNoNumber why v → ⊥
@@ -142,9 +155,12 @@ number_or_not v why (inl none) q =
     let bad : ◌≡◌ {A = Option Text} None (Some q.0) = sym none ∙ q.1 in cc
 number_or_not v why (inr has) q =
     let same = value_one (argument_of why) v has.1.0 q.0 has.1.1 q.1 in
-    let over : most_of why < has.0 = q.2 has.0 (subst (λ (t : Text). IsNumber t has.0) same has.1.2.0) in
-    let most = has.1.2.1 in
-    absurd (omega (arith, over, most))
+    let least : least_of why ≤ has.0 = has.1.2.1 in
+    let most : has.0 ≤ most_of why = has.1.2.2 in
+    elim (q.2 has.0 (subst (λ (t : Text). IsNumber t has.0) same has.1.2.0)) [
+      | inl under ↦ absurd (omega (arith, under, least))
+      | inr over ↦ absurd (omega (arith, over, most))
+    ]
 
 asked_number : (words : List Text) (order : Order) (why : NumberRefusal) → AsksFor words order → NamesNoNumber words why
     → ⊥
@@ -157,9 +173,9 @@ has_bytes : (name : Text) (v : List Row) (order : Order) → AsksForIn name v or
     → (bytes : List ℕ) × HasBytes v bytes
 has_bytes name v (Show datagram) h fine = (datagram.items, h.1)
 has_bytes name v (Answer path body datagram) h fine = (datagram.items, h.4)
-has_bytes name v (Pair path body word) h fine = absurd (hexless (codes "pair") name v refl refl h.0 fine)
-has_bytes name v (Serve port count word) h fine = absurd (hexless (codes "serve") name v refl refl h.0 fine)
-has_bytes name v (Get port path word) h fine = absurd (hexless (codes "get") name v refl refl h.0 fine)
+has_bytes name v (Pair path body word limit) h fine = absurd (hexless (codes "pair") name v refl refl h.0 fine)
+has_bytes name v (Serve port count word limit) h fine = absurd (hexless (codes "serve") name v refl refl h.0 fine)
+has_bytes name v (Get port path word limit) h fine = absurd (hexless (codes "get") name v refl refl h.0 fine)
 has_bytes name v (Sim file store) h fine = absurd (hexless (codes "sim") name v refl refl h.0 fine)
 
 asked_hex : (words : List Text) (order : Order) → AsksFor words order → HasBadHex words → ⊥
@@ -177,9 +193,9 @@ has_store : (name : Text) (v : List Row) (order : Order) → name ≡ codes "sim
     → (store : StoreKind) × HasStore v store
 has_store name v (Show datagram) sim h = absurd (differ (codes "show") (codes "sim") name refl h.0 sim)
 has_store name v (Answer path body datagram) sim h = absurd (differ (codes "answer") (codes "sim") name refl h.0 sim)
-has_store name v (Pair path body word) sim h = absurd (differ (codes "pair") (codes "sim") name refl h.0 sim)
-has_store name v (Serve port count word) sim h = absurd (differ (codes "serve") (codes "sim") name refl h.0 sim)
-has_store name v (Get port path word) sim h = absurd (differ (codes "get") (codes "sim") name refl h.0 sim)
+has_store name v (Pair path body word limit) sim h = absurd (differ (codes "pair") (codes "sim") name refl h.0 sim)
+has_store name v (Serve port count word limit) sim h = absurd (differ (codes "serve") (codes "sim") name refl h.0 sim)
+has_store name v (Get port path word limit) sim h = absurd (differ (codes "get") (codes "sim") name refl h.0 sim)
 has_store name v (Sim file store) sim h = (store, h.2)
 
 asked_store : (words : List Text) (order : Order) → AsksFor words order → NamesNoStore words → ⊥
@@ -297,9 +313,9 @@ script_only : (order : Order) (ended : Result Status Stop) → IfOk ended (Carri
     → RunsScript order
 script_only (Show datagram) ended c h = absurd (carried_out ended c h)
 script_only (Answer path body datagram) ended c h = absurd (carried_out ended c h)
-script_only (Pair path body word) ended c h = absurd (carried_out ended c h)
-script_only (Serve port count word) ended c h = absurd (carried_out ended c h)
-script_only (Get port path word) ended c h = absurd (carried_out ended c h)
+script_only (Pair path body word limit) ended c h = absurd (carried_out ended c h)
+script_only (Serve port count word limit) ended c h = absurd (carried_out ended c h)
+script_only (Get port path word limit) ended c h = absurd (carried_out ended c h)
 script_only (Sim file store) ended c h = tt
 
 -- 2 says that something is wrong in the words, or that they run a script

@@ -1,4 +1,5 @@
 pub mod Bearing
+pub mod Ends
 pub mod Script
 pub mod ScriptRefusals
 pub mod ScriptWords

@@ -1,12 +1,12 @@
 ghost use Rattle.std.specs.Prelude.{◌≡◌, IfOk};
 ghost use Rattle.coap_commands.specs.Statuses.{IsCarriedOut};
 
-use crate::ends::{fresh_server, hold};
+use crate::ends::{fresh_server, hold, tell_refusal};
 use crate::put_away::put_away;
 use crate::status::{Status, Stop};
 use coap_ends::{End, Server};
-use coap_resource::{MapStore, StoreRefusal};
-use coap_types::{Moment, Path};
+use coap_resource::MapStore;
+use coap_types::{BodyLimit, Moment, Path};
 use coap_world::CLIENT_END;
 use std::alloc::Global;
 use std::hash::{BuildHasherDefault, FoldHasher};
@@ -30,7 +30,7 @@ pub fn answer<W: Write>(
     ensures { IfOk result IsCarriedOut }
 {
     let hasher = BuildHasherDefault::<FoldHasher>::new();
-    let mut server = fresh_server(alloc, WORD, hasher);
+    let mut server = fresh_server(alloc, WORD, BodyLimit::default(), hasher);
     let ended = held_reply(alloc, &mut server, path, body, datagram, out);
     put_away(server);
     ended
@@ -65,15 +65,6 @@ fn reply<W: Write>(
     server.feed(ARRIVAL, CLIENT_END, datagram, WORD)?;
     print_sent(alloc, server, out)?;
     Ok(Status::Done)
-}
-
-// Prints why the server does not hold the resource.
-fn tell_refusal<W: Write>(refusal: StoreRefusal, out: &mut W) -> Result<Status, Stop>
-    ensures { IfOk result IsCarriedOut }
-{
-    let number = refusal.number();
-    writeln!(out, "refused {number}")?;
-    Ok(Status::Refused)
 }
 
 // Prints each datagram that is to be sent in hex, or that there is none.

@@ -38,9 +38,24 @@ fn perform<R: AllocGlobal + Files + Net + Clock + RandomSource, W: Write>(
             body,
             datagram,
         } => answer(alloc, path, body, datagram.as_slice(), out),
-        Order::Pair { path, body, word } => pair(rt, path, body, *word, out),
-        Order::Serve { port, count, word } => serve(rt, *port, *count, *word, out),
-        Order::Get { port, path, word } => get(rt, *port, path, *word, out),
+        Order::Pair {
+            path,
+            body,
+            word,
+            limit,
+        } => pair(rt, path, body, *word, *limit, out),
+        Order::Serve {
+            port,
+            count,
+            word,
+            limit,
+        } => serve(rt, *port, *count, *word, *limit, out),
+        Order::Get {
+            port,
+            path,
+            word,
+            limit,
+        } => get(rt, *port, path, *word, *limit, out),
         Order::Sim { file, store } => sim(rt, file, *store, out),
     }
 }

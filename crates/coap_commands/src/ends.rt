@@ -1,18 +1,22 @@
 //! The ends that the programs run.
-ghost use Rattle.std.specs.Prelude.{◌≡◌, ◌<◌, ℕ, [], ◌∷◌, Ok, Some, IfOk, IfNone, IfErr, length};
+ghost use Rattle.std.specs.Prelude.{◌≡◌, ℕ, [], ◌∷◌, Ok, Some, IfOk, IfNone};
 ghost use Rattle.coap_resource.specs.Content.{Content};
 ghost use Rattle.coap_resource.specs.Entries.{content_of};
+ghost use Rattle.coap_resource.specs.Limits.{Limits};
 ghost use Rattle.coap_client.specs.Led.{Led as ClientLed};
 ghost use Rattle.coap_server.specs.Object.Shown.{state_of};
 ghost use Rattle.coap_server.specs.Led.{Led};
 ghost use Rattle.coap_server.specs.Trace.{Sets};
+ghost use Rattle.coap_commands.specs.Ends.{client_sizes, server_limits};
+ghost use Rattle.coap_commands.specs.Statuses.{IsCarriedOut};
 
-use crate::status::Stop;
+use crate::status::{Status, Stop};
 use coap_ends::{Client, Server};
 use coap_resource::{MAX_CHANGES_PER_WINDOW, MapStore, Store, StoreRefusal};
-use coap_types::{Endpoint, MAX_SZX, Moment, Path, Szx};
+use coap_types::{BodyLimit, Endpoint, MAX_SZX, Moment, Path, Szx};
 use std::alloc::Global;
 use std::hash::BuildHasher;
+use std::io::Write;
 
 /// The format of what the server's own side sets: text/plain (RFC 7252, section 12.3).
 pub(crate) const TEXT_PLAIN: u16 = 0;
@@ -29,30 +33,33 @@ pub fn largest_szx() -> Szx
     }
 }
 
-/// A server that holds nothing.
+/// A server that holds nothing, and then bodies up to this limit.
 pub fn fresh_server<H: BuildHasher + Drop>(
     alloc: Global,
     word: u64,
+    limit: BodyLimit,
     hasher: H,
 ) -> Server<MapStore, Global, H>
-    ensures { Led MAX_CHANGES_PER_WINDOW MAX_SZX word [] (state_of content_of result) }
+    ensures { Led (server_limits limit) MAX_SZX word [] (state_of content_of result) }
 {
-    let Some(store) = MapStore::new(alloc, MAX_CHANGES_PER_WINDOW) else {
+    let Some(store) = MapStore::new_sized(alloc, MAX_CHANGES_PER_WINDOW, limit) else {
         unreachable!()
     };
     Server::with_hasher(alloc, store, largest_szx(), word, hasher)
 }
 
-/// A client of the server at this endpoint, to which nothing has happened.
+/// A client of the server at this endpoint, to which nothing has happened, and which takes bodies up
+/// to this limit.
 pub fn fresh_client<H: BuildHasher + Drop>(
     alloc: Global,
     server: Endpoint,
     word: u64,
+    limit: BodyLimit,
     hasher: H,
 ) -> Client<Global, H>
-    ensures { ClientLed server MAX_SZX word [] result }
+    ensures { ClientLed server (client_sizes limit) word [] result }
 {
-    Client::with_hasher(alloc, server, largest_szx(), word, hasher)
+    Client::with_limit(alloc, server, largest_szx(), word, limit, hasher)
 }
 
 /// Has a server that holds nothing hold this text at this path; the refusal of its store where it
@@ -63,9 +70,9 @@ pub fn hold<H: BuildHasher + Drop>(
     body: &[u8],
 ) -> Result<Option<StoreRefusal>, Stop>
     // The one call that made it so.
-    ensures holds { (word : ℕ) → Led MAX_CHANGES_PER_WINDOW MAX_SZX word [] (state_of content_of server.old)
+    ensures holds { (limits : Limits) (word : ℕ) → Led limits MAX_SZX word [] (state_of content_of server.old)
         → IfOk result (λ refusal. IfNone refusal ((version : ℕ) × (store : Content)
-        × Led MAX_CHANGES_PER_WINDOW MAX_SZX word (Sets 0 path.now (Some TEXT_PLAIN) body.now (Ok version) store ∷ [])
+        × Led limits MAX_SZX word (Sets 0 path.now (Some TEXT_PLAIN) body.now (Ok version) store ∷ [])
         (state_of content_of server.new))) }
 {
     match server.set(Moment(0), path, Some(TEXT_PLAIN), body) {
@@ -73,4 +80,13 @@ pub fn hold<H: BuildHasher + Drop>(
         Err(StoreRefusal::Memory) => Err(Stop::Memory),
         Err(refusal) => Ok(Some(refusal)),
     }
+}
+
+/// Prints why a server does not hold what it was to hold.
+pub(crate) fn tell_refusal<W: Write>(refusal: StoreRefusal, out: &mut W) -> Result<Status, Stop>
+    ensures { IfOk result IsCarriedOut }
+{
+    let number = refusal.number();
+    writeln!(out, "refused {number}")?;
+    Ok(Status::Refused)
 }

@@ -9,7 +9,7 @@ use crate::status::{Status, Stop};
 use crate::timekeeper::{ProgramTime, Timekeeper};
 use coap_ends::{Client, Report};
 use coap_links::{ANY_PORT, Link, UdpLink, fresh_tally, get_turn, send_all};
-use coap_types::{Endpoint, Path};
+use coap_types::{BodyLimit, Endpoint, Path};
 use std::alloc::Global;
 use std::hash::{BuildHasher, RandomState};
 use std::io::Write;
@@ -64,8 +64,8 @@ fn tell<W: Write>(alloc: Global, outcome: &Outcome, out: &mut W) -> Result<Statu
     Ok(Status::Refused)
 }
 
-/// Gets what the server holds at the path, and prints its body; or why it can't. The word is the
-/// one that the client begins with.
+/// Gets what the server holds at the path, and prints its body; or why it can't. The client begins
+/// with this word, and takes bodies up to this limit.
 pub fn get_over<L: Link, T: Timekeeper, H: BuildHasher + Drop, W: Write>(
     alloc: Global,
     link: &mut L,
@@ -74,11 +74,12 @@ pub fn get_over<L: Link, T: Timekeeper, H: BuildHasher + Drop, W: Write>(
     hasher: H,
     path: &Path,
     word: u64,
+    limit: BodyLimit,
     out: &mut W,
 ) -> Result<Status, Stop>
     ensures { IfOk result IsCarriedOut }
 {
-    let mut client = fresh_client(alloc, server, word, hasher);
+    let mut client = fresh_client(alloc, server, word, limit, hasher);
     let ended = match ask(&mut client, link, time, path, word) {
         Ok(outcome) => tell(alloc, &outcome, out),
         Err(stop) => Err(stop),
@@ -93,6 +94,7 @@ pub fn get<R: AllocGlobal + Net + Clock + RandomSource, W: Write>(
     port: u16,
     path: &Path,
     word: u64,
+    limit: BodyLimit,
     out: &mut W,
 ) -> Result<Status, Stop>
     ensures { IfOk result IsCarriedOut }
@@ -112,6 +114,7 @@ pub fn get<R: AllocGlobal + Net + Clock + RandomSource, W: Write>(
         hasher,
         path,
         word,
+        limit,
         out,
     )
 }

@@ -9,7 +9,7 @@ use crate::status::{Status, Stop};
 use crate::timekeeper::{ProgramTime, Timekeeper};
 use coap_ends::{Client, End, Report};
 use coap_links::{ANY_PORT, Link, UdpLink};
-use coap_types::{Code, Path, Request};
+use coap_types::{BodyLimit, Code, Path, Request};
 use std::alloc::Global;
 use std::hash::{BuildHasher, RandomState};
 use std::io::Write;
@@ -132,8 +132,8 @@ fn tell_get<W: Write>(
 }
 
 /// Puts a body at a path and gets it back, between a client and a server that take turns, and
-/// prints what became of both requests; done where what came back is the body. The word is the one
-/// that each end begins with; the first hasher is the client's.
+/// prints what became of both requests; done where what came back is the body. Each end begins with
+/// this word, and takes bodies up to this limit; the first hasher is the client's.
 pub fn pair_over<
     C: Link,
     S: Link,
@@ -150,13 +150,14 @@ pub fn pair_over<
     path: &Path,
     body: &[u8],
     word: u64,
+    limit: BodyLimit,
     out: &mut W,
 ) -> Result<Status, Stop>
     ensures { IfOk result IsCarriedOut }
 {
     let (client_hasher, server_hasher) = hashers;
-    let mut client = fresh_client(alloc, server_link.address(), word, client_hasher);
-    let mut server = fresh_server(alloc, word, server_hasher);
+    let mut client = fresh_client(alloc, server_link.address(), word, limit, client_hasher);
+    let mut server = fresh_server(alloc, word, limit, server_hasher);
     let mut ends = BothEnds {
         client: Side::new(&mut client, client_link, word),
         server: Side::new(&mut server, server_link, word),
@@ -173,6 +174,7 @@ pub fn pair<R: AllocGlobal + Net + Clock + RandomSource, W: Write>(
     path: &Path,
     body: &str,
     word: u64,
+    limit: BodyLimit,
     out: &mut W,
 ) -> Result<Status, Stop>
     ensures { IfOk result IsCarriedOut }
@@ -190,6 +192,7 @@ pub fn pair<R: AllocGlobal + Net + Clock + RandomSource, W: Write>(
         path,
         body.as_bytes(),
         word,
+        limit,
         out,
     )
 }

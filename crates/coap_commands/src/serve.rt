@@ -2,13 +2,14 @@ ghost use Rattle.std.specs.Prelude.{◌≡◌, IfOk};
 ghost use Rattle.coap_commands.specs.Statuses.{IsCarriedOut};
 
 use crate::bearing::bear;
-use crate::ends::{fresh_server, hold};
+use crate::ends::{fresh_server, hold, tell_refusal};
 use crate::put_away::put_away;
 use crate::status::{Status, Stop};
 use crate::timekeeper::{ProgramTime, Timekeeper};
 use coap_ends::{End, Server};
 use coap_links::{Link, UdpLink, fresh_tally, send_all, serve_turn};
-use coap_resource::MapStore;
+use coap_resource::{MapStore, StoreRefusal};
+use coap_types::BodyLimit;
 use coap_words::path_of_text;
 use std::alloc::{Allocator, Global};
 use std::hash::{BuildHasher, RandomState};
@@ -48,18 +49,16 @@ const PATH: &str = "temperature";
 
 const BODY: &str = "22.3 C";
 
-/// Has the server hold the resource: the text of a temperature.
+/// Has the server hold the resource, the text of a temperature; the refusal of its store where it
+/// doesn't.
 pub fn hold_resource<H: BuildHasher + Drop>(
     alloc: Global,
     server: &mut Server<MapStore, Global, H>,
-) -> Result<(), Stop> {
+) -> Result<Option<StoreRefusal>, Stop> {
     let Ok(path) = path_of_text(alloc, PATH) else {
         return Err(Stop::Memory);
     };
-    match hold(server, &path, BODY.as_bytes())? {
-        None => Ok(()),
-        Some(_) => Err(Stop::Memory),
-    }
+    hold(server, &path, BODY.as_bytes())
 }
 
 /// Serves the resource at a port of 127.0.0.1 until so many datagrams came.
@@ -68,15 +67,17 @@ pub fn serve<R: AllocGlobal + Net + Clock + RandomSource, W: Write>(
     port: u16,
     count: u64,
     word: u64,
+    limit: BodyLimit,
     out: &mut W,
 ) -> Result<Status, Stop>
     ensures { IfOk result IsCarriedOut }
 {
     let mut time = ProgramTime::begin(rt)?;
     let mut link = UdpLink::bind(rt, port)?;
-    let mut server = fresh_server(rt.alloc(), word, RandomState::new(rt)?);
+    let mut server = fresh_server(rt.alloc(), word, limit, RandomState::new(rt)?);
     let ended = match hold_resource(rt.alloc(), &mut server) {
-        Ok(()) => serve_over(&mut server, &mut link, &mut time, count, word, out),
+        Ok(None) => serve_over(&mut server, &mut link, &mut time, count, word, out),
+        Ok(Some(refusal)) => tell_refusal(refusal, out),
         Err(stop) => Err(stop),
     };
     put_away(server);

@@ -2,8 +2,10 @@
 ghost use Rattle.std.specs.Prelude.{◌≡◌};
 ghost use Rattle.coap_links.specs.Faults.{MayRaise};
 
+use coap_codec::decode;
 use coap_links::{Link, MemoryLink};
-use coap_types::Endpoint;
+use coap_types::option_number::BLOCK1;
+use coap_types::{Endpoint, uint_of};
 use std::alloc::{AllocError, Global};
 use std::cell::RefCell;
 use std::collections::VecDeque;
@@ -47,6 +49,18 @@ pub struct JoinedLink<'a> {
     here: &'a Road,
     handed: u64,
     faults: u64,
+    block1: Option<u32>,
+}
+
+// The value of Block1 in a datagram, where it has one (RFC 7959, section 2.1).
+fn block1_of(bytes: &[u8]) -> Option<u32> {
+    let message = decode(bytes).ok()?;
+    for option in message.options() {
+        if option.number == BLOCK1 {
+            return uint_of(option.value);
+        }
+    }
+    None
 }
 
 impl<'a> JoinedLink<'a> {
@@ -73,7 +87,13 @@ impl<'a> JoinedLink<'a> {
             here,
             handed: 0,
             faults: 0,
+            block1: None,
         }
+    }
+
+    /// The value of the last Block1 that it was handed.
+    pub fn last_block1(&self) -> Option<u32> {
+        self.block1
     }
 
     // Puts what the link in memory was handed on its way.
@@ -135,6 +155,9 @@ impl<'a> Link for JoinedLink<'a> {
     fn send(&mut self, to: Endpoint, bytes: &[u8]) {
         if self.failing == Failing::EachSend {
             self.link.fail_send(1);
+        }
+        if let Some(value) = block1_of(bytes) {
+            self.block1 = Some(value);
         }
         self.link.send(to, bytes);
         let _ = self.carry();

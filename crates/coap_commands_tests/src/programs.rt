@@ -1,9 +1,9 @@
 use crate::pair::Clock;
 use crate::refusing_end::RefusingEnd;
-use crate::rows::{check_row, repeated, words_of};
+use crate::rows::{Row, check_row, repeated, words_of};
 use coap_commands::{Stop, close, command, fresh_server, get_over, hold_resource, serve_over};
 use coap_links::{ANY_PORT, Link, MemoryLink, UdpLink};
-use coap_types::{Endpoint, Path};
+use coap_types::{BodyLimit, Endpoint, Path};
 use coap_words::path_of_text;
 use std::alloc::{AllocError, Global};
 use std::hash::{BuildHasherDefault, FoldHasher};
@@ -51,7 +51,43 @@ fn pairs_over_sockets(rt: HostRuntime) -> Result<(), Fail> {
     check_row(&rt, &["pair", "t", "hi"], 0, "put 2.01\nget 2.05 2\n")?;
     let body = repeated(rt.alloc(), "a", 65_537)?;
     check_row(&rt, &["pair", "t", body.as_str()], 1, "put refused 2\n")?;
-    check_row(&rt, &["serve", "5700", "0"], 0, "served 0\n")?;
+    Ok(())
+}
+
+#[test]
+fn pairs_of_a_chosen_limit(rt: HostRuntime) -> Result<(), Fail> {
+    let rows: [Row<'_>; 2] = [
+        (
+            &["pair", "t", "1234", "--limit", "4"],
+            0,
+            "put 2.01\nget 2.05 4\n",
+        ),
+        (
+            &["pair", "t", "12345", "--limit", "4"],
+            1,
+            "put refused 2\n",
+        ),
+    ];
+    for (words, status, printed) in rows {
+        check_row(&rt, words, status, printed)?;
+    }
+    let body = repeated(rt.alloc(), "a", 1_048_576)?;
+    let words = ["pair", "big", body.as_str(), "--limit", "1048576"];
+    check_row(&rt, &words, 0, "put 2.01\nget 2.05 1048576\n")?;
+    Ok(())
+}
+
+#[test]
+fn servers_of_no_datagram(rt: HostRuntime) -> Result<(), Fail> {
+    let rows: [Row<'_>; 3] = [
+        (&["serve", "5700", "0"], 0, "served 0\n"),
+        (&["serve", "5700", "0", "--limit", "6"], 0, "served 0\n"),
+        // `22.3 C` has 6 bytes.
+        (&["serve", "5700", "0", "--limit", "5"], 1, "refused 2\n"),
+    ];
+    for (words, status, printed) in rows {
+        check_row(&rt, words, status, printed)?;
+    }
     Ok(())
 }
 
@@ -101,6 +137,7 @@ const TOO_LONG: [u8; 2_049] = [0; 2_049];
 fn get_in_memory(
     alloc: Global,
     path: &Path,
+    limit: BodyLimit,
     reply: &[u8],
     told: &mut Vec<u8>,
 ) -> Result<u8, AllocError> {
@@ -112,7 +149,9 @@ fn get_in_memory(
     }
     let hasher = BuildHasherDefault::<FoldHasher>::new();
     let mut time = Clock { now: 0 };
-    let ended = get_over(alloc, &mut link, FAR, &mut time, hasher, path, 0, told);
+    let ended = get_over(
+        alloc, &mut link, FAR, &mut time, hasher, path, 0, limit, told,
+    );
     drop(link);
     Ok(close(ended, told).number())
 }
@@ -120,17 +159,20 @@ fn get_in_memory(
 #[test]
 fn what_a_get_prints(rt: HostRuntime) -> Result<(), Fail> {
     let path = path_of_text(rt.alloc(), "t")?;
-    let content = b"\x68\x45\0\0\0\0\0\0\0\0\0\0\x48\0\0\0\0\0\0\0\x01\x80\xffhi";
-    let cases: [(&[u8], u8, &str); 4] = [
-        (content, 0, "hi"),
-        (b"\x68\x84\0\0\0\0\0\0\0\0\0\0", 1, "failed 4.04\n"),
-        (b"\x70\0\0\0", 1, "reset\n"),
-        (b"", 1, "timeout\n"),
+    let content = b"\x68\x45\0\0\0\0\0\0\0\0\0\0\x48\0\0\0\0\0\0\0\x01\x80\xff22.3 C";
+    let cases: [(usize, &[u8], u8, &str); 6] = [
+        (65_536, content, 0, "22.3 C"),
+        (6, content, 0, "22.3 C"),
+        (5, content, 1, "too-large\n"),
+        (65_536, b"\x68\x84\0\0\0\0\0\0\0\0\0\0", 1, "failed 4.04\n"),
+        (65_536, b"\x70\0\0\0", 1, "reset\n"),
+        (65_536, b"", 1, "timeout\n"),
     ];
-    for (reply, status, printed) in cases {
+    for (limit, reply, status, printed) in cases {
+        let limit = BodyLimit::new(limit).ok_or("no limit")?;
         let mut told = Vec::new(rt.alloc());
         assert_eq!(rt;
-            get_in_memory(rt.alloc(), &path, reply, &mut told)?,
+            get_in_memory(rt.alloc(), &path, limit, reply, &mut told)?,
             status,
             "at {printed}"
         );
@@ -144,10 +186,12 @@ fn serve_in_memory(alloc: Global, count: u64, told: &mut Vec<u8>) -> Result<(), 
     let mut link = MemoryLink::new(alloc, FAR);
     link.give(NEAR, b"\x40\x01\x7d\x34\xbbtemperature")?;
     link.give(NEAR, &[0x40, 0, 0, 1])?;
-    let mut server = fresh_server(alloc, 0, BuildHasherDefault::<FoldHasher>::new());
+    let hasher = BuildHasherDefault::<FoldHasher>::new();
+    let mut server = fresh_server(alloc, 0, BodyLimit::default(), hasher);
     let mut time = Clock { now: 0 };
-    if hold_resource(alloc, &mut server).is_err() {
-        return Err(AllocError);
+    match hold_resource(alloc, &mut server) {
+        Ok(None) => {}
+        Ok(Some(_)) | Err(_) => return Err(AllocError),
     }
     let ended = serve_over(&mut server, &mut link, &mut time, count, 0, told);
     drop(server);

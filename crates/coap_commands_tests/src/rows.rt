@@ -119,12 +119,18 @@ fn check_wrong<R: Abort + AllocGlobal + Files + Net + Clock + RandomSource>(
 
 #[test]
 fn wrong_words(rt: HostRuntime) -> Result<(), Fail> {
-    let cases: [&[&str]; 26] = [
+    let cases: [&[&str]; 32] = [
         &["pair"],
         &["pair", "t"],
         &["pair", "t", "hi", "--word"],
         &["pair", "t", "hi", "--word", "18446744073709551616"],
         &["pair", "t", "hi", "--word", "-1"],
+        &["pair", "t", "hi", "--limit"],
+        &["pair", "t", "hi", "--limit", "0"],
+        &["pair", "t", "hi", "--limit", "5", "--limit", "5"],
+        &["serve", "5683", "1", "--limit", "1048577"],
+        &["get", "5683", "t", "--limit", "18446744073709551616"],
+        &["answer", "t", "hi", "40010001", "--limit", "5"],
         &["serve", "5683"],
         &["serve", "65536", "1"],
         &["serve", "5683", "18446744073709551616"],

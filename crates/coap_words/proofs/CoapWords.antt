@@ -2,14 +2,16 @@
 use Rattle.std.proofs.Common.{◌≡◌, ◌∙◌, ◌⊎◌, ap, ap₂, sym, refl, subst, Bool, true, false, ◌||◌, List, [], Option}
 use Rattle.std.proofs.Common.{Some, None, option_map, unwrap_or, codes, inl, inr, Result, Ok, Err}
 use Rattle.std.specs.Str.{bytes_eq}
-use Rattle.std.specs.Result.{IfErr, IfOk, MatchResult}
+use Rattle.std.specs.Result.{IfErr, IfOk, IsErrAnd, MatchResult}
 use Rattle.std.proofs.lemmas.Slice.Eq.{bytes_eq-Decides}
 use Rattle.clap.proofs.OnLiterals.{clap_on_literals}
-use Rattle.clap.specs.Words.{App, HasMatchesOf, Row, Text, fault_of, is_simple, is_simple_and_free}
-use Rattle.clap.specs.Words.{subcommand_name_of, subcommand_of, subcommand_rows_of}
+use Rattle.clap.specs.Words.{App, HasKind, HasMatchesOf, IsAmong, Kinds, Row, Text, fault_of, is_simple}
+use Rattle.clap.specs.Words.{is_simple_and_free, kind_of, subcommand_name_of, subcommand_of, subcommand_rows_of}
+use Rattle.clap.specs.declared.error.Error.{Error}
 use Rattle.clap.specs.declared.parser.matches.ArgMatches.{ArgMatches}
 use Rattle.coap_words.specs.CommandLine.{coap_app}
 use Rattle.coap_words.specs.Words.{Enters, IsGiven, IsWrong, IsWrongIn, AsksFor, AsksForIn}
+use Rattle.coap_words.specs.Wrongs.{IsWrongOfClap}
 use Rattle.coap_words.specs.declared.orders.Order.{Order}
 use Rattle.coap_words.specs.declared.orders.Wrong.{Wrong}
 use Rattle.coap_words.specs.declared.orders.Wrong.TheVariants.{Words, Path, Number, Store, Hex, Memory}
@@ -168,3 +170,24 @@ pub wrong_by : (words : List Text) (name : Text) (rows : List Row) (r : Result O
     → MatchResult r (AsksForIn name rows) (IsWrongIn name rows) → IfErr r (IsWrong words)
 wrong_by words name rows (Ok o) e h = tt
 wrong_by words name rows (Err w) e h = wrong_in words name rows w e h
+
+-- ---- a parse that fails
+
+wrong_of_clap : (words : List Text) (faults : Kinds) (e : Error) (w : Wrong) → fault_of coap_app words ≡ faults
+    → IsWrongOfClap e w → HasKind faults e → IsWrong words w
+wrong_of_clap words faults e (Words own) same h kind =
+    subst (λ ks. IsAmong (kind_of own) ks) (sym same)
+    (subst (λ x. IsAmong (kind_of x) faults) (sym h.0) (elim kind [ inl none ↦ absurd (h.1 none) | inr among ↦ among ]))
+wrong_of_clap words faults e (Path refusal) same h kind = absurd h
+wrong_of_clap words faults e (Number refusal) same h kind = absurd h
+wrong_of_clap words faults e Store same h kind = absurd h
+wrong_of_clap words faults e Hex same h kind = absurd h
+wrong_of_clap words faults e Memory same h kind = tt
+
+pub refused_by_clap : (app : App) → app ≡ coap_app → (words : List Text) (e : Error) (r : Result Order Wrong)
+    → IsErrAnd r (λ w. IsWrongOfClap e w) → (is_simple_and_free app ≡ true → HasKind (fault_of app words) e)
+    → IfErr r (IsWrong words)
+refused_by_clap app is words e (Ok o) h kinds = tt
+refused_by_clap app is words e (Err w) h kinds =
+    wrong_of_clap words (fault_of app words) e w (ap (λ (a : App). fault_of a words) (sym is)) h
+    (kinds (ap is_simple_and_free is ∙ is_free_coap))

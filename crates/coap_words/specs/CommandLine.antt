@@ -1,6 +1,6 @@
 -- The command line of the program, as a value: `coap show HEX`, `coap answer PATH BODY HEX`, `coap pair PATH BODY`,
--- `coap serve PORT COUNT` and `coap get PORT PATH`, where these three take `--word N`, and `coap sim FILE`, which takes
--- `--store list|map`. The program builds it of a table of its own.
+-- `coap serve PORT COUNT` and `coap get PORT PATH`, where these three take `--word N` and `--limit N`, and `coap sim FILE`,
+-- which takes `--store list|map`. The program builds it of a table of its own.
 use Rattle.std.specs.Prelude.{List, [], ◌∷◌, Some, true, false, codes}
 use Rattle.clap.specs.Simple.{new_shape}
 use Rattle.clap.specs.Words.{App, Rule, Text, new_app, new_rule}
@@ -18,6 +18,10 @@ option_of name = record (new_rule name) { long = Some name; action = Some Set; v
 abbrev pub word_option : Rule
 word_option = option_of (codes "word")
 
+-- `--limit N`
+abbrev pub limit_option : Rule
+limit_option = option_of (codes "limit")
+
 -- `--store list|map`
 abbrev pub store_option : Rule
 store_option = option_of (codes "store")
@@ -34,13 +38,16 @@ answer_app = leaf (codes "answer")
     (required_word (codes "PATH") ∷ required_word (codes "BODY") ∷ required_word (codes "HEX") ∷ [])
 
 abbrev pub pair_app : App
-pair_app = leaf (codes "pair") (required_word (codes "PATH") ∷ required_word (codes "BODY") ∷ word_option ∷ [])
+pair_app = leaf (codes "pair")
+    (required_word (codes "PATH") ∷ required_word (codes "BODY") ∷ word_option ∷ limit_option ∷ [])
 
 abbrev pub serve_app : App
-serve_app = leaf (codes "serve") (required_word (codes "PORT") ∷ required_word (codes "COUNT") ∷ word_option ∷ [])
+serve_app = leaf (codes "serve")
+    (required_word (codes "PORT") ∷ required_word (codes "COUNT") ∷ word_option ∷ limit_option ∷ [])
 
 abbrev pub get_app : App
-get_app = leaf (codes "get") (required_word (codes "PORT") ∷ required_word (codes "PATH") ∷ word_option ∷ [])
+get_app = leaf (codes "get")
+    (required_word (codes "PORT") ∷ required_word (codes "PATH") ∷ word_option ∷ limit_option ∷ [])
 
 abbrev pub sim_app : App
 sim_app = leaf (codes "sim") (required_word (codes "FILE") ∷ store_option ∷ [])

@@ -1,29 +1,39 @@
--- Numbers on the command line: decimal numerals, before which a `+` may stand. Each argument has a greatest value.
-use Rattle.std.specs.Prelude.{◌≡◌, ◌≤◌, ◌<◌, ◌-◌, ◌^◌, ℕ, codes}
+-- Numbers on the command line: decimal numerals, before which a `+` may stand. Each argument has a least and a greatest
+-- value.
+use Rattle.std.specs.Prelude.{◌≡◌, ◌≤◌, ◌<◌, ◌-◌, ◌^◌, ◌⊎◌, ℕ, codes}
 use Rattle.std.specs.Str.Parse.{IsNumeral, digits_value, without_leading_plus}
 use Rattle.clap.specs.Words.{Text}
+use Rattle.coap_types.specs.declared.body_limit.TheConstants.{MAX_BODY_LIMIT as max_body_limit}
 use Rattle.coap_words.specs.declared.orders.NumberRefusal.{NumberRefusal}
-use Rattle.coap_words.specs.declared.orders.NumberRefusal.TheVariants.{Port, Count, Word}
+use Rattle.coap_words.specs.declared.orders.NumberRefusal.TheVariants.{Port, Count, Word, Limit}
 
 -- the text says this number
 abbrev pub IsNumber : Text → ℕ → Type 0
 IsNumber text n = IsNumeral 10 (without_leading_plus text) × (digits_value 10 (without_leading_plus text) ≡ n)
 
--- the argument that is refused so, by its name in clap, and its greatest value
+-- the argument that is refused so, by its name in clap, its least and its greatest value
 abbrev pub argument_of : NumberRefusal → Text
 argument_of Port = codes "PORT"
 argument_of Count = codes "COUNT"
 argument_of Word = codes "word"
+argument_of Limit = codes "limit"
+
+abbrev pub least_of : NumberRefusal → ℕ
+least_of Port = 0
+least_of Count = 0
+least_of Word = 0
+least_of Limit = 1
 
 abbrev pub most_of : NumberRefusal → ℕ
 most_of Port = 2 ^ 16 - 1
 most_of Count = 2 ^ 64 - 1
 most_of Word = 2 ^ 64 - 1
+most_of Limit = max_body_limit
 
 -- the text says a number in range
 abbrev pub IsInRange : NumberRefusal → Text → ℕ → Type 0
-IsInRange argument text n = IsNumber text n × (n ≤ most_of argument)
+IsInRange argument text n = IsNumber text n × (least_of argument ≤ n) × (n ≤ most_of argument)
 
 -- it says none
 abbrev pub IsOutOfRange : NumberRefusal → Text → Type 0
-IsOutOfRange argument text = (n : ℕ) → IsNumber text n → most_of argument < n
+IsOutOfRange argument text = (n : ℕ) → IsNumber text n → (n < least_of argument) ⊎ (most_of argument < n)

@@ -3,6 +3,7 @@ use Rattle.std.specs.Prelude.{ℕ, List, [], ◌≡◌, ◌≢◌, ◌⊎◌, �
 use Rattle.clap.specs.Words.{IsAmong, Row, Text, fault_of, first_of, kind_of, subcommand_of}
 use Rattle.clap.specs.declared.error.Error.{Error}
 use Rattle.coap_types.specs.Path.{HoldsAtMost}
+use Rattle.coap_types.specs.declared.body_limit.TheConstants.{DEFAULT_BODY_LIMIT as default_body_limit}
 use Rattle.coap_types.specs.declared.path.PathRefusal.{PathRefusal}
 use Rattle.coap_types.specs.declared.path.TheConstants.{MAX_SEGMENT_LEN as max_segment_len}
 use Rattle.coap_types.specs.declared.path.TheConstants.{MAX_SEGMENTS as max_segments}
@@ -13,7 +14,7 @@ use Rattle.coap_words.specs.PathText.{IsNoPath, IsPathText, IsTrueOf}
 use Rattle.coap_words.specs.declared.orders.Order.{Order}
 use Rattle.coap_words.specs.declared.orders.Order.TheVariants.{Show, Answer, Pair, Serve, Get, Sim}
 use Rattle.coap_words.specs.declared.orders.NumberRefusal.{NumberRefusal}
-use Rattle.coap_words.specs.declared.orders.NumberRefusal.TheVariants.{Port, Count, Word}
+use Rattle.coap_words.specs.declared.orders.NumberRefusal.TheVariants.{Port, Count, Word, Limit}
 use Rattle.coap_words.specs.declared.orders.StoreKind.{StoreKind}
 use Rattle.coap_words.specs.declared.orders.StoreKind.TheVariants as kind
 use Rattle.coap_words.specs.declared.orders.TheConstants.{DEFAULT_WORD as default_word}
@@ -61,6 +62,10 @@ HasNoNumber argument values = (text : Text) × IsValue (argument_of argument) va
 abbrev pub HasWord : List Row → ℕ → Type 0
 HasWord values n = ((first_of (codes "word") values ≡ None) × (n ≡ default_word)) ⊎ HasNumber Word values n
 
+-- `--limit` has this number, or is left out and stands for the default
+abbrev pub HasLimit : List Row → ℕ → Type 0
+HasLimit values n = ((first_of (codes "limit") values ≡ None) × (n ≡ default_body_limit)) ⊎ HasNumber Limit values n
+
 -- how a store is named
 abbrev pub store_name : StoreKind → Text
 store_name kind.List = codes "list"
@@ -82,14 +87,15 @@ AsksForIn subcommand values (Show datagram) = (subcommand ≡ codes "show") × H
 AsksForIn subcommand values (Answer path body datagram) =
     (subcommand ≡ codes "answer") × HasPath values path × HoldsAtMost max_segments max_segment_len path
     × IsValue (codes "BODY") values body.now × HasBytes values datagram.items
-AsksForIn subcommand values (Pair path body word) =
+AsksForIn subcommand values (Pair path body word limit) =
     (subcommand ≡ codes "pair") × HasPath values path × HoldsAtMost max_segments max_segment_len path
-    × IsValue (codes "BODY") values body.now × HasWord values word
-AsksForIn subcommand values (Serve port count word) =
+    × IsValue (codes "BODY") values body.now × HasWord values word × HasLimit values limit
+AsksForIn subcommand values (Serve port count word limit) =
     (subcommand ≡ codes "serve") × HasNumber Port values port × HasNumber Count values count × HasWord values word
-AsksForIn subcommand values (Get port path word) =
+    × HasLimit values limit
+AsksForIn subcommand values (Get port path word limit) =
     (subcommand ≡ codes "get") × HasNumber Port values port × HasPath values path
-    × HoldsAtMost max_segments max_segment_len path × HasWord values word
+    × HoldsAtMost max_segments max_segment_len path × HasWord values word × HasLimit values limit
 AsksForIn subcommand values (Sim file store) =
     (subcommand ≡ codes "sim") × IsValue (codes "FILE") values file.now × HasStore values store
 
@@ -108,11 +114,16 @@ IsPathFine subcommand values = (subcommand ≡ codes "show")
 abbrev pub TakesPath : Text → Type 0
 TakesPath subcommand = (subcommand ≡ codes "answer") ⊎ ((subcommand ≡ codes "pair") ⊎ (subcommand ≡ codes "get"))
 
+-- the subcommand makes an end, and so takes the options of one
+abbrev pub MakesEnd : Text → Type 0
+MakesEnd subcommand = (subcommand ≡ codes "pair") ⊎ ((subcommand ≡ codes "serve") ⊎ (subcommand ≡ codes "get"))
+
 -- the subcommand takes this argument, a number
 abbrev pub TakesNumber : NumberRefusal → Text → Type 0
 TakesNumber Port subcommand = (subcommand ≡ codes "serve") ⊎ (subcommand ≡ codes "get")
 TakesNumber Count subcommand = subcommand ≡ codes "serve"
-TakesNumber Word subcommand = (subcommand ≡ codes "pair") ⊎ ((subcommand ≡ codes "serve") ⊎ (subcommand ≡ codes "get"))
+TakesNumber Word subcommand = MakesEnd subcommand
+TakesNumber Limit subcommand = MakesEnd subcommand
 
 -- clap refuses the words, and the error is of a kind that they call for
 abbrev pub IsRefusedBy : Error → List Text → Type 0

@@ -3,7 +3,7 @@ ghost use Rattle.std.specs.Prelude.{◌≡◌};
 ghost use Rattle.coap_words.specs.Wrongs.{wrong_number};
 
 use clap::error::ErrorKind;
-use coap_types::{Path, PathRefusal};
+use coap_types::{BodyLimit, Path, PathRefusal};
 use hex::FromHexError;
 use std::alloc::AllocError;
 use thiserror::Error;
@@ -33,6 +33,8 @@ pub enum Order<'a> {
         body: &'a str,
         /// The word that each end begins with.
         word: u64,
+        /// The longest body that each end takes.
+        limit: BodyLimit,
     },
     /// Serve a resource until so many datagrams came.
     Serve {
@@ -42,6 +44,8 @@ pub enum Order<'a> {
         count: u64,
         /// The word that the server begins with.
         word: u64,
+        /// The longest body that the server takes.
+        limit: BodyLimit,
     },
     /// Get what a server holds at a path.
     Get {
@@ -51,6 +55,8 @@ pub enum Order<'a> {
         path: Path,
         /// The word that the client begins with.
         word: u64,
+        /// The longest body that the client takes.
+        limit: BodyLimit,
     },
     /// Run a script.
     Sim {
@@ -88,6 +94,9 @@ pub enum NumberRefusal {
     /// A word.
     #[error("--word is no number from 0 to 18446744073709551615")]
     Word,
+    /// The longest body.
+    #[error("--limit is no number from 1 to 1048576")]
+    Limit,
 }
 
 /// Why the words give no order. `Words`, `Path`, `Number` and `Store` are one refusal, that of wrong

@@ -59,6 +59,12 @@ const WORD: Argument = Argument {
     help: "the word that an end begins with, 1 where it is left out",
 };
 
+const LIMIT: Argument = Argument {
+    form: Form::Single { value_name: "N" },
+    name: "limit",
+    help: "the longest body in bytes, from 1 to 1048576, 65536 where it is left out",
+};
+
 const STORE: Argument = Argument {
     form: Form::Single {
         value_name: "list|map",
@@ -82,17 +88,17 @@ pub(crate) static SUBCOMMANDS: [Subcommand; 6] = [
     Subcommand {
         name: "pair",
         about: "Puts BODY at PATH and gets it back, between a client and a server of this program over UDP",
-        arguments: &[PATH, PUT_BODY, WORD],
+        arguments: &[PATH, PUT_BODY, WORD, LIMIT],
     },
     Subcommand {
         name: "serve",
         about: "Serves the resource temperature on 127.0.0.1 until COUNT datagrams came",
-        arguments: &[OWN_PORT, COUNT, WORD],
+        arguments: &[OWN_PORT, COUNT, WORD, LIMIT],
     },
     Subcommand {
         name: "get",
         about: "Prints what the server at a port of 127.0.0.1 holds at PATH",
-        arguments: &[SERVER_PORT, PATH, WORD],
+        arguments: &[SERVER_PORT, PATH, WORD, LIMIT],
     },
     Subcommand {
         name: "sim",

@@ -2,15 +2,16 @@
 ghost use Rattle.std.specs.Prelude.{◌≡◌, ◌<◌, ◌-◌, ◌^◌, ℕ, IfOk, IfErr, None, MatchOption, MatchResult, map, codes};
 ghost use Rattle.std.specs.Prelude.{string_bytes};
 ghost use Rattle.clap.specs.Words.{first_of, found_of, rows_of};
-ghost use Rattle.coap_words.specs.Words.{AsksFor, AsksForIn, HasNoNumber, HasNoStore, HasNumber, HasStore, HasWord};
-ghost use Rattle.coap_words.specs.Words.{IsGiven, IsValue, IsWrong, IsWrongIn};
-ghost use Rattle.coap_words.specs.Numbers.{IsNumber};
-ghost use Rattle.coap_words.specs.declared.orders.NumberRefusal.TheVariants.{Count, Port, Word};
+ghost use Rattle.coap_words.specs.Words.{AsksFor, AsksForIn, HasLimit, HasNoNumber, HasNoStore, HasNumber};
+ghost use Rattle.coap_words.specs.Words.{HasStore, HasWord, IsGiven, IsValue, IsWrong, IsWrongIn};
+ghost use Rattle.coap_words.specs.Numbers.{IsInRange, IsNumber, IsOutOfRange};
+ghost use Rattle.coap_words.specs.declared.orders.NumberRefusal.TheVariants.{Count, Limit, Port, Word};
 
 use crate::command_line::coap_command;
 use crate::orders::{DEFAULT_WORD, NumberRefusal, Order, StoreKind, Wrong};
 use crate::path_text::path_of_text;
 use clap::ArgMatches;
+use coap_types::BodyLimit;
 use std::alloc::Global;
 
 /// The order that the words give, of which the first is the program's own name. `clap` reads them,
@@ -81,8 +82,16 @@ fn pair_order<'a>(alloc: Global, given: &ArgMatches<'a>) -> Result<Order<'a>, Wr
     let Some(word) = word(given) else {
         return Err(Wrong::Number(NumberRefusal::Word));
     };
+    let Some(limit) = limit(given) else {
+        return Err(Wrong::Number(NumberRefusal::Limit));
+    };
     let body = value(given, "BODY");
-    Ok(Order::Pair { path, body, word })
+    Ok(Order::Pair {
+        path,
+        body,
+        word,
+        limit,
+    })
 }
 
 // `coap serve PORT COUNT`
@@ -101,7 +110,15 @@ fn serve_order<'a>(given: &ArgMatches<'a>) -> Result<Order<'a>, Wrong>
     let Some(word) = word(given) else {
         return Err(Wrong::Number(NumberRefusal::Word));
     };
-    Ok(Order::Serve { port, count, word })
+    let Some(limit) = limit(given) else {
+        return Err(Wrong::Number(NumberRefusal::Limit));
+    };
+    Ok(Order::Serve {
+        port,
+        count,
+        word,
+        limit,
+    })
 }
 
 // `coap get PORT PATH`
@@ -119,7 +136,15 @@ fn get_order<'a>(alloc: Global, given: &ArgMatches<'a>) -> Result<Order<'a>, Wro
     let Some(word) = word(given) else {
         return Err(Wrong::Number(NumberRefusal::Word));
     };
-    Ok(Order::Get { port, path, word })
+    let Some(limit) = limit(given) else {
+        return Err(Wrong::Number(NumberRefusal::Limit));
+    };
+    Ok(Order::Get {
+        port,
+        path,
+        word,
+        limit,
+    })
 }
 
 // `coap sim FILE`
@@ -170,6 +195,25 @@ fn word(given: &ArgMatches<'_>) -> Option<u64>
         Some(text) => number(text),
         None => Some(DEFAULT_WORD),
     }
+}
+
+// The longest body that an end takes, where it is in range.
+fn limit(given: &ArgMatches<'_>) -> Option<BodyLimit>
+    ensures { MatchOption result (HasNoNumber Limit (rows_of (found_of given.now)))
+        (HasLimit (rows_of (found_of given.now))) }
+{
+    match optional(given, "limit") {
+        Some(text) => limit_of(text),
+        None => Some(BodyLimit::default()),
+    }
+}
+
+// The limit that a text says.
+fn limit_of(text: &str) -> Option<BodyLimit>
+    ensures { MatchOption result (IsOutOfRange Limit text.now) (IsInRange Limit text.now) }
+{
+    let number = number(text)?;
+    BodyLimit::new(usize::try_from(number).ok()?)
 }
 
 // The store that a script is run over, where `--store` names one.

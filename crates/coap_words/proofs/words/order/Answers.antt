@@ -1,7 +1,7 @@
 use Rattle.std.proofs.Common.{refl, inl, inr}
 use Rattle.coap_words.proofs.CoapWords.{enters_met, ours, said_by, wrong_by, show_hex, answer_hex, answer_path}
 use Rattle.coap_words.proofs.CoapWords.{answer_body, pair_body, pair_path, serve_count, serve_port, get_path}
-use Rattle.coap_words.proofs.CoapWords.{get_port, sim_file}
+use Rattle.coap_words.proofs.CoapWords.{get_port, refused_by_clap, sim_file}
 use Rattle.coap_words.proofs.words.order.Goals as goal
 
 pub show_order-requires : goal.show_order-requires
@@ -93,6 +93,11 @@ returns-in-sim c =
       ok = said_by _ _ _ c.sim_order.result enters c.sim_order.ensures;
       wrong = wrong_by _ _ _ c.sim_order.result enters c.sim_order.ensures;
     }
+
+pub returns-in_err-matches-clause-wrong : goal.returns-in_err-matches-clause-wrong
+returns-in_err-matches-clause-wrong c =
+    refused_by_clap _ c.in_ok-coap_command.ensures _ _ _ c.from_residual-in_err-matches.ensures.1
+    c.in_err-matches.ensures.kinds
 
 pub unreachable-requires-in_default-subcommand : goal.unreachable-requires-in_default-subcommand
 unreachable-requires-in_default-subcommand c =
