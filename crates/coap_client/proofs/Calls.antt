@@ -1,5 +1,6 @@
 pub mod AnsweringLemmas
 pub mod AskableRequests
+pub mod DueLemmas
 pub mod FetchingLemmas
 pub mod GoodOptions
 pub mod Happening

@@ -1,3 +1,4 @@
 pub mod EachCall
 pub mod EachMove
+pub mod Exchanges
 pub mod Laws

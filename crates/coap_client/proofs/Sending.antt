@@ -2,12 +2,15 @@ pub mod ApartLists
 pub mod Asked
 pub mod Begun
 pub mod ConsAreRequests
+pub mod EndsInTime
 pub mod ExchangeBegins
 pub mod Moments
 pub mod NoNons
 pub mod OfCalls
 pub mod OneCon
+pub mod OpenBeneath
 pub mod OpenRuns
+pub mod OpenSince
 pub mod SendingsOfACon
 pub mod SendsBegin
 pub mod SentFor

@@ -26,8 +26,10 @@ pub mod Notified
 pub mod Numbers
 pub mod OfCalls
 pub mod OfObservations
+pub mod Open
 pub mod Order
 pub mod Places
+pub mod Replied
 pub mod Rests
 pub mod Rising
 pub mod Sendings

@@ -1,4 +1,5 @@
 pub mod Closing
+pub mod Due
 pub mod Moves
 pub mod Quiet
 pub mod Work

@@ -1,5 +1,6 @@
 //! The client (RFC 7252, section 5; RFC 7641; RFC 7959).
 mod cancelling;
+mod due;
 mod failing;
 mod fetching;
 mod forgetting;
@@ -26,7 +27,7 @@ mod ticking;
 mod transfer;
 mod uploading;
 
-ghost use Rattle.std.specs.Prelude.{◌≡◌, ◌≢◌, ◌<◌, ◌^◌, ℕ, Bool, false, true, List, ◌∷◌, [], length, Option, Result};
+ghost use Rattle.std.specs.Prelude.{◌≡◌, ◌≢◌, ◌≤◌, ◌<◌, ◌^◌, max, ℕ, Bool, false, true, List, ◌∷◌, [], length, Option, Result};
 ghost use Rattle.std.specs.Prelude.{Ok, Err, None, IfNone, IfOk, IfSome, IsOk, OnOk, OnErr, is_ok};
 ghost use Rattle.std.specs.Option.{option_map};
 ghost use Rattle.coap_types.specs.declared.endpoint.Endpoint.{Endpoint};
@@ -43,16 +44,18 @@ ghost use Rattle.coap_client.specs.Led.{Step, Led, fresh_state};
 ghost use Rattle.coap_client.specs.Trace.{Call, Calls, Observes, Cancels, Forgets, Feeds, Ticks};
 ghost use Rattle.coap_client.specs.Trace.{NextOut, NextReport, Asked};
 ghost use Rattle.coap_client.specs.Object.Shown.{number_of, shown_asked, shown_reported};
+ghost use Rattle.coap_client.specs.Turns.Due.{TicksDo, latest};
 ghost use Rattle.coap_client.specs.Turns.Quiet.{IsIdle, TellsNothing};
 ghost use Rattle.coap_client.specs.Turns.Work.{work};
 
+use crate::client::due::begins_from;
 use crate::client::happening::happen;
 use crate::client::held::Held;
 use crate::client::request_options::{is_long_path, is_long_request};
 use crate::{CallRefusal, CancelRefusal};
 use coap_exchange::Asker;
 use coap_layer::Datagram;
-use coap_types::{BodyLimit, Endpoint, Moment, Path, Request, Szx, Token};
+use coap_types::{BodyLimit, Endpoint, Moment, Path, Request, Szx, Token, earlier};
 pub use report::{CallId, Fetched, Report};
 use std::alloc::{AllocError, Allocator};
 use std::hash::{BuildHasher, BuildHasherDefault, FoldHasher};
@@ -148,6 +151,19 @@ impl<A: Allocator + Copy, H: BuildHasher> Client<A, H> {
             self.asker.undo();
         }
         done
+    }
+
+    /// The first moment at which a tick would do something, unless something is handed in before, and
+    /// no earlier than the last that was handed in; None where it never would. Nothing changes. It
+    /// takes no memory.
+    pub fn due(&self) -> Option<Moment>
+        ensures none { IfNone result ((now : ℕ) → now < 2 ^ 64 → TicksDo false self.now now) }
+        ensures some { IfSome result (λ at. (now : ℕ) → max (latest self.now) now < at.0 → TicksDo false self.now now) }
+        ensures does { IfSome result (λ at. TicksDo true self.now at.0) }
+        ensures from { IfSome result (λ at. latest self.now ≤ at.0) }
+    {
+        let from = self.asker.clock().later(self.held.clock);
+        earlier(self.asker.due(from), begins_from(&self.held, from))
     }
 
     /// Takes a request, which starts at a later tick: its number, or why it is not taken. The lowest

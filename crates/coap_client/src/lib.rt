@@ -2,6 +2,7 @@
 #![tactic(auto)]
 
 mod client;
+mod exchanges;
 mod follows;
 mod laws;
 mod limits;
@@ -10,6 +11,7 @@ mod rests;
 mod values;
 
 pub use client::{CallId, Client, Fetched, Report};
+pub use exchanges::client_exchanges_law;
 pub use follows::client_follows_law;
 pub use laws::{client_law, client_witness};
 pub use limits::{MAX_OBSERVATIONS, MAX_OPTIONS_LEN, MAX_WAITING_CALLS};

@@ -197,8 +197,8 @@ fn take_and_begin<A: Allocator + Copy, H: BuildHasher>(
     begin(asker, held, at, given);
 }
 
-// Whether something waits whose first is not an upload that is held back.
-fn may_start<A: Allocator + Copy>(held: &Held<A>, at: Moment) -> bool
+/// Whether something waits whose first is not an upload that is held back.
+pub(crate) fn may_start<A: Allocator + Copy>(held: &Held<A>, at: Moment) -> bool
     ensures { result ≡ may_start at.0 (own_of held.now) (own_of held.now).queue }
 {
     match held.operations.waiting(0) {

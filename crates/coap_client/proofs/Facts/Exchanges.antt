@@ -1,0 +1,3 @@
+-- How the exchanges of a client go, for proofs above.
+pub use Rattle.coap_client.proofs.Sending.OpenSince.{open_runs}
+pub use Rattle.coap_client.proofs.Sending.EndsInTime.{all_end_in_time}

@@ -1,0 +1,11 @@
+use Rattle.coap_client.specs.Law.{lower_of}
+use Rattle.coap_client.proofs.Sending.EndsInTime.{all_end_in_time}
+use Rattle.coap_client.proofs.Sending.OpenSince.{open_runs}
+use Rattle.coap_client.proofs.exchanges.client_exchanges_law.Goals as goal
+
+pub returns-clause-is_open : goal.returns-clause-is_open
+returns-clause-is_open c = open_runs
+
+pub returns-clause-ends_in_time : goal.returns-clause-ends_in_time
+returns-clause-ends_in_time c server sizes word t law =
+    all_end_in_time server sizes word t law (c.asker_law.ensures.in_time server word (lower_of sizes t) law.exchanges)

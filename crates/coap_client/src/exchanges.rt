@@ -1,0 +1,22 @@
+ghost use Rattle.std.specs.Prelude.{ℕ, List};
+ghost use Rattle.coap_types.specs.declared.endpoint.Endpoint.{Endpoint};
+ghost use Rattle.coap_block.specs.Sizes.{Sizes};
+ghost use Rattle.coap_client.specs.Law.{ClientLaw};
+ghost use Rattle.coap_client.specs.Trace.{Call};
+ghost use Rattle.coap_client.specs.Follows.Open.{AllEndInTime, OpenRuns};
+
+use coap_exchange::asker_law;
+
+/// How the exchanges of a client go, and what their answers make.
+pub fn client_exchanges_law()
+    // An exchange is open exactly where one runs: it began at that moment, and has the token of the request that was
+    // sent last (RFC 7252, section 5.3).
+    ensures is_open { (server : Endpoint) (sizes : Sizes) (word : ℕ) (t : List Call) → ClientLaw server sizes word t
+        → OpenRuns server sizes word t }
+    // A Timeout ends it FAILURE_TIMEOUTS times ACK_TIMEOUT after that moment, or later; NoResponse EXCHANGE_LIFETIME
+    // after it, or later (RFC 7252, sections 4.2 and 5.2.2).
+    ensures ends_in_time { (server : Endpoint) (sizes : Sizes) (word : ℕ) (t : List Call)
+        → ClientLaw server sizes word t → AllEndInTime sizes t }
+{
+    asker_law();
+}
