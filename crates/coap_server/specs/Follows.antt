@@ -4,6 +4,7 @@ pub mod Begins
 pub mod Brings
 pub mod Counts
 pub mod Current
+pub mod Delayed
 pub mod EmptyPackets
 pub mod Exact
 pub mod Gives

@@ -1,6 +1,7 @@
 ghost use Rattle.std.specs.Prelude.{◌≡◌, ◌↔◌, ℕ, List, [], ◌∷◌, ◌++◌};
 ghost use Rattle.coap_server.specs.Follows.Begins.{AllBeginNext, FirstIsNotified, NoneLeft};
 ghost use Rattle.coap_server.specs.Follows.Current.{AreCurrent};
+ghost use Rattle.coap_server.specs.Follows.Delayed.{DelaysStay};
 ghost use Rattle.coap_server.specs.Follows.GoesOut.{AllGoOut};
 ghost use Rattle.coap_server.specs.Follows.Latest.{AreLatest};
 ghost use Rattle.coap_server.specs.Follows.Marks.{AllMark, StayDue};
@@ -211,6 +212,8 @@ pub fn server_must_law()
     // What waits goes on waiting until a call sends its response (RFC 7252, section 5.2.2).
     ensures waits_on { (limits : Limits) (szx word : ℕ) (t : List Call) → ServerLaw limits szx word t
         → WaitOn limits szx t }
+    // A path has the delay that a call gave it, until a call gives another (RFC 7252, section 5.2.2).
+    ensures delays_stay { (limits : Limits) (szx : ℕ) (t : List Call) → DelaysStay limits szx t }
     // Each request that a call answers or serves is sent a response: what the store replied in that call, and where it
     // serves none, the code that refuses the request or 2.31 to its block. The message layer is given each response,
     // and each notification, in that very call (RFC 7252, sections 5.2.1 to 5.2.3; RFC 7641, section 4.5; RFC 7959,

@@ -13,6 +13,7 @@ use Rattle.coap_server.specs.Follows.Attended.{AllAttended, FirstIsAnswered}
 use Rattle.coap_server.specs.Follows.Begins.{AllBeginNext, FirstIsNotified, NoneLeft}
 use Rattle.coap_server.specs.Follows.Brings.{AreHandedUp, BlocksCome}
 use Rattle.coap_server.specs.Follows.Current.{AreCurrent}
+use Rattle.coap_server.specs.Follows.Delayed.{DelaysStay}
 use Rattle.coap_server.specs.Follows.HandedUpAsOften.{Counted}
 use Rattle.coap_server.specs.Follows.Gives.{NoneContinues, SentResponses}
 use Rattle.coap_server.specs.Follows.GoesOn.{GoesOn}
@@ -28,6 +29,7 @@ use Rattle.coap_server.specs.Follows.Tags.{AreStamped, OneTag}
 use Rattle.coap_server.specs.Follows.Tells.{Follows}
 use Rattle.coap_server.specs.Follows.Waits.{ReadyAreServed, WaitOn}
 use Rattle.coap_server.proofs.Answering.AttendedAtOnce.{all_attended}
+use Rattle.coap_server.proofs.Answering.DelaysStay as D
 use Rattle.coap_server.proofs.Answering.FirstAnswered.{first_answered}
 use Rattle.coap_server.proofs.Answering.NextBegun as N
 use Rattle.coap_server.proofs.Answering.WaitOn.{wait_on}
@@ -59,6 +61,9 @@ reads = verdicts_read
 
 pub questions : VerdictsAsk
 questions = verdicts_ask
+
+pub delays_stay : (limits : Limits) (szx : ℕ) (t : List Call) → DelaysStay limits szx t
+delays_stay = D.delays_stay
 
 module _ (limits : Limits) (szx word : ℕ) where
   pub back : (calls t : List Call) → ServerLaw limits szx word (calls ++ t) → ServerLaw limits szx word t

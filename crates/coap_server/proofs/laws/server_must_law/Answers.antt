@@ -1,3 +1,4 @@
+use Rattle.coap_server.proofs.Answering.DelaysStay.{delays_stay}
 use Rattle.coap_server.proofs.Answering.NextBegun.{all_begin_next, first_is_notified, none_left}
 use Rattle.coap_server.proofs.Answering.WaitOn.{wait_on}
 use Rattle.coap_server.proofs.Observing.ChangesMark.{all_mark}
@@ -21,6 +22,9 @@ returns-clause-current c limits szx word t law = are_current limits szx word t l
 
 pub returns-clause-waits_on : goal.returns-clause-waits_on
 returns-clause-waits_on c limits szx word t law = wait_on limits szx word t law
+
+pub returns-clause-delays_stay : goal.returns-clause-delays_stay
+returns-clause-delays_stay c limits szx t = delays_stay limits szx t
 
 pub returns-clause-goes_out : goal.returns-clause-goes_out
 returns-clause-goes_out c limits szx word t law = all_go_out limits szx word t law
