@@ -7,4 +7,5 @@ pub mod Replies
 pub mod RepliesAtOnce
 pub mod RepliesSo
 pub mod ResponsesHaveRequests
+pub mod ResponsesRejected
 pub mod Sourced

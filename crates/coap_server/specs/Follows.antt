@@ -18,6 +18,7 @@ pub mod Observes
 pub mod Outs
 pub mod Reads
 pub mod Registered
+pub mod Rejects
 pub mod Rests
 pub mod Serves
 pub mod Shows

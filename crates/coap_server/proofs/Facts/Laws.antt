@@ -22,6 +22,7 @@ use Rattle.coap_server.specs.Follows.Holds.{AllServed}
 use Rattle.coap_server.specs.Follows.Marks.{AllMark, StayDue}
 use Rattle.coap_server.specs.Follows.Reads.{VerdictsRead}
 use Rattle.coap_server.specs.Follows.Registered.{AllRegister}
+use Rattle.coap_server.specs.Follows.Rejects.{RejectsSo}
 use Rattle.coap_server.specs.Follows.Rests.{ComesToRest}
 use Rattle.coap_server.specs.Follows.Serves.{ServedOnce}
 use Rattle.coap_server.specs.Follows.Table.{AllMethods, AllUploads, VerdictsAsk}
@@ -43,7 +44,7 @@ use Rattle.coap_server.proofs.Observing.MarksStay.{stay_due}
 use Rattle.coap_server.proofs.Observing.ToldInOrder as O
 use Rattle.coap_server.proofs.Observing.UnmarkedAreCurrent.{are_current}
 use Rattle.coap_server.proofs.Progress.GoesOn.{goes_on}
-use Rattle.coap_server.proofs.Replying.RepliesAtOnce.{replies_at_once}
+use Rattle.coap_server.proofs.Replying.RepliesAtOnce as A
 use Rattle.coap_server.proofs.Replying.ResponsesHaveRequests.{sent_responses}
 use Rattle.coap_server.proofs.Rest.Resting.{comes_to_rest}
 use Rattle.coap_server.proofs.Serving.HandedUpAsOften.{counted}
@@ -80,7 +81,10 @@ module _ (limits : Limits) (szx word : ℕ) where
     rests = comes_to_rest limits szx word t law
 
     pub replies : Always RepliesSo (layer_of limits szx word t)
-    replies = replies_at_once limits szx word t law
+    replies = A.replies_at_once limits szx word t law
+
+    pub rejects_responses : Always RejectsSo (layer_of limits szx word t)
+    rejects_responses = A.rejects_responses limits szx word t law
 
     pub handed : AreHandedUp limits szx word t
     handed = handed_up limits szx word t law
