@@ -1,4 +1,5 @@
 pub mod AskedInEntries
+pub mod BlocksContinued
 pub mod GivenInOrder
 pub mod LayerSendsResponses
 pub mod NoneContinues

@@ -2,6 +2,7 @@ pub mod Adds
 pub mod Attended
 pub mod Begins
 pub mod Brings
+pub mod Continues
 pub mod Counts
 pub mod Current
 pub mod Delayed

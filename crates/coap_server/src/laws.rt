@@ -1,5 +1,6 @@
 ghost use Rattle.std.specs.Prelude.{◌≡◌, ◌↔◌, ℕ, List, [], ◌∷◌, ◌++◌};
 ghost use Rattle.coap_server.specs.Follows.Begins.{AllBeginNext, FirstIsNotified, NoneLeft};
+ghost use Rattle.coap_server.specs.Follows.Continues.{AllContinuesFit};
 ghost use Rattle.coap_server.specs.Follows.Current.{AreCurrent};
 ghost use Rattle.coap_server.specs.Follows.Delayed.{DelaysStay};
 ghost use Rattle.coap_server.specs.Follows.GoesOut.{AllGoOut};
@@ -218,6 +219,10 @@ pub fn server_must_law()
     // It rejects responses alone, and replies to no request with a Reset (RFC 7252, sections 4.2, 4.3 and 5.2).
     ensures rejects_responses { (limits : Limits) (szx word : ℕ) (t : List Call) → ServerLaw limits szx word t
         → Always RejectsSo (layer_of limits szx word t) }
+    // A block of an upload that others follow is answered in the call that hands it up: with 2.31, whose Block1 has its
+    // number, M 1 and a size that fits, or with an error (RFC 7959, sections 2.5 and 2.9).
+    ensures continues_fits { (limits : Limits) (szx word : ℕ) (t : List Call) → ServerLaw limits szx word t
+        → AllContinuesFit limits szx t }
     // Each request that a call answers or serves is sent a response: what the store replied in that call, and where it
     // serves none, the code that refuses the request or 2.31 to its block. The message layer is given each response,
     // and each notification, in that very call (RFC 7252, sections 5.2.1 to 5.2.3; RFC 7641, section 4.5; RFC 7959,

@@ -12,6 +12,7 @@ use Rattle.coap_server.specs.Law.{ServerLaw, lower_of, layer_of}
 use Rattle.coap_server.specs.Follows.Attended.{AllAttended, FirstIsAnswered}
 use Rattle.coap_server.specs.Follows.Begins.{AllBeginNext, FirstIsNotified, NoneLeft}
 use Rattle.coap_server.specs.Follows.Brings.{AreHandedUp, BlocksCome}
+use Rattle.coap_server.specs.Follows.Continues.{AllContinuesFit}
 use Rattle.coap_server.specs.Follows.Current.{AreCurrent}
 use Rattle.coap_server.specs.Follows.Delayed.{DelaysStay}
 use Rattle.coap_server.specs.Follows.HandedUpAsOften.{Counted}
@@ -44,6 +45,7 @@ use Rattle.coap_server.proofs.Observing.MarksStay.{stay_due}
 use Rattle.coap_server.proofs.Observing.ToldInOrder as O
 use Rattle.coap_server.proofs.Observing.UnmarkedAreCurrent.{are_current}
 use Rattle.coap_server.proofs.Progress.GoesOn.{goes_on}
+use Rattle.coap_server.proofs.Replying.BlocksContinued.{all_continues_fit}
 use Rattle.coap_server.proofs.Replying.RepliesAtOnce as A
 use Rattle.coap_server.proofs.Replying.ResponsesHaveRequests.{sent_responses}
 use Rattle.coap_server.proofs.Rest.Resting.{comes_to_rest}
@@ -85,6 +87,9 @@ module _ (limits : Limits) (szx word : ℕ) where
 
     pub rejects_responses : Always RejectsSo (layer_of limits szx word t)
     rejects_responses = A.rejects_responses limits szx word t law
+
+    pub continues_fits : AllContinuesFit limits szx t
+    continues_fits = all_continues_fit limits szx word t law
 
     pub handed : AreHandedUp limits szx word t
     handed = handed_up limits szx word t law

@@ -5,6 +5,7 @@ use Rattle.coap_server.proofs.Observing.ChangesMark.{all_mark}
 use Rattle.coap_server.proofs.Observing.LastRegistered.{all_register}
 use Rattle.coap_server.proofs.Observing.MarksStay.{stay_due}
 use Rattle.coap_server.proofs.Observing.UnmarkedAreCurrent.{are_current}
+use Rattle.coap_server.proofs.Replying.BlocksContinued.{all_continues_fit}
 use Rattle.coap_server.proofs.Replying.RepliesAtOnce.{rejects_responses}
 use Rattle.coap_server.proofs.Telling.ResponsesGoOut.{all_go_out}
 use Rattle.coap_server.proofs.laws.server_must_law.Goals as goal
@@ -29,6 +30,9 @@ returns-clause-delays_stay c limits szx t = delays_stay limits szx t
 
 pub returns-clause-rejects_responses : goal.returns-clause-rejects_responses
 returns-clause-rejects_responses c limits szx word t law = rejects_responses limits szx word t law
+
+pub returns-clause-continues_fits : goal.returns-clause-continues_fits
+returns-clause-continues_fits c limits szx word t law = all_continues_fit limits szx word t law
 
 pub returns-clause-goes_out : goal.returns-clause-goes_out
 returns-clause-goes_out c limits szx word t law = all_go_out limits szx word t law
