@@ -1,4 +1,5 @@
 pub mod AttendedAtOnce
+pub mod DelaysStay
 pub mod FirstAnswered
 pub mod HandedOn
 pub mod LayerIsLed

@@ -5,6 +5,7 @@ pub mod RequestIsHandled
 pub mod RequestIsServed
 pub mod ShortResponses
 pub mod TakesOut
+pub mod TicksWhenDue
 pub mod TurnSteps
 pub mod WaitingLists
 pub mod WorkFalls

@@ -1,4 +1,5 @@
 pub mod AskedInEntries
+pub mod BlocksContinued
 pub mod GivenInOrder
 pub mod LayerSendsResponses
 pub mod NoneContinues
@@ -7,4 +8,5 @@ pub mod Replies
 pub mod RepliesAtOnce
 pub mod RepliesSo
 pub mod ResponsesHaveRequests
+pub mod ResponsesRejected
 pub mod Sourced

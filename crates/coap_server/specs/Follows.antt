@@ -2,8 +2,10 @@ pub mod Adds
 pub mod Attended
 pub mod Begins
 pub mod Brings
+pub mod Continues
 pub mod Counts
 pub mod Current
+pub mod Delayed
 pub mod EmptyPackets
 pub mod Exact
 pub mod Gives
@@ -17,6 +19,7 @@ pub mod Observes
 pub mod Outs
 pub mod Reads
 pub mod Registered
+pub mod Rejects
 pub mod Rests
 pub mod Serves
 pub mod Shows

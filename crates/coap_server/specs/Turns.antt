@@ -1,4 +1,5 @@
 pub mod DelaysShown
 pub mod Idle
 pub mod Turned
+pub mod WhenDue
 pub mod Work

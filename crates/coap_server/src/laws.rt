@@ -1,10 +1,13 @@
 ghost use Rattle.std.specs.Prelude.{◌≡◌, ◌↔◌, ℕ, List, [], ◌∷◌, ◌++◌};
 ghost use Rattle.coap_server.specs.Follows.Begins.{AllBeginNext, FirstIsNotified, NoneLeft};
+ghost use Rattle.coap_server.specs.Follows.Continues.{AllContinuesFit};
 ghost use Rattle.coap_server.specs.Follows.Current.{AreCurrent};
+ghost use Rattle.coap_server.specs.Follows.Delayed.{DelaysStay};
 ghost use Rattle.coap_server.specs.Follows.GoesOut.{AllGoOut};
 ghost use Rattle.coap_server.specs.Follows.Latest.{AreLatest};
 ghost use Rattle.coap_server.specs.Follows.Marks.{AllMark, StayDue};
 ghost use Rattle.coap_server.specs.Follows.Registered.{AllRegister};
+ghost use Rattle.coap_server.specs.Follows.Rejects.{RejectsSo};
 ghost use Rattle.coap_server.specs.Follows.Exact.{IsExact};
 ghost use Rattle.coap_server.specs.Examples.Observation as example;
 ghost use Rattle.coap_server.specs.Examples.Upload as upload_example;
@@ -192,7 +195,7 @@ pub fn server_law()
 {}
 
 /// What has to happen at a server whose calls stand in that law: who is registered and marked, what goes on waiting,
-/// and what each tick begins.
+/// what each tick begins, and what its replies and its responses say.
 pub fn server_must_law()
     // A GET with Observe 0 that is answered 2.05 with the start of the body makes the last registration, unmarked, in
     // place of one of its endpoint and token, where fewer than 64 others observe (RFC 7641, section 4.1).
@@ -211,6 +214,15 @@ pub fn server_must_law()
     // What waits goes on waiting until a call sends its response (RFC 7252, section 5.2.2).
     ensures waits_on { (limits : Limits) (szx word : ℕ) (t : List Call) → ServerLaw limits szx word t
         → WaitOn limits szx t }
+    // A path has the delay that a call gave it, until a call gives another (RFC 7252, section 5.2.2).
+    ensures delays_stay { (limits : Limits) (szx : ℕ) (t : List Call) → DelaysStay limits szx t }
+    // It rejects responses alone, and replies to no request with a Reset (RFC 7252, sections 4.2, 4.3 and 5.2).
+    ensures rejects_responses { (limits : Limits) (szx word : ℕ) (t : List Call) → ServerLaw limits szx word t
+        → Always RejectsSo (layer_of limits szx word t) }
+    // A block of an upload that others follow is answered in the call that hands it up: with 2.31, whose Block1 has its
+    // number, M 1 and a size that fits, or with an error (RFC 7959, sections 2.5 and 2.9).
+    ensures continues_fits { (limits : Limits) (szx word : ℕ) (t : List Call) → ServerLaw limits szx word t
+        → AllContinuesFit limits szx t }
     // Each request that a call answers or serves is sent a response: what the store replied in that call, and where it
     // serves none, the code that refuses the request or 2.31 to its block. The message layer is given each response,
     // and each notification, in that very call (RFC 7252, sections 5.2.1 to 5.2.3; RFC 7641, section 4.5; RFC 7959,

@@ -2,6 +2,7 @@
 mod answering;
 mod deferring;
 mod delaying;
+mod due;
 mod full_response;
 mod handling;
 mod local;
@@ -16,7 +17,7 @@ mod serving;
 mod turning;
 mod uploading;
 
-ghost use Rattle.std.specs.Prelude.{◌≡◌, ◌≢◌, ◌<◌, ◌^◌, ℕ, max, Bool, true, false, Option, Some, List, [], ◌∷◌, Ok};
+ghost use Rattle.std.specs.Prelude.{◌≡◌, ◌≢◌, ◌≤◌, ◌<◌, ◌^◌, ℕ, max, Bool, true, false, Option, Some, List, [], ◌∷◌, Ok};
 ghost use Rattle.std.specs.Prelude.{Err};
 ghost use Rattle.std.specs.Prelude.{is_ok, is_some, length, IfNone, IfOk, IfSome, IsOk, OnErr, OnOk, option_copied};
 ghost use Rattle.coap_codec.specs.Message.{Message};
@@ -37,9 +38,11 @@ ghost use Rattle.coap_server.specs.Trace.{Call, Delays, Feeds, Gets, Handling, N
 ghost use Rattle.coap_server.specs.Trace.{TellsApplied, Ticks};
 ghost use Rattle.coap_server.specs.Object.Shown.{applied_list, kept_of, seen, state_of};
 ghost use Rattle.coap_server.specs.Turns.Idle.{IsIdle, moment};
+ghost use Rattle.coap_server.specs.Turns.WhenDue.{TicksDo, latest};
 ghost use Rattle.coap_server.specs.Turns.Work.{work};
 
 use crate::server::delaying::set_delay_parts;
+use crate::server::due::due_parts;
 use crate::server::handling::handle;
 use crate::server::local::{remove_parts, set_parts};
 use crate::server::moments::{forget, later};
@@ -181,6 +184,19 @@ impl<S: Store<A>, A: Allocator + Copy, H: BuildHasher> Server<S, A, H> {
             → IsOk result }
     {
         tick_parts(&mut self.parts, now, word)
+    }
+
+    /// The first moment at which a tick would do something, unless something is handed in before, and no
+    /// earlier than the last that was handed in; None where it never would. Nothing changes. It takes no
+    /// memory.
+    pub fn due(&self) -> Option<Moment>
+        ensures none { IfNone result ((now : ℕ) → now < 2 ^ 64 → TicksDo false (state_of S.content self.now) now) }
+        ensures some { IfSome result (λ at. (now : ℕ) → max (latest (state_of S.content self.now)) now < at.0
+            → TicksDo false (state_of S.content self.now) now) }
+        ensures does { IfSome result (λ at. TicksDo true (state_of S.content self.now) at.0) }
+        ensures from { IfSome result (λ at. latest (state_of S.content self.now) ≤ at.0) }
+    {
+        due_parts(&self.parts)
     }
 
     /// Puts a body no longer than the store's limit, of that Content-Format (RFC 7252, section 12.3), in

@@ -12,7 +12,9 @@ use Rattle.coap_server.specs.Law.{ServerLaw, lower_of, layer_of}
 use Rattle.coap_server.specs.Follows.Attended.{AllAttended, FirstIsAnswered}
 use Rattle.coap_server.specs.Follows.Begins.{AllBeginNext, FirstIsNotified, NoneLeft}
 use Rattle.coap_server.specs.Follows.Brings.{AreHandedUp, BlocksCome}
+use Rattle.coap_server.specs.Follows.Continues.{AllContinuesFit}
 use Rattle.coap_server.specs.Follows.Current.{AreCurrent}
+use Rattle.coap_server.specs.Follows.Delayed.{DelaysStay}
 use Rattle.coap_server.specs.Follows.HandedUpAsOften.{Counted}
 use Rattle.coap_server.specs.Follows.Gives.{NoneContinues, SentResponses}
 use Rattle.coap_server.specs.Follows.GoesOn.{GoesOn}
@@ -21,6 +23,7 @@ use Rattle.coap_server.specs.Follows.Holds.{AllServed}
 use Rattle.coap_server.specs.Follows.Marks.{AllMark, StayDue}
 use Rattle.coap_server.specs.Follows.Reads.{VerdictsRead}
 use Rattle.coap_server.specs.Follows.Registered.{AllRegister}
+use Rattle.coap_server.specs.Follows.Rejects.{RejectsSo}
 use Rattle.coap_server.specs.Follows.Rests.{ComesToRest}
 use Rattle.coap_server.specs.Follows.Serves.{ServedOnce}
 use Rattle.coap_server.specs.Follows.Table.{AllMethods, AllUploads, VerdictsAsk}
@@ -28,6 +31,7 @@ use Rattle.coap_server.specs.Follows.Tags.{AreStamped, OneTag}
 use Rattle.coap_server.specs.Follows.Tells.{Follows}
 use Rattle.coap_server.specs.Follows.Waits.{ReadyAreServed, WaitOn}
 use Rattle.coap_server.proofs.Answering.AttendedAtOnce.{all_attended}
+use Rattle.coap_server.proofs.Answering.DelaysStay as D
 use Rattle.coap_server.proofs.Answering.FirstAnswered.{first_answered}
 use Rattle.coap_server.proofs.Answering.NextBegun as N
 use Rattle.coap_server.proofs.Answering.WaitOn.{wait_on}
@@ -41,7 +45,8 @@ use Rattle.coap_server.proofs.Observing.MarksStay.{stay_due}
 use Rattle.coap_server.proofs.Observing.ToldInOrder as O
 use Rattle.coap_server.proofs.Observing.UnmarkedAreCurrent.{are_current}
 use Rattle.coap_server.proofs.Progress.GoesOn.{goes_on}
-use Rattle.coap_server.proofs.Replying.RepliesAtOnce.{replies_at_once}
+use Rattle.coap_server.proofs.Replying.BlocksContinued.{all_continues_fit}
+use Rattle.coap_server.proofs.Replying.RepliesAtOnce as A
 use Rattle.coap_server.proofs.Replying.ResponsesHaveRequests.{sent_responses}
 use Rattle.coap_server.proofs.Rest.Resting.{comes_to_rest}
 use Rattle.coap_server.proofs.Serving.HandedUpAsOften.{counted}
@@ -60,6 +65,9 @@ reads = verdicts_read
 pub questions : VerdictsAsk
 questions = verdicts_ask
 
+pub delays_stay : (limits : Limits) (szx : ℕ) (t : List Call) → DelaysStay limits szx t
+delays_stay = D.delays_stay
+
 module _ (limits : Limits) (szx word : ℕ) where
   pub back : (calls t : List Call) → ServerLaw limits szx word (calls ++ t) → ServerLaw limits szx word t
   back calls t law = servers_back limits szx word calls t law
@@ -75,7 +83,13 @@ module _ (limits : Limits) (szx word : ℕ) where
     rests = comes_to_rest limits szx word t law
 
     pub replies : Always RepliesSo (layer_of limits szx word t)
-    replies = replies_at_once limits szx word t law
+    replies = A.replies_at_once limits szx word t law
+
+    pub rejects_responses : Always RejectsSo (layer_of limits szx word t)
+    rejects_responses = A.rejects_responses limits szx word t law
+
+    pub continues_fits : AllContinuesFit limits szx t
+    continues_fits = all_continues_fit limits szx word t law
 
     pub handed : AreHandedUp limits szx word t
     handed = handed_up limits szx word t law

@@ -2,9 +2,11 @@
 -- Reset of a response, or the acknowledgement of a CON, which may carry the response.
 use Rattle.std.proofs.Common.{◌≡◌, ◌⊎◌, inl, inr, ℕ, ◌<◌, max, Bool, true, false, Option, Some, None, List, [], ◌∷◌}
 use Rattle.std.proofs.Common.{◌++◌, refl, ap, sym, subst, ◌∙◌, cond, arith}
+use Rattle.coap_types.specs.Roles.{role_of}
 use Rattle.coap_types.specs.declared.endpoint.Endpoint.{Endpoint}
 use Rattle.coap_types.specs.declared.message.Kind.{Kind}
 use Rattle.coap_types.specs.declared.message.Kind.TheVariants.{Con, Non, Ack, Rst}
+use Rattle.coap_types.specs.declared.role.Role.TheVariants as role
 use Rattle.coap_codec.specs.Message.{Message, Spells}
 use Rattle.coap_codec.specs.Spelling.{message_bytes}
 use Rattle.coap_layer.specs.Trace as T
@@ -13,7 +15,6 @@ use Rattle.coap_layer.specs.Words.{is_kept, handed, handed_by, from_there}
 use Rattle.coap_layer.specs.Machine.State as L
 use Rattle.coap_layer.specs.Machine.Steps as G
 use Rattle.coap_layer.specs.Machine.Steps.{Steps, entries, left_after}
-use Rattle.coap_layer.specs.Channel.{RepliesSo}
 use Rattle.coap_layer.proofs.Facts.Calls.{steps_left}
 use Rattle.coap_exchange.specs.declared.answerer.Asked.{Asked}
 use Rattle.coap_exchange.specs.EmptyMessages.{ack_bytes, reset_bytes}
@@ -23,7 +24,9 @@ use Rattle.coap_exchange.specs.AskerRequests.{asked}
 use Rattle.coap_exchange.specs.AskerArrivals.{id_in, replying}
 use Rattle.coap_layer.specs.Machine.Calls.{message_in}
 use Rattle.coap_layer.proofs.Facts.HandedUp.{spelled}
-use Rattle.coap_common.proofs.Facts.AskerReplies.{empty_of, ack_spells, reset_spells, So, over}
+use Rattle.coap_common.proofs.Facts.AskerReplies.{empty_of, ack_spells, reset_spells}
+use Rattle.coap_server.specs.Follows.Rejects.{RejectsSo}
+use Rattle.coap_server.proofs.Replying.ResponsesRejected.{So, over, response_class}
 
 -- what is handed up
 pub record Hands (up : T.Answer) (m : Message) : Type 0 where
@@ -36,6 +39,7 @@ pub record Fits (m : Message) (id : ℕ) (bytes : List ℕ) : Type 0 where
   pub spells : Spells bytes reply
   pub id_is : reply.id ≡ id
   pub kind : (reply.kind ≡ Rst) ⊎ ((reply.kind ≡ Ack) × (m.kind ≡ Con))
+  pub class : reply.kind ≡ Rst → role_of m.code ≡ role.Response
 
 module _ (begin : L.State) (from : Endpoint) (now : ℕ) (bytes : List ℕ) (up : T.Answer) (rest : List G.Asked)
     (mid new : L.State) (before : Steps begin rest mid) (step : L.Step mid now (T.Receive from bytes) up new) where
@@ -61,17 +65,20 @@ module _ (begin : L.State) (from : Endpoint) (now : ℕ) (bytes : List ℕ) (up 
 
   -- at once
   pub at_once : (m : Message) (id : ℕ) (b : List ℕ) → Hands up m → Fits m id b
-      → RepliesSo (entries begin received) (L.made (left_after begin received) 0 (T.Reply from id b))
+      → RejectsSo (entries begin received) (L.made (left_after begin received) 0 (T.Reply from id b))
   at_once m id b h f to n c k =
       let n_is : id ≡ n = cc k in
       let c_is : b ≡ c = cc k in
       record {
-        to_what = record { from = from; message = m };
-        latest = inl (heard m h, refl);
-        reply = f.reply;
-        spells = subst (λ w. Spells w f.reply) c_is f.spells;
-        id_is = f.id_is ∙ n_is;
-        kind = f.kind;
+        at_once = record {
+          to_what = record { from = from; message = m };
+          latest = inl (heard m h, refl);
+          reply = f.reply;
+          spells = subst (λ w. Spells w f.reply) c_is f.spells;
+          id_is = f.id_is ∙ n_is;
+          kind = f.kind;
+        };
+        class = f.class;
       }
 
   max_twice : (a b : ℕ) → max a b ≡ max (max a b) b
@@ -79,18 +86,21 @@ module _ (begin : L.State) (from : Endpoint) (now : ℕ) (bytes : List ℕ) (up 
 
   -- .. also where only the clock was moved, to the same moment
   pub at_once_then : (m : Message) (id : ℕ) (b : List ℕ) → Hands up m → Fits m id b
-      → RepliesSo (entries begin (asked now T.Pass T.Nothing ∷ received))
+      → RejectsSo (entries begin (asked now T.Pass T.Nothing ∷ received))
       (L.made (left_after begin (asked now T.Pass T.Nothing ∷ received)) 0 (T.Reply from id b))
   at_once_then m id b h f to n c k =
       let n_is : id ≡ n = cc k in
       let c_is : b ≡ c = cc k in
       record {
-        to_what = record { from = from; message = m };
-        latest = inr (refl, inl (heard m h, max_twice (left_after begin rest).clock now));
-        reply = f.reply;
-        spells = subst (λ w. Spells w f.reply) c_is f.spells;
-        id_is = f.id_is ∙ n_is;
-        kind = f.kind;
+        at_once = record {
+          to_what = record { from = from; message = m };
+          latest = inr (refl, inl (heard m h, max_twice (left_after begin rest).clock now));
+          reply = f.reply;
+          spells = subst (λ w. Spells w f.reply) c_is f.spells;
+          id_is = f.id_is ∙ n_is;
+          kind = f.kind;
+        };
+        class = f.class;
       }
 
 -- the request that is handed up
@@ -125,20 +135,23 @@ carrying from up a m r c is low k =
       spells = is.spelled Ack a.id.0 (omega (arith, low, id_is));
       id_is = refl;
       kind = inr (refl, kind_is);
+      class = λ h. absurd (cc h);
     }
 
 -- a response that is rejected
 reject_hands : (up : T.Answer) (b : List ℕ) → P.reject_by up ≡ Some b
-    → (m : Message) × Hands up m × (id_in up ≡ m.id) × (b ≡ reset_bytes m.id)
+    → (m : Message) × Hands up m × (id_in up ≡ m.id) × (b ≡ reset_bytes m.id) × (up ≡ T.Becomes (T.Response m))
 reject_hands (T.Becomes (T.Response m)) b h = by (is_kept m.kind) refl h
   where
     by : (k : Bool) → is_kept m.kind ≡ k → cond k (Some (reset_bytes m.id)) None ≡ Some b
         → (n : Message) × Hands (T.Becomes (T.Response m)) n × (m.id ≡ n.id) × (b ≡ reset_bytes n.id)
+        × (T.Becomes (T.Response m) ≡ T.Becomes (T.Response n))
     by true is e = (
       m,
       record { up_is = ap (λ w. cond w (Some m) None) is; in_is = refl },
       refl,
       sym (let s : reset_bytes m.id ≡ b = cc e in s),
+      refl,
     )
     by false is e = absurd (cc e)
 reject_hands up b h = absurd (cc h)
@@ -162,6 +175,7 @@ module _ (begin : L.State) (from : Endpoint) (now : ℕ) (bytes : List ℕ) (up 
         spells = subst (λ w. Spells w (empty_of Rst k.0.id)) (sym k.3) (reset_spells k.0.id low);
         id_is = sym k.2;
         kind = inl refl;
+        class = λ h. response_class mid new now from bytes up k.0 step k.4;
       } in
       (at_once begin from now bytes up rest mid new before step k.0 (id_in up) b k.1 f, taken)
 
@@ -177,7 +191,7 @@ module _ (begin : L.State) (from : Endpoint) (now : ℕ) (bytes : List ℕ) (up 
       let f = carrying from up a m r c is (small begin from now bytes up rest mid new before step m h) k in
       let from_is : a.from ≡ from = ap (λ (x : Asked). x.from) c.asked_is in
       let b : List ℕ = message_bytes (with_head Ack a.id.0 (P.content_of a r)) in (
-        subst (λ e. RepliesSo (entries begin first) (L.made (left_after begin first) 0 (T.Reply e a.id.0 b)))
+        subst (λ e. RejectsSo (entries begin first) (L.made (left_after begin first) 0 (T.Reply e a.id.0 b)))
             (sym from_is) (at_once begin from now bytes up rest mid new before step m a.id.0 b h f),
         taken,
       )
@@ -197,8 +211,9 @@ module _ (begin : L.State) (from : Endpoint) (now : ℕ) (bytes : List ℕ) (up 
         spells = ack_spells a.id.0 (omega (arith, low, id_is));
         id_is = refl;
         kind = inr (refl, kind_is);
+        class = λ h. absurd (cc h);
       } in (
-        subst (λ e. RepliesSo (entries begin (asked now T.Pass T.Nothing ∷ first))
+        subst (λ e. RejectsSo (entries begin (asked now T.Pass T.Nothing ∷ first))
             (L.made (left_after begin (asked now T.Pass T.Nothing ∷ first)) 0 (T.Reply e a.id.0 (ack_bytes a.id.0))))
             (sym from_is)
             (at_once_then begin from now bytes up rest mid new before step m a.id.0 (ack_bytes a.id.0) h f),

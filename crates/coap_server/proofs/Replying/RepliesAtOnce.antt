@@ -11,6 +11,7 @@ use Rattle.coap_layer.specs.Trace.{with_head}
 use Rattle.coap_layer.specs.Machine.State as L
 use Rattle.coap_layer.specs.Machine.Steps as G
 use Rattle.coap_layer.specs.Machine.Steps.{Steps, entries, left_after}
+use Rattle.coap_types.specs.Past.{Always}
 use Rattle.coap_layer.specs.Channel.{RepliesSo}
 use Rattle.coap_observe.specs.Observers.{Observer}
 use Rattle.coap_resource.specs.Limits.{Limits}
@@ -29,9 +30,11 @@ use Rattle.coap_server.specs.Deferring.{delay_for, deferral_by}
 use Rattle.coap_server.specs.Notifying.{marked, readies}
 use Rattle.coap_server.specs.Handling.{incoming, ticking, heard}
 use Rattle.coap_server.specs.Asks.{answering, responding}
-use Rattle.coap_server.specs.Law.{ServerLaw, own_of, lower_of}
-use Rattle.coap_common.proofs.Facts.AskerReplies.{NoReplies, So, over}
+use Rattle.coap_server.specs.Law.{ServerLaw, own_of, lower_of, layer_of}
+use Rattle.coap_server.specs.Follows.Rejects.{RejectsSo}
+use Rattle.coap_common.proofs.Facts.AskerReplies.{NoReplies}
 use Rattle.coap_server.proofs.Replying.Replies.{Came, came_by, hands_up, carrying, small, at_once_then}
+use Rattle.coap_server.proofs.Replying.ResponsesRejected.{So, over, replies_so}
 use Rattle.coap_server.proofs.Replying.RepliesSo as N
 use Rattle.coap_server.proofs.Replying.RepliesSo.{Under, Left, one_back, asking_none}
 use Rattle.coap_server.proofs.Serving.Brought.{server_back}
@@ -57,7 +60,7 @@ module _ (begin : L.State) (from : Endpoint) (now : ℕ) (bytes : List ℕ) (up 
       let f = carrying from up a m r c is (small begin from now bytes up rest mid new before step m h) k in
       let from_is : a.from ≡ from = ap (λ (x : Asked). x.from) c.asked_is in
       let b : List ℕ = message_bytes (with_head Ack a.id.0 (P.content_of a r)) in (
-        subst (λ e. RepliesSo (entries begin first) (L.made (left_after begin first) 0 (T.Reply e a.id.0 b)))
+        subst (λ e. RejectsSo (entries begin first) (L.made (left_after begin first) 0 (T.Reply e a.id.0 b)))
             (sym from_is) (at_once_then begin from now bytes up rest mid new before step m a.id.0 b h f),
         taken,
       )
@@ -162,10 +165,10 @@ module _ (word : ℕ) where
         (P.may_defer w.exchanges.deferred) law left
 
 module _ (limits : Limits) (szx word : ℕ) where
-  pub replies_at_once : (t : List Call) → ServerLaw limits szx word t
-      → So (L.start (L.usual word)) (W.lower_of (lower_of limits szx t))
-  replies_at_once [] law = tt
-  replies_at_once (c ∷ t) law = here c law (replies_at_once t (server_back limits szx word c t law))
+  pub rejects_responses : (t : List Call) → ServerLaw limits szx word t
+      → Always RejectsSo (layer_of limits szx word t)
+  rejects_responses [] law = tt
+  rejects_responses (c ∷ t) law = here c law (rejects_responses t (server_back limits szx word c t law))
     where
       here : (c : Call) → ServerLaw limits szx word (c ∷ t) → Under word (lower_of limits szx t)
           → Under word (lower_of limits szx (c ∷ t))
@@ -187,3 +190,6 @@ module _ (limits : Limits) (szx word : ℕ) where
           let last : Quiet word (first ∷ []) = ((λ e. asking_none _ _ room below), tt) in
           quiet_over word (asks ++ first ∷ []) (lower_of limits szx t)
           (quiet_append word asks (first ∷ []) (responding_quiet word (heard s now first) d passed h w id) last) so
+
+  pub replies_at_once : (t : List Call) → ServerLaw limits szx word t → Always RepliesSo (layer_of limits szx word t)
+  replies_at_once t law = replies_so (layer_of limits szx word t) (rejects_responses t law)

@@ -14,8 +14,9 @@ use Rattle.coap_exchange.specs.AnswererLaw as W
 use Rattle.coap_exchange.specs.AskerRequests.{asked}
 use Rattle.coap_exchange.specs.AskerArrivals.{id_in, replying}
 use Rattle.coap_layer.proofs.Facts.StepsOfLayer.{steps_split}
-use Rattle.coap_common.proofs.Facts.AskerReplies.{NoReplies, So}
+use Rattle.coap_common.proofs.Facts.AskerReplies.{NoReplies}
 use Rattle.coap_server.proofs.Replying.Replies.{Came, came_by, rejecting, piggybacked, acknowledged}
+use Rattle.coap_server.proofs.Replying.ResponsesRejected.{So}
 
 pub asking_none : (at : ℕ) (o : Option Deferred) (room : Bool) (below : T.Answer)
     → NoReplies (P.asking_room at o room ++ asked at T.Ticks below ∷ [])

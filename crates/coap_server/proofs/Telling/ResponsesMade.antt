@@ -104,7 +104,7 @@ module _ (a : Asked) (r : E.Response) where
   abbrev In : List E.Call → Type 0
   In cs = SendsIn a r cs
 
-  last_none : (first : E.Call) → (responds_with first ≡ Some (a, r) → ⊥) → In (first ∷ []) → ⊥
+  pub last_none : (first : E.Call) → (responds_with first ≡ Some (a, r) → ⊥) → In (first ∷ []) → ⊥
   last_none first n (inl k) = n k
   last_none first n (inr k) = k
 

@@ -1,9 +1,12 @@
+use Rattle.coap_server.proofs.Answering.DelaysStay.{delays_stay}
 use Rattle.coap_server.proofs.Answering.NextBegun.{all_begin_next, first_is_notified, none_left}
 use Rattle.coap_server.proofs.Answering.WaitOn.{wait_on}
 use Rattle.coap_server.proofs.Observing.ChangesMark.{all_mark}
 use Rattle.coap_server.proofs.Observing.LastRegistered.{all_register}
 use Rattle.coap_server.proofs.Observing.MarksStay.{stay_due}
 use Rattle.coap_server.proofs.Observing.UnmarkedAreCurrent.{are_current}
+use Rattle.coap_server.proofs.Replying.BlocksContinued.{all_continues_fit}
+use Rattle.coap_server.proofs.Replying.RepliesAtOnce.{rejects_responses}
 use Rattle.coap_server.proofs.Telling.ResponsesGoOut.{all_go_out}
 use Rattle.coap_server.proofs.laws.server_must_law.Goals as goal
 
@@ -21,6 +24,15 @@ returns-clause-current c limits szx word t law = are_current limits szx word t l
 
 pub returns-clause-waits_on : goal.returns-clause-waits_on
 returns-clause-waits_on c limits szx word t law = wait_on limits szx word t law
+
+pub returns-clause-delays_stay : goal.returns-clause-delays_stay
+returns-clause-delays_stay c limits szx t = delays_stay limits szx t
+
+pub returns-clause-rejects_responses : goal.returns-clause-rejects_responses
+returns-clause-rejects_responses c limits szx word t law = rejects_responses limits szx word t law
+
+pub returns-clause-continues_fits : goal.returns-clause-continues_fits
+returns-clause-continues_fits c limits szx word t law = all_continues_fit limits szx word t law
 
 pub returns-clause-goes_out : goal.returns-clause-goes_out
 returns-clause-goes_out c limits szx word t law = all_go_out limits szx word t law
