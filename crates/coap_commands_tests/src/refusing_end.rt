@@ -1,4 +1,6 @@
 //! For tests: an end that is refused memory at each feed.
+ghost use Rattle.std.specs.Prelude.{◌≡◌};
+
 use coap_ends::End;
 use coap_layer::Datagram;
 use coap_types::{Endpoint, Moment};
@@ -9,13 +11,15 @@ use std::alloc::{AllocError, Global};
 pub struct RefusingEnd;
 
 impl End<Global> for RefusingEnd {
-    ghost use Rattle.std.specs.Prelude.{[], ⊤};
+    ghost use Rattle.std.specs.Prelude.{[], ⊤, false};
 
     ghost State = { Unit {0} };
 
     ghost state = { λ _. tt };
 
     ghost waiting = { λ _. [] };
+
+    ghost latest = { λ _. 0 };
 
     ghost work = { λ _ _. 0 };
 
@@ -25,7 +29,7 @@ impl End<Global> for RefusingEnd {
 
     ghost feeds = { λ _ _ _ _ _ _. ⊤ };
 
-    ghost ticks = { λ _ _ _ _ _. ⊤ };
+    ghost ticks = { λ _ _ _ did _. did ≡ false };
 
     ghost gives = { λ _ _ _. ⊤ };
 
@@ -41,6 +45,10 @@ impl End<Global> for RefusingEnd {
 
     fn tick(&mut self, _now: Moment, _word: u64) -> Result<bool, AllocError> {
         Ok(false)
+    }
+
+    fn due(&self) -> Option<Moment> {
+        None
     }
 
     fn next_out(&mut self) -> Option<Datagram<Global>> {

@@ -15,6 +15,7 @@ impl<A: Allocator + Copy, H: BuildHasher> End<A> for Client<A, H> {
     ghost use Rattle.coap_client.specs.Led.{State as ClientState, Step};
     ghost use Rattle.coap_client.specs.Trace.{Feeds, NextOut, Ticks};
     ghost use Rattle.coap_client.specs.Turns.Quiet.{IsIdle, TellsNothing};
+    ghost use Rattle.coap_client.specs.Turns.Due.{latest as latest_moment};
     ghost use Rattle.coap_client.specs.Turns.Work.{work as work_left};
 
     ghost State = { ClientState };
@@ -22,6 +23,8 @@ impl<A: Allocator + Copy, H: BuildHasher> End<A> for Client<A, H> {
     ghost state = { λ c. c };
 
     ghost waiting = { λ s. s.layer.layer.queue };
+
+    ghost latest = { λ s. latest_moment s };
 
     ghost work = { λ s now. work_left s now };
 
@@ -51,6 +54,10 @@ impl<A: Allocator + Copy, H: BuildHasher> End<A> for Client<A, H> {
 
     fn tick(&mut self, now: Moment, word: u64) -> Result<bool, AllocError> {
         Client::tick(self, now, word)
+    }
+
+    fn due(&self) -> Option<Moment> {
+        Client::due(self)
     }
 
     fn next_out(&mut self) -> Option<Datagram<A>> {

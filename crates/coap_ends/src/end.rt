@@ -1,6 +1,6 @@
 //! An end: what a client and a server have in common.
-ghost use Rattle.std.specs.Prelude.{◌≡◌, ◌<◌, ◌^◌, ℕ, Bool, true, List, [], ◌∷◌, Ok, IfOk, IsOk, OnOk, OnErr, IfSome};
-ghost use Rattle.std.specs.Prelude.{IfNone, length};
+ghost use Rattle.std.specs.Prelude.{◌≡◌, ◌≤◌, ◌<◌, ◌^◌, max, ℕ, Bool, true, false, List, [], ◌∷◌, Ok, IfOk, IsOk};
+ghost use Rattle.std.specs.Prelude.{OnOk, OnErr, IfSome, IfNone, length};
 ghost use Rattle.coap_types.specs.declared.endpoint.Endpoint.{Endpoint as EndpointSpec};
 ghost use Rattle.coap_layer.specs.Trace.{Packet};
 
@@ -10,7 +10,8 @@ use std::alloc::{AllocError, Allocator};
 
 /// A client or a server (RFC 7252, section 5), as what carries its datagrams sees it.
 ///
-/// After each `feed` and `tick` take `next_out` until None. Moments are milliseconds; one before
+/// After each `feed` and `tick` take `next_out` until None; then wait for a datagram, at most until
+/// `due`. Moments are milliseconds; one before
 /// the last that was handed in counts as that. Nothing here reads a clock, a socket or a random
 /// source.
 pub trait End<A: Allocator + Copy> {
@@ -22,6 +23,9 @@ pub trait End<A: Allocator + Copy> {
 
     /// The datagrams that are to be sent, the next one first.
     ghost waiting: { State → List Packet };
+
+    /// The latest moment that counted.
+    ghost latest: { State → ℕ };
 
     /// How much a tick at a moment still has to do.
     ghost work: { State → ℕ → ℕ };
@@ -62,6 +66,18 @@ pub trait End<A: Allocator + Copy> {
         ensures less { result ≡ Ok true → work (state self.new) now.0 < work (state self.old) now.0 }
         ensures err { OnErr result (state self.new ≡ state self.old) }
         ensures quiet { quiet_tick (state self.old) now.0 → IsOk result };
+
+    /// The first moment at which a tick would do something, unless something is handed in before, and no
+    /// earlier than the last that was handed in; None where it never would. Nothing changes. It takes no
+    /// memory.
+    fn due(&self) -> Option<Moment>
+        ensures none { IfNone result ((now word : ℕ) (did : Bool) (n : State) → now < 2 ^ 64
+            → ticks (state self.now) now word did n → did ≡ false) }
+        ensures some { IfSome result (λ at. (now word : ℕ) (did : Bool) (n : State)
+            → max (latest (state self.now)) now < at.0 → ticks (state self.now) now word did n → did ≡ false) }
+        ensures does { IfSome result (λ at. (word : ℕ) (did : Bool) (n : State)
+            → ticks (state self.now) at.0 word did n → did ≡ true) }
+        ensures from { IfSome result (λ at. latest (state self.now) ≤ at.0) };
 
     /// The datagram that is to be sent next. It takes no memory.
     fn next_out(&mut self) -> Option<Datagram<A>>

@@ -20,6 +20,7 @@ impl<S: Store<A>, A: Allocator + Copy, H: BuildHasher> End<A> for Server<S, A, H
     ghost use Rattle.coap_server.specs.Trace.{Feeds, Handling, NextOut, Ticks};
     ghost use Rattle.coap_server.specs.Object.Shown.{state_of};
     ghost use Rattle.coap_server.specs.Turns.Idle.{IsIdle, moment};
+    ghost use Rattle.coap_server.specs.Turns.WhenDue.{latest as latest_moment};
     ghost use Rattle.coap_server.specs.Turns.Work.{work as work_left};
 
     ghost State = { ServerState };
@@ -27,6 +28,8 @@ impl<S: Store<A>, A: Allocator + Copy, H: BuildHasher> End<A> for Server<S, A, H
     ghost state = { λ s. state_of S.content s };
 
     ghost waiting = { λ s. s.layer.queue };
+
+    ghost latest = { λ s. latest_moment s };
 
     ghost work = { λ s now. work_left s now };
 
@@ -58,6 +61,10 @@ impl<S: Store<A>, A: Allocator + Copy, H: BuildHasher> End<A> for Server<S, A, H
 
     fn tick(&mut self, now: Moment, word: u64) -> Result<bool, AllocError> {
         Server::tick(self, now, word)
+    }
+
+    fn due(&self) -> Option<Moment> {
+        Server::due(self)
     }
 
     fn next_out(&mut self) -> Option<Datagram<A>> {

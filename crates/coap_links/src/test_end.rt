@@ -74,7 +74,7 @@ impl TestEnd {
 }
 
 impl End<Global> for TestEnd {
-    ghost use Rattle.std.specs.Prelude.{List, ℕ, ⊤};
+    ghost use Rattle.std.specs.Prelude.{List, ℕ, ⊤, nat_lt};
     ghost use Rattle.coap_layer.specs.Trace.{Packet};
 
     ghost State = { List Packet × ℕ };
@@ -82,6 +82,8 @@ impl End<Global> for TestEnd {
     ghost state = { λ e. (e.out.items, e.work) };
 
     ghost waiting = { λ s. s.0 };
+
+    ghost latest = { λ _. 0 };
 
     ghost work = { λ s _. s.1 };
 
@@ -91,7 +93,7 @@ impl End<Global> for TestEnd {
 
     ghost feeds = { λ _ _ _ _ _ _. ⊤ };
 
-    ghost ticks = { λ _ _ _ _ _. ⊤ };
+    ghost ticks = { λ s _ _ did _. did ≡ nat_lt 0 s.1 };
 
     ghost gives = { λ _ _ _. ⊤ };
 
@@ -119,6 +121,13 @@ impl End<Global> for TestEnd {
         }
         self.work -= 1;
         Ok(true)
+    }
+
+    fn due(&self) -> Option<Moment> {
+        if self.work == 0 {
+            return None;
+        }
+        Some(Moment(0))
     }
 
     fn next_out(&mut self) -> Option<Datagram<Global>> {
