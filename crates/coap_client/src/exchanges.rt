@@ -4,6 +4,7 @@ ghost use Rattle.coap_block.specs.Sizes.{Sizes};
 ghost use Rattle.coap_client.specs.Law.{ClientLaw};
 ghost use Rattle.coap_client.specs.Trace.{Call};
 ghost use Rattle.coap_client.specs.Follows.Open.{AllEndInTime, OpenRuns};
+ghost use Rattle.coap_client.specs.Follows.Replied.{RepliesToCons};
 
 use coap_exchange::asker_law;
 
@@ -17,6 +18,10 @@ pub fn client_exchanges_law()
     // after it, or later (RFC 7252, sections 4.2 and 5.2.2).
     ensures ends_in_time { (server : Endpoint) (sizes : Sizes) (word : ℕ) (t : List Call)
         → ClientLaw server sizes word t → AllEndInTime sizes t }
+    // To each response that comes in a CON it replies in the next entry of its message layer, by an Empty acknowledgement
+    // or a Reset (RFC 7252, section 4.2).
+    ensures replies_to_con { (server : Endpoint) (sizes : Sizes) (word : ℕ) (t : List Call)
+        → ClientLaw server sizes word t → RepliesToCons server sizes word t }
 {
     asker_law();
 }
