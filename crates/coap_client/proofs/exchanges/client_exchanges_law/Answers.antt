@@ -1,4 +1,5 @@
 use Rattle.coap_client.specs.Law.{lower_of}
+use Rattle.coap_client.proofs.Reporting.ByAnswers.{are_by_answers}
 use Rattle.coap_client.proofs.Sending.EndsInTime.{all_end_in_time}
 use Rattle.coap_client.proofs.Sending.OpenSince.{open_runs}
 use Rattle.coap_client.proofs.Sending.RepliesToCons.{replies_to_cons}
@@ -13,3 +14,6 @@ returns-clause-ends_in_time c server sizes word t law =
 
 pub returns-clause-replies_to_con : goal.returns-clause-replies_to_con
 returns-clause-replies_to_con c = replies_to_cons
+
+pub returns-clause-reports_of_a_call : goal.returns-clause-reports_of_a_call
+returns-clause-reports_of_a_call c = are_by_answers
