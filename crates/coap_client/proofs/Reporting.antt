@@ -1,6 +1,7 @@
 pub mod AnswerCodes
 pub mod AnswerReports
 pub mod Bodies
+pub mod ByAnswers
 pub mod ByTable
 pub mod Codes
 pub mod Dropped

@@ -11,6 +11,7 @@ pub mod OneCon
 pub mod OpenBeneath
 pub mod OpenRuns
 pub mod OpenSince
+pub mod RepliesToCons
 pub mod SendingsOfACon
 pub mod SendsBegin
 pub mod SentFor

@@ -24,6 +24,7 @@ pub mod Newer
 pub mod Noted
 pub mod Notified
 pub mod Numbers
+pub mod OfAnswers
 pub mod OfCalls
 pub mod OfObservations
 pub mod Open

@@ -3,7 +3,9 @@ ghost use Rattle.coap_types.specs.declared.endpoint.Endpoint.{Endpoint};
 ghost use Rattle.coap_block.specs.Sizes.{Sizes};
 ghost use Rattle.coap_client.specs.Law.{ClientLaw};
 ghost use Rattle.coap_client.specs.Trace.{Call};
+ghost use Rattle.coap_client.specs.Follows.OfAnswers.{AreByAnswers};
 ghost use Rattle.coap_client.specs.Follows.Open.{AllEndInTime, OpenRuns};
+ghost use Rattle.coap_client.specs.Follows.Replied.{RepliesToCons};
 
 use coap_exchange::asker_law;
 
@@ -17,6 +19,15 @@ pub fn client_exchanges_law()
     // after it, or later (RFC 7252, sections 4.2 and 5.2.2).
     ensures ends_in_time { (server : Endpoint) (sizes : Sizes) (word : ℕ) (t : List Call)
         → ClientLaw server sizes word t → AllEndInTime sizes t }
+    // To each response that comes in a CON it replies in the next entry of its message layer, by an Empty acknowledgement
+    // or a Reset (RFC 7252, section 4.2).
+    ensures replies_to_con { (server : Endpoint) (sizes : Sizes) (word : ℕ) (t : List Call)
+        → ClientLaw server sizes word t → RepliesToCons server sizes word t }
+    // A body, a 2.03, success, failure and what is no body are reported where an answer is heard that gives it, to the
+    // request of that call that was sent last: success and failure with its code; a body, a 2.03 and what is no body of
+    // a GET alone, but for a bad block of a body that is sent in blocks (RFC 7252, section 5.8; RFC 7959, section 2.5).
+    ensures reports_of_a_call { (server : Endpoint) (sizes : Sizes) (word : ℕ) (t : List Call)
+        → ClientLaw server sizes word t → AreByAnswers sizes t }
 {
     asker_law();
 }

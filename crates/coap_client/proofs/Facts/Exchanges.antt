@@ -1,3 +1,5 @@
 -- How the exchanges of a client go, for proofs above.
 pub use Rattle.coap_client.proofs.Sending.OpenSince.{open_runs}
 pub use Rattle.coap_client.proofs.Sending.EndsInTime.{all_end_in_time}
+pub use Rattle.coap_client.proofs.Sending.RepliesToCons.{replies_to_cons}
+pub use Rattle.coap_client.proofs.Reporting.ByAnswers.{are_by_answers}

@@ -9,7 +9,7 @@ use Rattle.coap_block.specs.FetchStep.{FetchState}
 use Rattle.coap_block.specs.FetchStep as F
 use Rattle.coap_exchange.specs.declared.asker.Event.{Event}
 use Rattle.coap_exchange.specs.declared.asker.Event.TheVariants as event_of
-use Rattle.coap_client.specs.Trace.{Request, Report, Body, Valid, Failed, Done, NoIds, Reported, Call}
+use Rattle.coap_client.specs.Trace.{Request, Report, NoIds, Reported, Call}
 use Rattle.coap_client.specs.Trace.{Calls, Observes, Cancels, Forgets, Feeds, Ticks}
 use Rattle.coap_client.specs.Trace.{NextOut, NextReport, Asked}
 use Rattle.coap_client.specs.Own.{Transfer, Operation, Calling, Registering, Fetching, Cancelling}
@@ -24,6 +24,7 @@ use Rattle.coap_client.specs.Events.{failed}
 use Rattle.coap_client.specs.Deeds.{at}
 use Rattle.coap_client.specs.Steps.{reports}
 use Rattle.coap_client.specs.Law.{own_of}
+use Rattle.coap_client.specs.Follows.OfAnswers.{is_by_answer}
 use Rattle.coap_client.specs.Follows.Words.{hears}
 use Rattle.coap_client.specs.Turns.Moves as mv
 use Rattle.coap_client.specs.Turns.Moves.{Move, left_by}
@@ -31,20 +32,13 @@ use Rattle.coap_client.specs.Turns.Closing.{Closing, quiet, goes_out, is_refused
 use Rattle.coap_client.proofs.Turning.BlockByBlock.{heard_in}
 use Rattle.coap_client.proofs.Turning.Turns.{Turned, fed_turned, ticked_turned}
 
-abbrev is_of_answer : Report → Bool
-is_of_answer (Body tag format body) = true
-is_of_answer (Valid tag) = true
-is_of_answer (Done code) = true
-is_of_answer (Failed code) = true
-is_of_answer report = false
-
 abbrev answer_reported : Option Reported → Bool
 answer_reported None = false
-answer_reported (Some x) = is_of_answer x.report
+answer_reported (Some x) = is_by_answer x.report
 
 -- what gives none
 
-lapse_none : (e : Event) → is_of_answer (lapse e) ≡ false
+lapse_none : (e : Event) → is_by_answer (lapse e) ≡ false
 lapse_none (event_of.Answer m) = refl
 lapse_none (event_of.Notice m) = refl
 lapse_none event_of.Timeout = refl
@@ -59,7 +53,7 @@ value_none k sequence f m verdict.Again = refl
 value_none k sequence f m (verdict.Ask num size) = refl
 
 failed_none : (u : Transfer → Bool) (report : Report) (s : Own) (running : Option Operation)
-    → is_of_answer report ≡ false → answer_reported (failed u report s running).report ≡ false
+    → is_by_answer report ≡ false → answer_reported (failed u report s running).report ≡ false
 failed_none u report s None h = refl
 failed_none u report s (Some (Calling k r t)) h = h
 failed_none u report s (Some (Registering k path)) h = h
@@ -117,7 +111,7 @@ move_gives s now told (mv.renews o a notes found note newer) =
 move_gives s now told (mv.passes_by o a notes found note newer) = inl refl
 
 module _ (sizes : Sizes) where
-  given_from : (t : List Call) (c : Call) → Turned sizes t c → (k : ℕ) (report : Report) → is_of_answer report ≡ true
+  given_from : (t : List Call) (c : Call) → Turned sizes t c → (k : ℕ) (report : Report) → is_by_answer report ≡ true
       → reports (own_of sizes t) c ≡ of k report → GivesReport (own_of sizes t) (hears c) k report
   given_from t c z k report is_it made = by z.closes
       (move_gives (at z.now (own_of sizes t)) (max (own_of sizes t).clock z.now) z.told z.move)
@@ -160,7 +154,7 @@ module _ (sizes : Sizes) where
           subst (λ j. GivesReport (own_of sizes t) (hears c) j report) n
           (subst (GivesReport (own_of sizes t) (hears c) m.0) rep g)
 
-  pub gives_of : (t : List Call) (c : Call) (k : ℕ) (report : Report) → is_of_answer report ≡ true
+  pub gives_of : (t : List Call) (c : Call) (k : ℕ) (report : Report) → is_by_answer report ≡ true
       → reports (own_of sizes t) c ≡ of k report → GivesReport (own_of sizes t) (hears c) k report
   gives_of t (Feeds now from bytes w up settled event sent token was) k report is_it made =
       given_from t (Feeds now from bytes w up settled event sent token was)

@@ -72,15 +72,15 @@ module _ (sizes : Sizes) where
   of_call_in (c ∷ t) law x k (inl h) of = (t, law.0 x k h of)
   of_call_in (c ∷ t) law x k (inr h) of = of_call_in t law.1 x k h of
 
-  record Runs (t : List Call) (k : ℕ) (r : Request) (tr : Transfer) : Type 0 where
-    sending : Sending
-    last : last_sent sizes t ≡ Some sending
-    operation : sending.operation ≡ Calling k r tr
-    body : List ℕ
-    carries : CarriesBody sizes r.method body tr
+  pub record Runs (t : List Call) (k : ℕ) (r : Request) (tr : Transfer) : Type 0 where
+    pub sending : Sending
+    pub last : last_sent sizes t ≡ Some sending
+    pub operation : sending.operation ≡ Calling k r tr
+    pub body : List ℕ
+    pub carries : CarriesBody sizes r.method body tr
 
   module _ (server : Endpoint) (word : ℕ) where
-    runs_as : (t : List Call) → ClientLaw server sizes word t → (k : ℕ) (r : Request) (tr : Transfer)
+    pub runs_as : (t : List Call) → ClientLaw server sizes word t → (k : ℕ) (r : Request) (tr : Transfer)
         → (own_of sizes t).running ≡ Some (Calling k r tr) → Runs t k r tr
     runs_as t law k r tr is = by x.same
       where

@@ -1,6 +1,8 @@
 use Rattle.coap_client.specs.Law.{lower_of}
+use Rattle.coap_client.proofs.Reporting.ByAnswers.{are_by_answers}
 use Rattle.coap_client.proofs.Sending.EndsInTime.{all_end_in_time}
 use Rattle.coap_client.proofs.Sending.OpenSince.{open_runs}
+use Rattle.coap_client.proofs.Sending.RepliesToCons.{replies_to_cons}
 use Rattle.coap_client.proofs.exchanges.client_exchanges_law.Goals as goal
 
 pub returns-clause-is_open : goal.returns-clause-is_open
@@ -9,3 +11,9 @@ returns-clause-is_open c = open_runs
 pub returns-clause-ends_in_time : goal.returns-clause-ends_in_time
 returns-clause-ends_in_time c server sizes word t law =
     all_end_in_time server sizes word t law (c.asker_law.ensures.in_time server word (lower_of sizes t) law.exchanges)
+
+pub returns-clause-replies_to_con : goal.returns-clause-replies_to_con
+returns-clause-replies_to_con c = replies_to_cons
+
+pub returns-clause-reports_of_a_call : goal.returns-clause-reports_of_a_call
+returns-clause-reports_of_a_call c = are_by_answers
