@@ -18,6 +18,7 @@ pub mod Marks
 pub mod Observes
 pub mod Outs
 pub mod Reads
+pub mod Recognised
 pub mod Registered
 pub mod Rejects
 pub mod Rests

@@ -196,7 +196,7 @@ module _ (limits : Limits) (szx word : ℕ) (t : List Call) where
   blocks (Gets path answer) law p q b is v more = absurd (cc is)
   blocks (TellsApplied answer) law p q b is v more = absurd (cc is)
 
-  sizes : (c : Call) (x : Took) (size : ℕ) → takes_block own c ≡ Some x → size_in own c ≡ Some size
+  pub sizes : (c : Call) (x : Took) (size : ℕ) → takes_block own c ≡ Some x → size_in own c ≡ Some size
       → KeepsSize x.part.num x.part.szx size
   sizes (Feeds now from bytes w up (Some p) h below) x size e k =
       let s : Own = heard own now (incoming own now from bytes up (Some p)) in
