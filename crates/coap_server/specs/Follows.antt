@@ -22,6 +22,7 @@ pub mod Recognised
 pub mod Registered
 pub mod Rejects
 pub mod Rests
+pub mod SentAs
 pub mod Serves
 pub mod Shows
 pub mod Sources

@@ -9,6 +9,7 @@ ghost use Rattle.coap_server.specs.Follows.Marks.{AllMark, StayDue};
 ghost use Rattle.coap_server.specs.Follows.Registered.{AllRegister};
 ghost use Rattle.coap_server.specs.Follows.Recognised.{AllRecognised, BodiesShort};
 ghost use Rattle.coap_server.specs.Follows.Rejects.{RejectsSo};
+ghost use Rattle.coap_server.specs.Follows.SentAs.{AllSentSo};
 ghost use Rattle.coap_server.specs.Follows.Exact.{IsExact};
 ghost use Rattle.coap_server.specs.Examples.Observation as example;
 ghost use Rattle.coap_server.specs.Examples.Upload as upload_example;
@@ -236,6 +237,10 @@ pub fn server_must_law()
     // section 2.9).
     ensures goes_out { (limits : Limits) (szx word : ℕ) (t : List Call) → ServerLaw limits szx word t
         → AllGoOut limits szx word t }
+    // To a CON that is answered at once it is sent in the acknowledgement, with its Message ID and its token, and where
+    // the request waited in a CON with its token (RFC 7252, sections 5.2.1 and 5.2.2).
+    ensures sent_as { (limits : Limits) (szx word : ℕ) (t : List Call) → ServerLaw limits szx word t
+        → AllSentSo limits szx word t }
     // A tick that does nothing leaves nothing that can be answered and nobody who can be notified, unless no Message ID
     // is free (RFC 7252, sections 4.4 and 4.7) ..
     ensures none_left { (limits : Limits) (szx word : ℕ) (t : List Call) → ServerLaw limits szx word t

@@ -26,6 +26,7 @@ use Rattle.coap_server.specs.Follows.Recognised.{AllRecognised, BodiesShort}
 use Rattle.coap_server.specs.Follows.Registered.{AllRegister}
 use Rattle.coap_server.specs.Follows.Rejects.{RejectsSo}
 use Rattle.coap_server.specs.Follows.Rests.{ComesToRest}
+use Rattle.coap_server.specs.Follows.SentAs.{AllSentSo}
 use Rattle.coap_server.specs.Follows.Serves.{ServedOnce}
 use Rattle.coap_server.specs.Follows.Table.{AllMethods, AllUploads, VerdictsAsk}
 use Rattle.coap_server.specs.Follows.Tags.{AreStamped, OneTag}
@@ -60,6 +61,7 @@ use Rattle.coap_server.proofs.Serving.Brought.{servers_back}
 use Rattle.coap_server.proofs.Serving.Reads.{verdicts_read}
 use Rattle.coap_server.proofs.Serving.Waiting.{ready_are_served}
 use Rattle.coap_server.proofs.Telling.ResponsesGoOut.{all_go_out}
+use Rattle.coap_server.proofs.Telling.SentSo.{all_sent_so}
 pub use Rattle.coap_server.proofs.Holding.Holds.{version_is, held_is, limits_are, all_served, holds_changes}
 
 pub reads : VerdictsRead
@@ -162,6 +164,9 @@ module _ (limits : Limits) (szx word : ℕ) where
 
     pub goes_out : AllGoOut limits szx word t
     goes_out = all_go_out limits szx word t law
+
+    pub sent_as : AllSentSo limits szx word t
+    sent_as = all_sent_so limits szx word t law
 
     pub none_left : NoneLeft limits szx word t
     none_left = N.none_left limits szx word t law

@@ -10,6 +10,7 @@ use Rattle.coap_server.proofs.Replying.AllRecognised.{all_recognised}
 use Rattle.coap_server.proofs.Replying.BlocksContinued.{all_continues_fit}
 use Rattle.coap_server.proofs.Replying.RepliesAtOnce.{rejects_responses}
 use Rattle.coap_server.proofs.Telling.ResponsesGoOut.{all_go_out}
+use Rattle.coap_server.proofs.Telling.SentSo.{all_sent_so}
 use Rattle.coap_server.proofs.laws.server_must_law.Goals as goal
 
 pub returns-clause-registers : goal.returns-clause-registers
@@ -41,6 +42,9 @@ returns-clause-short c limits szx word t law = bodies_short limits szx t law.row
 
 pub returns-clause-recognised : goal.returns-clause-recognised
 returns-clause-recognised c limits szx word t law = all_recognised limits szx word t law
+
+pub returns-clause-sent_as : goal.returns-clause-sent_as
+returns-clause-sent_as c limits szx word t law = all_sent_so limits szx word t law
 
 pub returns-clause-goes_out : goal.returns-clause-goes_out
 returns-clause-goes_out c limits szx word t law = all_go_out limits szx word t law
