@@ -1,4 +1,5 @@
 pub mod AppliedWhole
+pub mod BodiesShort
 pub mod Holds
 pub mod OneTag
 pub mod Shown

@@ -4,5 +4,6 @@ pub mod OneConACall
 pub mod ResponsesGoOut
 pub mod ResponsesMade
 pub mod SentNow
+pub mod SentSo
 pub mod Told
 pub mod UnderRegistrations

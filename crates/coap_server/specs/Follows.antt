@@ -18,9 +18,11 @@ pub mod Marks
 pub mod Observes
 pub mod Outs
 pub mod Reads
+pub mod Recognised
 pub mod Registered
 pub mod Rejects
 pub mod Rests
+pub mod SentAs
 pub mod Serves
 pub mod Shows
 pub mod Sources

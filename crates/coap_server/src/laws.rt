@@ -7,7 +7,9 @@ ghost use Rattle.coap_server.specs.Follows.GoesOut.{AllGoOut};
 ghost use Rattle.coap_server.specs.Follows.Latest.{AreLatest};
 ghost use Rattle.coap_server.specs.Follows.Marks.{AllMark, StayDue};
 ghost use Rattle.coap_server.specs.Follows.Registered.{AllRegister};
+ghost use Rattle.coap_server.specs.Follows.Recognised.{AllRecognised, BodiesShort};
 ghost use Rattle.coap_server.specs.Follows.Rejects.{RejectsSo};
+ghost use Rattle.coap_server.specs.Follows.SentAs.{AllSentSo};
 ghost use Rattle.coap_server.specs.Follows.Exact.{IsExact};
 ghost use Rattle.coap_server.specs.Examples.Observation as example;
 ghost use Rattle.coap_server.specs.Examples.Upload as upload_example;
@@ -223,12 +225,22 @@ pub fn server_must_law()
     // number, M 1 and a size that fits, or with an error (RFC 7959, sections 2.5 and 2.9).
     ensures continues_fits { (limits : Limits) (szx word : ℕ) (t : List Call) → ServerLaw limits szx word t
         → AllContinuesFit limits szx t }
+    // No path holds a body that is longer than the limit of the store.
+    ensures short { (limits : Limits) (szx word : ℕ) (t : List Call) → ServerLaw limits szx word t
+        → BodiesShort limits szx t }
+    // So a client recognises each critical option of each response and of each notification (RFC 7252, section 5.4.1).
+    ensures recognised { (limits : Limits) (szx word : ℕ) (t : List Call) → ServerLaw limits szx word t
+        → AllRecognised limits szx t }
     // Each request that a call answers or serves is sent a response: what the store replied in that call, and where it
     // serves none, the code that refuses the request or 2.31 to its block. The message layer is given each response,
     // and each notification, in that very call (RFC 7252, sections 5.2.1 to 5.2.3; RFC 7641, section 4.5; RFC 7959,
     // section 2.9).
     ensures goes_out { (limits : Limits) (szx word : ℕ) (t : List Call) → ServerLaw limits szx word t
         → AllGoOut limits szx word t }
+    // To a CON that is answered at once it is sent in the acknowledgement, with its Message ID and its token, and where
+    // the request waited in a CON with its token (RFC 7252, sections 5.2.1 and 5.2.2).
+    ensures sent_as { (limits : Limits) (szx word : ℕ) (t : List Call) → ServerLaw limits szx word t
+        → AllSentSo limits szx word t }
     // A tick that does nothing leaves nothing that can be answered and nobody who can be notified, unless no Message ID
     // is free (RFC 7252, sections 4.4 and 4.7) ..
     ensures none_left { (limits : Limits) (szx word : ℕ) (t : List Call) → ServerLaw limits szx word t

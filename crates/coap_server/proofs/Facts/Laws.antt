@@ -22,9 +22,11 @@ use Rattle.coap_server.specs.Follows.GoesOut.{AllGoOut}
 use Rattle.coap_server.specs.Follows.Holds.{AllServed}
 use Rattle.coap_server.specs.Follows.Marks.{AllMark, StayDue}
 use Rattle.coap_server.specs.Follows.Reads.{VerdictsRead}
+use Rattle.coap_server.specs.Follows.Recognised.{AllRecognised, BodiesShort}
 use Rattle.coap_server.specs.Follows.Registered.{AllRegister}
 use Rattle.coap_server.specs.Follows.Rejects.{RejectsSo}
 use Rattle.coap_server.specs.Follows.Rests.{ComesToRest}
+use Rattle.coap_server.specs.Follows.SentAs.{AllSentSo}
 use Rattle.coap_server.specs.Follows.Serves.{ServedOnce}
 use Rattle.coap_server.specs.Follows.Table.{AllMethods, AllUploads, VerdictsAsk}
 use Rattle.coap_server.specs.Follows.Tags.{AreStamped, OneTag}
@@ -35,6 +37,7 @@ use Rattle.coap_server.proofs.Answering.DelaysStay as D
 use Rattle.coap_server.proofs.Answering.FirstAnswered.{first_answered}
 use Rattle.coap_server.proofs.Answering.NextBegun as N
 use Rattle.coap_server.proofs.Answering.WaitOn.{wait_on}
+use Rattle.coap_server.proofs.Holding.BodiesShort.{bodies_short}
 use Rattle.coap_server.proofs.Holding.OneTag.{one_tag}
 use Rattle.coap_server.proofs.Holding.Holds as H
 use Rattle.coap_server.proofs.Holding.Stamps.{are_stamped}
@@ -45,6 +48,7 @@ use Rattle.coap_server.proofs.Observing.MarksStay.{stay_due}
 use Rattle.coap_server.proofs.Observing.ToldInOrder as O
 use Rattle.coap_server.proofs.Observing.UnmarkedAreCurrent.{are_current}
 use Rattle.coap_server.proofs.Progress.GoesOn.{goes_on}
+use Rattle.coap_server.proofs.Replying.AllRecognised.{all_recognised}
 use Rattle.coap_server.proofs.Replying.BlocksContinued.{all_continues_fit}
 use Rattle.coap_server.proofs.Replying.RepliesAtOnce as A
 use Rattle.coap_server.proofs.Replying.ResponsesHaveRequests.{sent_responses}
@@ -57,6 +61,7 @@ use Rattle.coap_server.proofs.Serving.Brought.{servers_back}
 use Rattle.coap_server.proofs.Serving.Reads.{verdicts_read}
 use Rattle.coap_server.proofs.Serving.Waiting.{ready_are_served}
 use Rattle.coap_server.proofs.Telling.ResponsesGoOut.{all_go_out}
+use Rattle.coap_server.proofs.Telling.SentSo.{all_sent_so}
 pub use Rattle.coap_server.proofs.Holding.Holds.{version_is, held_is, limits_are, all_served, holds_changes}
 
 pub reads : VerdictsRead
@@ -90,6 +95,12 @@ module _ (limits : Limits) (szx word : ℕ) where
 
     pub continues_fits : AllContinuesFit limits szx t
     continues_fits = all_continues_fit limits szx word t law
+
+    pub short : BodiesShort limits szx t
+    short = bodies_short limits szx t law.rows
+
+    pub recognised : AllRecognised limits szx t
+    recognised = all_recognised limits szx word t law
 
     pub handed : AreHandedUp limits szx word t
     handed = handed_up limits szx word t law
@@ -153,6 +164,9 @@ module _ (limits : Limits) (szx word : ℕ) where
 
     pub goes_out : AllGoOut limits szx word t
     goes_out = all_go_out limits szx word t law
+
+    pub sent_as : AllSentSo limits szx word t
+    sent_as = all_sent_so limits szx word t law
 
     pub none_left : NoneLeft limits szx word t
     none_left = N.none_left limits szx word t law

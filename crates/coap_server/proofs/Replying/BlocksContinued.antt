@@ -169,6 +169,11 @@ module _ (limits : Limits) (szx word : ℕ) (t : List Call) where
       none_waits = refl;
     }
 
+    answers_so : (p : Asked × Message) (b : Block) (h : Handling) → Replied b h
+        → AnswersBlock limits szx t (Feeds now from bytes w up (Some p) h below) p.0 b
+    answers_so p b h k = subst (λ g. AnswersBlock limits szx t (Feeds now from bytes w up (Some p) g below) p.0 b)
+        (sym k.is) (answers p b k.response k.fits)
+
     fed : (came : Option (Asked × Message)) (h : Handling)
         → ServerLaw limits szx word (Feeds now from bytes w up came h below ∷ t)
         → (p : Asked × Message) (q : Question) (b : Block) → came ≡ Some p → verdict_on szx p.1 ≡ Uploads q b
@@ -181,8 +186,7 @@ module _ (limits : Limits) (szx word : ℕ) (t : List Call) where
         ap (λ n. verdict_on n o.1) (szx_is limits szx t) ∙ (ap (λ (z : Asked × Message). verdict_on szx z.1) same ∙ v) in
         let k : Replied b h = replied s o.0 (verdict_on s.szx o.1) q b h more verdict law.rows.0 in
         subst (λ (z : Asked × Message). AnswersBlock limits szx t (Feeds now from bytes w up (Some o) h below) z.0 b) same
-        (subst (λ g. AnswersBlock limits szx t (Feeds now from bytes w up (Some o) g below) o.0 b) (sym k.is)
-        (answers o b k.response k.fits))
+        (answers_so o b h k)
 
   blocks : (c : Call) → ServerLaw limits szx word (c ∷ t) → (p : Asked × Message) (q : Question) (b : Block)
       → came_in c ≡ Some p → verdict_on szx p.1 ≡ Uploads q b → b.more ≡ true → AnswersBlock limits szx t c p.0 b
@@ -196,7 +200,7 @@ module _ (limits : Limits) (szx word : ℕ) (t : List Call) where
   blocks (Gets path answer) law p q b is v more = absurd (cc is)
   blocks (TellsApplied answer) law p q b is v more = absurd (cc is)
 
-  sizes : (c : Call) (x : Took) (size : ℕ) → takes_block own c ≡ Some x → size_in own c ≡ Some size
+  pub sizes : (c : Call) (x : Took) (size : ℕ) → takes_block own c ≡ Some x → size_in own c ≡ Some size
       → KeepsSize x.part.num x.part.szx size
   sizes (Feeds now from bytes w up (Some p) h below) x size e k =
       let s : Own = heard own now (incoming own now from bytes up (Some p)) in

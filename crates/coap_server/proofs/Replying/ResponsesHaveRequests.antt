@@ -118,7 +118,7 @@ shows_held : (o : Observer) (held : Option Held)
 shows_held o None = refl
 shows_held o (Some held) = refl
 
-each_there : (Q : Observer → Type 0) (os : List Observer) (o : Observer) → Each Q os → IsThere o os → Q o
+pub each_there : (Q : Observer → Type 0) (os : List Observer) (o : Observer) → Each Q os → IsThere o os → Q o
 each_there Q [] o h k = absurd k
 each_there Q (y ∷ os) o h (inl e) = subst Q e h.0
 each_there Q (y ∷ os) o h (inr k) = each_there Q os o h.1 k

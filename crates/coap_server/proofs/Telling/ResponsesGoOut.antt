@@ -59,7 +59,7 @@ module _ (K : L.Call → L.Answer → Type 0) (Q : E.Call → Type 0)
         (P.lower (W.own_of (later ++ past)) d) (asked_by_server past later) (asked_of later past law.1 h)
 
     module _ (limits : Limits) (szx word : ℕ) where
-      given_in : (past : List Call) (c : Call) → ServerLaw limits szx word (c ∷ past)
+      pub given_in : (past : List Call) (c : Call) → ServerLaw limits szx word (c ∷ past)
           → Ever Q (lower (own_of limits szx past) c)
           → Ever (λ (e : L.Entry). K e.call e.answer) (call_adds limits szx word past c)
       given_in past c law h =

@@ -1,13 +1,16 @@
 use Rattle.coap_server.proofs.Answering.DelaysStay.{delays_stay}
 use Rattle.coap_server.proofs.Answering.NextBegun.{all_begin_next, first_is_notified, none_left}
 use Rattle.coap_server.proofs.Answering.WaitOn.{wait_on}
+use Rattle.coap_server.proofs.Holding.BodiesShort.{bodies_short}
 use Rattle.coap_server.proofs.Observing.ChangesMark.{all_mark}
 use Rattle.coap_server.proofs.Observing.LastRegistered.{all_register}
 use Rattle.coap_server.proofs.Observing.MarksStay.{stay_due}
 use Rattle.coap_server.proofs.Observing.UnmarkedAreCurrent.{are_current}
+use Rattle.coap_server.proofs.Replying.AllRecognised.{all_recognised}
 use Rattle.coap_server.proofs.Replying.BlocksContinued.{all_continues_fit}
 use Rattle.coap_server.proofs.Replying.RepliesAtOnce.{rejects_responses}
 use Rattle.coap_server.proofs.Telling.ResponsesGoOut.{all_go_out}
+use Rattle.coap_server.proofs.Telling.SentSo.{all_sent_so}
 use Rattle.coap_server.proofs.laws.server_must_law.Goals as goal
 
 pub returns-clause-registers : goal.returns-clause-registers
@@ -33,6 +36,15 @@ returns-clause-rejects_responses c limits szx word t law = rejects_responses lim
 
 pub returns-clause-continues_fits : goal.returns-clause-continues_fits
 returns-clause-continues_fits c limits szx word t law = all_continues_fit limits szx word t law
+
+pub returns-clause-short : goal.returns-clause-short
+returns-clause-short c limits szx word t law = bodies_short limits szx t law.rows
+
+pub returns-clause-recognised : goal.returns-clause-recognised
+returns-clause-recognised c limits szx word t law = all_recognised limits szx word t law
+
+pub returns-clause-sent_as : goal.returns-clause-sent_as
+returns-clause-sent_as c limits szx word t law = all_sent_so limits szx word t law
 
 pub returns-clause-goes_out : goal.returns-clause-goes_out
 returns-clause-goes_out c limits szx word t law = all_go_out limits szx word t law
