@@ -2,6 +2,7 @@ pub mod Facts
 pub mod Calls
 pub mod Counting
 pub mod Exact
+pub mod Fetching
 pub mod Hearing
 pub mod Observing
 pub mod Places

@@ -38,6 +38,7 @@ pub mod Table
 pub mod Taken
 pub mod Tokens
 pub mod Types
+pub mod Unchanged
 pub mod Valid
 pub mod Values
 pub mod Whole

@@ -6,6 +6,7 @@ ghost use Rattle.coap_client.specs.Trace.{Call};
 ghost use Rattle.coap_client.specs.Follows.OfAnswers.{AreByAnswers};
 ghost use Rattle.coap_client.specs.Follows.Open.{AllEndInTime, OpenRuns};
 ghost use Rattle.coap_client.specs.Follows.Replied.{RepliesToCons};
+ghost use Rattle.coap_client.specs.Follows.Unchanged.{AreUnchanged};
 
 use coap_exchange::asker_law;
 
@@ -28,6 +29,11 @@ pub fn client_exchanges_law()
     // a GET alone, but for a bad block of a body that is sent in blocks (RFC 7252, section 5.8; RFC 7959, section 2.5).
     ensures reports_of_a_call { (server : Endpoint) (sizes : Sizes) (word : ℕ) (t : List Call)
         → ClientLaw server sizes word t → AreByAnswers sizes t }
+    // A GET whose answers are replies of one representation, which is no longer than the client's limit, asks for the
+    // first block or for one that begins below its length, and what they report is that representation (RFC 7252,
+    // section 5.8.1; RFC 7959, section 2.4).
+    ensures unchanged { (server : Endpoint) (sizes : Sizes) (word : ℕ) (t : List Call)
+        → ClientLaw server sizes word t → AreUnchanged sizes t }
 {
     asker_law();
 }

@@ -3,3 +3,5 @@ pub use Rattle.coap_client.proofs.Sending.OpenSince.{open_runs}
 pub use Rattle.coap_client.proofs.Sending.EndsInTime.{all_end_in_time}
 pub use Rattle.coap_client.proofs.Sending.RepliesToCons.{replies_to_cons}
 pub use Rattle.coap_client.proofs.Reporting.ByAnswers.{are_by_answers}
+pub use Rattle.coap_client.proofs.Fetching.FetchUnchanged.{fetches_unchanged}
+pub use Rattle.coap_client.proofs.Fetching.StaysUnchanged.{are_unchanged}

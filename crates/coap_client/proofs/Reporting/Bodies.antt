@@ -303,7 +303,7 @@ each_map P Q f [] h = tt
 each_map P Q f (x ∷ xs) h = (f x h.0, each_map P Q f xs h.1)
 
 -- a GET that waits has taken nothing
-abbrev IsNew : Operation → Type 0
+abbrev pub IsNew : Operation → Type 0
 IsNew (Calling k r (Fetches f)) = (sizes : Sizes) × (f ≡ F.start sizes 0)
 IsNew op = Unit {0}
 
@@ -328,7 +328,7 @@ waits_closed P now e token h (is_refused op why asks given none all) =
     subst (λ (x : Effect). AllOf P x.own.queue) (sym all) ((failed_runs e.own has_sent NoIds (Some op)).waits P h)
 
 module _ (sizes : Sizes) where
-  all_new : (t : List Call) → AllOf IsNew (own_of sizes t).queue
+  pub all_new : (t : List Call) → AllOf IsNew (own_of sizes t).queue
   all_new [] = tt
   all_new (Calls now r (Ok n) ∷ t) = all_more IsNew (own_of sizes t).queue (calling (own_of sizes t).sizes n r)
       (all_new t)

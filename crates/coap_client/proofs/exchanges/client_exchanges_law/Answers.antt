@@ -1,4 +1,5 @@
 use Rattle.coap_client.specs.Law.{lower_of}
+use Rattle.coap_client.proofs.Fetching.StaysUnchanged.{are_unchanged}
 use Rattle.coap_client.proofs.Reporting.ByAnswers.{are_by_answers}
 use Rattle.coap_client.proofs.Sending.EndsInTime.{all_end_in_time}
 use Rattle.coap_client.proofs.Sending.OpenSince.{open_runs}
@@ -17,3 +18,6 @@ returns-clause-replies_to_con c = replies_to_cons
 
 pub returns-clause-reports_of_a_call : goal.returns-clause-reports_of_a_call
 returns-clause-reports_of_a_call c = are_by_answers
+
+pub returns-clause-unchanged : goal.returns-clause-unchanged
+returns-clause-unchanged c = are_unchanged

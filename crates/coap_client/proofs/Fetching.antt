@@ -1,0 +1,2 @@
+pub mod FetchUnchanged
+pub mod StaysUnchanged
