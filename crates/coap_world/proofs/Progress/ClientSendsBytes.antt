@@ -121,7 +121,7 @@ fetch_in (Some o) h = by o.rest h.rest
   where
     by : (r : Option Notified) → RestAre r → ValuesAre (block2_option (elim r [ None ↦ None | Some n ↦ n.fetch.asked ]))
     by None k = tt
-    by (Some n) k = k
+    by (Some n) k = k.asked
 
 token_in : (o : Option Observation) → IfSome o WatchAre
     → IfSome (Rattle.std.specs.Option.option_map (λ (z : Observation). z.token) o) AreBytes
@@ -315,5 +315,5 @@ client_are server sizes word t small low law range p h =
     let received = steps_are (layer.start (layer.usual word)) under.left (W.lower_of server word calls) under.layer in
     let k = all_are server sizes small low t (facts.from_server server sizes word t law) range
     (inputs_are server word calls received) in
-    sent_are p word (W.lower_of server word calls) (layer_stands server word calls under)
+    sent_are p (layer.usual word) (W.lower_of server word calls) (layer_stands server word calls under)
     (each_are server word calls k.1) h

@@ -388,4 +388,4 @@ module _ (limits : Limits) (szx : ℕ) (small : szx ≤ 6) where
       let came = all_incoming calls (came_in word calls under.rows under.left under.layer)
       (steps_are (layer.start (layer.usual word)) under.left (W.lower_of calls) under.layer) in
       let k = all_are t law.rows range came in
-      sent_are p word (W.lower_of calls) (layer_stands word calls under) (each_are calls under.rows k.1) h
+      sent_are p (layer.usual word) (W.lower_of calls) (layer_stands word calls under) (each_are calls under.rows k.1) h

@@ -30,7 +30,7 @@ use Rattle.coap_world.proofs.Reports.Codes.{applied_by, reply_right}
 use Rattle.coap_world.proofs.Reports.HandedOnce.{counted_in}
 use Rattle.coap_world.proofs.Reports.Located.{LaterAll, SentAll, Origin, TakesIn, brought_served, server_later}
 
-module _ (config : Config) (number : ℕ) (all : List Entry) (small : config.client_sizes ≤ 6) (whole : Lawful config all)
+module _ (config : Config) (number : ℕ) (all : List Entry) (small : config.client_sizes.szx ≤ 6) (whole : Lawful config all)
     (in_range : (x : Taken) → WasTaken x (client_of all) → IsRequest x.request) where
   abbrev pub Knows : List Entry → Serving → Type 0
   Knows w x = Known config number all small whole in_range w x

@@ -1,6 +1,6 @@
 -- What a path holds is no longer than the limit of the server.
 use Rattle.std.proofs.Common.{◌≡◌, ◌≤◌, ℕ, ◌+◌, max, nat_lt, nat_le, Bool, true, false, not, ◌&&◌, is_some, Option}
-use Rattle.std.proofs.Common.{Some}
+use Rattle.std.proofs.Common.{◌∙◌, Some}
 use Rattle.std.proofs.Common.{None, List, [], ◌∷◌, ◌++◌, length, refl, ap, sym, subst, cond, arith, Result, inl, inr}
 use Rattle.std.specs.Prelude.{IfSome}
 use Rattle.std.proofs.lemmas.List.{length-append}

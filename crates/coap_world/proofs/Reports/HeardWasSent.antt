@@ -24,7 +24,7 @@ pub record Reads (bytes : List ℕ) (m : Message) : Type 0 where
   pub spells : Spells bytes m
   pub role : role_of m.code ≡ role.Response
 
-module _ (word : ℕ) (past : List T.Entry) (e : T.Entry) (from : Endpoint) (bytes : List ℕ) (m : Message)
+module _ (setup : Setup) (past : List T.Entry) (e : T.Entry) (from : Endpoint) (bytes : List ℕ) (m : Message)
     (are : AreBytes bytes) (up : e.answer ≡ T.Becomes (T.Response m)) where
   reads_this : (n : Message) → Spells bytes n → role_of n.code ≡ role.Response → e.answer ≡ T.Becomes (T.Response n)
       → Reads bytes m
@@ -34,7 +34,7 @@ module _ (word : ℕ) (past : List T.Entry) (e : T.Entry) (from : Endpoint) (byt
     role = subst (λ (x : Message). role_of x.code ≡ role.Response) same k;
   }
 
-  sorted : (n : Message) → Spells bytes n → Sorts word past e (record { from = from; message = n }) → Reads bytes m
+  sorted : (n : Message) → Spells bytes n → Sorts setup past e (record { from = from; message = n }) → Reads bytes m
   sorted n s (rejects r) = absurd (cc (r.answer, up))
   sorted n s (drops r) = absurd (cc (r.answer, up))
   sorted n s (takes_ack r) = absurd (cc (r.answer, up))
@@ -44,12 +44,12 @@ module _ (word : ℕ) (past : List T.Entry) (e : T.Entry) (from : Endpoint) (byt
   sorted n s (replays r) = absurd (cc (r.answer, up))
   sorted n s (hands_over r) = go r.answer
     where
-      go : HandedAs word past e (record { from = from; message = n }) → Reads bytes m
+      go : HandedAs setup past e (record { from = from; message = n }) → Reads bytes m
       go (inl a) = absurd (cc (a.2, up))
       go (inr (inl a)) = absurd (cc (a.3, up))
       go (inr (inr a)) = reads_this n s a.0 a.1
 
-  arrived : (what : Arrival) → Shows bytes what → Arrives word past e from what → Reads bytes m
+  arrived : (what : Arrival) → Shows bytes what → Arrives setup past e from what → Reads bytes m
   arrived Unreadable s r = absurd (cc (r.0, up))
   arrived (Faulted Con id) s r = absurd (cc (r.0, up))
   arrived (Faulted Non id) s r = absurd (cc (r.0, up))
@@ -57,11 +57,11 @@ module _ (word : ℕ) (past : List T.Entry) (e : T.Entry) (from : Endpoint) (byt
   arrived (Faulted Rst id) s r = absurd (cc (r.0, up))
   arrived (Whole n) s r = sorted n s r
 
-reads : (word : ℕ) (past : List T.Entry) (e : T.Entry) (from : Endpoint) (bytes : List ℕ) (m : Message)
-    → Stands word past e → e.call ≡ T.Receive from bytes → e.answer ≡ T.Becomes (T.Response m) → Reads bytes m
-reads word past e from bytes m here call up =
-    let row : Row word past e (T.Receive from bytes) =
-    subst (Row word past e) call here.row in arrived word past e from bytes m row.0 up row.1.0 row.1.1 row.1.2
+reads : (setup : Setup) (past : List T.Entry) (e : T.Entry) (from : Endpoint) (bytes : List ℕ) (m : Message)
+    → Stands setup past e → e.call ≡ T.Receive from bytes → e.answer ≡ T.Becomes (T.Response m) → Reads bytes m
+reads setup past e from bytes m here call up =
+    let row : Row setup past e (T.Receive from bytes) =
+    subst (Row setup past e) call here.row in arrived setup past e from bytes m row.0 up row.1.0 row.1.1 row.1.2
 
 -- the other layer sends these bytes there
 abbrev pub SendsTo : Endpoint → List ℕ → T.Entry → Type 0

@@ -69,7 +69,7 @@ pub server_later : (config : Config) (P : List S.Call → S.Call → Type 0) (e 
 server_later config P (OfClient c) w h = h
 server_later config P (OfServer c) w h = inr h
 
-module _ (config : Config) (number : ℕ) (all : List Entry) (small : config.client_sizes ≤ 6) (whole : Lawful config all)
+module _ (config : Config) (number : ℕ) (all : List Entry) (small : config.client_sizes.szx ≤ 6) (whole : Lawful config all)
     (in_range : (x : Taken) → WasTaken x (client_of all) → IsRequest x.request) where
   abbrev pub LaterAll : List Entry → Type 0
   LaterAll t = Later config number all small whole in_range t

@@ -132,7 +132,7 @@ uploads_it uploads at a code (Refused n) final h = absurd final
 uploads_it uploads at a code (Asks q) final h = absurd (cc h)
 uploads_it uploads at a code (Uploads q b) final h = (q, b, refl)
 
-module _ (config : Config) (number : ℕ) (all : List Entry) (small : config.client_sizes ≤ 6) (whole : Lawful config all)
+module _ (config : Config) (number : ℕ) (all : List Entry) (small : config.client_sizes.szx ≤ 6) (whole : Lawful config all)
     (in_range : (x : Taken) → WasTaken x (client_of all) → IsRequest x.request) where
   abbrev Later : List Entry → Type 0
   Later t = LaterAll config number all small whole in_range t
@@ -369,7 +369,7 @@ module _ (config : Config) (number : ℕ) (all : List Entry) (small : config.cli
       none_applied a f.message token code f.code_is (subst (λ (z : Sending). Fails z.operation code) (sym same) f.means)
       (outcome_in a f.message token all (λ x h. h, λ con h. h, λ x h. h) whole f.answered)
 
-pub never_failed : (config : Config) (all : List Entry) → config.client_sizes ≤ 6 → Lawful config all
+pub never_failed : (config : Config) (all : List Entry) → config.client_sizes.szx ≤ 6 → Lawful config all
     → ((x : Taken) → WasTaken x (client_of all) → IsRequest x.request) → NeverFailed config all
 never_failed config all small law in_range number code failed applied =
     fails_not config number all small law in_range code

@@ -23,7 +23,7 @@ use Rattle.coap_world.specs.Done.{AppliesSince, OnceDone}
 use Rattle.coap_world.proofs.Reports.Codes.{succeeds_applied, refusal_none, notice_none}
 use Rattle.coap_world.proofs.Reports.Located.{LaterAll, SentAll, brought_served}
 
-module _ (config : Config) (number : ℕ) (all : List Entry) (small : config.client_sizes ≤ 6) (whole : Lawful config all)
+module _ (config : Config) (number : ℕ) (all : List Entry) (small : config.client_sizes.szx ≤ 6) (whole : Lawful config all)
     (in_range : (x : Taken) → WasTaken x (client_of all) → IsRequest x.request) where
   abbrev Later : List Entry → Type 0
   Later t = LaterAll config number all small whole in_range t
@@ -101,7 +101,7 @@ module _ (config : Config) (number : ℕ) (all : List Entry) (small : config.cli
           (lawful_back config w (OfServer c) law),
     )
 
-pub once_done : (config : Config) (all : List Entry) → config.client_sizes ≤ 6 → Lawful config all
+pub once_done : (config : Config) (all : List Entry) → config.client_sizes.szx ≤ 6 → Lawful config all
     → ((x : Taken) → WasTaken x (client_of all) → IsRequest x.request) → OnceDone config all
 once_done config all small law in_range number code =
     done_in config number all small law in_range code all (λ x h. h, λ con h. h, λ x h. h) law

@@ -97,7 +97,7 @@ single_is sizes Post body h = absurd h
 single_is sizes Put body h = absurd h
 single_is sizes Delete body h = refl
 
-module _ (config : Config) (number : ℕ) (all : List Entry) (small : config.client_sizes ≤ 6) (whole : Lawful config all)
+module _ (config : Config) (number : ℕ) (all : List Entry) (small : config.client_sizes.szx ≤ 6) (whole : Lawful config all)
     (in_range : (x : Taken) → WasTaken x (client_of all) → IsRequest x.request) (w : List Entry)
     (later : Later config number all small whole in_range w) (law : Lawful config w) (x : Serving)
     (from : x.asked.from ≡ client_end) (k : Known config number all small whole in_range w x)

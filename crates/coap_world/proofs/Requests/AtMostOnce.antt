@@ -34,7 +34,7 @@ use Rattle.coap_world.proofs.Requests.CameFrom.{same_request}
 use Rattle.coap_world.proofs.Requests.OfACall.{no_call, Lawful, lawful_back, Sent, Later, later_back, Known}
 use Rattle.coap_world.proofs.Requests.OfACall.{one_sending, known}
 
-module _ (config : Config) (number : ℕ) (all : List Entry) (small : config.client_sizes ≤ 6) (whole : Lawful config all)
+module _ (config : Config) (number : ℕ) (all : List Entry) (small : config.client_sizes.szx ≤ 6) (whole : Lawful config all)
     (in_range : (x : Taken) → WasTaken x (client_of all) → IsRequest x.request) where
   abbrev Knows : List Entry → Serving → Type 0
   Knows w x = Known config number all small whole in_range w x
@@ -144,7 +144,7 @@ module _ (config : Config) (number : ℕ) (all : List Entry) (small : config.cli
         (lawful_back config past (OfServer c) law),
   )
 
-pub at_most_once : (config : Config) (all : List Entry) → config.client_sizes ≤ 6 → Lawful config all
+pub at_most_once : (config : Config) (all : List Entry) → config.client_sizes.szx ≤ 6 → Lawful config all
     → ((x : Taken) → WasTaken x (client_of all) → IsRequest x.request) → AtMostOnce config all
 at_most_once config all small law in_range number =
     at_most config number all small law in_range all (λ x h. h, λ con h. h, λ x h. h) law

@@ -120,7 +120,7 @@ lawful_back config past (OfServer c) law =
       came = law.came.1;
     }
 
-module _ (config : Config) (number : ℕ) (all : List Entry) (small : config.client_sizes ≤ 6) (whole : Lawful config all)
+module _ (config : Config) (number : ℕ) (all : List Entry) (small : config.client_sizes.szx ≤ 6) (whole : Lawful config all)
     (in_range : (x : Taken) → WasTaken x (client_of all) → IsRequest x.request) where
   abbrev pub Begun : Open → List Entry → Type 0
   Begun con t = Ever (λ b. begun b ≡ Some con) (near_of (hops_in config t))

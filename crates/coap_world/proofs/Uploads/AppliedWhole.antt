@@ -75,7 +75,7 @@ none_sent sizes Get body t h is = absurd (cc is)
 none_sent sizes Put body t h is = absurd (cc is)
 none_sent sizes Post body t h is = absurd (cc is)
 
-module _ (config : Config) (number : ℕ) (all : List Entry) (small : config.client_sizes ≤ 6) (whole : Lawful config all)
+module _ (config : Config) (number : ℕ) (all : List Entry) (small : config.client_sizes.szx ≤ 6) (whole : Lawful config all)
     (in_range : (x : Taken) → WasTaken x (client_of all) → IsRequest x.request) where
   abbrev LaterAll : List Entry → Type 0
   LaterAll t = Later config number all small whole in_range t
@@ -115,7 +115,7 @@ module _ (config : Config) (number : ℕ) (all : List Entry) (small : config.cli
     by_blocks past c part p b h =
         let z = took x.asked p b in
         let o = upload config all small whole in_range past c part z h.takes from in
-        let body = whole_body config all small whole in_range past c part z h.takes from (x.question).body h.whole in
+        let body = whole_body config all small whole in_range past c part z h.takes from _ (x.question).body h.whole in
         let earlier = part_back config all small whole in_range past (OfServer c) part in
         let s : Sending = o.block.came.sending in
         let same : s ≡ k.sending = same_sending s o.block.came.con
@@ -243,7 +243,7 @@ module _ (config : Config) (number : ℕ) (all : List Entry) (small : config.cli
         (lawful_back config past (OfServer c) law),
   )
 
-pub applied_whole : (config : Config) (all : List Entry) → config.client_sizes ≤ 6 → Lawful config all
+pub applied_whole : (config : Config) (all : List Entry) → config.client_sizes.szx ≤ 6 → Lawful config all
     → ((x : Taken) → WasTaken x (client_of all) → IsRequest x.request) → AppliedWhole config all
 applied_whole config all small law in_range number =
     whole_in config number all small law in_range all (λ x h. h, λ con h. h, λ x h. h) law

@@ -41,7 +41,7 @@ off_near P [] hs h = h
 off_near P (e ∷ adds) hs (inl h) = absurd h
 off_near P (e ∷ adds) hs (inr h) = off_near P adds hs h
 
-module _ (config : Config) (all : List Entry) (small : config.client_sizes ≤ 6) (whole : Lawful config all)
+module _ (config : Config) (all : List Entry) (small : config.client_sizes.szx ≤ 6) (whole : Lawful config all)
     (in_range : (x : Taken) → WasTaken x (client_of all) → IsRequest x.request) where
   abbrev PartOf : List Entry → Type 0
   PartOf w = Part config all small whole in_range w

@@ -67,7 +67,7 @@ call_is x k b = (of_carried x.operation b.block b.carries).0 ∙ ap (λ n. Some 
 turn_is : (x : Sending) (k : ℕ) → IsBlockOf x k → turn_of x.operation ≡ Some k
 turn_is x k b = (of_carried x.operation b.block b.carries).1 ∙ ap (λ n. Some n) b.number_is
 
-module _ (config : Config) (all : List Entry) (small : config.client_sizes ≤ 6) (whole : Lawful config all)
+module _ (config : Config) (all : List Entry) (small : config.client_sizes.szx ≤ 6) (whole : Lawful config all)
     (in_range : (x : Taken) → WasTaken x (client_of all) → IsRequest x.request) where
   abbrev PartOf : List Entry → Type 0
   PartOf w = Part config all small whole in_range w

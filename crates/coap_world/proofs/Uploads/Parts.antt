@@ -92,7 +92,7 @@ module _ (config : Config) where
         came = law.came.0 z.asked (Uploads k.question k.block) k.comes from;
       }
 
-  module _ (all : List Entry) (small : config.client_sizes ≤ 6) (whole : Lawful config all)
+  module _ (all : List Entry) (small : config.client_sizes.szx ≤ 6) (whole : Lawful config all)
       (in_range : (x : Taken) → WasTaken x (client_of all) → IsRequest x.request) where
     -- the laws of a part of the record; what was sent then, was sent in the whole of it
     pub record Part (w : List Entry) : Type 0 where

@@ -49,7 +49,7 @@ each_map : {X Y : Type 0} (P : Y → Type 0) (f : X → Y) (xs : List X) → Eac
 each_map P f [] h = tt
 each_map P f (x ∷ xs) h = (h.0, each_map P f xs h.1)
 
-module _ (config : Config) (all : List Entry) (small : config.client_sizes ≤ 6) (whole : Lawful config all)
+module _ (config : Config) (all : List Entry) (small : config.client_sizes.szx ≤ 6) (whole : Lawful config all)
     (in_range : (x : Taken) → WasTaken x (client_of all) → IsRequest x.request) where
   abbrev PartOf : List Entry → Type 0
   PartOf w = PartOf_ config all small whole in_range w
@@ -324,9 +324,9 @@ module _ (config : Config) (all : List Entry) (small : config.client_sizes ≤ 6
         by false e = each_behind (λ (z : Took). IsPieceOf request.body z.part) (since x.key t) x
             (rest (grind (arith, nat_tests, e))) good
 
-    pub whole_body : (body : List ℕ) → IsWholeBody
+    pub whole_body : (limit : ℕ) (body : List ℕ) → IsWholeBody limit
         (map (λ (z : Took). z.part) (since x.key (c ∷ server_trace config past))) body → body ≡ request.body
-    whole_body body h = whole_is _ body request.body h.whole
+    whole_body limit body h = whole_is _ body request.body h.whole
         (each_map (IsPieceOf request.body) (λ (z : Took). z.part) (since x.key (c ∷ server_trace config past)) pieces)
       where
         num_is : (x.part).num ≡ ((upload.reads).upload).num
