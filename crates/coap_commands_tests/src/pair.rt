@@ -41,6 +41,7 @@ impl Timekeeper for Clock {
 }
 
 // What came of a pair.
+#[derive(Clone, Copy)]
 struct Ran {
     // The exit status.
     status: u8,
