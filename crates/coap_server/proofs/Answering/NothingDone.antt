@@ -4,7 +4,7 @@ use Rattle.coap_types.specs.Past.{Ever}
 use Rattle.coap_types.specs.SameEndpoint.{same_endpoint}
 use Rattle.coap_layer.specs.Machine.Steps.{Asked as Below}
 use Rattle.coap_layer.specs.Trace as L
-use Rattle.coap_layer.specs.Words.{Open, outstanding}
+use Rattle.coap_layer.specs.Words.{Open}
 use Rattle.coap_block.specs.Whole.{Each}
 use Rattle.coap_observe.specs.Observers.{Observer}
 use Rattle.coap_resource.specs.Limits.{Limits}
@@ -14,7 +14,7 @@ use Rattle.coap_exchange.specs.AnswererLaw as W
 use Rattle.coap_exchange.specs.AnswererTrace as E
 use Rattle.coap_server.specs.Trace.{Own, Handling, Silent, Replies, Serves, Waits, Notifies, Call, Ticks}
 use Rattle.coap_server.specs.Notifying.{marked, readies}
-use Rattle.coap_server.specs.Law.{ServerLaw, own_of, lower_of, layer_of}
+use Rattle.coap_server.specs.Law.{ServerLaw, own_of, lower_of}
 use Rattle.coap_server.specs.Follows.Begins.{CanNotify}
 use Rattle.coap_server.specs.Follows.Leaves.{LeavesAll, AllLeave}
 use Rattle.coap_server.proofs.Answering.RoomAsked.{Quiet, quiet_room}
