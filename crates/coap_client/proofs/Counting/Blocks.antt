@@ -1,6 +1,5 @@
 -- How many blocks of the smallest size a body has that reaches a limit.
-use Rattle.std.proofs.Common.{◌≤◌, ℕ, ◌+◌, ◌-◌, ◌*◌, arith}
-use Rattle.std.specs.Prelude.{◌/◌}
+use Rattle.std.proofs.Common.{◌≤◌, ℕ, ◌+◌, ◌*◌, arith}
 use Rattle.coap_client.specs.Follows.Bounds.{max_blocks}
 
 -- they hold such a body

@@ -19,7 +19,6 @@ use Rattle.coap_layer.specs.Trace as L
 use Rattle.coap_exchange.specs.declared.asker.AskRefusal.{AskRefusal}
 use Rattle.coap_exchange.specs.declared.asker.Event.{Event}
 use Rattle.coap_exchange.specs.declared.asker.Event.TheVariants as event_of
-use Rattle.coap_exchange.specs.declared.asker.Exchange.{Exchange}
 use Rattle.coap_exchange.specs.declared.asker.Turn.{Turn}
 use Rattle.coap_exchange.specs.declared.asker.Turn.TheVariants as turn_of
 use Rattle.coap_exchange.specs.AskerLaw as X
@@ -29,7 +28,7 @@ use Rattle.coap_client.specs.Trace.{Forgets, Feeds, Ticks, NextOut, NextReport, 
 use Rattle.coap_client.specs.Trace as R
 use Rattle.coap_client.specs.Own.{Transfer, Fetches, Uploads, Single, Operation, Calling, Registering}
 use Rattle.coap_client.specs.Own.{Fetching, Cancelling, Dropped, Notified, Observation, Own}
-use Rattle.coap_client.specs.Observations.{observation_of, observation_with, rest_of, to_fetch, dropped}
+use Rattle.coap_client.specs.Observations.{observation_with, rest_of, to_fetch, dropped}
 use Rattle.coap_client.specs.Requests.{is_longer}
 use Rattle.coap_client.specs.Responses.{continue, block_at, is_notification, sequence_in}
 use Rattle.coap_client.specs.Reports.{lapse}
@@ -48,13 +47,13 @@ use Rattle.coap_client.specs.Law.{ClientRows, own_of, lower_of}
 use Rattle.coap_client.specs.Queue.{transfer_of}
 use Rattle.coap_client.specs.Follows.Words.{sends, sent_by}
 use Rattle.coap_client.specs.Follows.Blocks.{Carried, carried}
-use Rattle.coap_client.specs.Follows.Holds.{moment, is_copy, is_final, is_upload_of, sends_of, SendsOf}
+use Rattle.coap_client.specs.Follows.Holds.{moment, is_final, is_upload_of, sends_of, SendsOf}
 use Rattle.coap_client.specs.Follows.Holds.{EndsUnanswered}
 use Rattle.coap_client.proofs.Places.Once.{law_back, known}
-use Rattle.coap_client.proofs.Places.PlaceLemmas.{number_self, same_number}
+use Rattle.coap_client.proofs.Places.PlaceLemmas.{number_self}
 use Rattle.coap_client.proofs.Turning.AllWaiting.{all_wait}
-use Rattle.coap_client.proofs.Turning.BlockByBlock.{AllOf, From, Starts, Follows, Runs, heard_in, happened_from}
-use Rattle.coap_client.proofs.Turning.BlockByBlock.{passes_from, happened_runs, passes_runs, releases_quiet}
+use Rattle.coap_client.proofs.Turning.BlockByBlock.{AllOf, Starts, Follows, Runs, heard_in, happened_from}
+use Rattle.coap_client.proofs.Turning.BlockByBlock.{passes_from, happened_runs, passes_runs}
 use Rattle.coap_client.proofs.Uploading.Holds.{goes_fed, goes_ticked}
 
 -- It is as it was, or it is set where what runs, an upload, is over without a final response.
