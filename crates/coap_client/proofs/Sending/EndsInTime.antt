@@ -31,7 +31,7 @@ use Rattle.coap_client.proofs.Sending.OpenSince.{open_runs}
 use Rattle.coap_client.proofs.Turning.Leading.{client_back}
 
 -- at the input itself, behind which more was asked
-at_input : {T : Type 0} (P : List T → T → Type 0) (later first : List T) (input : T) (rest : List T)
+pub at_input : {T : Type 0} (P : List T → T → Type 0) (later first : List T) (input : T) (rest : List T)
     → Always P ((later ++ (first ++ input ∷ [])) ++ rest) → Always P (input ∷ rest)
 at_input P later first input rest h =
     Always_back P first (input ∷ rest) (Always_back P later (first ++ input ∷ rest)
