@@ -1,5 +1,5 @@
 -- What a client hears answers the exchange that is open, and it hears whatever does.
-use Rattle.std.proofs.Common.{◌≡◌, ◌⊎◌, ℕ, max, Bool, Option, Some, None, List, [], ◌∷◌, ◌++◌, refl, ap, sym, subst, ◌∙◌}
+use Rattle.std.proofs.Common.{◌≡◌, ℕ, max, Bool, Option, Some, None, List, [], ◌∷◌, ◌++◌, refl, ap, sym, subst, ◌∙◌}
 use Rattle.std.proofs.Common.{Result}
 use Rattle.coap_types.proofs.Facts.Traces.{Always_back}
 use Rattle.coap_types.specs.declared.endpoint.Endpoint.{Endpoint}
@@ -17,7 +17,7 @@ use Rattle.coap_exchange.specs.AskerResponses.{AreToldAs, IsSound, TellsKind}
 use Rattle.coap_client.specs.Trace.{Call, Calls, Observes, Cancels, Forgets, Feeds, Ticks, NextOut, NextReport, Asked}
 use Rattle.coap_client.specs.Effects.{Effect}
 use Rattle.coap_client.specs.Events.{happened}
-use Rattle.coap_client.specs.Deeds.{at, close, deeds, done_for}
+use Rattle.coap_client.specs.Deeds.{at, close, deeds}
 use Rattle.coap_client.specs.Law.{ClientLaw, own_of, lower_of}
 use Rattle.coap_client.specs.Follows.Open.{IsOfOpen, HearsOfOpen, ComesAsAnswer, AnswersAreHeard}
 use Rattle.coap_client.specs.Follows.Words.{hears}

@@ -16,15 +16,14 @@ use Rattle.coap_exchange.specs.AskerFollows as A
 use Rattle.coap_exchange.specs.AskerSteps as P
 use Rattle.coap_exchange.specs.AskerLaw as X
 use Rattle.coap_exchange.proofs.Facts.Moves as move
-use Rattle.coap_client.specs.Trace.{NoIds, Call, Calls, Observes, Cancels, Forgets, Feeds, Ticks, NextOut, NextReport}
+use Rattle.coap_client.specs.Trace.{Call, Calls, Observes, Cancels, Forgets, Feeds, Ticks, NextOut, NextReport}
 use Rattle.coap_client.specs.Trace.{Asked}
-use Rattle.coap_client.specs.Own.{Operation, Calling, Registering, Fetching, Cancelling, Dropped, Observation, Own}
-use Rattle.coap_client.specs.Own.{Transfer}
+use Rattle.coap_client.specs.Own.{Operation, Own}
 use Rattle.coap_client.specs.Observations.{observation_of}
 use Rattle.coap_client.specs.Observing.{releases}
 use Rattle.coap_client.specs.Requests.{message_of}
 use Rattle.coap_client.specs.Effects.{Deed, Rests, Asks, Keeps, Releases, Effect, has_sent}
-use Rattle.coap_client.specs.Events.{failed, happened, passes, closed}
+use Rattle.coap_client.specs.Events.{happened, passes, closed}
 use Rattle.coap_client.specs.Deeds.{at, close, deeds, done_for}
 use Rattle.coap_client.specs.Steps.{lower}
 use Rattle.coap_client.specs.Law.{ClientLaw, own_of, lower_of}
@@ -36,22 +35,10 @@ use Rattle.coap_client.proofs.Places.Once.{law_back, law_front, done_right, bene
 use Rattle.coap_client.proofs.Places.PlaceEvents.{AreRight, are_right_back}
 use Rattle.coap_client.proofs.Reporting.ExchangeEnds.{ended_by, ByTime}
 use Rattle.coap_client.proofs.Rest.Resting.{clocks}
+use Rattle.coap_client.proofs.Sending.LastCancels.{exchange_cancels, failed_quiet, releases_quiet}
 use Rattle.coap_client.proofs.Sending.OpenBeneath.{running_in, open_at, IsOpened, opened}
 use Rattle.coap_client.proofs.Sending.SentFor.{sent_for}
 use Rattle.coap_client.proofs.Uploading.Holds.{sent_of}
-
-releases_quiet : (o : Option Observation) (op : Operation) → releases o ≡ Asks op → ⊥
-releases_quiet None op h = cc h
-releases_quiet (Some o) op h = cc h
-
-failed_quiet : (u : Transfer → Bool) (s : Own) (running : Option Operation) (op : Operation)
-    → (failed u NoIds s running).deed ≡ Asks op → ⊥
-failed_quiet u s None op h = cc h
-failed_quiet u s (Some (Calling k r t)) op h = cc h
-failed_quiet u s (Some (Registering k path)) op h = cc h
-failed_quiet u s (Some (Fetching k)) op h = cc h
-failed_quiet u s (Some Dropped) op h = cc h
-failed_quiet u s (Some (Cancelling k)) op h = releases_quiet (observation_of k s.observations) op h
 
 module _ (server : Endpoint) (word : ℕ) where
   -- what asks for no request leaves what is open
@@ -325,6 +312,7 @@ module _ (server : Endpoint) (sizes : Sizes) (word : ℕ) where
           last_sent = s.last;
           sent_for = s.is_for;
           token = s.token;
+          cancel = exchange_cancels server sizes word t law.exchanges.rows o.exchange o.runs s.sending s.last;
         }
 
     pub open_runs : OpenRuns server sizes word t

@@ -1,6 +1,6 @@
 -- Which exchange of a client is open, since when, and how late it ends without an answer (RFC 7252, sections 4.2, 5.2.2
 -- and 5.3).
-use Rattle.std.specs.Prelude.{◌≡◌, ◌⊎◌, ◌≤◌, ℕ, ◌+◌, ◌*◌, Bool, false, Option, Some, None, List, [], ◌∷◌, Result}
+use Rattle.std.specs.Prelude.{◌≡◌, ◌⊎◌, ◌≤◌, ℕ, ◌+◌, ◌*◌, Bool, false, Option, Some, None, is_some, List, [], ◌∷◌, Result}
 use Rattle.coap_types.specs.Past.{Always}
 use Rattle.coap_types.specs.Recognised.{carries}
 use Rattle.coap_types.specs.declared.direction.Direction.TheVariants.{Response}
@@ -64,6 +64,8 @@ module _ (server : Endpoint) (sizes : Sizes) (word : ℕ) where
     pub last_sent : last_sent sizes t ≡ Some sending
     pub sent_for : IsSentFor operation sending
     pub token : exchange.token ≡ sending.token
+    -- it is that of a cancel where the request has a token of its own (RFC 7641, section 3.6)
+    pub cancel : exchange.cancel ≡ is_some sending.request.token
 
   -- An exchange is open exactly where one runs.
   pub record OpenRuns (t : List Call) : Type 0 where
