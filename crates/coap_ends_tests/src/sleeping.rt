@@ -1,7 +1,7 @@
 //! Two ends that are ticked where one is due, or something comes, against two that are ticked each
 //! millisecond: they give out the same datagrams at the same moments, and no tick is for nothing.
 use bytes::Bytes;
-use coap_ends::{Client, Server};
+use coap_ends::{CallId, CallRefusal, Client, Server};
 use coap_layer::Datagram;
 use coap_resource::{MAX_CHANGES_PER_WINDOW, MapStore, Store};
 use coap_types::{Endpoint, Method, Moment, Path, Request, Szx, Tags};
@@ -11,7 +11,7 @@ use std::test::Fail;
 const RUNS: u64 = 200;
 
 // So long a run is, and the events that are handed in come in its first half.
-const RUN_MS: u64 = 12_000;
+const RUN_MS: u64 = 8_000;
 
 const EVENTS: u64 = 12;
 
@@ -101,14 +101,14 @@ impl Run {
     }
 
     fn happen(&mut self, at: u64, what: u64) -> Result<(), Fail> {
-        let len = (what / 8) as usize % 40;
-        let body = [what as u8; 40];
+        let len = (what / 8 % 40) as usize;
+        let body = [(what % 256) as u8; 40];
         match what % 8 {
             0 | 1 => self.call(at, Method::Get, &[]),
             2 | 3 => self.call(at, Method::Put, &body[..len]),
             4 => {
-                let _taken = self.client.observe(Moment(at), self.path.clone()?)?;
-                Ok(())
+                let path = self.path.clone()?;
+                is_taken(self.client.observe(Moment(at), path))
             }
             _ => {
                 let _version = self
@@ -130,8 +130,7 @@ impl Run {
             if_none_match: false,
             accept: None,
         };
-        let _taken = self.client.call(Moment(at), request)?;
-        Ok(())
+        is_taken(self.client.call(Moment(at), request))
     }
 
     // The datagram arrives, if it is that moment.
@@ -210,8 +209,8 @@ impl Run {
         Ok(())
     }
 
-    // The next moment behind this one at which something is handed in, or an end is due.
-    fn next_moment(&self, at: u64) -> u64 {
+    // The next moment behind this one at which something is handed in.
+    fn next_input(&self, at: u64) -> u64 {
         let mut next = RUN_MS;
         for event in 0..EVENTS {
             let moment = self.moment_of(event);
@@ -225,7 +224,7 @@ impl Run {
                 _ => {}
             }
         }
-        next.min(self.due())
+        next
     }
 
     // When an end is due first.
@@ -236,11 +235,22 @@ impl Run {
     }
 }
 
+// The queue may be full.
+fn is_taken(answer: Result<CallId, CallRefusal>) -> Result<(), Fail> {
+    match answer {
+        Ok(_) | Err(CallRefusal::QueueFull) => Ok(()),
+        Err(why) => Err(Fail::from(why)),
+    }
+}
+
 fn ticked_each_millisecond(alloc: Global, seed: u64) -> Result<Run, Fail> {
     let mut run = Run::new(alloc, seed)?;
+    let mut next = 0;
     for at in 0..RUN_MS {
-        let _some = run.hand_in(at)?;
-        let _did = run.turn(at)?;
+        let some = at == next && run.hand_in(at)?;
+        if run.turn(at)? || some || at == next {
+            next = run.next_input(at);
+        }
     }
     Ok(run)
 }
@@ -254,7 +264,7 @@ fn asleep_until_due(alloc: Global, seed: u64) -> Result<Run, Fail> {
         if at != 0 && !some && !did {
             return Err(Fail::new(format_args!("in run {seed} a tick at {at} is for nothing")));
         }
-        at = run.next_moment(at);
+        at = run.next_input(at).min(run.due());
         if at >= RUN_MS {
             break;
         }
