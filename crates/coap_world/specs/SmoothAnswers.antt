@@ -1,5 +1,6 @@
--- What is promised of a smooth run in which nothing is observed: how long an exchange is open, that it ends by an answer,
--- and what each call comes to (RFC 7252, sections 4.2, 5.2 and 5.8; RFC 7959, section 2; the bound is a profile).
+-- What is promised of a smooth run in which nothing is observed: how long an exchange is open, that it ends by an
+-- answer, and what each call comes to (RFC 7252, sections 4.2, 5.2 and 5.8; RFC 7959, section 2; the bound
+-- is a profile).
 use Rattle.std.specs.Prelude.{◌≡◌, ◌≢◌, ◌⊎◌, ◌≤◌, ℕ, ◌+◌, true, None, Some, List, [], ◌∷◌}
 use Rattle.coap_types.specs.Past.{Sometime, Always}
 use Rattle.coap_types.specs.declared.request.Method.TheVariants.{Get}

@@ -73,7 +73,8 @@ pub record DefersLongest : Type 0 where
   pub old : Sometime (λ past (turn : Turn). (turn.event.at ≡ 12999)
       × IsOpenSince sizes 0 (client_of (entries_of past))) run.turns
 
--- Of the run in which a POST times out that is not true: its exchange is open for 62,000 ms, and ends without an answer.
+-- Of the run in which a POST times out that is not true: its exchange is open for 62,000 ms, and ends without an
+-- answer.
 pub record Unanswered : Type 0 where
   pub times_out : TimesOut
   pub old : AreYoung config times_out.run.turns → ⊥

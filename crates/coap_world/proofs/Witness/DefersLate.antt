@@ -1,5 +1,5 @@
--- A legal run that is smooth, with a separate response: each datagram comes at its last moment, and each end ticks at its
--- last moment (RFC 7252, section 5.2.2).
+-- A legal run that is smooth, with a separate response: each datagram and each tick comes at its last
+-- moment (RFC 7252, section 5.2.2).
 pub mod Client
 pub mod Server
 pub mod Turns

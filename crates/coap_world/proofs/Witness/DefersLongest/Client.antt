@@ -1,4 +1,4 @@
--- The client of the smooth run in which an exchange is open longest: it ticks each second, and hears the separate response
+-- The client of the smooth run in which an exchange is open longest: it ticks each second, and hears the response
 -- 12,999 ms after it sent the request (RFC 7252, section 5.2.2).
 use Rattle.std.proofs.Common.{ℕ, false, Some, None, List, [], ◌∷◌, ◌++◌, Ok, refl, arith, inl, inr}
 use Rattle.std.specs.Prelude.{replicate, slice_set, take}

@@ -1,5 +1,5 @@
--- The server of the smooth run in which an exchange is open longest: a request is ready 10,000 ms after it came, 1 ms after
--- a tick, and is answered by the next one (RFC 7252, section 5.2.2).
+-- The server of the smooth run in which an exchange is open longest: a request is ready 10,000 ms after it came, 1 ms
+-- after a tick, and is answered by the next one (RFC 7252, section 5.2.2).
 use Rattle.std.proofs.Common.{ℕ, true, Some, None, List, [], ◌∷◌, ◌++◌, refl}
 use Rattle.std.specs.Prelude.{replicate, take}
 use Rattle.coap_types.specs.declared.remembered.TheConstants.{DEFAULT_REMEMBERED as usually_remembered}
