@@ -4,6 +4,8 @@ pub mod Begun
 pub mod ConsAreRequests
 pub mod EndsInTime
 pub mod ExchangeBegins
+pub mod HeardOfOpen
+pub mod LastCancels
 pub mod Moments
 pub mod NoNons
 pub mod OfCalls

@@ -4,7 +4,7 @@ ghost use Rattle.coap_block.specs.Sizes.{Sizes};
 ghost use Rattle.coap_client.specs.Law.{ClientLaw};
 ghost use Rattle.coap_client.specs.Trace.{Call};
 ghost use Rattle.coap_client.specs.Follows.OfAnswers.{AreByAnswers};
-ghost use Rattle.coap_client.specs.Follows.Open.{AllEndInTime, OpenRuns};
+ghost use Rattle.coap_client.specs.Follows.Open.{AllEndInTime, AnswersAreHeard, HearsOfOpen, OpenRuns};
 ghost use Rattle.coap_client.specs.Follows.Replied.{RepliesToCons};
 ghost use Rattle.coap_client.specs.Follows.Unchanged.{AreUnchanged};
 
@@ -20,6 +20,12 @@ pub fn client_exchanges_law()
     // after it, or later (RFC 7252, sections 4.2 and 5.2.2).
     ensures ends_in_time { (server : Endpoint) (sizes : Sizes) (word : ℕ) (t : List Call)
         → ClientLaw server sizes word t → AllEndInTime sizes t }
+    // What is heard answers the exchange that is open, and a response from the server that does is heard (RFC 7252,
+    // section 5.3.2).
+    ensures hears_of_open { (server : Endpoint) (sizes : Sizes) (word : ℕ) (t : List Call)
+        → ClientLaw server sizes word t → HearsOfOpen server sizes word t }
+    ensures answers_heard { (server : Endpoint) (sizes : Sizes) (word : ℕ) (t : List Call)
+        → ClientLaw server sizes word t → AnswersAreHeard server sizes word t }
     // To each response that comes in a CON it replies in the next entry of its message layer, by an Empty acknowledgement
     // or a Reset (RFC 7252, section 4.2).
     ensures replies_to_con { (server : Endpoint) (sizes : Sizes) (word : ℕ) (t : List Call)

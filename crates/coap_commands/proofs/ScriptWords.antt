@@ -1,5 +1,5 @@
 -- Words of a script.
-use Rattle.std.proofs.Common.{◌≡◌, subst, ℕ, List, ◌∷◌, ◌++◌, length, arith}
+use Rattle.std.proofs.Common.{subst, ℕ, List, ◌∷◌, ◌++◌, length, arith}
 use Rattle.std.proofs.lemmas.List.{length-append}
 use Rattle.std.proofs.Math.Seq.{get_or-append_seam}
 use Rattle.coap_commands.specs.ScriptWords.{IsCut, Lacks}

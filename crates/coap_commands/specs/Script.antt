@@ -1,5 +1,5 @@
 -- What a line of a script says of a request.
-use Rattle.std.specs.Prelude.{◌≡◌, ◌≢◌, [], ℕ, false, List, None}
+use Rattle.std.specs.Prelude.{◌≢◌, [], ℕ, false, List, None}
 use Rattle.coap_types.specs.declared.request.Method.{Method}
 use Rattle.coap_client.specs.Trace.{Request}
 use Rattle.coap_words.specs.PathText.{IsPathText}

@@ -9,3 +9,4 @@ mod limits;
 mod observations;
 mod refusals;
 mod uploads;
+mod waking;

@@ -15,3 +15,5 @@ mod refused_growths;
 mod script;
 #[cfg(test)]
 mod server;
+#[cfg(test)]
+mod sleeping;

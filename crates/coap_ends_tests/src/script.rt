@@ -13,6 +13,7 @@
 //! a window takes, its limit of bodies |
 //! | `feed 0 C 40010001` | a datagram arrives from there |
 //! | `tick 0` · `idle 0` | a tick does something · finds nothing due |
+//! | `due 3000` · `due nothing` | its next tick is due then · never, unless something happens before |
 //! | `out C 6045` · `out C nothing` | that goes out next, to there · nothing does |
 //! | `arrives 0` | what was given out last arrives at the other end |
 //! | `keep` · `late 0` | what was given out last is kept · arrives at the other end |

@@ -9,3 +9,4 @@ mod observing;
 pub(crate) mod replies;
 pub(crate) mod storing;
 mod uploading;
+mod waking;

@@ -4,6 +4,7 @@ pub mod FirstAnswered
 pub mod HandedOn
 pub mod LayerIsLed
 pub mod NextBegun
+pub mod NothingDone
 pub mod RoomAsked
 pub mod TickTurns
 pub mod WaitOn

@@ -14,6 +14,7 @@ pub mod GoesOut
 pub mod HandedUpAsOften
 pub mod Holds
 pub mod Latest
+pub mod Leaves
 pub mod Marks
 pub mod Observes
 pub mod Outs

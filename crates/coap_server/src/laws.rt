@@ -5,6 +5,7 @@ ghost use Rattle.coap_server.specs.Follows.Current.{AreCurrent};
 ghost use Rattle.coap_server.specs.Follows.Delayed.{DelaysStay};
 ghost use Rattle.coap_server.specs.Follows.GoesOut.{AllGoOut};
 ghost use Rattle.coap_server.specs.Follows.Latest.{AreLatest};
+ghost use Rattle.coap_server.specs.Follows.Leaves.{AllLeave};
 ghost use Rattle.coap_server.specs.Follows.Marks.{AllMark, StayDue};
 ghost use Rattle.coap_server.specs.Follows.Registered.{AllRegister};
 ghost use Rattle.coap_server.specs.Follows.Recognised.{AllRecognised, BodiesShort};
@@ -245,6 +246,10 @@ pub fn server_must_law()
     // is free (RFC 7252, sections 4.4 and 4.7) ..
     ensures none_left { (limits : Limits) (szx word : ℕ) (t : List Call) → ServerLaw limits szx word t
         → NoneLeft limits szx word t }
+    // .. it leaves who observes, what waits, what is held and what is outstanding as it was, so nobody who could be
+    // notified behind it ..
+    ensures leaves { (limits : Limits) (szx word : ℕ) (t : List Call) → ServerLaw limits szx word t
+        → AllLeave limits szx word t }
     // .. where the message layer has nothing due and nothing that waits can be answered, a tick notifies the first
     // observer that can be, if a Message ID is free (RFC 7641, section 4.5) ..
     ensures notified { (limits : Limits) (szx word : ℕ) (t : List Call) → ServerLaw limits szx word t

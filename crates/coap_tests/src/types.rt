@@ -5,9 +5,9 @@ mod recognising;
 use Occurrence::{Never, Once, Repeatable};
 use bytes::Bytes;
 use coap_types::{
-    BodyLimit, Code, DEFAULT_BODY_LIMIT, DEFAULT_REMEMBERED, Endpoint, Id, Kind, Method, Moment, Occurrence, Opt,
-    Remembered, Request, Role, Rule, Szx, Tag, Tags, Token, appended, option_number, rule, uint_bytes,
-    uint_laws, uint_of,
+    BodyLimit, Code, DEFAULT_BODY_LIMIT, DEFAULT_REMEMBERED, Endpoint, Id, Kind, Method, Moment,
+    Occurrence, Opt, Remembered, Request, Role, Rule, Szx, Tag, Tags, Token, appended,
+    option_number, rule, uint_bytes, uint_laws, uint_of,
 };
 use paths::path_of;
 use std::alloc::{AllocError, AllocGlobal};

@@ -5,3 +5,4 @@ pub use Rattle.coap_client.proofs.Sending.RepliesToCons.{replies_to_cons}
 pub use Rattle.coap_client.proofs.Reporting.ByAnswers.{are_by_answers}
 pub use Rattle.coap_client.proofs.Fetching.FetchUnchanged.{fetches_unchanged}
 pub use Rattle.coap_client.proofs.Fetching.StaysUnchanged.{are_unchanged}
+pub use Rattle.coap_client.proofs.Sending.HeardOfOpen.{hears_of_open, answers_are_heard}

@@ -1,6 +1,6 @@
 -- A GET whose answers are replies of one representation comes to that.
-use Rattle.std.proofs.Common.{◌≡◌, ◌≤◌, ◌<◌, ◌⊎◌, inl, inr, ⊎_elim, ℕ, Bool, true, false, cond, ◌&&◌, Option, Some, None, List}
-use Rattle.std.proofs.Common.{[], ◌∷◌, ◌++◌, length, refl, ap, sym, subst, ◌∙◌, arith}
+use Rattle.std.proofs.Common.{◌≡◌, ◌≤◌, ◌<◌, ◌⊎◌, inl, inr, ⊎_elim, ℕ, Bool, true, cond, ◌&&◌, Option, Some, None, List}
+use Rattle.std.proofs.Common.{[], ◌∷◌, ◌++◌, length, ap, sym, subst, ◌∙◌, arith}
 use Rattle.std.specs.Prelude.{◌==◌}
 use Rattle.coap_types.specs.BlockValue.{block_in}
 use Rattle.coap_types.specs.OptionValues.{value_of}
@@ -17,14 +17,13 @@ use Rattle.coap_block.specs.FetchStep as F
 use Rattle.coap_block.specs.Sizes.{Sizes}
 use Rattle.coap_block.specs.declared.fetch_progress.Asked.{Asked}
 use Rattle.coap_block.specs.declared.fetch_step.FetchRefusal.TheVariants as refusal
-use Rattle.coap_block.specs.declared.fetch_verdict.Verdict.{Verdict}
 use Rattle.coap_block.specs.declared.fetch_verdict.Verdict.TheVariants as verdict
 use Rattle.coap_resource.specs.Content.{Held}
 use Rattle.coap_resource.specs.RequestOptions.{tag_of}
 use Rattle.coap_resource.specs.Serves.{Reply}
 use Rattle.coap_client.specs.Trace.{Request, Report, Body, Valid, Failed, Call}
-use Rattle.coap_client.specs.Own.{Transfer, Fetches, Operation, Calling}
-use Rattle.coap_client.specs.Responses.{said, content, valid, tag_in, format_in, block_at, part, part_by}
+use Rattle.coap_client.specs.Own.{Fetches, Calling}
+use Rattle.coap_client.specs.Responses.{said, content, valid, tag_in, format_in, part, part_by}
 use Rattle.coap_client.specs.Calls.{answer, has_tags}
 use Rattle.coap_client.specs.Calls as calls
 use Rattle.coap_client.specs.Effects.{of}
@@ -32,7 +31,7 @@ use Rattle.coap_client.specs.Steps.{reports}
 use Rattle.coap_client.specs.Law.{ClientLaw, own_of}
 use Rattle.coap_client.specs.Follows.OfAnswers.{is_by_answer}
 use Rattle.coap_client.specs.Follows.OfCalls.{CarriesBody}
-use Rattle.coap_client.specs.Follows.Unchanged.{reply_to, block_of, FetchesOf, GoesOn, SaysBlock, SaysReply}
+use Rattle.coap_client.specs.Follows.Unchanged.{reply_to, block_of, FetchesOf, SaysBlock, SaysReply}
 use Rattle.coap_client.specs.Follows.Unchanged.{HearsReplies, IsUnchanged, AreUnchanged}
 use Rattle.coap_client.specs.Follows.Words.{hears}
 use Rattle.coap_client.proofs.Fetching.FetchUnchanged.{fetches_unchanged}

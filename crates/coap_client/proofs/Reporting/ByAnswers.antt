@@ -1,7 +1,7 @@
 -- Which reports the answers to the requests of a call give.
-use Rattle.std.proofs.Common.{◌≡◌, ◌⊎◌, inl, inr, ◌<◌, ℕ, Bool, true, false, cond, ◌&&◌, Option, Some, None, List, [], ◌∷◌}
+use Rattle.std.proofs.Common.{◌≡◌, inl, inr, ℕ, Bool, true, false, cond, ◌&&◌, Option, Some, None, List, [], ◌∷◌}
 use Rattle.std.proofs.Common.{refl, ap, sym, subst, ◌∙◌}
-use Rattle.std.specs.Prelude.{◌==◌, nat_lt}
+use Rattle.std.specs.Prelude.{◌==◌}
 use Rattle.std.proofs.lemmas.Bool.{ltb-true}
 use Rattle.coap_types.specs.declared.block.Block.{Block}
 use Rattle.coap_types.specs.declared.endpoint.Endpoint.{Endpoint}
@@ -11,15 +11,15 @@ use Rattle.coap_types.specs.declared.request.Method.{Method}
 use Rattle.coap_codec.specs.Message.{Message}
 use Rattle.coap_block.specs.Sizes.{Sizes}
 use Rattle.coap_block.specs.FetchStep.{FetchState}
-use Rattle.coap_block.specs.UploadStep.{UploadState, Continues, more_follows, continues, moved}
+use Rattle.coap_block.specs.UploadStep.{UploadState, more_follows, continues, moved}
 use Rattle.coap_block.proofs.Facts.Laws.{continues_is_tested}
 use Rattle.coap_client.specs.Trace.{Request, Report, Body, Valid, Done, Failed, Changed}
 use Rattle.coap_client.specs.Trace.{BadBlock, NoTag, TooLarge, Call}
 use Rattle.coap_client.specs.Trace as R
-use Rattle.coap_client.specs.Own.{Transfer, Fetches, Uploads, Single, Calling}
+use Rattle.coap_client.specs.Own.{Transfer, Fetches, Uploads, Single}
 use Rattle.coap_client.specs.Requests.{is_longer}
 use Rattle.coap_client.specs.Reports.{done, is_success}
-use Rattle.coap_client.specs.Responses.{continue, block_at, part}
+use Rattle.coap_client.specs.Responses.{continue, block_at}
 use Rattle.coap_client.specs.Calls.{answer}
 use Rattle.coap_client.specs.Calls as calls
 use Rattle.coap_client.specs.Effects.{of}

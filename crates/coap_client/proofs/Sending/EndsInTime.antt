@@ -5,7 +5,6 @@ use Rattle.std.proofs.lemmas.List.{append_assoc}
 use Rattle.coap_types.specs.Past.{Always}
 use Rattle.coap_types.proofs.Facts.Traces.{Always_back}
 use Rattle.coap_types.specs.declared.endpoint.Endpoint.{Endpoint}
-use Rattle.coap_types.specs.declared.endpoint.Moment.{Moment}
 use Rattle.coap_types.specs.declared.transmission.TheConstants.{ACK_TIMEOUT_MS as ack_timeout}
 use Rattle.coap_types.specs.declared.transmission.TheConstants.{EXCHANGE_LIFETIME_MS as exchange_lifetime}
 use Rattle.coap_types.specs.declared.transmission.TheConstants.{FAILURE_TIMEOUTS as failure_timeouts}
@@ -15,17 +14,15 @@ use Rattle.coap_exchange.specs.declared.asker.AskRefusal.{AskRefusal}
 use Rattle.coap_exchange.specs.declared.asker.Event.TheVariants as event_of
 use Rattle.coap_exchange.specs.declared.asker.Turn.{Turn}
 use Rattle.coap_exchange.specs.declared.asker.Turn.TheVariants as turn_is
-use Rattle.coap_exchange.specs.AskerDue.{EndWhenDue, WhenDue, last_acked}
+use Rattle.coap_exchange.specs.AskerDue.{WhenDue, last_acked}
 use Rattle.coap_exchange.specs.AskerTrace as E
 use Rattle.coap_exchange.specs.AskerFollows as A
 use Rattle.coap_exchange.proofs.Facts.ClientSide.{when_due}
 use Rattle.coap_client.specs.Trace.{Call, Calls, Observes, Cancels, Forgets, Feeds, Ticks, NextOut, NextReport, Asked}
-use Rattle.coap_client.specs.Trace.{Timeout, NoResponse}
 use Rattle.coap_client.specs.Effects.{Effect}
 use Rattle.coap_client.specs.Events.{passes}
 use Rattle.coap_client.specs.Deeds.{at, close, deeds}
 use Rattle.coap_client.specs.Law.{ClientLaw, own_of, lower_of}
-use Rattle.coap_client.specs.Follows.Clock.{moment_of}
 use Rattle.coap_client.specs.Follows.Ends.{ends_as}
 use Rattle.coap_client.specs.Follows.Open.{IsOpenSince, RunsSince, EndsInTime, AllEndInTime}
 use Rattle.coap_client.proofs.Rest.Resting.{clocks}
@@ -34,7 +31,7 @@ use Rattle.coap_client.proofs.Sending.OpenSince.{open_runs}
 use Rattle.coap_client.proofs.Turning.Leading.{client_back}
 
 -- at the input itself, behind which more was asked
-at_input : {T : Type 0} (P : List T → T → Type 0) (later first : List T) (input : T) (rest : List T)
+pub at_input : {T : Type 0} (P : List T → T → Type 0) (later first : List T) (input : T) (rest : List T)
     → Always P ((later ++ (first ++ input ∷ [])) ++ rest) → Always P (input ∷ rest)
 at_input P later first input rest h =
     Always_back P first (input ∷ rest) (Always_back P later (first ++ input ∷ rest)

@@ -1,12 +1,11 @@
 -- The exchange that is open beneath a client: the one that began last, unless it ended.
-use Rattle.std.proofs.Common.{◌≡◌, ◌≤◌, ◌⊎◌, inl, inr, ℕ, ◌%◌, ◌+◌, max, Bool, true, false, cond, Option, Some, None, List}
-use Rattle.std.proofs.Common.{[], ◌∷◌, refl, ap, sym, ◌∙◌, arith, Result, Ok, Err}
+use Rattle.std.proofs.Common.{◌≡◌, ◌≤◌, ◌⊎◌, inl, inr, ℕ, ◌%◌, ◌+◌, Bool, true, false, cond, Option, Some, None, List}
+use Rattle.std.proofs.Common.{[], ◌∷◌, refl, ap, sym, ◌∙◌, arith, Ok, Err}
 use Rattle.coap_types.specs.declared.endpoint.Endpoint.{Endpoint}
 use Rattle.coap_types.specs.declared.endpoint.Moment.{Moment}
 use Rattle.coap_types.specs.declared.transmission.TheConstants.{ACK_TIMEOUT_MS as ack_timeout}
 use Rattle.coap_types.specs.declared.transmission.TheConstants.{TIMEOUT_VALUES as timeout_values}
 use Rattle.coap_layer.specs.Trace as L
-use Rattle.coap_exchange.specs.declared.asker.Event.{Event}
 use Rattle.coap_exchange.specs.declared.asker.Exchange.{Exchange}
 use Rattle.coap_exchange.specs.AskerTrace as E
 use Rattle.coap_exchange.specs.AskerArrivals.{is_of_request}

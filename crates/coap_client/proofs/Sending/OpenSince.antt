@@ -1,8 +1,7 @@
 -- An exchange is open exactly where one runs beneath, and it ends without an answer in time.
-use Rattle.std.proofs.Common.{◌≡◌, ◌≤◌, ◌⊎◌, inl, inr, ℕ, ◌+◌, ◌-◌, ◌*◌, max, Bool, true, false, cond, Option, Some, None}
+use Rattle.std.proofs.Common.{◌≡◌, inl, inr, ℕ, max, Bool, true, false, cond, Option, Some, None}
 use Rattle.std.proofs.Common.{List, [], ◌∷◌, ◌++◌, refl, ap, sym, subst, ◌∙◌, arith, Result, Ok, Err}
 use Rattle.std.proofs.lemmas.List.{append_assoc}
-use Rattle.coap_types.specs.Past.{Always}
 use Rattle.coap_types.specs.declared.endpoint.Endpoint.{Endpoint}
 use Rattle.coap_layer.specs.Trace as L
 use Rattle.coap_block.specs.Sizes.{Sizes}
@@ -14,46 +13,32 @@ use Rattle.coap_exchange.specs.declared.asker.Turn.{Turn}
 use Rattle.coap_exchange.specs.declared.asker.Turn.TheVariants as turn_is
 use Rattle.coap_exchange.specs.AskerTrace as E
 use Rattle.coap_exchange.specs.AskerFollows as A
-use Rattle.coap_exchange.specs.AskerRequests as Q
 use Rattle.coap_exchange.specs.AskerSteps as P
 use Rattle.coap_exchange.specs.AskerLaw as X
 use Rattle.coap_exchange.proofs.Facts.Moves as move
-use Rattle.coap_client.specs.Trace.{NoIds, Call, Calls, Observes, Cancels, Forgets, Feeds, Ticks, NextOut, NextReport}
+use Rattle.coap_client.specs.Trace.{Call, Calls, Observes, Cancels, Forgets, Feeds, Ticks, NextOut, NextReport}
 use Rattle.coap_client.specs.Trace.{Asked}
-use Rattle.coap_client.specs.Own.{Operation, Calling, Registering, Fetching, Cancelling, Dropped, Observation, Own}
-use Rattle.coap_client.specs.Own.{Transfer}
+use Rattle.coap_client.specs.Own.{Operation, Own}
 use Rattle.coap_client.specs.Observations.{observation_of}
 use Rattle.coap_client.specs.Observing.{releases}
 use Rattle.coap_client.specs.Requests.{message_of}
 use Rattle.coap_client.specs.Effects.{Deed, Rests, Asks, Keeps, Releases, Effect, has_sent}
-use Rattle.coap_client.specs.Events.{failed, happened, passes, closed}
+use Rattle.coap_client.specs.Events.{happened, passes, closed}
 use Rattle.coap_client.specs.Deeds.{at, close, deeds, done_for}
 use Rattle.coap_client.specs.Steps.{lower}
-use Rattle.coap_client.specs.Law.{ClientLaw, ClientRows, own_of, lower_of}
+use Rattle.coap_client.specs.Law.{ClientLaw, own_of, lower_of}
 use Rattle.coap_client.specs.Follows.Clock.{moment_of}
 use Rattle.coap_client.specs.Follows.Ends.{ends_as}
 use Rattle.coap_client.specs.Follows.Open.{IsOpenSince, RunsSince, OpenRuns}
 use Rattle.coap_client.specs.Follows.Words.{Sending, sends, sent_by, hears}
 use Rattle.coap_client.proofs.Places.Once.{law_back, law_front, done_right, beneath}
-use Rattle.coap_client.proofs.Places.PlaceEvents.{ran, AreRight, are_right_back}
+use Rattle.coap_client.proofs.Places.PlaceEvents.{AreRight, are_right_back}
 use Rattle.coap_client.proofs.Reporting.ExchangeEnds.{ended_by, ByTime}
 use Rattle.coap_client.proofs.Rest.Resting.{clocks}
-use Rattle.coap_client.proofs.Sending.OpenBeneath.{running_in, open_at, Opened, IsOpened, opened}
+use Rattle.coap_client.proofs.Sending.LastCancels.{exchange_cancels, failed_quiet, releases_quiet}
+use Rattle.coap_client.proofs.Sending.OpenBeneath.{running_in, open_at, IsOpened, opened}
 use Rattle.coap_client.proofs.Sending.SentFor.{sent_for}
 use Rattle.coap_client.proofs.Uploading.Holds.{sent_of}
-
-releases_quiet : (o : Option Observation) (op : Operation) → releases o ≡ Asks op → ⊥
-releases_quiet None op h = cc h
-releases_quiet (Some o) op h = cc h
-
-failed_quiet : (u : Transfer → Bool) (s : Own) (running : Option Operation) (op : Operation)
-    → (failed u NoIds s running).deed ≡ Asks op → ⊥
-failed_quiet u s None op h = cc h
-failed_quiet u s (Some (Calling k r t)) op h = cc h
-failed_quiet u s (Some (Registering k path)) op h = cc h
-failed_quiet u s (Some (Fetching k)) op h = cc h
-failed_quiet u s (Some Dropped) op h = cc h
-failed_quiet u s (Some (Cancelling k)) op h = releases_quiet (observation_of k s.observations) op h
 
 module _ (server : Endpoint) (word : ℕ) where
   -- what asks for no request leaves what is open
@@ -327,6 +312,7 @@ module _ (server : Endpoint) (sizes : Sizes) (word : ℕ) where
           last_sent = s.last;
           sent_for = s.is_for;
           token = s.token;
+          cancel = exchange_cancels server sizes word t law.exchanges.rows o.exchange o.runs s.sending s.last;
         }
 
     pub open_runs : OpenRuns server sizes word t

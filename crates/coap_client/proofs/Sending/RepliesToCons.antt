@@ -1,5 +1,5 @@
 -- A client replies to a response that comes in a CON in the next entry of its message layer.
-use Rattle.std.proofs.Common.{◌≡◌, ◌⊎◌, inl, inr, ℕ, max, Bool, true, false, Option, Some, None, List, [], ◌∷◌, ◌++◌, refl}
+use Rattle.std.proofs.Common.{◌≡◌, ◌⊎◌, inl, inr, ℕ, max, Bool, true, false, Option, Some, List, [], ◌∷◌, ◌++◌, refl}
 use Rattle.std.proofs.Common.{ap, sym, subst, ◌∙◌, Result, append-nil}
 use Rattle.std.proofs.lemmas.List.{append_assoc}
 use Rattle.coap_types.specs.declared.endpoint.Endpoint.{Endpoint}
@@ -29,7 +29,6 @@ use Rattle.coap_client.specs.Trace.{Call, Feeds}
 use Rattle.coap_client.specs.Effects.{Effect}
 use Rattle.coap_client.specs.Events.{happened}
 use Rattle.coap_client.specs.Deeds.{at, close, deeds}
-use Rattle.coap_client.specs.Steps.{lower}
 use Rattle.coap_client.specs.Law.{ClientLaw, own_of, lower_of}
 use Rattle.coap_client.specs.Follows.Adds.{call_asks, call_adds}
 use Rattle.coap_client.specs.Follows.Replied.{RepliesNext, RepliesToCons}

@@ -8,7 +8,7 @@ use Rattle.coap_codec.specs.Message.{Message}
 use Rattle.coap_block.specs.Sizes.{Sizes}
 use Rattle.coap_block.specs.UploadStep.{UploadState, more_follows, Continues}
 use Rattle.coap_client.specs.Trace.{Request, Report, Body, Valid, Done, Failed, Changed, BadBlock, NoTag, TooLarge, Call}
-use Rattle.coap_client.specs.Own.{Transfer, Fetches, Uploads, Single, Calling}
+use Rattle.coap_client.specs.Own.{Transfer, Fetches, Uploads, Calling}
 use Rattle.coap_client.specs.Requests.{is_longer}
 use Rattle.coap_client.specs.Responses.{continue, block_at}
 use Rattle.coap_client.specs.Effects.{of}

@@ -1,17 +1,26 @@
 -- Which exchange of a client is open, since when, and how late it ends without an answer (RFC 7252, sections 4.2, 5.2.2
 -- and 5.3).
-use Rattle.std.specs.Prelude.{◌≡◌, ◌⊎◌, ◌≤◌, ℕ, ◌+◌, ◌*◌, Some, None, List, [], ◌∷◌}
+use Rattle.std.specs.Prelude.{◌≡◌, ◌⊎◌, ◌≤◌, ℕ, ◌+◌, ◌*◌, Bool, false, Option, Some, None, is_some, List, [], ◌∷◌, Result}
 use Rattle.coap_types.specs.Past.{Always}
+use Rattle.coap_types.specs.Recognised.{carries}
+use Rattle.coap_types.specs.declared.direction.Direction.TheVariants.{Response}
 use Rattle.coap_types.specs.declared.endpoint.Endpoint.{Endpoint}
+use Rattle.coap_types.specs.declared.message.Kind.TheVariants.{Con, Non, Ack}
 use Rattle.coap_types.specs.declared.transmission.TheConstants.{ACK_TIMEOUT_MS as ack_timeout}
 use Rattle.coap_types.specs.declared.transmission.TheConstants.{EXCHANGE_LIFETIME_MS as exchange_lifetime}
 use Rattle.coap_types.specs.declared.transmission.TheConstants.{FAILURE_TIMEOUTS as failure_timeouts}
+use Rattle.coap_codec.specs.Message.{Message}
+use Rattle.coap_layer.specs.Trace as L
 use Rattle.coap_block.specs.Sizes.{Sizes}
+use Rattle.coap_exchange.specs.declared.asker.AskRefusal.{AskRefusal}
+use Rattle.coap_exchange.specs.declared.asker.Event.{Event}
 use Rattle.coap_exchange.specs.declared.asker.Exchange.{Exchange}
+use Rattle.coap_exchange.specs.AskerArrivals.{observe}
 use Rattle.coap_exchange.specs.AskerFollows.{Begun}
 use Rattle.coap_exchange.specs.AskerFollows as A
 use Rattle.coap_exchange.specs.AskerLaw as X
-use Rattle.coap_client.specs.Trace.{Call, Timeout, NoResponse}
+use Rattle.coap_exchange.specs.AskerResponses.{IsSound}
+use Rattle.coap_client.specs.Trace.{Call, Feeds, Timeout, NoResponse}
 use Rattle.coap_client.specs.Own.{Operation}
 use Rattle.coap_client.specs.Law.{own_of, lower_of}
 use Rattle.coap_client.specs.Follows.Answered.{IsSentFor}
@@ -55,9 +64,38 @@ module _ (server : Endpoint) (sizes : Sizes) (word : ℕ) where
     pub last_sent : last_sent sizes t ≡ Some sending
     pub sent_for : IsSentFor operation sending
     pub token : exchange.token ≡ sending.token
+    -- it is that of a cancel where the request has a token of its own (RFC 7641, section 3.6)
+    pub cancel : exchange.cancel ≡ is_some sending.request.token
 
   -- An exchange is open exactly where one runs.
   pub record OpenRuns (t : List Call) : Type 0 where
     pub runs : (at : ℕ) → IsOpenSince sizes at t → RunsSince at t
     pub is_open : (x : Exchange) → (X.own_of server word (lower_of sizes t)).running ≡ Some x
         → (at : ℕ) × IsOpenSince sizes at t × RunsSince at t
+
+  -- What is heard answers the exchange that is open, under its token.
+  pub record IsOfOpen (past : List Call) (m : Message) : Type 0 where
+    pub since : ℕ
+    pub is_open : IsOpenSince sizes since past
+    pub runs : RunsSince since past
+    pub token : m.token ≡ runs.exchange.token
+
+  abbrev pub HearsOfOpen : List Call → Type 0
+  HearsOfOpen trace = Always (λ past c. (m : Message) → hears c ≡ Some m → IsOfOpen past m) trace
+
+  -- it comes piggybacked, with the Message ID of the request; or apart, and is no notification that was under way when
+  -- the observation was cancelled (RFC 7641, section 3.6)
+  abbrev pub ComesAsAnswer : Exchange → Message → Type 0
+  ComesAsAnswer x m =
+      ((m.kind ≡ Ack) × (m.id ≡ x.id.0))
+      ⊎ (((m.kind ≡ Con) ⊎ (m.kind ≡ Non)) × ((x.cancel ≡ false) ⊎ (carries Response observe m.options ≡ false)))
+
+  -- A response from the server is heard that has the token of the exchange that runs, where each critical option of it
+  -- is recognised (sections 5.3.2 and 5.4.1).
+  abbrev pub AnswersAreHeard : List Call → Type 0
+  AnswersAreHeard trace =
+      Always (λ past c. (now : ℕ) (from : Endpoint) (bytes : List ℕ) (w : ℕ) (m : Message) (settled : Bool)
+      (event : Option Event) (sent : L.Answer) (token : Result (List ℕ) AskRefusal) (kept : Bool) (x : Exchange)
+      → c ≡ Feeds now from bytes w (L.Becomes (L.Response m)) settled event sent token kept
+      → IsSound server word from m → (X.own_of server word (lower_of sizes past)).running ≡ Some x
+      → m.token ≡ x.token → ComesAsAnswer x m → hears c ≡ Some m) trace

@@ -37,8 +37,8 @@ fn first_may_start<A: Allocator + Copy>(held: &Held<A>, from: Moment) -> Option<
     }
 }
 
-/// The first moment, from this one on, at which a tick begins something where nothing is due: at once where nothing
-/// runs and something is to be fetched or waits, but for an upload that is held back.
+/// The first moment, from this one on, at which a tick begins something where nothing is due: at once
+/// where nothing runs and something is to be fetched or waits, but for an upload that is held back.
 pub(crate) fn begins_from<A: Allocator + Copy>(held: &Held<A>, from: Moment) -> Option<Moment>
     ensures first { IsFirstMoment (begins (own_of held.now)) from.0 result }
     ensures range { from.0 < 2 ^ 64 }

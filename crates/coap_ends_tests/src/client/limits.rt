@@ -5,15 +5,15 @@ use std::test::Fail;
 const SCRIPTS: &str = "
 == a_call_over_the_limit_is_refused
 new limit=$1
-call 0 put /t = x*$2 -> BodyTooLarge
-call 0 post /t = x*$2 -> BodyTooLarge
+call 0 put /t = $2
+call 0 post /t = $2
 call 0 put /t = x*$1
 tick 0
 out S 48030000 0000000000000000 b174 ff 78*$1
-| 1 | 2
-| 5 | 6
-| 16 | 17
-| 64 | 65
+| 1 | x*2 -> BodyTooLarge
+| 5 | x*6 -> BodyTooLarge
+| 16 | x*17 -> BodyTooLarge
+| 64 | x*65 -> BodyTooLarge
 
 == a_body_in_one_message_is_looked_at
 new limit=$1

@@ -10,7 +10,7 @@ call 0 put /t = x*$2
 client tick 0
 out S 48030000 0000000000000000 b174 ff 78*$2
 arrives 0
-out C 608d0000
+out C 688d0000 0000000000000000
 arrives 0
 told 0 failed 4.13
 holds /t nothing

@@ -103,6 +103,7 @@ impl<'a, A: Allocator + Copy> Ends<'a, A> {
             "feed" => self.feed_words(words),
             "tick" => self.tick(words, "done"),
             "idle" => self.tick(words, "idle"),
+            "due" => self.due(words),
             "out" => self.out(words),
             "new" => self.begin(words),
             "arrives" => self.arrives(words),
@@ -242,6 +243,21 @@ impl<'a, A: Allocator + Copy> Ends<'a, A> {
             Ok(did) => self.is_same(if did { "done" } else { "idle" }, wanted),
             Err(AllocError) => self.wants_memory(),
         }
+    }
+
+    // The next tick of the end is due then, or never.
+    fn due(&mut self, wanted: &str) -> Result<(), Fail> {
+        self.is_quiet()?;
+        let due = match self.end {
+            End::Client => self.client.due(),
+            End::Server => self.server.due(),
+        };
+        let Some(at) = due else {
+            return self.is_same("nothing", wanted);
+        };
+        let at = at.0;
+        let came = format!(in self.alloc; "{at}")?;
+        self.is_same(came.as_str(), wanted)
     }
 
     pub(super) fn out(&mut self, words: &str) -> Result<(), Fail> {

@@ -63,6 +63,7 @@ feed 0 E 5003000a b17a d10310 ff62
 feed 0 E 4003000a b17a d10310 ff62
 out E 6041000a d10e10
 holds /z 65540 - = a*16+b
+due 400001
 idle 400000
 # The group of the first numbers is used again.
 tick 400001

@@ -5,10 +5,10 @@ use std::test::Fail;
 const SCRIPTS: &str = "
 == a_server_holds_no_more
 new limit=$1
-set 0 /t 0 = a*$2 -> TooLarge
+set 0 /t 0 = $2
 set 0 /t 0 = a*$1
 holds /t 1 0 = a*$1
-feed 0 C 40030001 b17a ff 78*$2
+feed 0 C 40030001 b17a ff $3
 out C 608d0001
 feed 0 C 40030002 b17a ff 78*$1
 out C 60410002
@@ -16,10 +16,10 @@ out C 60410002
 feed 0 C 40020003 b17a ff78
 out C 608d0003
 holds /z 2 - = x*$1
-| 1 | 2
-| 5 | 6
-| 16 | 17
-| 64 | 65
+| 1 | a*2 -> TooLarge | 78*2
+| 5 | a*6 -> TooLarge | 78*6
+| 16 | a*17 -> TooLarge | 78*17
+| 64 | a*65 -> TooLarge | 78*65
 
 == a_block_over_the_limit_drops_the_partial_body
 new limit=$1

@@ -1,5 +1,5 @@
 -- A path has the delay that a call gave it, until a call gives another.
-use Rattle.std.proofs.Common.{◌≡◌, inl, inr, ℕ, Bool, true, false, not, Option, Some, None, List, [], ◌∷◌, ◌++◌, refl, ap}
+use Rattle.std.proofs.Common.{◌≡◌, inl, inr, ℕ, Bool, true, false, not, Some, List, [], ◌∷◌, ◌++◌, refl, ap}
 use Rattle.std.proofs.Common.{◌∙◌, cond}
 use Rattle.coap_types.specs.Past.{Ever}
 use Rattle.coap_types.specs.Path.{same_path}

@@ -172,7 +172,7 @@ module _ (limits : Limits) (szx word : ℕ) (t : List Call) (now w : ℕ) where
     quiet_by (Some x) steps = quiet_room word base at (asked at L.Ticks L.Idle ∷ base)
         (quiet_tick word base at steps.0 steps.1 clocks) x.asked.from room
 
-    quiet_first : Quiet word base at (W.lower_of (E.Ticks at L.Idle room d ∷ calls))
+    pub quiet_first : Quiet word base at (W.lower_of (E.Ticks at L.Idle room d ∷ calls))
     quiet_first = quiet_by (P.ready_at (W.own_of calls) at) one.layer
 
     room_there : (x : Deferred) → P.ready_at (W.own_of calls) at ≡ Some x → Says word base at x.asked.from room

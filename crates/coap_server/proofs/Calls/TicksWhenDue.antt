@@ -1,4 +1,5 @@
--- The first moment at which an observer can be notified.
+-- When a tick of a server does nothing, and when it does something: the exchanges have a step, or an observer can be
+-- notified.
 use Rattle.std.proofs.Common.{◌≡◌, ℕ, zero, suc, ◌≤◌, ◌<◌, ◌^◌, max, nat_le, Bool, true, false, Option, Some, None}
 use Rattle.std.proofs.Common.{List, [], ◌∷◌, drop, slice_get, refl, ap, sym, subst, ◌∙◌, ◌&&◌, ◌||◌, not, arith}
 use Rattle.std.specs.List.{list_any}

@@ -20,6 +20,7 @@ use Rattle.coap_server.specs.Follows.Gives.{NoneContinues, SentResponses}
 use Rattle.coap_server.specs.Follows.GoesOn.{GoesOn}
 use Rattle.coap_server.specs.Follows.GoesOut.{AllGoOut}
 use Rattle.coap_server.specs.Follows.Holds.{AllServed}
+use Rattle.coap_server.specs.Follows.Leaves.{AllLeave}
 use Rattle.coap_server.specs.Follows.Marks.{AllMark, StayDue}
 use Rattle.coap_server.specs.Follows.Reads.{VerdictsRead}
 use Rattle.coap_server.specs.Follows.Recognised.{AllRecognised, BodiesShort}
@@ -36,6 +37,7 @@ use Rattle.coap_server.proofs.Answering.AttendedAtOnce.{all_attended}
 use Rattle.coap_server.proofs.Answering.DelaysStay as D
 use Rattle.coap_server.proofs.Answering.FirstAnswered.{first_answered}
 use Rattle.coap_server.proofs.Answering.NextBegun as N
+use Rattle.coap_server.proofs.Answering.NothingDone.{all_leave}
 use Rattle.coap_server.proofs.Answering.WaitOn.{wait_on}
 use Rattle.coap_server.proofs.Holding.BodiesShort.{bodies_short}
 use Rattle.coap_server.proofs.Holding.OneTag.{one_tag}
@@ -170,6 +172,9 @@ module _ (limits : Limits) (szx word : ℕ) where
 
     pub none_left : NoneLeft limits szx word t
     none_left = N.none_left limits szx word t law
+
+    pub leaves : AllLeave limits szx word t
+    leaves = all_leave limits szx word t law
 
     pub notified : FirstIsNotified limits szx word t
     notified = N.first_is_notified limits szx word t law

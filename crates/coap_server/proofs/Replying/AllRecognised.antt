@@ -1,13 +1,12 @@
 -- Each critical option of what a server sends is one that a response may carry.
-use Rattle.std.proofs.Common.{◌≡◌, ◌≤◌, inl, inr, ℕ, min, Option, Some, None, List, [], ◌∷◌, length, refl, ap, sym, subst}
+use Rattle.std.proofs.Common.{◌≡◌, ◌≤◌, inl, inr, ℕ, Option, Some, None, List, [], ◌∷◌, length, refl, ap, sym, subst}
 use Rattle.std.proofs.Common.{◌∙◌, arith, true, false}
-use Rattle.coap_types.specs.Past.{Always, Ever, Sometime}
+use Rattle.coap_types.specs.Past.{Always, Sometime}
 use Rattle.coap_types.specs.Recognised.{lacks_critical}
 use Rattle.coap_types.specs.declared.block.Block.{Block}
 use Rattle.coap_types.specs.declared.direction.Direction.TheVariants.{Response}
 use Rattle.coap_types.proofs.Facts.Traces.{Ever_map, forget}
 use Rattle.coap_codec.specs.Message.{Message}
-use Rattle.coap_layer.specs.Trace as L
 use Rattle.coap_block.specs.AssemblyState.{AssemblyState}
 use Rattle.coap_block.specs.declared.block_verdict.BlockVerdict.{BlockVerdict}
 use Rattle.coap_block.specs.declared.block_verdict.BlockVerdict.TheVariants.{Refuse, Join, Done}
@@ -15,7 +14,7 @@ use Rattle.coap_observe.specs.Observers.{Observer}
 use Rattle.coap_resource.specs.Content.{Content, Held}
 use Rattle.coap_resource.specs.Limits.{Limits}
 use Rattle.coap_resource.specs.RequestOptions.{block_of, szx_by}
-use Rattle.coap_resource.specs.Serves.{Question, Reply, got}
+use Rattle.coap_resource.specs.Serves.{Question, Reply}
 use Rattle.coap_exchange.specs.declared.answerer.Asked.{Asked}
 use Rattle.coap_exchange.specs.declared.answerer.Due.TheVariants as due
 use Rattle.coap_exchange.specs.AnswererSteps as P
@@ -28,12 +27,11 @@ use Rattle.coap_server.specs.Handling.{heard, ticking}
 use Rattle.coap_server.specs.Law.{ServerLaw, own_of}
 use Rattle.coap_server.specs.Notifying.{asks_for, behind, marked, notification, told}
 use Rattle.coap_server.specs.Observers.{sequence}
-use Rattle.coap_server.specs.Responses.{response_with}
-use Rattle.coap_server.specs.Uploads.{continuing, last_block, ruling_of}
+use Rattle.coap_server.specs.Uploads.{last_block, ruling_of}
 use Rattle.coap_server.specs.Follows.Brings.{AsksBy, Brings, HandsUp}
 use Rattle.coap_server.specs.Follows.Continues.{KeepsSize}
-use Rattle.coap_server.specs.Follows.GoesOut.{IsContinued, IsReplied, Sends, response_of}
-use Rattle.coap_server.specs.Follows.Observes.{MadeWith, Notice, WasMade, notice}
+use Rattle.coap_server.specs.Follows.GoesOut.{Sends, response_of}
+use Rattle.coap_server.specs.Follows.Observes.{Notice, WasMade, notice}
 use Rattle.coap_server.specs.Follows.Reads.{ReadsOf}
 use Rattle.coap_server.specs.Follows.Recognised.{AllRecognised, IsRecognised}
 use Rattle.coap_server.specs.Follows.Serves.{Serving, serving}

@@ -1,5 +1,5 @@
 -- A block that others follow is answered with 2.31 and a size that fits, or with an error.
-use Rattle.std.proofs.Common.{◌≡◌, ◌≢◌, ◌≤◌, ◌<◌, inl, inr, ℕ, ◌==◌, ◌+◌, min, nat_le, nat_lt, Bool, true, false, ◌&&◌}
+use Rattle.std.proofs.Common.{◌≡◌, ◌≤◌, ◌<◌, inl, inr, ℕ, ◌==◌, ◌+◌, min, nat_le, nat_lt, Bool, true, false, ◌&&◌}
 use Rattle.std.proofs.Common.{not, Option, Some, None, List, [], ◌∷◌, length, refl, ap, sym, subst, ◌∙◌, cond, arith}
 use Rattle.std.proofs.lemmas.Bool.Decides.{nat_tests}
 use Rattle.coap_types.specs.Piece.{offset_of}
@@ -28,10 +28,9 @@ use Rattle.coap_server.specs.Uploads.{key_of, ruling_of, continuing}
 use Rattle.coap_server.specs.Handling.{incoming, heard, HandlesBlock, Handles}
 use Rattle.coap_server.specs.Law.{ServerLaw, own_of}
 use Rattle.coap_server.specs.Follows.Attended.{came_in}
-use Rattle.coap_server.specs.Follows.Continues.{KeepsSize, IsForBlock, continues, refuses, AnswersBlock, ContinuesFit}
+use Rattle.coap_server.specs.Follows.Continues.{KeepsSize, IsForBlock, continues, refuses, AnswersBlock}
 use Rattle.coap_server.specs.Follows.Continues.{AllContinuesFit}
 use Rattle.coap_server.specs.Follows.Gives.{size_by, size_of, size_in}
-use Rattle.coap_server.specs.Follows.GoesOut.{Sends}
 use Rattle.coap_server.specs.Follows.Takes.{Took, took, took_by, taken_by, takes_block}
 use Rattle.coap_server.proofs.Serving.Brought.{server_back, szx_is}
 use Rattle.coap_server.proofs.Telling.ResponsesMade.{last_none, pair_of}

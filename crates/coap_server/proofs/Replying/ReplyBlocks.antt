@@ -1,5 +1,5 @@
 -- Block2 of what the store replies has a value of three bytes, where no path holds more than 1,048,576 bytes.
-use Rattle.std.proofs.Common.{◌≡◌, ◌<◌, ◌≤◌, ℕ, ◌+◌, ◌/◌, min, nat_lt, nat_le, Bool, true, false, ◌&&◌, ◌||◌, not}
+use Rattle.std.proofs.Common.{◌≡◌, ◌<◌, ◌≤◌, ℕ, ◌+◌, ◌/◌, nat_lt, nat_le, Bool, true, false, ◌&&◌, ◌||◌, not}
 use Rattle.std.proofs.Common.{Option, Some, None, is_some, length, refl, sym, subst, cond, arith}
 use Rattle.std.proofs.Math.Nat.{div-le_self}
 use Rattle.std.proofs.lemmas.Bool.Decides.{nat_tests}

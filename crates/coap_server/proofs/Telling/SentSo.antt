@@ -1,11 +1,10 @@
 -- A response to a CON goes out in its acknowledgement where the request is answered at once, and in a CON where it
 -- waited.
 use Rattle.std.proofs.Common.{◌≡◌, inl, inr, ℕ, zero, suc, Bool, true, false, Option, Some, None, List, [], ◌∷◌, ◌++◌}
-use Rattle.std.proofs.Common.{refl, ap, sym, subst, ◌∙◌, cond, max}
+use Rattle.std.proofs.Common.{refl, ap, sym, subst, ◌∙◌, cond}
 use Rattle.coap_types.specs.Past.{Ever}
 use Rattle.coap_types.specs.declared.endpoint.Endpoint.{Endpoint}
-use Rattle.coap_types.specs.declared.message.Kind.{Kind}
-use Rattle.coap_types.specs.declared.message.Kind.TheVariants.{Con, Ack}
+use Rattle.coap_types.specs.declared.message.Kind.TheVariants.{Con}
 use Rattle.coap_types.proofs.Facts.Traces.{Ever_map}
 use Rattle.coap_codec.specs.Message.{Message}
 use Rattle.coap_codec.specs.Spelling.{message_bytes}
@@ -17,7 +16,6 @@ use Rattle.coap_layer.specs.Trace.{with_head}
 use Rattle.coap_block.specs.Whole.{Each}
 use Rattle.coap_observe.specs.Observers.{Observer}
 use Rattle.coap_resource.specs.Limits.{Limits}
-use Rattle.coap_resource.specs.Serves.{Question}
 use Rattle.coap_exchange.specs.declared.answerer.Asked.{Asked}
 use Rattle.coap_exchange.specs.declared.answerer.Due.{Due}
 use Rattle.coap_exchange.specs.declared.answerer.Due.TheVariants as due
@@ -27,12 +25,12 @@ use Rattle.coap_exchange.specs.AnswererTrace as E
 use Rattle.coap_server.specs.Trace.{Own, Handling, Silent, Replies, Serves, Waits, Notifies, Call, Sets, Removes}
 use Rattle.coap_server.specs.Trace.{Delays, Feeds, Ticks, NextOut, Gets, TellsApplied}
 use Rattle.coap_server.specs.Asks.{answering, responding, lower}
-use Rattle.coap_server.specs.Deferring.{deferral, deferral_by, delay_for}
+use Rattle.coap_server.specs.Deferring.{deferral_by, delay_for}
 use Rattle.coap_server.specs.Handling.{incoming, ticking, heard}
 use Rattle.coap_server.specs.Law.{ServerLaw, own_of}
 use Rattle.coap_server.specs.Notifying.{marked, readies}
 use Rattle.coap_server.specs.Follows.Adds.{call_adds, call_asks, all_asked}
-use Rattle.coap_server.specs.Follows.GoesOut.{responds_with, Sends}
+use Rattle.coap_server.specs.Follows.GoesOut.{responds_with}
 use Rattle.coap_server.specs.Follows.Rests.{IsTick}
 use Rattle.coap_server.specs.Follows.SentAs.{ack_with, InAck, InOwnCon, SentHere, AllSentSo}
 use Rattle.coap_server.specs.Follows.Serves.{hands}
@@ -76,8 +74,11 @@ confirm_out to content old (a ∷ earlier) (inl h) =
     let at : ℕ = S.moment s a.now a.call in
     let answer : S.answer_of s at (L.Confirm to content h.0) ≡ L.Sent h.1 =
     sym (ap (λ c. S.answer_of s at c) h.2) ∙ h.3 in
-    inl (h, ap (λ c. S.out_of s at c) h.2
-    ∙ begun_out to content (S.is_busy to s.open_cons) (S.is_free at s.upcoming s.last_used) s.upcoming h.1 answer)
+    inl (
+      h,
+      ap (λ c. S.out_of s at c) h.2
+          ∙ begun_out to content (S.is_busy to s.open_cons) (S.is_free at s.upcoming s.last_used) s.upcoming h.1 answer,
+    )
 
 -- which calls respond at once, and which later
 
@@ -172,8 +173,13 @@ module _ (a : Asked) (r : E.Response) where
       → Ever (λ (b : G.Asked). Begins b.call b.answer) (P.lower s d)
   asks_later s (E.Responds now x y w id) right h =
       let k = pair_of x a y r h.0 in
-      inl (w, id, ap (λ (z : Asked). L.Confirm z.from (P.content_of z y) w) k.0
-      ∙ ap (λ z. L.Confirm a.from (P.content_of a z) w) k.1, refl)
+      inl (
+        w,
+        id,
+        ap (λ (z : Asked). L.Confirm z.from (P.content_of z y) w) k.0
+            ∙ ap (λ z. L.Confirm a.from (P.content_of a z) w) k.1,
+        refl,
+      )
   asks_later s (E.Answers x y below) right h = let k = h.1 in absurd (cc k)
   asks_later s (E.Incoming now from bytes up came) right h = let k = h.0 in absurd (cc k)
   asks_later s (E.Defers now x delay answer) right h = let k = h.0 in absurd (cc k)

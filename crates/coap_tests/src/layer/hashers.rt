@@ -34,7 +34,14 @@ fn remembers<R: Abort + AllocGlobal, S: BuildHasher>(
     most: u16,
 ) -> Result<(), AllocError> {
     comes_to(rt, layer, late, at_port(0), GET, Came::Replayed)?;
-    comes_to(rt, layer, late, at_port(most.saturating_sub(1)), GET, Came::Replayed)
+    comes_to(
+        rt,
+        layer,
+        late,
+        at_port(most.saturating_sub(1)),
+        GET,
+        Came::Replayed,
+    )
 }
 
 // A full table takes no message, and forgets none before its time.

@@ -1,6 +1,8 @@
 //! With what a run begins, and its events.
 use super::is_event;
-use super::words::{cut, endpoint_of, format_of, limit_of, method_of, path_of, push_tag, spelt, szx_of};
+use super::words::{
+    cut, endpoint_of, format_of, limit_of, method_of, path_of, push_tag, spelt, szx_of,
+};
 use bytes::Bytes;
 use coap_ends::CallId;
 use coap_resource::MAX_CHANGES_PER_WINDOW;
@@ -61,7 +63,10 @@ pub(crate) fn config_of<A: Allocator + Copy>(memory: A, run: &str) -> Result<Wor
     else {
         return Err(Fail::new("a window takes 1 change at least"));
     };
-    config.limits(limit_of(settings.client_limit)?, limit_of(settings.server_limit)?);
+    config.limits(
+        limit_of(settings.client_limit)?,
+        limit_of(settings.server_limit)?,
+    );
     for line in run.lines() {
         if let Some(words) = line.strip_prefix("delay ") {
             let (path, ms) = cut(words, " ");

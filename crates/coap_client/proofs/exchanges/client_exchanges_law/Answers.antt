@@ -2,6 +2,7 @@ use Rattle.coap_client.specs.Law.{lower_of}
 use Rattle.coap_client.proofs.Fetching.StaysUnchanged.{are_unchanged}
 use Rattle.coap_client.proofs.Reporting.ByAnswers.{are_by_answers}
 use Rattle.coap_client.proofs.Sending.EndsInTime.{all_end_in_time}
+use Rattle.coap_client.proofs.Sending.HeardOfOpen.{hears_of_open, answers_are_heard}
 use Rattle.coap_client.proofs.Sending.OpenSince.{open_runs}
 use Rattle.coap_client.proofs.Sending.RepliesToCons.{replies_to_cons}
 use Rattle.coap_client.proofs.exchanges.client_exchanges_law.Goals as goal
@@ -21,3 +22,10 @@ returns-clause-reports_of_a_call c = are_by_answers
 
 pub returns-clause-unchanged : goal.returns-clause-unchanged
 returns-clause-unchanged c = are_unchanged
+
+pub returns-clause-hears_of_open : goal.returns-clause-hears_of_open
+returns-clause-hears_of_open c = hears_of_open
+
+pub returns-clause-answers_heard : goal.returns-clause-answers_heard
+returns-clause-answers_heard c server sizes word t law =
+    answers_are_heard server sizes word t (c.asker_law.ensures.told_as server word (lower_of sizes t) law.exchanges)

@@ -1,4 +1,5 @@
 use Rattle.coap_server.proofs.Answering.DelaysStay.{delays_stay}
+use Rattle.coap_server.proofs.Answering.NothingDone.{all_leave}
 use Rattle.coap_server.proofs.Answering.NextBegun.{all_begin_next, first_is_notified, none_left}
 use Rattle.coap_server.proofs.Answering.WaitOn.{wait_on}
 use Rattle.coap_server.proofs.Holding.BodiesShort.{bodies_short}
@@ -51,6 +52,9 @@ returns-clause-goes_out c limits szx word t law = all_go_out limits szx word t l
 
 pub returns-clause-none_left : goal.returns-clause-none_left
 returns-clause-none_left c limits szx word t law = none_left limits szx word t law
+
+pub returns-clause-leaves : goal.returns-clause-leaves
+returns-clause-leaves c limits szx word t law = all_leave limits szx word t law
 
 pub returns-clause-notified : goal.returns-clause-notified
 returns-clause-notified c limits szx word t law = first_is_notified limits szx word t law
