@@ -1,4 +1,4 @@
--- What is promised of a smooth run in which nothing is observed: how long an exchange is open, that it ends by an
+-- When the calls of a run are answered smoothly: how long an exchange is open at most, that it ends by an
 -- answer, and what each call comes to (RFC 7252, sections 4.2, 5.2 and 5.8; RFC 7959, section 2; the bound
 -- is a profile).
 use Rattle.std.specs.Prelude.{◌≡◌, ◌≢◌, ◌⊎◌, ◌≤◌, ℕ, ◌+◌, true, None, Some, List, [], ◌∷◌}

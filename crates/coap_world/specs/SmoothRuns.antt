@@ -1,4 +1,4 @@
--- Smooth runs, with their datagrams, and a run of which nothing that is promised of a smooth one is true (RFC 7252,
+-- Smooth runs, with their datagrams, and a run whose calls are not answered smoothly (RFC 7252,
 -- sections 4.2 and 5.2.2). Each has the newest event, or datagram, first.
 use Rattle.std.specs.Prelude.{◌≡◌, ℕ, ◌+◌, Some, List, [], ◌∷◌, codes}
 use Rattle.coap_types.specs.Past.{Sometime}

@@ -16,7 +16,7 @@ pub fn smooth_witness()
     ensures longest { DefersLongest }
     // A run in which a POST times out is not smooth ..
     ensures rough { TimesOutRoughly }
-    // .. and what is promised of a smooth run is not true of it.
+    // .. and its call is not answered smoothly.
     ensures unanswered { Unanswered }
 {}
 

@@ -145,7 +145,7 @@ timed_out = record {
   holds = refl;
 }
 
--- what is promised of a smooth run is not true of it
+-- its call is not answered smoothly
 
 old : AreYoung config turns → ⊥
 old h = let young = h.1.0 0 client.open_since in absurd (omega (arith, young))
