@@ -14,3 +14,6 @@ pub mod EntriesInTime
 pub mod ResponsesInTime
 pub mod TakenAtOnce
 pub mod ChannelAcross
+pub mod FedInTime
+pub mod SmoothGaps
+pub mod Received

@@ -11,3 +11,6 @@ pub mod Observed
 pub mod TimesOut
 pub mod LateTurns
 pub mod HoldsBack
+pub mod SmoothTurns
+pub mod DefersLate
+pub mod DefersLongest

@@ -24,3 +24,9 @@ pub mod Rising
 pub mod ObservationRuns
 pub mod LateRuns
 pub mod Run
+pub mod Smooth
+pub mod SmoothAnswers
+pub mod SmoothRuns
+pub mod Prompt
+pub mod SmoothGaps
+pub mod Received

@@ -5,6 +5,7 @@
 mod laws;
 mod running;
 mod runs;
+mod smooth;
 
 pub use laws::{
     agreement, answers_law, applied_law, changes_law, delivery_law, held_law, hops_law, legal_law,
@@ -15,3 +16,4 @@ pub use running::{
     Side, What, WorldConfig, run, run_with,
 };
 pub use runs::{runs_law, witness_law};
+pub use smooth::{received_law, smooth_witness};

@@ -8,12 +8,15 @@ use Rattle.coap_types.specs.Path.{IsPath}
 use Rattle.coap_world.specs.Events.{Calls, Sets, TickClient, Deliver, client_end}
 use Rattle.coap_world.specs.Legal.{IsRequest, AllLegal}
 use Rattle.coap_world.specs.LegalEvents.{event}
-use Rattle.coap_world.specs.Record.{OfClient, OfServer, Turn, Makes}
+use Rattle.coap_world.specs.Record.{OfClient, OfServer, Turn, Makes, entries_of}
+use Rattle.coap_world.specs.SmoothAnswers.{AreYoung, EndByAnswers}
+use Rattle.coap_world.specs.SmoothRuns.{Unanswered}
 use Rattle.coap_types.proofs.Facts.Bytes.{bytes_are}
 use Rattle.coap_world.proofs.Witness.InWords.{config_range, path_of_one, no_tags}
 use Rattle.coap_world.proofs.Witness.TurnsMade.{a_turn, client_turn, server_turn, to_server, to_client, on_client}
 use Rattle.coap_world.proofs.Witness.TurnsMade.{on_server, legal_at}
-use Rattle.coap_world.specs.LegalRuns.{from_client, from_server, plain, log, post, call_bytes, changed_bytes, TimesOut}
+use Rattle.coap_world.specs.LegalRuns.{config, from_client, from_server, plain, log, post, call_bytes, changed_bytes}
+use Rattle.coap_world.specs.LegalRuns.{TimesOut}
 use Rattle.coap_world.proofs.Witness.TimesOut.Client as client
 use Rattle.coap_world.proofs.Witness.TimesOut.Server as server
 
@@ -140,4 +143,21 @@ timed_out = record {
   };
   reports = refl;
   holds = refl;
+}
+
+-- its call is not answered smoothly
+
+old : AreYoung config turns → ⊥
+old h = let young = h.1.0 0 client.open_since in absurd (omega (arith, young))
+
+without : EndByAnswers config (entries_of turns) → ⊥
+without h = let answered = h.1.1.1.1.0 in absurd (cc answered)
+
+pub unanswered : Unanswered
+unfolding timed_out
+unanswered = record {
+  times_out = timed_out;
+  old = old;
+  without = without;
+  unanswered = λ h. old h.young;
 }

@@ -1,5 +1,5 @@
 -- The client of a legal run: its POST is never acknowledged (RFC 7252, section 4.2).
-use Rattle.std.proofs.Common.{ℕ, true, false, Some, None, List, [], ◌∷◌, ◌++◌, Ok, refl, arith}
+use Rattle.std.proofs.Common.{inl, inr, ℕ, true, false, Some, None, List, [], ◌∷◌, ◌++◌, Ok, refl, arith}
 use Rattle.std.specs.Prelude.{replicate}
 use Rattle.coap_codec.specs.Spelling.{option_bytes, options_bytes}
 use Rattle.coap_codec.specs.Reading.{extended, value_at, nibbles_at, option_at, walk_of, walk, payload_at, frame_fault}
@@ -12,6 +12,7 @@ use Rattle.coap_layer.specs.Trace as L
 use Rattle.coap_layer.specs.Machine.State.{usual}
 use Rattle.coap_exchange.specs.declared.asker.Event.TheVariants as event
 use Rattle.coap_exchange.specs.AskerLaw as asker
+use Rattle.coap_client.specs.Follows.Open.{IsOpenSince}
 use Rattle.coap_client.specs.Trace as C
 use Rattle.coap_client.specs.Law.{ClientLaw, ClientRows, lower_of}
 use Rattle.coap_world.specs.LegalRuns.{sizes}
@@ -41,13 +42,13 @@ expires = rests 62000 ∷ C.Ticks 62000 0 (L.Expired server_end 0) (turn.End eve
 abbrev pub copied : ℕ → List C.Call
 copied at = client_turn [] (to_server call_bytes ∷ []) (copies at)
 
-abbrev calls_asked : List C.Call
+abbrev pub calls_asked : List C.Call
 calls_asked = client_turn [] (to_server call_bytes ∷ []) ticked ++ client_turn [] [] called
 
 abbrev calls_twice : List C.Call
 calls_twice = copied 6000 ++ (copied 2000 ++ calls_asked)
 
-abbrev calls_copied : List C.Call
+abbrev pub calls_copied : List C.Call
 calls_copied = copied 30000 ++ (copied 14000 ++ calls_twice)
 
 abbrev pub calls : List C.Call
@@ -328,3 +329,31 @@ steps_expired = (
 
 pub lawful : ClientLaw server_end sizes 0 calls
 lawful = record { rows = rows; exchanges = record { rows = asked; left = left_expired; layer = steps_expired } }
+
+-- the exchange is open since 0, and is so after a copy
+
+asked_at_0 : IsOpenSince sizes 0 calls_asked
+asked_at_0 = inr (
+  refl,
+  refl,
+  inr (
+    refl,
+    refl,
+    inr (
+      refl,
+      refl,
+      inr (
+        refl,
+        refl,
+        inl (record
+            { sending = _; sends_it = refl; moment = refl }),
+      ),
+    ),
+  ),
+)
+
+still : (at : ℕ) (past : List C.Call) → IsOpenSince sizes 0 past → IsOpenSince sizes 0 (copied at ++ past)
+still at past h = inr (refl, refl, inr (refl, refl, inr (refl, refl, inr (refl, refl, inr (refl, refl, h)))))
+
+pub open_since : IsOpenSince sizes 0 calls_copied
+open_since = still 30000 _ (still 14000 _ (still 6000 _ (still 2000 calls_asked asked_at_0)))

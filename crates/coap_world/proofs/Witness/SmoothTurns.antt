@@ -1,0 +1,69 @@
+-- How the record of a run is shown to be smooth, and to have no observation.
+use Rattle.std.proofs.Common.{◌≡◌, ◌<◌, ◌≤◌, ◌⊎◌, ◌+◌, inl, inr, ⊎_elim, ℕ, Bool, true, false, Option, List, []}
+use Rattle.std.proofs.Common.{◌∷◌, length, ap, arith, subst, cond, Ok, Err}
+use Rattle.coap_types.specs.Past.{Sometime, Always, all_of}
+use Rattle.coap_client.specs.Trace as C
+use Rattle.coap_world.specs.Events.{What, Deliver}
+use Rattle.coap_world.specs.Record.{Given, Turn, given_in}
+use Rattle.coap_world.specs.Smooth.{max_age, is_then, count_came, FewCome, WasDelivered, NoneIsLate, TakesNoObservation}
+
+-- a delivery of a lower number, or another event
+abbrev pub IsLower : ℕ → What → Type 0
+IsLower n (Deliver m) = m < n
+IsLower n what = Unit {0}
+
+pub none_higher : (n : ℕ) (past : List Turn) → Always (λ before (turn : Turn). IsLower n turn.event.what) past → (m : ℕ)
+    → WasDelivered m past → m < n
+none_higher n [] all m h = absurd h
+none_higher n (turn ∷ past) all m (inl h) = subst (IsLower n) h all.0
+none_higher n (turn ∷ past) all m (inr h) = none_higher n past all.1 m h
+
+-- each datagram is young, or was delivered
+late_of : (past : List Turn) (at : ℕ) (gs : List Given)
+    → Always (λ before (g : Given). (at ≤ g.at + max_age) ⊎ WasDelivered (length before) past) gs
+    → (number : ℕ) (g : Given) → Sometime (λ before h. (h ≡ g) × (length before ≡ number)) gs → g.at + max_age < at
+    → WasDelivered number past
+late_of past at [] all number g h late = absurd h
+late_of past at (h ∷ gs) all number g (inl is) late = ⊎_elim
+    (λ young. let same : h.at ≡ g.at = ap (λ (x : Given). x.at) is.0 in absurd (omega (arith, young, late, same)))
+    (λ d. subst (λ (k : ℕ). WasDelivered k past) is.1 d) all.0
+late_of past at (h ∷ gs) all number g (inr before) late = late_of past at gs all.1 number g before late
+
+pub none_late : (past : List Turn) (at : ℕ)
+    → Always (λ before (g : Given). (at ≤ g.at + max_age) ⊎ WasDelivered (length before) past) (all_of given_in past)
+    → NoneIsLate past at
+none_late past at all number g is to late = late_of past at (all_of given_in past) all number g is late
+
+-- fewer come than there are calls
+one_more : (b : Bool) (n k : ℕ) → n ≤ k → cond b (1 + n) n ≤ k + 1
+one_more true n k le = omega (arith, le)
+one_more false n k le = omega (arith, le)
+
+at_most : {X : Type 0} (came : X → Option ℕ) (since : ℕ) (calls : List X) → count_came came since calls ≤ length calls
+at_most came since [] = omega arith
+at_most came since (c ∷ past) =
+    let k = one_more (is_then since (came c)) _ _ (at_most came since past) in
+    let n : length (c ∷ past) ≡ length past + 1 = omega arith in
+    omega (arith, k, n)
+
+pub few_of : {X : Type 0} (came : X → Option ℕ) (calls : List X) → length calls < 4096 → FewCome came calls
+few_of came calls few since = let k = at_most came since calls in omega (arith, k, few)
+
+-- no observation is taken
+abbrev pub observes : List C.Call → Bool
+observes [] = false
+observes (C.Observes now path (Ok number) ∷ past) = true
+observes (c ∷ past) = observes past
+
+pub none_taken : (calls : List C.Call) → observes calls ≡ false → Always (λ past c. TakesNoObservation c) calls
+none_taken [] h = tt
+none_taken (C.Calls now r answer ∷ past) h = (tt, none_taken past h)
+none_taken (C.Observes now path (Ok number) ∷ past) h = absurd (cc h)
+none_taken (C.Observes now path (Err why) ∷ past) h = (tt, none_taken past h)
+none_taken (C.Cancels now number answer ∷ past) h = (tt, none_taken past h)
+none_taken (C.Forgets number kept answer ∷ past) h = (tt, none_taken past h)
+none_taken (C.Feeds now from bytes word up settled event sent token kept ∷ past) h = (tt, none_taken past h)
+none_taken (C.Ticks now word below turn sent token kept answer ∷ past) h = (tt, none_taken past h)
+none_taken (C.NextOut answer ∷ past) h = (tt, none_taken past h)
+none_taken (C.NextReport answer ∷ past) h = (tt, none_taken past h)
+none_taken (C.Asked answer ∷ past) h = (tt, none_taken past h)

@@ -1,0 +1,13 @@
+use Rattle.coap_world.proofs.Delivery.SmoothGaps.{times_out_roughly}
+use Rattle.coap_world.proofs.Witness.DefersLate.{deferred_late}
+use Rattle.coap_world.proofs.Witness.DefersLongest.{deferred_longest}
+use Rattle.coap_world.proofs.Witness.TimesOut.{unanswered}
+use Rattle.coap_world.proofs.smooth.smooth_witness.Goals as goal
+
+pub returns : goal.returns
+returns c = record {
+  late = deferred_late;
+  longest = deferred_longest;
+  rough = times_out_roughly;
+  unanswered = unanswered;
+}

@@ -1,0 +1,106 @@
+-- Smooth runs, in which nothing is lost and nothing is late: datagrams come in the order of sending, none twice, each
+-- at most 1,000 ms after it was given out, and each end ticks each 1,000 ms (RFC 7252, sections 4.2 and 4.8; the
+-- numbers are a profile).
+use Rattle.std.specs.Prelude.{◌≡◌, ◌⊎◌, ◌≤◌, ◌<◌, ℕ, ◌+◌, ◌^◌, nat_le, Bool, false, ◌&&◌, Option, Some, None, List, []}
+use Rattle.std.specs.Prelude.{◌∷◌, All, Ok, if◌then◌else◌}
+use Rattle.coap_types.specs.Past.{Ever, Always}
+use Rattle.coap_types.specs.declared.remembered.TheConstants.{DEFAULT_REMEMBERED as max_remembered}
+use Rattle.coap_types.specs.declared.transmission.TheConstants.{EXCHANGE_LIFETIME_MS as exchange_lifetime}
+use Rattle.coap_layer.specs.Trace as L
+use Rattle.coap_layer.specs.Words.{handed_by}
+use Rattle.coap_client.specs.Trace as C
+use Rattle.coap_server.specs.Trace as S
+use Rattle.coap_server.specs.Trace.{Delay}
+use Rattle.coap_world.specs.Events.{client_end, server_end, Config, What, TickClient, TickServer, Deliver}
+use Rattle.coap_world.specs.Events.{StrangerToClient, StrangerToServer}
+use Rattle.coap_world.specs.Record.{Given, Turn, IsNumber, entries_of, client_of, server_of}
+use Rattle.coap_world.specs.Words.{changes_in}
+
+-- how old a datagram becomes, and how long an end does not tick, at most
+abbrev pub max_age : ℕ
+max_age = 1000
+
+-- by how much a path's delay lets its requests wait, at most
+abbrev pub max_delay : ℕ
+max_delay = 10000
+
+-- at each event, in what came before it
+
+-- the datagram of this number was delivered
+abbrev pub WasDelivered : ℕ → List Turn → Type 0
+WasDelivered number past = Ever (λ (t : Turn). t.event.what ≡ Deliver number) past
+
+-- datagrams come in the order of sending, and none twice: each has a higher number than those that came
+abbrev pub ComesInOrder : List Turn → What → Type 0
+ComesInOrder past (Deliver number) = (other : ℕ) → WasDelivered other past → other < number
+ComesInOrder past what = Unit {0}
+
+-- each datagram to an end that was given out more than 1,000 ms ago was delivered
+abbrev pub NoneIsLate : List Turn → ℕ → Type 0
+NoneIsLate past at =
+    (number : ℕ) (g : Given) → IsNumber number g past → (g.packet.to ≡ client_end) ⊎ (g.packet.to ≡ server_end)
+    → g.at + max_age < at
+    → WasDelivered number past
+
+-- the end ticked at most 1,000 ms ago, or the run began then
+abbrev pub HasTicked : What → List Turn → ℕ → Type 0
+HasTicked tick past at = Ever (λ (t : Turn). (t.event.what ≡ tick) × (at ≤ t.event.at + max_age)) past
+    ⊎ Always (λ before (t : Turn). at ≤ t.event.at + max_age) past
+
+abbrev pub IsOfAnEnd : What → Type 0
+IsOfAnEnd (StrangerToClient from bytes) = ⊥
+IsOfAnEnd (StrangerToServer from bytes) = ⊥
+IsOfAnEnd what = Unit {0}
+
+pub record GoesSmoothly (past : List Turn) (turn : Turn) : Type 0 where
+  pub in_order : ComesInOrder past turn.event.what
+  pub in_time : NoneIsLate past turn.event.at
+  pub client_ticks : HasTicked TickClient past turn.event.at
+  pub server_ticks : HasTicked TickServer past turn.event.at
+  -- no stranger, and no refused memory
+  pub of_an_end : IsOfAnEnd turn.event.what
+  pub all_made : turn.refused ≡ false
+
+-- how many messages come to an end for the first time in EXCHANGE_LIFETIME: fewer than it remembers. Its message layer
+-- hands them up (what it remembers, and an acknowledgement, it does not: RFC 7252, section 4.5).
+
+abbrev pub came_at : ℕ → L.Answer → Option ℕ
+came_at now up = elim (handed_by up) [ Some m ↦ Some now | None ↦ None ]
+
+abbrev pub to_client : C.Call → Option ℕ
+to_client (C.Feeds now from bytes word up settled event sent token kept) = came_at now up
+to_client c = None
+
+abbrev pub to_server : S.Call → Option ℕ
+to_server (S.Feeds now from bytes word up came h below) = came_at now up
+to_server c = None
+
+-- from this moment on, for EXCHANGE_LIFETIME
+abbrev pub is_then : ℕ → Option ℕ → Bool
+is_then since None = false
+is_then since (Some at) = nat_le since at && nat_le at (since + exchange_lifetime)
+
+abbrev pub count_came : {X : Type 0} → (X → Option ℕ) → ℕ → List X → ℕ
+count_came came since [] = 0
+count_came came since (c ∷ past) =
+    if is_then since (came c) then 1 + count_came came since past else count_came came since past
+
+abbrev pub FewCome : {X : Type 0} → (X → Option ℕ) → List X → Type 0
+FewCome came calls = (since : ℕ) → count_came came since calls < max_remembered
+
+pub record Smooth (config : Config) (turns : List Turn) : Type 0 where
+  pub goes : Always GoesSmoothly turns
+  pub few_to_client : FewCome to_client (client_of (entries_of turns))
+  pub few_to_server : FewCome to_server (server_of (entries_of turns))
+  pub delays : All (λ (d : Delay). d.ms ≤ max_delay) config.delays
+  -- half of the sequence numbers of notifications (RFC 7641, section 3.4)
+  pub versions : changes_in config (entries_of turns) < 2 ^ 23
+
+-- nothing is observed: no observation is taken (one that is refused may stand in the run)
+
+abbrev pub TakesNoObservation : C.Call → Type 0
+TakesNoObservation (C.Observes now path (Ok number)) = ⊥
+TakesNoObservation c = Unit {0}
+
+abbrev pub NoneObserved : List Turn → Type 0
+NoneObserved turns = Always (λ past c. TakesNoObservation c) (client_of (entries_of turns))
