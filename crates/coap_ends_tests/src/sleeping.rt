@@ -287,12 +287,12 @@ fn are_same(seed: u64, ticked: &Run, asleep: &Run) -> Result<(), Fail> {
 
 #[test]
 fn sleeping_until_due_loses_nothing(rt: HostRuntime) -> Result<(), Fail> {
-    let mut datagrams = 0;
+    let mut datagrams: usize = 0;
     for seed in 0..RUNS {
         let ticked = ticked_each_millisecond(rt.alloc(), seed)?;
         let asleep = asleep_until_due(rt.alloc(), seed)?;
         are_same(seed, &ticked, &asleep)?;
-        datagrams += asleep.given.len();
+        datagrams = asleep.given.len().saturating_add(datagrams);
     }
     if datagrams < RUNS as usize {
         return Err(Fail::new("little goes out"));
