@@ -3,6 +3,7 @@ pub mod AnswerReports
 pub mod Bodies
 pub mod ByAnswers
 pub mod ByTable
+pub mod CallsAlone
 pub mod Codes
 pub mod Dropped
 pub mod EachValid

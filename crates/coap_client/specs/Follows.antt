@@ -7,6 +7,7 @@ pub mod Beyond
 pub mod Blocks
 pub mod Bodies
 pub mod Bounds
+pub mod CallsAlone
 pub mod Clock
 pub mod Codes
 pub mod Continued

@@ -7,6 +7,7 @@ ghost use Rattle.coap_client.specs.Follows.Apart.{BlocksApart};
 ghost use Rattle.coap_client.specs.Follows.Begins.{BeginAtOnce, ConsAreRequests};
 ghost use Rattle.coap_client.specs.Follows.Bodies.{BodiesAreWhole};
 ghost use Rattle.coap_client.specs.Follows.Bounds.{AreBounded, AskOnce};
+ghost use Rattle.coap_client.specs.Follows.CallsAlone.{CallsAlone};
 ghost use Rattle.coap_client.specs.Follows.Codes.{ReportsCodes};
 ghost use Rattle.coap_client.specs.Follows.Continued.{AreContinued};
 ghost use Rattle.coap_client.specs.Follows.Ends.{AllEnds};
@@ -123,4 +124,8 @@ pub fn client_follows_law()
     // It is to be where a notification is taken that has the first of several blocks (RFC 7959, section 2.6).
     ensures wants { (server : Endpoint) (sizes : Sizes) (word : ℕ) (t : List Call) → ClientLaw server sizes word t
         → AllWant sizes t }
+    // Where no observation is taken, what runs is a call, and no report is of an observation (RFC 7641, section 3).
+    ensures calls_alone { (server : Endpoint) (sizes : Sizes) (word : ℕ) (t : List Call)
+        → ClientLaw server sizes word t
+        → CallsAlone sizes t }
 {}

@@ -1,8 +1,10 @@
 -- Which reports the answers to the requests of a call give.
-use Rattle.std.proofs.Common.{◌≡◌, inl, inr, ℕ, Bool, true, false, cond, ◌&&◌, Option, Some, None, List, [], ◌∷◌}
-use Rattle.std.proofs.Common.{refl, ap, sym, subst, ◌∙◌}
+use Rattle.std.proofs.Common.{◌≡◌, inl, inr, ℕ, ◌+◌, nat_lt, Bool, true, false, cond, ◌&&◌, Option, Some, None, List, []}
+use Rattle.std.proofs.Common.{◌∷◌, length, refl, ap, sym, subst, ◌∙◌, arith}
 use Rattle.std.specs.Prelude.{◌==◌}
 use Rattle.std.proofs.lemmas.Bool.{ltb-true}
+use Rattle.std.proofs.lemmas.Bool.Decides.{nat_tests}
+use Rattle.coap_types.specs.Piece.{size_of, offset_of}
 use Rattle.coap_types.specs.declared.block.Block.{Block}
 use Rattle.coap_types.specs.declared.endpoint.Endpoint.{Endpoint}
 use Rattle.coap_types.specs.declared.message.TheConstants.Code as codes
@@ -39,6 +41,13 @@ use Rattle.coap_client.proofs.Uploading.Pieces.{answers_last}
 both : (a b : Bool) → (a && b) ≡ true → (a ≡ true) × (b ≡ true)
 both true b h = (refl, h)
 both false b h = absurd (cc h)
+
+-- what fits one message has no block behind it
+no_more : (u : UploadState) → is_longer u ≡ false → more_follows u ≡ false
+no_more u short = by (offset_of u.num u.szx) (size_of u.szx) (length u.body) short
+  where
+    by : (o s l : ℕ) → nat_lt s l ≡ false → nat_lt (o + s) l ≡ false
+    by o s l h = grind (arith, nat_tests, h)
 
 -- success or failure, with the code of the answer
 done_may : (tr : Transfer) (m : Message) (b final : Bool) (report : Report)
@@ -77,6 +86,11 @@ upload_may method u m final report h =
               cc (so, not_so),
         )) h
 
+    -- behind a block that others follow the body is longer than one, so a 2.31 counts
+    other : (b : Bool) → is_longer u ≡ b → more_follows u ≡ true → ((continue == continue) && is_longer u) ≡ false → ⊥
+    other true is more none = let e : is_longer u ≡ false = none in cc (is, e)
+    other false is more none = let e = no_more u is in cc (more, e)
+
     by : (b p : Bool) → ((m.code == continue) && is_longer u) ≡ b
         → (more_follows u && calls.is_below_errors m.code) ≡ p
         → cond b (calls.continued u (block_at block1 m))
@@ -87,7 +101,11 @@ upload_may method u m final report h =
         continued (block_at block1 m) refl (same_number m.code continue k.0, k.1) h
     by false true a e h =
         let k = both (more_follows u) (calls.is_below_errors m.code) e in
-        bad_may u m true final report (inr (k.0, ltb-true m.code codes.BAD_REQUEST.0 k.1)) h
+        bad_may u m true final report (inr (
+          k.0,
+          ltb-true m.code codes.BAD_REQUEST.0 k.1,
+          λ same. other (is_longer u) refl k.0 (ap (λ n. (n == continue) && is_longer u) (sym same) ∙ a),
+        )) h
     by false false a e h = done_may (Uploads u) m (is_success method m.code) final report h
 
 module _ (sizes : Sizes) (k : ℕ) (r : Request) (body : List ℕ) (m : Message) where

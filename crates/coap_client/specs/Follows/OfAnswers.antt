@@ -1,5 +1,5 @@
 -- Which reports the answers to the requests of a call give (RFC 7252, section 5.8; RFC 7959, sections 2.4 and 2.5).
-use Rattle.std.specs.Prelude.{◌≡◌, ◌⊎◌, ◌<◌, ℕ, Bool, true, false, Some, List}
+use Rattle.std.specs.Prelude.{◌≡◌, ◌≢◌, ◌⊎◌, ◌<◌, ℕ, Bool, true, false, Some, List}
 use Rattle.coap_types.specs.Past.{Always}
 use Rattle.coap_types.specs.declared.block.Block.{Block}
 use Rattle.coap_types.specs.declared.message.TheConstants.Code as codes
@@ -34,7 +34,7 @@ is_by_answer report = false
 abbrev pub IsBadFor : UploadState → Message → Type 0
 IsBadFor u m =
     ((m.code ≡ continue) × (is_longer u ≡ true) × ((b : Block) → block_at block1 m ≡ Some b → Continues u b → ⊥))
-    ⊎ ((more_follows u ≡ true) × (m.code < codes.BAD_REQUEST.0))
+    ⊎ ((more_follows u ≡ true) × (m.code < codes.BAD_REQUEST.0) × (m.code ≢ continue))
 
 -- Success and failure have the code of the answer. A body, a 2.03, and what is no body are of a GET alone; a bad block
 -- is of that, and of a body that is sent in blocks.

@@ -2,6 +2,7 @@ use Rattle.coap_client.proofs.Counting.AsksOnce.{ask_once}
 use Rattle.coap_client.proofs.Counting.Bounds.{are_bounded}
 use Rattle.coap_client.proofs.Uploading.Continued.{are_continued}
 use Rattle.coap_client.proofs.Reporting.ByTable.{reports_by_table}
+use Rattle.coap_client.proofs.Reporting.CallsAlone.{calls_alone}
 use Rattle.coap_client.proofs.Reporting.EachValid.{each_is_valid}
 use Rattle.coap_client.proofs.Reporting.EachWhole.{whole_are_reported}
 use Rattle.coap_client.proofs.Reporting.Valid.{valid_of_tags}
@@ -106,3 +107,6 @@ returns-clause-fetches_first c = fetches_first
 
 pub returns-clause-wants : goal.returns-clause-wants
 returns-clause-wants c = all_want
+
+pub returns-clause-calls_alone : goal.returns-clause-calls_alone
+returns-clause-calls_alone c = calls_alone
