@@ -1,3 +1,4 @@
+ghost use Rattle.coap_observe.specs.Fresh.{FreshIsNear, NoneIsStale};
 ghost use Rattle.coap_observe.specs.Registrations.{AlwaysRegistrations, ChangeMarks, EachStays, IsKnownByPair};
 ghost use Rattle.coap_observe.specs.Registrations.{RegisterPuts, RemoveNeverRaises, RemoveTakes, SendKeeps, SendLowers};
 ghost use Rattle.coap_observe.specs.Registrations.{SendUnmarks};
@@ -12,6 +13,14 @@ pub fn newer_laws()
     ensures newer_is_later { NewerIsLater }
     ensures old_is_replaced { OldIsReplaced }
     ensures decided { NewerIsDecided }
+{}
+
+/// Why what is told in Non-confirmable messages is still taken in rising versions (RFC 7641, sections
+/// 3.4 and 4.5): an older state that comes behind a newer one doesn't count as newer, where none
+/// comes later than MAX_LATENCY and an older state than that goes in a Confirmable message.
+pub fn fresh_laws()
+    ensures none_is_stale { NoneIsStale }
+    ensures fresh_is_near { FreshIsNear }
 {}
 
 /// What the calls of `Observers` make of the registration of one endpoint and token, and that they

@@ -15,7 +15,7 @@ mod observers;
 mod sequence;
 mod watch;
 
-pub use laws::{newer_laws, observer_laws};
+pub use laws::{fresh_laws, newer_laws, observer_laws};
 pub use notice::Notice;
 pub use observers::{MAX_OBSERVERS, Observers};
 pub use sequence::{HALF_RANGE, REORDERING_MS, SEQUENCE_BITS, sequence_number};

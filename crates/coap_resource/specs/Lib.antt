@@ -6,6 +6,7 @@ pub mod Entries
 pub mod RequestOptions
 pub mod Serves
 pub mod RateLaw
+pub mod Since
 pub mod ResponseOptions
 pub mod Quiet
 pub mod ServedLaw

@@ -1,5 +1,5 @@
 use super::path_of;
-use crate::{ListStore, MAX_PATHS, MapStore, Store, StoreRefusal, rate_law, served_law};
+use crate::{ListStore, MAX_PATHS, MapStore, Store, StoreRefusal, rate_law, served_law, since_law};
 use StoreRefusal::{RateExceeded, TooLarge, TooManyPaths};
 use coap_types::{BodyLimit, Moment, Path};
 use std::alloc::{AllocError, AllocGlobal, Global};
@@ -99,6 +99,7 @@ fn check_rate<R: Abort + AllocGlobal, S: Store<Global>>(rt: &R) -> Result<(), Al
 fn a_window_of_256_s_takes_so_many_changes(rt: HostRuntime) -> Result<(), AllocError> {
     rate_law();
     served_law();
+    since_law();
     check_rate::<HostRuntime, ListStore>(&rt)?;
     check_rate::<HostRuntime, MapStore>(&rt)
 }
