@@ -6,3 +6,4 @@ pub mod Progress
 pub mod Observations
 pub mod Uploads
 pub mod Recording
+pub mod Smoothly

@@ -28,5 +28,11 @@ pub mod LastAnswered
 pub mod HandedOnce
 pub mod AppliedRequest
 pub mod NeverFailed
+pub mod ByAnswer
+pub mod Unregistered
+pub mod NoneBad
+pub mod ChangesAnswered
+pub mod GetAnswered
+pub mod GetsHeld
 pub mod Promised
 pub mod HeardWasSent

@@ -6,6 +6,7 @@ pub mod CameFrom
 pub mod CallsInRange
 pub mod AllRecognised
 pub mod ReadBack
+pub mod GetRead
 pub mod Traced
 pub mod LastRequests
 pub mod OfACall

@@ -30,3 +30,9 @@ pub mod SmoothRuns
 pub mod Prompt
 pub mod SmoothGaps
 pub mod Received
+pub mod InTime
+pub mod TakenInTime
+pub mod EndsSmoothly
+pub mod AtOnce
+pub mod Separate
+pub mod TicksLeave

@@ -2,12 +2,14 @@
 -- at most 1,000 ms after it was given out, and each end ticks each 1,000 ms (RFC 7252, sections 4.2 and 4.8; the
 -- numbers are a profile).
 use Rattle.std.specs.Prelude.{◌≡◌, ◌⊎◌, ◌≤◌, ◌<◌, ℕ, ◌+◌, ◌^◌, nat_le, Bool, false, ◌&&◌, Option, Some, None, List, []}
-use Rattle.std.specs.Prelude.{◌∷◌, All, Ok, if◌then◌else◌}
+use Rattle.std.specs.Prelude.{◌∷◌, All, if◌then◌else◌}
 use Rattle.coap_types.specs.Past.{Ever, Always}
 use Rattle.coap_types.specs.declared.remembered.TheConstants.{DEFAULT_REMEMBERED as max_remembered}
 use Rattle.coap_types.specs.declared.transmission.TheConstants.{EXCHANGE_LIFETIME_MS as exchange_lifetime}
 use Rattle.coap_layer.specs.Trace as L
 use Rattle.coap_layer.specs.Words.{handed_by}
+pub use Rattle.coap_client.specs.Follows.CallsAlone.{TakesNoObservation}
+use Rattle.coap_client.specs.Follows.CallsAlone.{NoneIsTaken}
 use Rattle.coap_client.specs.Trace as C
 use Rattle.coap_server.specs.Trace as S
 use Rattle.coap_server.specs.Trace.{Delay}
@@ -98,9 +100,5 @@ pub record Smooth (config : Config) (turns : List Turn) : Type 0 where
 
 -- nothing is observed: no observation is taken (one that is refused may stand in the run)
 
-abbrev pub TakesNoObservation : C.Call → Type 0
-TakesNoObservation (C.Observes now path (Ok number)) = ⊥
-TakesNoObservation c = Unit {0}
-
 abbrev pub NoneObserved : List Turn → Type 0
-NoneObserved turns = Always (λ past c. TakesNoObservation c) (client_of (entries_of turns))
+NoneObserved turns = NoneIsTaken (client_of (entries_of turns))

@@ -7,15 +7,17 @@ use Rattle.coap_types.specs.declared.request.Method.TheVariants.{Get}
 use Rattle.coap_codec.specs.Message.{Message}
 use Rattle.coap_resource.specs.Content.{Held}
 use Rattle.coap_resource.specs.RequestOptions.{tag_of}
-use Rattle.coap_client.specs.Follows.Ends.{ends_as}
+use Rattle.coap_client.specs.Follows.Ends.{ends_as, Unsent, unsent}
 use Rattle.coap_client.specs.Follows.Open.{IsOpenSince}
 use Rattle.coap_client.specs.Follows.Words.{Taken, takes}
+use Rattle.coap_client.specs.Law.{own_of}
 use Rattle.coap_client.specs.Trace.{Request, Report, Body, Done, Failed}
 use Rattle.coap_server.specs.Serving.{is_applied}
 use Rattle.coap_world.specs.Answers.{AnswersAt, HearsAt}
 use Rattle.coap_world.specs.Done.{AppliesSince}
 use Rattle.coap_world.specs.Events.{Config}
 use Rattle.coap_world.specs.Record.{Entry, OfClient, OfServer, Turn, entries_of, client_of}
+use Rattle.coap_world.specs.Smooth.{NoneObserved}
 use Rattle.coap_world.specs.Words.{ReportsAt, WasCalled, SentFor, holds_at}
 
 -- how long an exchange is open, at most
@@ -32,6 +34,10 @@ module _ (config : Config) where
   -- Each that ends does so by an answer: by no Reset, no Timeout and no NoResponse.
   abbrev pub EndByAnswers : List Entry → Type 0
   EndByAnswers all = Always (λ past c. ends_as c ≡ None) (client_of all)
+
+  -- Each request that is asked for is sent: a Message ID and a token are free for it.
+  abbrev pub AllAreSent : List Entry → Type 0
+  AllAreSent all = Always (λ past c. (u : Unsent) → unsent (own_of config.client_sizes past) c ≡ Some u → ⊥) (client_of all)
 
   -- calls
 
@@ -77,6 +83,12 @@ module _ (config : Config) where
       Always (λ past e. (report : Report) (x : Taken)
       → ReportsAt config (record { number = x.number; report = report }) past e
       → WasCalled x.number x.request past → x.request.method ≢ Get → ComesTo report x all past e) all
+
+  -- nothing is observed, each exchange ends by an answer, and each request is sent
+  pub record AllAnswer (turns : List Turn) : Type 0 where
+    pub none : NoneObserved turns
+    pub by_answers : EndByAnswers (entries_of turns)
+    pub all_sent : AllAreSent (entries_of turns)
 
   pub record AnsweredSmoothly (turns : List Turn) : Type 0 where
     pub young : AreYoung turns

@@ -1,11 +1,22 @@
 ghost use Rattle.std.specs.Prelude.{map};
+ghost use Rattle.coap_world.specs.AtOnce.{OldWait};
+ghost use Rattle.coap_world.specs.EndsSmoothly.{YoungEndByAnswers};
+ghost use Rattle.coap_world.specs.InTime.{AllInTime, FewArrive};
 ghost use Rattle.coap_world.specs.Legal.{OfLegalRuns};
 ghost use Rattle.coap_world.specs.Prompt.{AllPrompt};
 ghost use Rattle.coap_world.specs.Received.{AreReceived};
-ghost use Rattle.coap_world.specs.Record.{Turn};
-ghost use Rattle.coap_world.specs.Smooth.{Smooth};
+ghost use Rattle.coap_world.specs.Record.{Turn, entries_of};
+ghost use Rattle.coap_world.specs.Separate.{SeparateEnds, TicksAnswer};
+ghost use Rattle.coap_world.specs.Smooth.{NoneObserved, Smooth};
+ghost use Rattle.coap_world.specs.SmoothAnswers.{AllAnswer, ChangesAnswered, GetsHeld};
 ghost use Rattle.coap_world.specs.SmoothGaps.{AreClose, TimesOutRoughly};
 ghost use Rattle.coap_world.specs.SmoothRuns.{DefersLate, DefersLongest, Unanswered};
+ghost use Rattle.coap_world.specs.TakenInTime.{AllTakenInTime};
+ghost use Rattle.coap_world.specs.TicksLeave.{TicksInTime, TicksLeaveNone};
+
+use coap_client::{client_exchanges_law, client_follows_law, client_values_law};
+use coap_layer::{channel_law, layer_law};
+use coap_server::server_law;
 
 /// Smooth runs, in which nothing is lost and nothing is late, and a run that isn't smooth.
 pub fn smooth_witness()
@@ -28,4 +39,49 @@ pub fn received_law()
     ensures prompt { OfLegalRuns (λ config turns. Smooth config turns → AllPrompt turns) }
     // What an end is fed, its message layer receives at that moment (RFC 7252, section 4.2).
     ensures received { OfLegalRuns AreReceived }
+{}
+
+/// What becomes of the messages of a smooth run.
+pub fn open_law()
+    // What one message layer sends comes to the other's, at most 1,000 ms later ..
+    ensures arrive { OfLegalRuns (λ config turns. Smooth config turns → AllInTime config turns) }
+    // .. and in EXCHANGE_LIFETIME fewer messages come than it remembers (RFC 7252, section 4.5).
+    ensures few { OfLegalRuns (λ config turns. Smooth config turns → FewArrive config turns) }
+    // Each Confirmable message is taken within 1,000 ms, and each of the server's is over within 2,000 (RFC 7252, section
+    // 4.2).
+    ensures taken { OfLegalRuns (λ config turns. Smooth config turns → AllTakenInTime config turns) }
+    // Where each exchange is young, it ends by an answer: by no Reset, no Timeout and no NoResponse (sections 4.2 and
+    // 5.2.2).
+    ensures by_answers { OfLegalRuns (λ config turns. Smooth config turns → YoungEndByAnswers config turns) }
+    // Where nothing is observed, the request of an exchange that is open for more than 2,000 ms had to wait at the server,
+    // and waits still, or was answered since: any other is answered in its acknowledgement, and that comes (sections
+    // 4.2, 5.2.1 and 5.2.2).
+    ensures at_once { OfLegalRuns (λ config turns. Smooth config turns → NoneObserved turns → OldWait config turns) }
+    // .. and a response in a CON of its own ends the exchange that it answers within 1,000 ms (section 5.2.2).
+    ensures separate { OfLegalRuns (λ config turns. Smooth config turns → NoneObserved turns
+        → SeparateEnds config turns) }
+    // What a tick of the server answers goes out in such a CON (section 5.2.2).
+    ensures ticks { OfLegalRuns (λ config turns. TicksAnswer config (entries_of turns)) }
+    // .. and behind the ticks of a moment nothing is left that can be answered, unless no Message ID is free (sections 4.7
+    // and 5.2.2).
+    ensures leaves { OfLegalRuns TicksLeaveNone }
+    // In a smooth run it ticks in each 2,000 ms.
+    ensures often { OfLegalRuns (λ config turns. Smooth config turns → TicksInTime turns) }
+{
+    channel_law();
+    layer_law();
+    client_exchanges_law();
+    client_follows_law();
+    client_values_law();
+    server_law();
+}
+
+/// What the calls of a run come to in which each exchange ends by an answer, each request is sent and nothing is observed.
+pub fn answered_law()
+    // A GET without ETag and Accept reports what its path holds, where that stays the same since the call and the client
+    // joins bodies that are as long as the server's (RFC 7252, section 5.8.1; RFC 7959, section 2.4).
+    ensures gets { OfLegalRuns (λ config turns. AllAnswer config turns → GetsHeld config (entries_of turns)) }
+    // What is reported of another call is the code of a response that the server made to it; and where that says that it
+    // is applied, it was, after the call (RFC 7252, sections 5.8 and 5.9).
+    ensures changes { OfLegalRuns (λ config turns. AllAnswer config turns → ChangesAnswered config (entries_of turns)) }
 {}

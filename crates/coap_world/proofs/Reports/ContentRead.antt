@@ -1,10 +1,13 @@
 -- What a client reads from a 2.05 is what the server shows in it.
-use Rattle.std.proofs.Common.{◌≡◌, ◌<◌, ◌≤◌, ℕ, ◌/◌, ◌+◌, ◌==◌, nat_lt, Bool, true, false, ◌&&◌, ◌||◌, Option, Some}
+use Rattle.std.proofs.Common.{◌≡◌, ◌<◌, ◌≤◌, ℕ, ◌/◌, ◌+◌, ◌*◌, ◌^◌, ◌==◌, nat_lt, Bool, true, false, ◌&&◌, ◌||◌, Option, Some}
 use Rattle.std.proofs.Common.{None, is_some, List, length, refl, ap}
 use Rattle.std.proofs.Common.{sym, subst, ◌∙◌, cond, arith}
 use Rattle.std.specs.Prelude.{IfSome}
 use Rattle.std.specs.Option.{option_map}
-use Rattle.coap_types.specs.BlockValue.{block_in, block_value}
+use Rattle.std.proofs.Math.Nat.{div-le_of_le-mul}
+use Rattle.std.proofs.lemmas.Bool.{le-leb}
+use Rattle.std.proofs.lemmas.Nat.{pow_below}
+use Rattle.coap_types.specs.BlockValue.{block_by, block_in, block_value, more_bit}
 use Rattle.coap_types.specs.OptionValues.{value_of}
 use Rattle.coap_types.specs.Piece.{size_of, Piece}
 use Rattle.coap_types.specs.Recognised.{lacks_critical, recognised}
@@ -13,7 +16,8 @@ use Rattle.coap_types.specs.declared.block.Block.{Block}
 use Rattle.coap_types.specs.declared.direction.Direction.TheVariants.{Response}
 use Rattle.coap_types.specs.declared.message.TheConstants.Code as codes
 use Rattle.coap_types.specs.declared.option_number.TheConstants.{ETAG as etag, OBSERVE as observe, BLOCK2 as block2}
-use Rattle.coap_types.proofs.Facts.Uints.{uint_spells}
+use Rattle.coap_types.proofs.Facts.Blocks.{block_reads_back}
+use Rattle.coap_types.proofs.Facts.Uints.{few_bytes, uint_spells}
 use Rattle.coap_codec.specs.Message.{Message}
 use Rattle.coap_observe.specs.Versions.{sequence_number}
 use Rattle.coap_resource.specs.Content.{Held}
@@ -22,6 +26,7 @@ use Rattle.coap_resource.specs.ResponseOptions.{block_number}
 use Rattle.coap_resource.specs.ServedLaw.{IsPart}
 use Rattle.coap_resource.specs.Serves.{bare, content_reply, block2_of}
 use Rattle.coap_client.specs.Responses.{content, said, tag_in, format_in, is_notification, sequence_in}
+use Rattle.coap_client.specs.Follows.Unchanged.{SaysBlock, SaysReply}
 use Rattle.coap_client.specs.Responses.{block_at}
 use Rattle.coap_server.specs.Observers.{sequence_if}
 use Rattle.coap_server.specs.Responses.{response_with}
@@ -113,6 +118,72 @@ content_read m held by offset szx b more options payload part small format none 
           part_by m held.body (content_reply held by offset szx).part (content_reply held by offset szx).block2
           (low_block by offset szx (length held.body) small)
           (ap (value_of block2) all ∙ block_read tag (sequence_if b (Some held)) held.format block more) payload part;
+    }
+
+-- what it says is the reply: its Block2, where that can be written, its ETag, its format and its part
+
+abbrev IsSmallBlock : Option (ℕ × Bool × ℕ) → Type 0
+IsSmallBlock o = IfSome o (λ b. (b.0 ≤ 1048575) × (b.2 ≤ 6))
+
+bit_small : (b : Bool) → more_bit b ≤ 8
+bit_small true = omega arith
+bit_small false = omega arith
+
+small_value : (num szx : ℕ) (more : Bool) → num ≤ 1048575 → szx ≤ 6
+    → block_value (record { num = num; more = more; szx = szx }) < 16777216
+small_value num szx more n s = let b = bit_small more in omega (arith, n, s, b)
+
+pub block_back : (b : Block) → b.num ≤ 1048575 → b.szx ≤ 6 → block_in (uint (block_value b)) ≡ Some b
+block_back b num szx =
+    let n : ℕ = block_value b in
+    let low = small_value b.num b.szx b.more num szx in
+    let spelt = uint_spells n (omega (arith, low)) in
+    ap (λ c. cond c (block_by (number_of (uint n))) None)
+    (le-leb (length (uint n)) 3 (few_bytes (uint n) n 3 spelt low))
+    ∙ (ap block_by spelt.spelt ∙ block_reads_back b num szx)
+
+says_block : (m : Message) (o : Option (ℕ × Bool × ℕ)) → IsSmallBlock o
+    → value_of block2 (said m) ≡ option_map uint (block_number o) → SaysBlock o m
+says_block m None small is = is
+says_block m (Some x) small is = ap (λ v. elim v [ None ↦ None | Some value ↦ block_in value ]) is
+    ∙ block_back (record { num = x.0; more = x.1; szx = x.2 }) small.0 small.1
+
+few_blocks : (offset size : ℕ) → offset ≤ 1048576 → 2 ≤ size → offset / size ≤ 1048575
+few_blocks offset size h k = div-le_of_le-mul size (omega (arith, h, k))
+
+pub size_least : (szx : ℕ) → 2 ≤ size_of szx
+size_least szx = let h : 1 < 2 ^ (szx + 4) = pow_below 0 (szx + 4) (omega arith) in omega (arith, h)
+
+small_block : (by : Bool) (offset szx len : ℕ) → szx ≤ 6 → offset ≤ 1048576 → IsSmallBlock (block2_of by offset szx len)
+small_block by offset szx len small low = go (by || nat_lt (size_of szx) len)
+  where
+    go : (c : Bool) → IsSmallBlock (cond c
+        (Some (offset / size_of szx, nat_lt (offset + size_of szx) len, szx)) None)
+    go true = (few_blocks offset (size_of szx) low (size_least szx), small)
+    go false = tt
+
+pub content_says :
+    (m : Message) (held : Held) (by : Bool) (offset szx : ℕ) (b : Bool) (more : Option ℕ)
+    → m.code ≡ content
+    → m.options
+    ≡ (response_with (content_reply held by offset szx) (sequence_if b (Some held)) more).options
+    → m.payload ≡ (content_reply held by offset szx).part → szx ≤ 6 → offset ≤ 1048576
+    → IfSome held.format (λ f. f < 65536) → lacks_critical Response m.options ≡ false
+    → SaysReply (content_reply held by offset szx) m
+content_says m held by offset szx b more code options payload small low format none =
+    let block : Option ℕ = block_number (content_reply held by offset szx).block2 in
+    let tag : List ℕ = tag_of held.version in
+    let all : said m ≡ written (Some tag) (sequence_if b (Some held)) held.format block more =
+    ap (λ os. recognised Response os) options ∙ all_read tag (sequence_if b (Some held)) held.format block more refl
+    (low_if b held) format (ap (lacks_critical Response) (sym options) ∙ none)
+    in
+    record {
+      code = code;
+      block = says_block m (content_reply held by offset szx).block2 (small_block by offset szx (length held.body) small low)
+          (ap (value_of block2) all ∙ block_read tag (sequence_if b (Some held)) held.format block more);
+      tag = ap (value_of etag) all;
+      format = ap format_of all ∙ format_read tag (sequence_if b (Some held)) held.format block more format;
+      part = payload;
     }
 
 -- the tag of a 2.03

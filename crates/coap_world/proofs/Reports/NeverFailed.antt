@@ -1,5 +1,5 @@
 -- Where another response than a success is reported, no request of the call is applied, before or after.
-use Rattle.std.proofs.Common.{◌≡◌, ◌⊎◌, ◌≤◌, inl, inr, ℕ, max, Bool, true, false, ◌&&◌, Some, None, List, [], ◌∷◌, map}
+use Rattle.std.proofs.Common.{◌≡◌, ◌⊎◌, ◌≤◌, inl, inr, ℕ, max, Bool, true, false, ◌&&◌, Some, None, List, [], ◌∷◌}
 use Rattle.std.proofs.Common.{refl, ap, sym, subst, ◌∙◌}
 use Rattle.coap_types.specs.MethodCode.{method_code, method_of}
 use Rattle.coap_types.specs.Past.{Sometime}
@@ -11,7 +11,6 @@ use Rattle.coap_block.specs.AssemblyState.{AssemblyState}
 use Rattle.coap_block.specs.declared.block_verdict.BlockVerdict.{BlockVerdict}
 use Rattle.coap_block.specs.declared.block_verdict.BlockVerdict.TheVariants as ruling
 use Rattle.coap_codec.specs.Message.{Message}
-use Rattle.coap_observe.specs.Observers.{Observer}
 use Rattle.coap_resource.specs.Serves.{Question}
 use Rattle.coap_exchange.specs.declared.answerer.Asked.{Asked}
 use Rattle.coap_client.specs.Follows.Order.{call_of, is_last}
@@ -19,7 +18,6 @@ use Rattle.coap_client.specs.Trace as C
 use Rattle.coap_client.specs.Follows.Words.{Taken, WasTaken, Sending}
 use Rattle.coap_server.specs.Follows.Brings.{Comes}
 use Rattle.coap_server.specs.Follows.Gives.{refusal_by, refusal_of, refusal_in}
-use Rattle.coap_server.specs.Follows.Observes.{WasMade}
 use Rattle.coap_server.specs.Follows.Serves.{Serving, serving, hands, times_handed}
 use Rattle.coap_server.specs.Follows.Takes.{Took, took, took_by, taken_by, takes_block}
 use Rattle.coap_server.specs.Checks.{Verdict, Ignored, Refused, Asks, Uploads, verdict_on}
@@ -50,6 +48,7 @@ use Rattle.coap_world.proofs.Reports.HandedOnce.{once_same, once_either, never, 
 use Rattle.coap_world.proofs.Reports.HandedOnce.{served_once}
 use Rattle.coap_world.proofs.Reports.LastAnswered.{FailsBy, same_last}
 use Rattle.coap_world.proofs.Reports.Located.{LaterAll, Origin, origin_of, brought_served, server_later}
+use Rattle.coap_world.proofs.Reports.Unregistered.{NoneRegisters, none_made}
 
 -- a block that is taken is not refused
 
@@ -77,22 +76,22 @@ not_both s (S.TellsApplied answer) y code t r = cc t
 not_both s (S.Ticks now word below room d passed h id answer) y code t r = cc t
 not_both s (S.NextOut answer) y code t r = cc t
 
-get_is : (m : Method) (b : Bool) → (is_get m && b) ≡ true → m ≡ Get
+pub get_is : (m : Method) (b : Bool) → (is_get m && b) ≡ true → m ≡ Get
 get_is Get b h = refl
 get_is Post b h = absurd (cc h)
 get_is Put b h = absurd (cc h)
 get_is Delete b h = absurd (cc h)
 
 -- the request that is refused in a call, and what it comes to
-record RefusedIn (limits : Limits) (szx word : ℕ) (past : List S.Call) (c : S.Call) (a : Asked) : Type 0 where
-  verdict : Verdict
-  comes : Comes limits szx word past c a verdict
-  uploads : AssemblyState
-  at : ℕ
-  code : ℕ
-  refuses_so : refusal_of uploads at a verdict ≡ Some code
+pub record RefusedIn (limits : Limits) (szx word : ℕ) (past : List S.Call) (c : S.Call) (a : Asked) : Type 0 where
+  pub verdict : Verdict
+  pub comes : Comes limits szx word past c a verdict
+  pub uploads : AssemblyState
+  pub at : ℕ
+  pub code : ℕ
+  pub refuses_so : refusal_of uploads at a verdict ≡ Some code
 
-refused_in : (limits : Limits) (szx word : ℕ) (past : List S.Call) (c : S.Call) (a : Asked) (code : ℕ)
+pub refused_in : (limits : Limits) (szx word : ℕ) (past : List S.Call) (c : S.Call) (a : Asked) (code : ℕ)
     → Rattle.coap_server.specs.Law.ServerLaw limits szx word (c ∷ past)
     → hands c ≡ Some a → refusal_in (own_of limits szx past) c ≡ Some code → RefusedIn limits szx word past c a
 refused_in limits szx word past (S.Feeds now from bytes w up (Some p) h below) a code law is refuses_so =
@@ -225,28 +224,12 @@ module _ (config : Config) (number : ℕ) (all : List Entry) (small : config.cli
         × ((q : Question) × (b : _) × (a.verdict ≡ Uploads q b)))
 
     -- a request of the call that changes something is no registration
-    none_made : (o : Observer) (w : List Entry) → Later w → Lawful config w → o.to ≡ client_end → o.token ≡ m.token
-        → WasMade config.limits config.server_szx (server_trace config w) o → ⊥
-    none_made o [] later law to same h = none_begun (config.delays) h
-      where
-        none_begun : (ds : List S.Delay) → WasMade config.limits config.server_szx
-            (map (λ (d : S.Delay). S.Delays d.path d.ms true) ds) o → ⊥
-        none_begun [] h = h
-        none_begun (d ∷ ds) (inl h) = let here = h.made.here in cc here
-        none_begun (d ∷ ds) (inr h) = none_begun ds h
-    none_made o (OfClient c ∷ w) later law to same h =
-        none_made o w (later_back config number all small whole in_range (OfClient c) w later)
-        (lawful_back config w (OfClient c) law) to same h
-    none_made o (OfServer c ∷ w) later law to same (inr h) =
-        none_made o w (later_back config number all small whole in_range (OfServer c) w later)
-        (lawful_back config w (OfServer c) law) to same h
-    none_made o (OfServer c ∷ w) later law to same (inl k) =
-        let h = k.made in
-        let x : Serving = h.request in
-        let b = brought_served config number all small whole in_range w c later law x h.here (h.from ∙ to) in
+    registers_none : NoneRegisters config number all small whole in_range m.token
+    registers_none w c later law x here from under observe =
+        let b = brought_served config number all small whole in_range w c later law x here from in
         let sending : b.origin.sending ≡ last =
         same_sending config number all small whole in_range last a.known.sent a.known.of_call x.asked b.verdict b.origin
-        (h.token_is ∙ (same ∙ (sym token ∙ own_token)))
+        (under ∙ (sym token ∙ own_token))
         in
         let code : (request_of b.origin.con.id b.origin.sending).code
         ≡ (method_code a.known.request.method).0 = ap (λ (z : Sending). z.request.code) sending
@@ -254,8 +237,7 @@ module _ (config : Config) (number : ℕ) (all : List Entry) (small : config.cli
         let methods : Some x.question.method ≡ Some a.known.request.method = sym b.method
         ∙ (ap method_of code ∙ method_is a.known.request.method) in
         let method : x.question.method ≡ a.known.request.method = cc methods in
-        let get : x.question.method ≡ Get = get_is x.question.method _ h.observe in
-        subst Changes (sym method ∙ get) a.known.change
+        subst Changes (sym method ∙ get_is x.question.method _ observe) a.known.change
 
     outcome_here : (w : List Entry) (c : S.Call) → Later (OfServer c ∷ w) → Lawful config (OfServer c ∷ w)
         → IsAnswer config m (server_trace config w) c → Outcome (server_trace config w) c
@@ -283,8 +265,9 @@ module _ (config : Config) (number : ℕ) (all : List Entry) (small : config.cli
         (ap (refusal_of k.uploads k.at b) (sym same) ∙ k.refuses_so) in
         inr ((handed ∙ ap (λ z. Some z) (is_it b k.verdict o r.token_is), (code, is)), u)
     outcome_here w c later law (notifies o reply here made shows so) =
-        absurd (none_made o w (later_back config number all small whole in_range (OfServer c) w later)
-        (lawful_back config w (OfServer c) law) so.to_client so.token_is made)
+        absurd (none_made config number all small whole in_range m.token registers_none o w
+        (later_back config number all small whole in_range (OfServer c) w later) (lawful_back config w (OfServer c) law)
+        so.to_client so.token_is made)
 
     outcome_in : (t : List Entry) → Later t → Lawful config t → Sometime (AnswersAt config m) t
         → Sometime Outcome (server_trace config t)

@@ -64,7 +64,7 @@ module _ (config : Config) (number : ℕ) (all : List Entry) (small : config.cli
         absurd (not_this _ so.code (notice_none o.szx
         ((own_of config.limits config.server_szx (server_trace config w)).store.holds o.path) _ shows))
 
-    applies_in : (w : List Entry) → Later w → Lawful config w → Sometime (AnswersAt config m) w
+    pub applies_in : (w : List Entry) → Later w → Lawful config w → Sometime (AnswersAt config m) w
         → Sometime (AppliesSince config number all) w
     applies_in [] later law h = h
     applies_in (OfClient c ∷ w) later law (inl h) = absurd h

@@ -17,7 +17,7 @@ use Rattle.coap_types.proofs.Facts.Uints.{few_bytes, uint_spells}
 abbrev kept : List CoapOption → List CoapOption → List CoapOption
 kept before os = map (λ p. p.1) (filter (λ p. is_recognised Request p.0 p.1) (placed before os))
 
-abbrev lacking : List CoapOption → List CoapOption → Bool
+abbrev pub lacking : List CoapOption → List CoapOption → Bool
 lacking before os = list_any (λ p. is_critical p.1 && not (is_recognised Request p.0 p.1)) (placed before os)
 
 -- each elective option is recognised
@@ -57,7 +57,7 @@ all_recognised os none known = all_kept [] os none known
 
 -- options one behind the other
 
-has_more : (number : ℕ) (before : List CoapOption) (o : CoapOption) → has_number number before ≡ false
+pub has_more : (number : ℕ) (before : List CoapOption) (o : CoapOption) → has_number number before ≡ false
     → (o.number == number) ≡ false → has_number number (before ++ o ∷ []) ≡ false
 has_more number [] o h k = ap (λ b. b || false) k
 has_more number (x ∷ xs) o h k = by (x.number == number) h (λ z. has_more number xs o z k)
@@ -95,7 +95,7 @@ one_known o rest odd other before none f = (
 length_of : (n : ℕ) → n < 65536 → nat_le (length (uint n)) 2 ≡ true
 length_of n small = le-leb (length (uint n)) 2 (few_bytes (uint n) n 2 (uint_spells n (omega (arith, small))) small)
 
-zero_least : (n : ℕ) → nat_le 0 n ≡ true
+pub zero_least : (n : ℕ) → nat_le 0 n ≡ true
 zero_least n = grind (arith, nat_tests)
 
 is_known : (value : List ℕ) (h l : Bool) → h ≡ false → l ≡ true → (not h && nat_le 0 (length value) && l) ≡ true

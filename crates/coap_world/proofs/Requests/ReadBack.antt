@@ -190,7 +190,7 @@ path_back r m t =
 
 -- the first option of a number
 
-value_over : (k n : ℕ) (vs : List (List ℕ)) (rest : List CoapOption) → (n == k) ≡ false
+pub value_over : (k n : ℕ) (vs : List (List ℕ)) (rest : List CoapOption) → (n == k) ≡ false
     → value_of k (map (option n) vs ++ rest) ≡ value_of k rest
 value_over k n [] rest other = refl
 value_over k n (v ∷ vs) rest other = ap (λ b. cond b (Some v) (value_of k (map (option n) vs ++ rest))) other

@@ -65,7 +65,7 @@ sent_piece sizes t law x number u h of q b is payload =
     (piece_of_body u (begins_at sizes t law x number u h of)))
 
 -- a number is of one call
-given_by : (x : Taken) (c : C.Call) → takes c ≡ Some x → number_given c ≡ Some x.number
+pub given_by : (x : Taken) (c : C.Call) → takes c ≡ Some x → number_given c ≡ Some x.number
 given_by x (C.Calls now r (Ok number)) h = let e : ◌≡◌ {A = Taken} (record { number = number; request = r }) x =
     cc h in ap (λ (z : Taken). Some z.number) e
 given_by x (C.Calls now r (Err why)) h = absurd (cc h)
@@ -78,7 +78,7 @@ given_by x (C.NextOut answer) h = absurd (cc h)
 given_by x (C.NextReport answer) h = absurd (cc h)
 given_by x (C.Asked answer) h = absurd (cc h)
 
-ever_given : (x : Taken) (t : List C.Call) → WasTaken x t → Ever (λ b. number_given b ≡ Some x.number) t
+pub ever_given : (x : Taken) (t : List C.Call) → WasTaken x t → Ever (λ b. number_given b ≡ Some x.number) t
 ever_given x [] h = h
 ever_given x (c ∷ t) (inl h) = inl (given_by x c h)
 ever_given x (c ∷ t) (inr h) = inr (ever_given x t h)

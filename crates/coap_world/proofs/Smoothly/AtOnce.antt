@@ -1,0 +1,256 @@
+-- In a smooth run the request of an exchange that is open for more than 2,000 ms has to wait at the server.
+use Rattle.std.proofs.Common.{◌≡◌, ◌⊎◌, inl, inr, ⊎_elim, ◌≤◌, ◌<◌, ℕ, ◌+◌, Some, List, [], ◌∷◌, ◌++◌, map, refl}
+use Rattle.std.proofs.Common.{ap, sym, subst, ◌∙◌, arith, append_assoc}
+use Rattle.std.specs.List.{All}
+use Rattle.std.proofs.lemmas.List.{map-append}
+use Rattle.coap_types.specs.Past.{Ever, Sometime, Always}
+use Rattle.coap_types.proofs.Facts.Traces.{Ever_append, Sometime_back}
+use Rattle.coap_types.specs.declared.endpoint.Endpoint.{Endpoint}
+use Rattle.coap_layer.specs.Channel.{Hop, Far, near_of, OnNear, OnFarThen, RepliesTo, ChannelLaw, AcksReplied}
+use Rattle.coap_layer.specs.Machine.State.{usual}
+use Rattle.coap_layer.specs.Rows.{LayerLaw}
+use Rattle.coap_layer.specs.Sends.{IsIn}
+use Rattle.coap_layer.specs.Taking.{AllTakeAcks, ArrivesWithin, RepliedOnce}
+use Rattle.coap_layer.specs.Trace as L
+use Rattle.coap_layer.specs.Words.{Open, begun}
+use Rattle.coap_layer.specs.declared.setup.Setup.{Setup}
+use Rattle.coap_block.specs.Sizes.{Sizes}
+use Rattle.coap_client.specs.Follows.Begins.{WasSent}
+use Rattle.coap_client.specs.Follows.OfObservations.{AreOfObservations}
+use Rattle.coap_client.specs.Follows.Open.{IsOpenSince, AnswersAreHeard}
+use Rattle.coap_client.specs.Follows.Tokens.{OwnTokens}
+use Rattle.coap_client.specs.Follows.Words.{Sending}
+use Rattle.coap_client.specs.Law.{ClientLaw}
+use Rattle.coap_client.specs.Trace as C
+use Rattle.coap_client.proofs.Facts.Laws as client_facts
+use Rattle.coap_resource.specs.Limits.{Limits}
+use Rattle.coap_server.specs.Follows.Attended.{AllHandedOn}
+use Rattle.coap_server.specs.Law.{ServerLaw}
+use Rattle.coap_server.specs.Trace as S
+use Rattle.coap_server.specs.Trace.{Delay}
+use Rattle.coap_world.specs.AtOnce.{WaitsIn, LastWaits, OldWait}
+use Rattle.coap_world.specs.Events.{client_end, server_end, Config}
+use Rattle.coap_world.specs.Hops.{server_adds, hops_at, hops_in, hops_of}
+use Rattle.coap_world.specs.Record.{Entry, OfClient, OfServer, Turn, entries_of, client_of, server_trace}
+use Rattle.coap_world.specs.Smooth.{max_age, max_delay, TakesNoObservation}
+use Rattle.coap_world.proofs.Delivery.HopsAreAChannel as joined
+use Rattle.coap_world.proofs.Delivery.HopsAreEntries.{far_far, near_is, far_is}
+use Rattle.coap_world.proofs.Requests.Promised.{lawful}
+use Rattle.coap_world.proofs.Requests.Traced.{sent_later}
+use Rattle.coap_world.proofs.Smoothly.AllTaken.{Beneath, Goes, goes_before, taken_here}
+use Rattle.coap_world.proofs.Smoothly.AnswerTaken.{IsAckWith, acked_before, to_calls, ArrivesBehind}
+use Rattle.coap_world.proofs.Smoothly.ArrivesInTime.{to_client}
+use Rattle.coap_world.proofs.Smoothly.ConsCarry.{request_spelled, is_request, was_message}
+use Rattle.coap_world.proofs.Smoothly.DelaysAreShort.{none_set}
+use Rattle.coap_world.proofs.Smoothly.ExchangeOpen.{OpenOf, open_of, last_of}
+use Rattle.coap_world.proofs.Smoothly.LastWasSent.{was_sent}
+use Rattle.coap_world.proofs.Smoothly.OneReply.{one_reply}
+use Rattle.coap_world.proofs.Smoothly.OnTime.{on_time}
+use Rattle.coap_world.proofs.Smoothly.PlainRequests.{was_plain}
+use Rattle.coap_world.proofs.Smoothly.RequestOpen.{HasCon, has_con}
+use Rattle.coap_world.proofs.Smoothly.RequestTaken.{RepliedAt, ComesTo, request_taken}
+use Rattle.coap_world.proofs.Smoothly.SentIsGivenOut.{front, front_is}
+use Rattle.coap_world.proofs.Smoothly.Standing.{record_of}
+use Rattle.coap_world.proofs.Smoothly.WaitsNow.{WaitsNow, waits_now}
+use Rattle.coap_world.proofs.Smoothly.WhereItArrives.{no_near}
+
+-- what the laws beneath say
+pub record Laws : Type 0 where
+  pub beneath : Beneath
+  pub acks : (setup : Setup) (t : List L.Entry) → LayerLaw setup t → AllTakeAcks t
+  pub acks_replied : (one other : Setup) (near far : Endpoint) (all : List Hop) → ChannelLaw one other near far all
+      → AcksReplied near far all
+  pub replied_once : (one other : Setup) (near far : Endpoint) (all : List Hop) → ChannelLaw one other near far all
+      → RepliedOnce near all
+  pub heard : (server : Endpoint) (sizes : Sizes) (word : ℕ) (t : List C.Call) → ClientLaw server sizes word t
+      → AnswersAreHeard server sizes word t
+  pub own : (server : Endpoint) (sizes : Sizes) (word : ℕ) (t : List C.Call) → ClientLaw server sizes word t
+      → OwnTokens sizes t
+  pub observed : (server : Endpoint) (sizes : Sizes) (word : ℕ) (t : List C.Call) → ClientLaw server sizes word t
+      → AreOfObservations sizes t
+  pub handed_on : (limits : Limits) (szx word : ℕ) (t : List S.Call) → ServerLaw limits szx word t
+      → AllHandedOn limits szx word t
+
+module _ (config : Config) (con : Open) (x : Sending) where
+  -- it waits, or is answered somewhere
+  record Answered (es : List Entry) : Type 0 where
+    newer : List Entry
+    call : S.Call
+    past : List Entry
+    is : es ≡ newer ++ OfServer call ∷ past
+    replied : RepliedAt config con x past call
+
+  either : (es : List Entry) → Sometime (ComesTo config con x) es → Sometime (WaitsIn config (con.first + max_age) x) es ⊎ Answered es
+  either [] h = absurd h
+  either (OfServer c ∷ past) (inl (inl r)) = inr (record {
+    newer = [];
+    call = c;
+    past = past;
+    is = refl;
+    replied = r;
+  })
+  either (OfServer c ∷ past) (inl (inr w)) = inl (inl w)
+  either (OfClient c ∷ past) (inl h) = absurd h
+  either (e ∷ past) (inr h) = ⊎_elim (λ l. inl (inr l)) (λ k. inr (record {
+    newer = e ∷ k.newer;
+    call = k.call;
+    past = k.past;
+    is = ap (λ l. e ∷ l) k.is;
+    replied = k.replied;
+  })) (either past h)
+
+module _ (config : Config) where
+  -- what the hops of newer entries hold is in those of one of them, behind what was sent before
+  in_front : (P : Hop → Type 0) (y : Sending) (newer es : List Entry) → WasSent config.client_sizes y (client_of es)
+      → Ever P (front config newer es)
+      → Sometime (λ q e. Ever P (hops_at config q e) × WasSent config.client_sizes y (client_of q)) (newer ++ es)
+  in_front P y [] es sent h = absurd h
+  in_front P y (e ∷ newer) es sent h =
+      ⊎_elim (λ l. inl (l, sent_in newer)) (λ r. inr (in_front P y newer es sent r))
+      (Ever_append P (hops_at config (newer ++ es) e) (front config newer es) h)
+    where
+      sent_in : (later : List Entry) → WasSent config.client_sizes y (client_of (later ++ es))
+      sent_in [] = sent
+      sent_in (e ∷ later) = sent_later config y (later ++ es) e (sent_in later)
+
+  module _ (laws : Laws) (delays : All (λ (d : Delay). d.ms ≤ max_delay) config.delays) (turn : Turn) (past : List Turn) (g : Goes config (turn ∷ past))
+      (none : Always (λ p c. TakesNoObservation c) (client_of (entries_of past))) (at : ℕ)
+      (is_open : IsOpenSince config.client_sizes at (client_of (entries_of past)))
+      (late : at + max_age + max_age < turn.event.at) where
+    old : Goes config past
+    old = goes_before config turn past g
+
+    calls : List C.Call
+    calls = client_of (entries_of past)
+
+    channel : ChannelLaw (usual config.client_word) (usual config.server_word) client_end server_end (hops_of config past)
+    channel = joined.channel config _ past (record_of config past old.stands) old.stands.legal
+
+    module _ (x : Sending) (o : OpenOf server_end config.client_sizes config.client_word at x (client_of (entries_of past)))
+        (h : HasCon server_end config.client_sizes config.client_word at x (client_of (entries_of past)) o) where
+      abbrev es : List Entry
+      es = entries_of past
+
+      abbrev con : Open
+      con = h.con
+
+      sent : WasSent config.client_sizes x (client_of (entries_of past))
+      sent = was_sent server_end config.client_sizes config.client_word at x (client_of (entries_of past)) o
+
+      begun_there : Ever (λ b. begun b ≡ Some con) (near_of (hops_of config past))
+      begun_there = subst (Ever (λ b. begun b ≡ Some con)) (sym (near_is config es)) h.begun_before
+
+      comes : Sometime (ComesTo config con x) (entries_of past)
+      comes =
+          let first = h.first in
+          let taken = (taken_here config laws.beneath turn past g).by_server con begun_there (omega (arith, first, late)) in
+          let spells = request_spelled (usual config.client_word) (near_of (hops_of config past)) con x channel.near_law
+          begun_there h.is in
+          request_taken config old.stands.range
+          (λ t law. laws.handed_on config.limits config.server_szx config.server_word t law) con x spells
+          (is_request x (was_message config.client_sizes x (client_of (entries_of past)) sent)) (entries_of past)
+          (lawful config _ past (record_of config past old.stands)
+          (record { range = old.stands.range; events = old.stands.legal })) (on_time config past old.stands) taken
+
+      never : Answered config con x (entries_of past) → ⊥
+      never k =
+          let r = k.replied in
+          let P = OnNear (ArrivesWithin max_age server_end r.bytes r.reply.at) in
+          let adds = server_adds config (server_trace config k.past) k.call in
+          let inner : map Far adds ++ hops_in config k.past
+          ≡ map Far r.newer ++ (Far r.reply ∷ (map Far r.older ++ hops_in config k.past)) =
+          ap (λ l. map Far l ++ hops_in config k.past) r.adds
+          ∙ ap (λ l. l ++ hops_in config k.past) (map-append Far r.newer (r.reply ∷ r.older))
+          ∙ append_assoc (map Far r.newer) (Far r.reply ∷ map Far r.older) (hops_in config k.past) in
+          let behind = front config k.newer (OfServer k.call ∷ k.past) in
+          let all : hops_of config past
+          ≡ (behind ++ map Far r.newer) ++ (Far r.reply ∷ (map Far r.older ++ hops_in config k.past)) =
+          ap (hops_in config) k.is ∙ front_is config k.newer (OfServer k.call ∷ k.past) ∙ ap (λ l. behind ++ l) inner
+          ∙ sym (append_assoc behind (map Far r.newer) (Far r.reply ∷ (map Far r.older ++ hops_in config k.past))) in
+          let out : IsIn (record { to = client_end; bytes = r.bytes }) r.reply.out =
+          subst (IsIn (record { to = client_end; bytes = r.bytes })) (sym r.out) (inl refl) in
+          let soon = r.soon in
+          let first = h.first in
+          let got = to_client config past turn g.stands (behind ++ map Far r.newer)
+          (map Far r.older ++ hops_in config k.past) r.reply r.bytes all out (omega (arith, soon, first, late)) in
+          let newer : Ever P behind =
+          ⊎_elim (λ w. w) (λ w. absurd (no_near (ArrivesWithin max_age server_end r.bytes r.reply.at) r.newer w))
+          (Ever_append P behind (map Far r.newer) got) in
+          let ack : IsAckWith con x r.bytes r.message =
+          record {
+            spells = r.spells;
+            kind = r.kind;
+            class = r.class;
+            id = r.id;
+            token = r.token;
+            understood = r.understood;
+          } in
+          let there = subst (Sometime (ArrivesBehind config con x r.bytes r.message ack max_age r.reply.at r.sending r.same
+          (λ t law. laws.acks (usual config.client_word) _
+          (client_facts.layer server_end config.client_sizes config.client_word t law)))) (sym k.is)
+          (in_front P r.sending k.newer (OfServer k.call ∷ k.past) r.sent newer) in
+          let called = to_calls config con x r.bytes r.message ack max_age r.reply.at r.sending r.same
+          (λ t law. laws.acks (usual config.client_word) _
+          (client_facts.layer server_end config.client_sizes config.client_word t law)) (entries_of past)
+          old.stands.client there in
+          let plain = was_plain config.client_sizes x (client_of (entries_of past))
+          (laws.observed server_end config.client_sizes config.client_word (client_of (entries_of past)) old.stands.client)
+          none sent in
+          let acked = acked_before config con x r.bytes r.message ack at (client_of (entries_of past)) old.stands.client
+          (laws.heard server_end config.client_sizes config.client_word (client_of (entries_of past)) old.stands.client)
+          (laws.own server_end config.client_sizes config.client_word (client_of (entries_of past)) old.stands.client)
+          plain h.is.to o h.alone called in
+          let given : Sometime (OnFarThen (RepliesTo client_end con r.bytes)) (hops_of config past) =
+          subst (Sometime (OnFarThen (RepliesTo client_end con r.bytes))) (sym all)
+          (Sometime_back _ (behind ++ map Far r.newer) (Far r.reply ∷ (map Far r.older ++ hops_in config k.past))
+          (inl (subst (λ l. RepliesTo client_end con r.bytes l r.reply)
+          (ap (λ l. r.older ++ l) (sym (far_is config k.past)) ∙ sym (far_far r.older (hops_in config k.past)))
+          r.replies))) in
+          one_reply (usual config.client_word) con acked.con r.bytes r.message (hops_of config past) acked.is h.is.to
+          begun_there channel.near_law
+          (laws.acks_replied (usual config.client_word) (usual config.server_word) client_end server_end
+          (hops_of config past) channel)
+          (laws.replied_once (usual config.client_word) (usual config.server_word) client_end server_end
+          (hops_of config past) channel)
+          r.spells r.class given
+          (subst (Sometime _) (sym (near_is config es)) acked.taken)
+
+      waits : LastWaits config at past
+      waits = record {
+        sending = x;
+        last = last_of server_end config.client_sizes config.client_word at x (client_of (entries_of past)) o;
+        waiting = now.waiting;
+        from = now.from;
+        token = now.token;
+        since = (let since = now.since in let first = h.first in omega (arith, since, first));
+        delay = now.delay;
+        waits = now.waits;
+      }
+        where
+          now : WaitsNow config delays (h.con.first + max_age) x (entries_of past)
+          now = waits_now config delays (h.con.first + max_age) x (entries_of past) old.stands.server (none_set past old.stands.made)
+              (⊎_elim (λ w. w) (λ k. absurd (never k)) (either config con x (entries_of past) comes))
+
+    last_waits : LastWaits config at past
+    last_waits =
+        let k = open_of server_end config.client_sizes config.client_word at (client_of (entries_of past))
+        old.stands.client is_open in
+        waits k.0 k.1 (has_con server_end config.client_sizes config.client_word at k.0 (client_of (entries_of past))
+        old.stands.client k.1)
+
+-- nothing was observed before either
+pub none_before : (later older : List Entry) → Always (λ p c. TakesNoObservation c) (client_of (later ++ older))
+    → Always (λ p c. TakesNoObservation c) (client_of older)
+none_before [] older h = h
+none_before (OfClient c ∷ later) older h = none_before later older h.1
+none_before (OfServer c ∷ later) older h = none_before later older h
+
+pub old_wait : (config : Config) (laws : Laws) → All (λ (d : Delay). d.ms ≤ max_delay) config.delays
+    → (turns : List Turn) → Goes config turns
+    → Always (λ p c. TakesNoObservation c) (client_of (entries_of turns)) → OldWait config turns
+old_wait config laws delays [] g none = tt
+old_wait config laws delays (turn ∷ past) g none =
+    let before_it = none_before turn.entries (entries_of past) none in (
+      λ at is_open late. last_waits config laws delays turn past g before_it at is_open late,
+      old_wait config laws delays past (goes_before config turn past g) before_it,
+    )

@@ -1,0 +1,55 @@
+-- Where each exchange is young, each ends by an answer.
+use Rattle.std.proofs.Common.{◌≡◌, ◌≢◌, Some, None, List, [], ◌∷◌, refl}
+use Rattle.coap_types.specs.Past.{Always}
+use Rattle.coap_layer.specs.Taking.{ResetsMeant}
+use Rattle.coap_exchange.specs.declared.asker.Event.TheVariants as event_is
+use Rattle.coap_exchange.specs.declared.asker.Turn.TheVariants as turn_is
+use Rattle.coap_client.specs.Follows.Ends.{ends_as}
+use Rattle.coap_client.specs.Follows.Open.{AllEndInTime}
+use Rattle.coap_client.specs.Trace as C
+use Rattle.coap_client.specs.Trace.{Timeout, Reset, NoResponse}
+use Rattle.coap_world.specs.Events.{client_end, server_end, Config}
+use Rattle.coap_world.specs.Hops.{hops_of}
+use Rattle.coap_world.specs.Record.{Turn, entries_of, client_of}
+use Rattle.coap_world.specs.SmoothAnswers.{AreYoung, EndByAnswers}
+use Rattle.coap_world.proofs.Smoothly.EndsByTime.{NotLate, never_late}
+use Rattle.coap_world.proofs.Smoothly.NoReset.{never_reset}
+use Rattle.coap_world.proofs.Smoothly.Standing.{Stands}
+use Rattle.coap_world.proofs.Smoothly.YoungCalls.{young_calls}
+
+none_left : (c : C.Call) → ends_as c ≢ Some Timeout → ends_as c ≢ Some NoResponse → ends_as c ≢ Some Reset
+    → ends_as c ≡ None
+none_left (C.Feeds now from bytes w up settled (Some event_is.Reset) sent token kept) t n r = absurd (r refl)
+none_left (C.Feeds now from bytes w up settled None sent token kept) t n r = refl
+none_left (C.Feeds now from bytes w up settled (Some (event_is.Answer m)) sent token kept) t n r = refl
+none_left (C.Feeds now from bytes w up settled (Some (event_is.Notice m)) sent token kept) t n r = refl
+none_left (C.Feeds now from bytes w up settled (Some event_is.Timeout) sent token kept) t n r = refl
+none_left (C.Feeds now from bytes w up settled (Some event_is.NoResponse) sent token kept) t n r = refl
+none_left (C.Ticks now w below (turn_is.End event_is.Timeout) sent token kept answer) t n r = absurd (t refl)
+none_left (C.Ticks now w below (turn_is.End event_is.NoResponse) sent token kept answer) t n r = absurd (n refl)
+none_left (C.Ticks now w below turn_is.Idle sent token kept answer) t n r = refl
+none_left (C.Ticks now w below turn_is.Copied sent token kept answer) t n r = refl
+none_left (C.Ticks now w below (turn_is.End event_is.Reset) sent token kept answer) t n r = refl
+none_left (C.Ticks now w below (turn_is.End (event_is.Answer m)) sent token kept answer) t n r = refl
+none_left (C.Ticks now w below (turn_is.End (event_is.Notice m)) sent token kept answer) t n r = refl
+none_left (C.Calls now q a) t n r = refl
+none_left (C.Observes now path a) t n r = refl
+none_left (C.Cancels now number a) t n r = refl
+none_left (C.Forgets number kept a) t n r = refl
+none_left (C.NextOut a) t n r = refl
+none_left (C.NextReport a) t n r = refl
+none_left (C.Asked a) t n r = refl
+
+module _ (config : Config) where
+  each : (t : List C.Call) → Always (NotLate config) t → Always (λ past c. ends_as c ≢ Some Reset) t
+      → Always (λ past c. ends_as c ≡ None) t
+  each [] late reset = tt
+  each (c ∷ t) late reset = (none_left c late.0.0 late.0.1 reset.0, each t late.1 reset.1)
+
+  pub by_answers : (turns : List Turn) → Stands config turns → AreYoung config turns
+      → AllEndInTime config.client_sizes (client_of (entries_of turns))
+      → ResetsMeant client_end server_end (hops_of config turns) → EndByAnswers config (entries_of turns)
+  by_answers turns s young in_time meant =
+      let calls = young_calls config turns s young in
+      each (client_of (entries_of turns)) (never_late config (client_of (entries_of turns)) s.client in_time calls)
+      (never_reset config (entries_of turns) s.client s.server calls meant)

@@ -1,0 +1,228 @@
+-- Each Confirmable message of a client carries a request, and each of a server a response.
+use Rattle.std.proofs.Common.{◌≡◌, inl, inr, ℕ, ◌<◌, Bool, true, false, Option, Some, None, List, [], ◌∷◌}
+use Rattle.std.proofs.Common.{Result, Ok, Err, refl, ap, sym, subst, ◌∙◌, arith}
+use Rattle.coap_types.specs.Past.{Ever}
+use Rattle.coap_types.specs.MethodCode.{method_code}
+use Rattle.coap_types.specs.Roles.{role_of}
+use Rattle.coap_types.specs.declared.endpoint.Endpoint.{Endpoint}
+use Rattle.coap_types.specs.declared.message.Kind.{Kind}
+use Rattle.coap_types.specs.declared.message.Kind.TheVariants.{Con, Non, Ack, Rst}
+use Rattle.coap_types.specs.declared.request.Method.{Method}
+use Rattle.coap_types.specs.declared.request.Method.TheVariants.{Get, Post, Put, Delete}
+use Rattle.coap_types.specs.declared.role.Role.TheVariants as role
+use Rattle.coap_codec.specs.Message.{Spells}
+use Rattle.coap_codec.specs.Spelling.{message_bytes}
+use Rattle.coap_layer.specs.Machine.State.{State, start, usual}
+use Rattle.coap_layer.specs.Machine.Steps.{Asked, entries}
+use Rattle.coap_layer.specs.Rows.{LayerLaw, Row, IsSpelled, Confirms}
+use Rattle.coap_layer.specs.Sends.{SpellsCon}
+use Rattle.coap_layer.specs.Taking.{IsTold}
+use Rattle.coap_layer.specs.Trace as L
+use Rattle.coap_layer.specs.Trace.{with_head}
+use Rattle.coap_layer.specs.Words.{Open, begun}
+use Rattle.coap_layer.specs.declared.setup.Setup.{Setup}
+use Rattle.coap_layer.proofs.Facts.Laws.{begins_of, cons_spelled, spelled_begun}
+use Rattle.coap_exchange.specs.AnswererLaw as answerer
+use Rattle.coap_exchange.specs.AnswererSteps as P
+use Rattle.coap_exchange.specs.AnswererSteps.{reject_by, deferring, may_defer, asking_room, ready_if, ready_at}
+use Rattle.coap_exchange.specs.AnswererTrace as R
+use Rattle.coap_exchange.specs.AskerArrivals.{replying, id_in}
+use Rattle.coap_exchange.specs.AskerTrace as A
+use Rattle.coap_exchange.specs.AskerRequests.{asked}
+use Rattle.coap_exchange.specs.declared.answerer.Asked as request
+use Rattle.coap_exchange.specs.declared.asker.AskRefusal.{AskRefusal}
+use Rattle.coap_exchange.specs.declared.separate.Deferred.{Deferred}
+use Rattle.coap_client.specs.Deeds.{effect}
+use Rattle.coap_client.specs.Effects.{Deed, Rests, Asks, Keeps, Releases, Effect}
+use Rattle.coap_client.specs.Follows.Begins.{WasSent, IsRequestOf}
+use Rattle.coap_client.specs.Follows.Words.{Sending, sends, sent_by}
+use Rattle.coap_client.specs.Law.{own_of}
+use Rattle.coap_client.specs.Own.{Operation, Calling, Registering, Fetching, Cancelling, Dropped, Observation, Own}
+use Rattle.coap_client.specs.Requests.{message_of}
+use Rattle.coap_client.specs.Trace as C
+use Rattle.coap_block.specs.Sizes.{Sizes}
+use Rattle.coap_world.specs.CameFrom.{request_of}
+use Rattle.coap_world.specs.Events.{server_end}
+use Rattle.coap_world.proofs.Delivery.EntriesInTime.{Every, every_join}
+
+-- what is sent is the message of an operation
+
+pub record IsMessage (x : Sending) : Type 0 where
+  pub observations : List Observation
+  pub is : x.request ≡ message_of observations x.operation
+
+by_effect : (e : Effect) (d : Deed) (token : Result (List ℕ) AskRefusal) (x : Sending) → sent_by e d token ≡ Some x
+    → IsMessage x
+by_effect e (Asks op) (Ok token) x h =
+    let os : List Observation = e.own.observations in
+    let made : Sending = record { operation = op; token = token; request = message_of os op } in
+    let same : made ≡ x = cc h in
+    record {
+      observations = os;
+      is = sym (ap (λ (y : Sending). y.request) same) ∙ ap (λ (y : Sending). message_of os y.operation) same;
+    }
+by_effect e (Asks op) (Err why) x h = absurd (cc h)
+by_effect e Rests token x h = absurd (cc h)
+by_effect e (Keeps t) token x h = absurd (cc h)
+by_effect e (Releases t) token x h = absurd (cc h)
+
+pub message_sent : (s : Own) (c : C.Call) (x : Sending) → sends s c ≡ Some x → IsMessage x
+message_sent s (C.Feeds now from bytes word up settled event sent token kept) x h =
+    let e = effect s (C.Feeds now from bytes word up settled event sent token kept) in by_effect e e.deed token x h
+message_sent s (C.Ticks now word below t sent token kept answer) x h =
+    let e = effect s (C.Ticks now word below t sent token kept answer) in by_effect e e.deed token x h
+message_sent s (C.Calls now r a) x h = absurd (cc h)
+message_sent s (C.Observes now path a) x h = absurd (cc h)
+message_sent s (C.Cancels now number a) x h = absurd (cc h)
+message_sent s (C.Forgets number kept a) x h = absurd (cc h)
+message_sent s (C.NextOut a) x h = absurd (cc h)
+message_sent s (C.NextReport a) x h = absurd (cc h)
+message_sent s (C.Asked a) x h = absurd (cc h)
+
+pub was_message : (sizes : Sizes) (x : Sending) (t : List C.Call) → WasSent sizes x t → IsMessage x
+was_message sizes x [] h = absurd h
+was_message sizes x (c ∷ t) (inl h) = message_sent (own_of sizes t) c x h
+was_message sizes x (c ∷ t) (inr h) = was_message sizes x t h
+
+-- .. so a request
+
+method_asks : (m : Method) → role_of (method_code m).0 ≡ role.Request
+method_asks Get = refl
+method_asks Post = refl
+method_asks Put = refl
+method_asks Delete = refl
+
+asks_in : (os : List Observation) (op : Operation) → role_of (message_of os op).code ≡ role.Request
+asks_in os (Calling number r t) = method_asks r.method
+asks_in os (Registering number path) = method_asks Get
+asks_in os (Fetching number) = method_asks Get
+asks_in os (Cancelling number) = method_asks Get
+asks_in os Dropped = method_asks Get
+
+pub is_request : (x : Sending) → IsMessage x → role_of x.request.code ≡ role.Request
+is_request x k = ap (λ (r : A.Request). role_of r.code) k.is ∙ asks_in k.observations x.operation
+
+pub request_spelled : (setup : Setup) (t : List L.Entry) (con : Open) (x : Sending) → LayerLaw setup t
+    → Ever (λ b. begun b ≡ Some con) t → IsRequestOf server_end con x → Spells con.bytes (request_of con.id x)
+request_spelled setup t con x law h r =
+    let s : SpellsCon con = spelled_begun setup t con law h in
+    let k = s.1.id in
+    let e = s.3 in
+    let small : con.id < 65536 = omega (arith, k, e) in
+    subst (λ z. Spells z (request_of con.id x)) (sym r.bytes) (r.spelled Con con.id small)
+
+pub request_told : (setup : Setup) (t : List L.Entry) (con : Open) (x : Sending) → LayerLaw setup t
+    → Ever (λ b. begun b ≡ Some con) t → IsRequestOf server_end con x → IsMessage x → IsTold con.bytes
+request_told setup t con x law h r m =
+    record {
+      message = request_of con.id x;
+      spells = request_spelled setup t con x law h r;
+      class = inl (is_request x m);
+    }
+
+-- what a server confirms is a response
+
+pub record IsResponding (a : Asked) : Type 0 where
+  pub confirms : (to : Endpoint) (content : L.Content) (word : ℕ) → a.call ≡ L.Confirm to content word
+      → role_of content.code ≡ role.Response
+
+other : (now : ℕ) (call : L.Call) (up : L.Answer)
+    → ((to : Endpoint) (content : L.Content) (word : ℕ) → call ≡ L.Confirm to content word → ⊥)
+    → IsResponding (asked now call up)
+other now call up f = record { confirms = λ to content word is. absurd (f to content word is) }
+
+replying_so : (from : Endpoint) (id : ℕ) (o : Option (List ℕ)) → Every IsResponding (replying from id o)
+replying_so from id None = tt
+replying_so from id (Some b) = (other 0 (L.Reply from id b) L.Nothing (λ to content word is. cc is), tt)
+
+answering_so : (s : R.Own) (kind : Kind) (a : request.Asked) (r : R.Response) (to : Endpoint) (content : L.Content)
+    (word : ℕ) → P.answering s kind a r ≡ L.Confirm to content word → ⊥
+answering_so s Con a r to content word is = cc is
+answering_so s Non a r to content word is = cc is
+answering_so s Ack a r to content word is = cc is
+answering_so s Rst a r to content word is = cc is
+
+deferring_so : (b : Bool) (a : request.Asked) → Every IsResponding (deferring b a)
+deferring_so true a = (other 0 _ _ (λ to content word is. cc is), tt)
+deferring_so false a = tt
+
+room_so : (now : ℕ) (o : Option Deferred) (room : Bool) → Every IsResponding (asking_room now o room)
+room_so now None room = tt
+room_so now (Some d) room = (other now _ _ (λ to content word is. cc is), tt)
+
+responds_so : (s : R.Own) (c : R.Call) → P.IsRight s c → Every IsResponding (P.lower s c)
+responds_so s (R.Incoming now from bytes up answer) right =
+    every_join IsResponding (replying from (id_in up) (reject_by up)) (asked now (L.Receive from bytes) up ∷ [])
+    (replying_so from (id_in up) (reject_by up)) (other now (L.Receive from bytes) up (λ to content word is. cc is), tt)
+responds_so s (R.Answers a r below) right = (other s.clock _ below (answering_so s a.kind a r), tt)
+responds_so s (R.Defers now a delay answer) right =
+    every_join IsResponding (deferring (may_defer s.deferred) a) (asked now L.Pass L.Nothing ∷ [])
+    (deferring_so (may_defer s.deferred) a) (other now L.Pass L.Nothing (λ to content word is. cc is), tt)
+responds_so s (R.Ticks now below room answer) right =
+    every_join IsResponding (asking_room now (ready_if below (ready_at s now)) room) (asked now L.Ticks below ∷ [])
+    (room_so now (ready_if below (ready_at s now)) room) (other now L.Ticks below (λ to content word is. cc is), tt)
+responds_so s (R.Responds now a r word id) right = (
+  record {
+    confirms = λ to content w is.
+        (let same : P.content_of a r ≡ content = cc is in
+        ap (λ (z : L.Content). role_of z.code) (sym same) ∙ right.1.code);
+  },
+  tt,
+)
+responds_so s (R.Ready now to answer) right = (other now _ (L.Is answer) (λ x content word is. cc is), tt)
+responds_so s (R.Notifies now to token r word id) right = (
+  record {
+    confirms = λ x content w is.
+        (let same : P.content_with token r ≡ content = cc is in
+        ap (λ (z : L.Content). role_of z.code) (sym same) ∙ right.code);
+  },
+  tt,
+)
+responds_so s (R.Take answer) right = (other 0 L.Take (L.Gives answer) (λ to content word is. cc is), tt)
+
+all_respond : (t : List R.Call) → answerer.AnswererLaw t → Every IsResponding (answerer.lower_of t)
+all_respond [] law = tt
+all_respond (c ∷ t) law = every_join IsResponding (P.lower (answerer.own_of t) c) (answerer.lower_of t)
+    (responds_so (answerer.own_of t) c law.0) (all_respond t law.1)
+
+abbrev Carries : L.Entry → Type 0
+Carries e = (to : Endpoint) (content : L.Content) (word : ℕ) → e.call ≡ L.Confirm to content word
+    → role_of content.code ≡ role.Response
+
+entries_respond : (old : State) (asks : List Asked) → Every IsResponding asks → Every Carries (entries old asks)
+entries_respond old [] h = tt
+entries_respond old (a ∷ asks) h = (h.0.confirms, entries_respond old asks h.1)
+
+pub record CarriesResponse (con : Open) : Type 0 where
+  pub content : L.Content
+  pub response : role_of content.code ≡ role.Response
+  pub bytes : con.bytes ≡ message_bytes (with_head Con con.id content)
+  pub spells : Spells con.bytes (with_head Con con.id content)
+  pub small : con.id < 65536
+
+con_carries : (setup : Setup) (t : List L.Entry) (con : Open) → LayerLaw setup t → Every Carries t
+    → Ever (λ b. begun b ≡ Some con) t → CarriesResponse con
+con_carries setup [] con law all h = absurd h
+con_carries setup (e ∷ t) con law all (inr h) = con_carries setup t con law.1 all.1 h
+con_carries setup (e ∷ t) con law all (inl h) =
+    let b = begins_of e con h in
+    let s = (cons_spelled setup (e ∷ t) law).0 con h in
+    let row : IsSpelled b.content × Confirms setup t e con.to b.content =
+    subst (Row setup t e) b.call_is law.0.row in
+    let low : con.id < 65536 = let k = s.1.id in let z = s.3 in omega (arith, k, z) in
+    record {
+      content = b.content;
+      response = all.0 con.to b.content b.word b.call_is;
+      bytes = b.bytes_are;
+      spells = subst (λ x. Spells x (with_head Con con.id b.content)) (sym b.bytes_are) (row.0 Con con.id low);
+      small = low;
+    }
+
+pub server_carries : (word : ℕ) (t : List R.Call) (con : Open) → answerer.AnswererLaw t
+    → LayerLaw (usual word) (answerer.below_of word t) → Ever (λ b. begun b ≡ Some con) (answerer.below_of word t)
+    → CarriesResponse con
+server_carries word t con rows law h = con_carries (usual word) (answerer.below_of word t) con law
+    (entries_respond (start (usual word)) (answerer.lower_of t) (all_respond t rows)) h
+
+pub response_told : (con : Open) → CarriesResponse con → IsTold con.bytes
+response_told con k = record { message = with_head Con con.id k.content; spells = k.spells; class = inr k.response }

@@ -1,0 +1,366 @@
+-- In a smooth run few messages come to the message layer of an end: those that its calls are handed.
+use Rattle.std.proofs.Common.{◌≡◌, ◌⊎◌, inl, inr, ◌≤◌, ℕ, ◌+◌, Bool, true, false, cond, Option, Some, None, List, []}
+use Rattle.std.proofs.Common.{◌∷◌, ◌++◌, map, refl, ap, sym, subst, ◌∙◌, arith, append_assoc, if◌then◌else◌}
+use Rattle.coap_types.proofs.Facts.Traces.{Always_back}
+use Rattle.coap_types.specs.declared.endpoint.Endpoint.{Endpoint}
+use Rattle.coap_codec.specs.Message.{Message}
+use Rattle.coap_layer.specs.Machine.State.{State, start, made, moment, answer_of, usual}
+use Rattle.coap_layer.specs.Machine.Steps.{Asked, Steps, left_after, entries}
+use Rattle.coap_layer.specs.Taking.{is_then, came}
+use Rattle.coap_layer.specs.Trace as L
+use Rattle.coap_layer.specs.Words.{Incoming, handed, handed_in, handed_by, from_there}
+use Rattle.coap_layer.proofs.Facts.Calls.{steps_left}
+use Rattle.coap_layer.proofs.Facts.StepsOfLayer.{steps_split}
+use Rattle.coap_exchange.specs.AskerRequests.{asked}
+use Rattle.coap_common.proofs.Facts.Adds.{entries_append}
+use Rattle.coap_client.specs.Trace as C
+use Rattle.coap_server.specs.Trace as S
+use Rattle.coap_world.specs.Events.{Config}
+use Rattle.coap_world.specs.Hops.{client_asks, client_asked, client_adds, server_asks, server_asked, server_adds}
+use Rattle.coap_world.specs.InTime.{FewArrive}
+use Rattle.coap_world.specs.Record.{Entry, Turn, entries_of, client_of, server_of, server_trace}
+use Rattle.coap_world.specs.Record.{begun_with}
+use Rattle.coap_world.specs.Smooth as W
+use Rattle.coap_world.specs.Smooth.{came_at, to_client, to_server, count_came}
+use Rattle.coap_world.proofs.Delivery.ClientInTime as client
+use Rattle.coap_world.proofs.Delivery.ClientTurns as client_turns
+use Rattle.coap_world.proofs.Delivery.EntriesInTime.{Every, Timely}
+use Rattle.coap_world.proofs.Delivery.HopsAreEntries.{client_layer, server_layer, client_next, server_next, near_is, far_is}
+use Rattle.coap_world.proofs.Delivery.HopsAreEntries.{client_asked_next, server_asked_next}
+use Rattle.coap_world.proofs.Delivery.OneEndATurn.{ClientTurn, ServerTurn, client_client, client_server, server_server}
+use Rattle.coap_world.proofs.Delivery.OneEndATurn.{server_client}
+use Rattle.coap_world.proofs.Delivery.ServerInTime as server
+use Rattle.coap_world.proofs.Delivery.ServerTurns as server_turns
+use Rattle.coap_world.proofs.Delivery.ServerTurns.{trace_is}
+use Rattle.coap_world.proofs.Delivery.TakenAtOnce.{all_by}
+use Rattle.coap_world.proofs.Smoothly.OthersTakeNone.{IsSilent, quiet_entries, Behind, Makes, makes_out, makes_fed}
+use Rattle.coap_world.proofs.Smoothly.OthersTakeNone.{makes_none, client_call, client_up, server_call, server_up}
+use Rattle.coap_world.proofs.Smoothly.OthersTakeNone.{client_makes, server_makes}
+use Rattle.coap_world.proofs.Smoothly.Standing.{Stands, before, turned, side_of}
+
+abbrev one : Bool → ℕ
+one b = cond b 1 0
+
+counts_one : (b : Bool) (n : ℕ) → cond b (1 + n) n ≤ one b + n
+counts_one true n = omega arith
+counts_one false n = omega arith
+
+one_counts : (b : Bool) (m n : ℕ) → m ≤ n → one b + m ≤ cond b (1 + n) n
+one_counts true m n h = omega (arith, h)
+one_counts false m n h = omega (arith, h)
+
+module _ (since : ℕ) where
+  none_count : (e : L.Entry) (t : List L.Entry) → handed e ≡ None → came since (e ∷ t) ≡ came since t
+  none_count e t none = go (handed e) none
+    where
+      go : (o : Option Incoming) → o ≡ None
+          → elim o [
+            | Some m ↦ (if is_then since e.at then 1 + came since t else came since t)
+            | None ↦ came since t
+          ]
+          ≡ came since t
+      go None is = refl
+      go (Some m) is = absurd (cc is)
+
+  silent_count : (adds t : List L.Entry) → Every IsSilent adds → came since (adds ++ t) ≡ came since t
+  silent_count [] t h = refl
+  silent_count (e ∷ adds) t h = none_count e (adds ++ t) h.0.hands ∙ silent_count adds t h.1
+
+  received_count : (e : L.Entry) (t : List L.Entry) (from : Endpoint) (bytes : List ℕ) (up : L.Answer) (now : ℕ)
+      → e.call ≡ L.Receive from bytes → e.answer ≡ up → e.at ≡ now
+      → came since (e ∷ t) ≤ one (W.is_then since (came_at now up)) + came since t
+  received_count e t from bytes up now call answer at =
+      go (handed_by up) (handed e)
+      (ap (λ c. handed_in c e.answer) call ∙ ap (λ a. handed_in (L.Receive from bytes) a) answer)
+    where
+      go : (o : Option Message) (p : Option Incoming) → p ≡ from_there from o
+          → elim p [
+            | Some m ↦ (if is_then since e.at then 1 + came since t else came since t)
+            | None ↦ came since t
+          ]
+          ≤ one (W.is_then since (elim o [ Some m ↦ Some now | None ↦ None ])) + came since t
+      go None None is = omega arith
+      go None (Some m) is = absurd (cc is)
+      go (Some m) None is = absurd (cc is)
+      go (Some m) (Some i) is =
+          subst (λ (a : ℕ). cond (is_then since a) (1 + came since t) (came since t)
+          ≤ one (is_then since now) + came since t) (sym at) (counts_one (is_then since now) (came since t))
+
+-- the answer to what is asked first
+pub last_answer : (first : State) (asks before_it : List Asked) (left : State) → Steps first (asks ++ before_it) left
+    → (call : L.Call) (up : L.Answer) (k : Behind call up asks)
+    → (made (left_after first before_it) k.now call).answer ≡ up
+last_answer first asks before_it left steps call up k =
+    let parts = steps_split first left asks before_it steps in
+    let old : parts.0 ≡ left_after first before_it = steps_left first before_it parts.0 parts.1 in
+    let here = steps_split parts.0 left k.front (asked k.now call up ∷ [])
+    (subst (λ a. Steps parts.0 a left) k.is parts.2) in
+    let s = here.1.0 in
+    let same : s ≡ left_after first before_it = here.1.1 ∙ old in
+    let step = here.1.2 in
+    sym (step.right ∙ ap (λ (z : State). answer_of z (moment z k.now call) call) same)
+
+-- what is asked behind that counts for nothing
+module _ (old : State) (asks : List Asked) (call : L.Call) (up : L.Answer) (k : Behind call up asks) where
+  abbrev pub newer : List L.Entry
+  newer = entries (left_after old (asked k.now call up ∷ [])) k.front
+
+  pub parts : entries old asks ≡ newer ++ made old k.now call ∷ []
+  parts = ap (entries old) k.is ∙ entries_append old k.front (asked k.now call up ∷ [])
+
+  front_count : (since : ℕ) (t : List L.Entry) → came since (entries old asks ++ t) ≡ came since (made old k.now call ∷ t)
+  front_count since t =
+      ap (λ l. came since (l ++ t)) parts ∙ ap (came since) (append_assoc newer (made old k.now call ∷ []) t)
+      ∙ silent_count since newer (made old k.now call ∷ t)
+      (quiet_entries (left_after old (asked k.now call up ∷ [])) k.front k.quiet)
+
+  oldest : (P : L.Entry → Type 0) → Every P (entries old asks) → P (made old k.now call)
+  oldest P h = (Always_back (λ past e. P e) newer (made old k.now call ∷ []) (subst (Every P) parts h)).0
+
+module _ (config : Config) (since t : ℕ) where
+  -- the server
+
+  server_last : (c : S.Call) (e : L.Entry) (rest : List L.Entry) → e.call ≡ server_call c → e.answer ≡ server_up c
+      → ((from : Endpoint) (bytes : List ℕ) → e.call ≡ L.Receive from bytes → e.at ≡ t) → server.IsAt t c
+      → came since (e ∷ rest) ≤ one (W.is_then since (to_server c)) + came since rest
+  server_last (S.Feeds now from bytes word up came h below) e rest call answer at is =
+      received_count since e rest from bytes up now call answer (at from bytes call ∙ sym is)
+  server_last (S.Sets now path format body a left) e rest call answer at is =
+      let k = none_count since e rest (ap (λ d. handed_in d e.answer) call) in omega (arith, k)
+  server_last (S.Removes now path a left) e rest call answer at is =
+      let k = none_count since e rest (ap (λ d. handed_in d e.answer) call) in omega (arith, k)
+  server_last (S.Delays path ms a) e rest call answer at is =
+      let k = none_count since e rest (ap (λ d. handed_in d e.answer) call) in omega (arith, k)
+  server_last (S.Ticks now word below room d passed h id a) e rest call answer at is =
+      let k = none_count since e rest (ap (λ d. handed_in d e.answer) call) in omega (arith, k)
+  server_last (S.NextOut a) e rest call answer at is =
+      let k = none_count since e rest (ap (λ d. handed_in d e.answer) call) in omega (arith, k)
+  server_last (S.Gets path a) e rest call answer at is =
+      let k = none_count since e rest (ap (λ d. handed_in d e.answer) call) in omega (arith, k)
+  server_last (S.TellsApplied a) e rest call answer at is =
+      let k = none_count since e rest (ap (λ d. handed_in d e.answer) call) in omega (arith, k)
+
+  server_step : (past : List S.Call) (c : S.Call) → server_turns.IsGood config (c ∷ past) → server.IsBy config t past
+      → server.IsAt t c
+      → came since (server_layer config (c ∷ past))
+      ≤ one (W.is_then since (to_server c)) + came since (server_layer config past)
+  server_step past c good by at =
+      subst (λ l. came since l ≤ one (W.is_then since (to_server c)) + came since (server_layer config past))
+      (sym (server_next config past c)) (go (server_makes config past c))
+    where
+      layer : List L.Entry
+      layer = server_layer config past
+
+      old : State
+      old = left_after (start (usual config.server_word)) (server_asked config past)
+
+      go : Makes ((answer : _) × (c ≡ S.NextOut answer)) (server_call c) (server_up c) (server_asks config past c)
+          → came since (server_adds config past c ++ layer) ≤ one (W.is_then since (to_server c)) + came since layer
+      go (makes_out o) = subst (λ d. came since (server_adds config past d ++ layer)
+          ≤ one (W.is_then since (to_server d)) + came since layer) (sym o.1)
+          (let k : came since (server_adds config past (S.NextOut o.0) ++ layer) ≡ came since layer = refl in
+          omega (arith, k))
+      go (makes_none q) = let k = silent_count since (server_adds config past c) layer
+          (quiet_entries old (server_asks config past c) q) in omega (arith, k)
+      go (makes_fed k) =
+          let e : L.Entry = made old k.now (server_call c) in
+          let same = front_count old (server_asks config past c) (server_call c) (server_up c) k since layer in
+          let times = oldest old (server_asks config past c) (server_call c) (server_up c) k (Timely t (server.Fed c))
+          (server.adds_timely config t past c by at) in
+          let answer = last_answer (start (usual config.server_word)) (server_asks config past c)
+          (server_asked config past) good.0 (subst (λ a. Steps (start (usual config.server_word)) a good.0)
+          (server_asked_next config past c) good.1) (server_call c) (server_up c) k in
+          let less = server_last c e layer refl answer
+          (λ from bytes is. (let a = (times.fed from bytes is).1 in let b = times.till in omega (arith, a, b))) at in
+          omega (arith, same, less)
+
+  server_calls : (cs past now_and_before : List S.Call) → server_turns.IsGood config (cs ++ past) → server.IsBy config t past
+      → Every (server.IsAt t) cs
+      → came since (server_layer config past) ≤ count_came to_server since now_and_before
+      → came since (server_layer config (cs ++ past)) ≤ count_came to_server since (cs ++ now_and_before)
+  server_calls [] past known good by at less = less
+  server_calls (c ∷ cs) past known good by at less =
+      let down = server_turns.down config (cs ++ past) c good in
+      let rest = server_calls cs past known down by at.1 less in
+      let here = server_step (cs ++ past) c good
+      (all_by t (server_adds config) (server.IsBy config t) (server.IsAt t) server.Fed (server.next_by config t)
+      (server.adds_timely config t) cs past by at.1) at.0 in
+      let whole = one_counts (W.is_then since (to_server c)) _ _ rest in
+      omega (arith, here, whole)
+
+  -- the client
+
+  client_last : (c : C.Call) (e : L.Entry) (rest : List L.Entry) → e.call ≡ client_call c → e.answer ≡ client_up c
+      → ((from : Endpoint) (bytes : List ℕ) → e.call ≡ L.Receive from bytes → e.at ≡ t) → client.IsAt t c
+      → came since (e ∷ rest) ≤ one (W.is_then since (to_client c)) + came since rest
+  client_last (C.Feeds now from bytes word up settled event sent token kept) e rest call answer at is =
+      received_count since e rest from bytes up now call answer (at from bytes call ∙ sym is)
+  client_last (C.Calls now r a) e rest call answer at is =
+      let k = none_count since e rest (ap (λ d. handed_in d e.answer) call) in omega (arith, k)
+  client_last (C.Observes now path a) e rest call answer at is =
+      let k = none_count since e rest (ap (λ d. handed_in d e.answer) call) in omega (arith, k)
+  client_last (C.Cancels now number a) e rest call answer at is =
+      let k = none_count since e rest (ap (λ d. handed_in d e.answer) call) in omega (arith, k)
+  client_last (C.Forgets number kept a) e rest call answer at is =
+      let k = none_count since e rest (ap (λ d. handed_in d e.answer) call) in omega (arith, k)
+  client_last (C.Ticks now word below turn sent token kept a) e rest call answer at is =
+      let k = none_count since e rest (ap (λ d. handed_in d e.answer) call) in omega (arith, k)
+  client_last (C.NextOut a) e rest call answer at is =
+      let k = none_count since e rest (ap (λ d. handed_in d e.answer) call) in omega (arith, k)
+  client_last (C.NextReport a) e rest call answer at is =
+      let k = none_count since e rest (ap (λ d. handed_in d e.answer) call) in omega (arith, k)
+  client_last (C.Asked a) e rest call answer at is =
+      let k = none_count since e rest (ap (λ d. handed_in d e.answer) call) in omega (arith, k)
+
+  client_step : (past : List C.Call) (c : C.Call) → client_turns.IsGood config (c ∷ past) → client.IsBy config t past
+      → client.IsAt t c
+      → came since (client_layer config (c ∷ past))
+      ≤ one (W.is_then since (to_client c)) + came since (client_layer config past)
+  client_step past c good by at =
+      subst (λ l. came since l ≤ one (W.is_then since (to_client c)) + came since (client_layer config past))
+      (sym (client_next config past c)) (go (client_makes config past c))
+    where
+      layer : List L.Entry
+      layer = client_layer config past
+
+      old : State
+      old = left_after (start (usual config.client_word)) (client_asked config past)
+
+      go : Makes ((answer : _) × (c ≡ C.NextOut answer)) (client_call c) (client_up c) (client_asks config past c)
+          → came since (client_adds config past c ++ layer) ≤ one (W.is_then since (to_client c)) + came since layer
+      go (makes_out o) = subst (λ d. came since (client_adds config past d ++ layer)
+          ≤ one (W.is_then since (to_client d)) + came since layer) (sym o.1)
+          (let k : came since (client_adds config past (C.NextOut o.0) ++ layer) ≡ came since layer = refl in
+          omega (arith, k))
+      go (makes_none q) = let k = silent_count since (client_adds config past c) layer
+          (quiet_entries old (client_asks config past c) q) in omega (arith, k)
+      go (makes_fed k) =
+          let e : L.Entry = made old k.now (client_call c) in
+          let same = front_count old (client_asks config past c) (client_call c) (client_up c) k since layer in
+          let times = oldest old (client_asks config past c) (client_call c) (client_up c) k (Timely t (client.Fed c))
+          (client.adds_timely config t past c by at) in
+          let answer = last_answer (start (usual config.client_word)) (client_asks config past c)
+          (client_asked config past) good.0 (subst (λ a. Steps (start (usual config.client_word)) a good.0)
+          (client_asked_next config past c) good.1) (client_call c) (client_up c) k in
+          let less = client_last c e layer refl answer
+          (λ from bytes is. (let a = (times.fed from bytes is).1 in let b = times.till in omega (arith, a, b))) at in
+          omega (arith, same, less)
+
+  client_calls : (cs past now_and_before : List C.Call) → client_turns.IsGood config (cs ++ past) → client.IsBy config t past
+      → Every (client.IsAt t) cs
+      → came since (client_layer config past) ≤ count_came to_client since now_and_before
+      → came since (client_layer config (cs ++ past)) ≤ count_came to_client since (cs ++ now_and_before)
+  client_calls [] past known good by at less = less
+  client_calls (c ∷ cs) past known good by at less =
+      let down = client_turns.down config (cs ++ past) c good in
+      let rest = client_calls cs past known down by at.1 less in
+      let here = client_step (cs ++ past) c good
+      (all_by t (client_adds config) (client.IsBy config t) (client.IsAt t) client.Fed (client.next_by config t)
+      (client.adds_timely config t) cs past by at.1) at.0 in
+      let whole = one_counts (W.is_then since (to_client c)) _ _ rest in
+      omega (arith, here, whole)
+
+-- all calls of a turn have its moment
+
+pub client_at : (t : ℕ) (outs : List L.Packet) (reports : List C.Reported) (calls : List C.Call) → Every (client.IsAt t) calls
+    → Every (client.IsAt t) (C.NextReport None ∷ (map (λ r. C.NextReport (Some r)) reports
+    ++ C.NextOut None ∷ (map (λ p. C.NextOut (Some p)) outs ++ calls)))
+client_at t outs reports calls h = (tt, told reports _ (tt, out outs))
+  where
+    out : (ps : List L.Packet) → Every (client.IsAt t) (map (λ p. C.NextOut (Some p)) ps ++ calls)
+    out [] = h
+    out (p ∷ ps) = (tt, out ps)
+
+    told : (rs : List C.Reported) (cs : List C.Call) → Every (client.IsAt t) cs
+        → Every (client.IsAt t) (map (λ r. C.NextReport (Some r)) rs ++ cs)
+    told [] cs k = k
+    told (r ∷ rs) cs k = (tt, told rs cs k)
+
+pub server_at : (t : ℕ) (outs : List L.Packet) (calls : List S.Call) → Every (server.IsAt t) calls
+    → Every (server.IsAt t) (S.NextOut None ∷ (map (λ p. S.NextOut (Some p)) outs ++ calls))
+server_at t outs calls h = (tt, out outs)
+  where
+    out : (ps : List L.Packet) → Every (server.IsAt t) (map (λ p. S.NextOut (Some p)) ps ++ calls)
+    out [] = h
+    out (p ∷ ps) = (tt, out ps)
+
+module _ (config : Config) (since : ℕ) where
+  abbrev ServerFew : List Entry → Type 0
+  ServerFew es = came since (server_layer config (server_trace config es)) ≤ count_came to_server since (server_of es)
+
+  abbrev ClientFew : List Entry → Type 0
+  ClientFew es = came since (client_layer config (client_of es)) ≤ count_came to_client since (client_of es)
+
+  server_turn : (t : ℕ) (entries es : List Entry) → ClientTurn t entries ⊎ ServerTurn t entries
+      → server_turns.IsGood config (server_trace config (entries ++ es))
+      → server.IsBy config t (server_trace config es) → ServerFew es → ServerFew (entries ++ es)
+  server_turn t entries es (inl turn) good by less =
+      let cs : List C.Call = C.NextReport None ∷ (map (λ r. C.NextReport (Some r)) turn.on.reports
+      ++ C.NextOut None ∷ (map (λ p. C.NextOut (Some p)) turn.on.outs ++ turn.calls)) in
+      let is : server_of (entries ++ es) ≡ server_of es = ap (λ z. server_of (z ++ es)) turn.on.is ∙ server_client cs es
+      in
+      subst (λ s. came since (server_layer config (s ++ begun_with config)) ≤ count_came to_server since s) (sym is) less
+  server_turn t entries es (inr turn) good by less =
+      let cs : List S.Call = S.NextOut None ∷ (map (λ p. S.NextOut (Some p)) turn.on.outs ++ turn.calls) in
+      let is : server_trace config (entries ++ es) ≡ cs ++ server_trace config es =
+      ap (λ z. server_trace config (z ++ es)) turn.on.is ∙ trace_is config cs es in
+      let own : server_of (entries ++ es) ≡ cs ++ server_of es =
+      ap (λ z. server_of (z ++ es)) turn.on.is ∙ server_server cs es in
+      let k = server_calls config since t cs (server_trace config es) (server_of es)
+      (subst (server_turns.IsGood config) is good) by (server_at t turn.on.outs turn.calls turn.at) less in
+      let a : came since (server_layer config (server_trace config (entries ++ es)))
+      ≡ came since (server_layer config (cs ++ server_trace config es)) =
+      ap (λ z. came since (server_layer config z)) is in
+      let b : count_came to_server since (server_of (entries ++ es)) ≡ count_came to_server since (cs ++ server_of es) =
+      ap (count_came to_server since) own in
+      omega (arith, a, b, k)
+
+  client_turn : (t : ℕ) (entries es : List Entry) → ClientTurn t entries ⊎ ServerTurn t entries
+      → client_turns.IsGood config (client_of (entries ++ es))
+      → client.IsBy config t (client_of es) → ClientFew es → ClientFew (entries ++ es)
+  client_turn t entries es (inr turn) good by less =
+      let cs : List S.Call = S.NextOut None ∷ (map (λ p. S.NextOut (Some p)) turn.on.outs ++ turn.calls) in
+      let is : client_of (entries ++ es) ≡ client_of es = ap (λ z. client_of (z ++ es)) turn.on.is ∙ client_server cs es
+      in
+      subst (λ s. came since (client_layer config s) ≤ count_came to_client since s) (sym is) less
+  client_turn t entries es (inl turn) good by less =
+      let cs : List C.Call = C.NextReport None ∷ (map (λ r. C.NextReport (Some r)) turn.on.reports
+      ++ C.NextOut None ∷ (map (λ p. C.NextOut (Some p)) turn.on.outs ++ turn.calls)) in
+      let is : client_of (entries ++ es) ≡ cs ++ client_of es =
+      ap (λ z. client_of (z ++ es)) turn.on.is ∙ client_client cs es in
+      let k = client_calls config since t cs (client_of es) (client_of es)
+      (subst (client_turns.IsGood config) is good) by (client_at t turn.on.outs turn.on.reports turn.calls turn.at) less
+      in
+      subst (λ z. came since (client_layer config z) ≤ count_came to_client since z) (sym is) k
+
+  server_few : (turns : List Turn) → Stands config turns → ServerFew (entries_of turns)
+  server_few [] s = let k : came since (server_layer config (server_trace config [])) ≡ 0 =
+      ap (came since) (sym (far_is config [])) in omega (arith, k)
+  server_few (turn ∷ past) s =
+      let k = turned config turn past s in
+      server_turn turn.event.at turn.entries (entries_of past) (side_of config turn past s) k.good_server k.still.server
+      (server_few past (before config turn past s))
+
+  client_few : (turns : List Turn) → Stands config turns → ClientFew (entries_of turns)
+  client_few [] s = omega arith
+  client_few (turn ∷ past) s =
+      let k = turned config turn past s in
+      client_turn turn.event.at turn.entries (entries_of past) (side_of config turn past s) k.good_client k.still.client
+      (client_few past (before config turn past s))
+
+pub few_arrive : (config : Config) (turns : List Turn) → Stands config turns
+    → W.FewCome to_client (client_of (entries_of turns)) → W.FewCome to_server (server_of (entries_of turns))
+    → FewArrive config turns
+few_arrive config turns s few_client few_server =
+    record {
+      at_server = λ since.
+          (let a = server_few config since turns s in
+          let b = few_server since in
+          let c = ap (came since) (far_is config (entries_of turns)) in
+          omega (arith, a, b, c));
+      at_client = λ since.
+          (let a = client_few config since turns s in
+          let b = few_client since in
+          let c = ap (came since) (near_is config (entries_of turns)) in
+          omega (arith, a, b, c));
+    }

@@ -1,0 +1,59 @@
+-- Where nothing is observed each request has a token of its own.
+use Rattle.std.proofs.Common.{◌≡◌, inl, inr, ℕ, Some, List, [], ◌∷◌, ap, sym, ◌∙◌, Ok, Err}
+use Rattle.coap_types.specs.Past.{Always}
+use Rattle.coap_exchange.specs.AskerTrace as A
+use Rattle.coap_block.specs.Sizes.{Sizes}
+use Rattle.coap_client.specs.Follows.Begins.{WasSent}
+use Rattle.coap_client.specs.Follows.OfObservations.{Observed, observes, WasObserved, observation_for, AreOfObservations}
+use Rattle.coap_client.specs.Follows.Words.{Sending}
+use Rattle.coap_client.specs.Law.{own_of}
+use Rattle.coap_client.specs.Own.{Operation, Calling, Registering, Fetching, Cancelling, Dropped, Observation}
+use Rattle.coap_client.specs.Requests.{message_of}
+use Rattle.coap_client.specs.Trace as C
+use Rattle.coap_world.specs.Smooth.{TakesNoObservation}
+use Rattle.coap_world.proofs.Smoothly.AnswerEnds.{IsPlain}
+use Rattle.coap_world.proofs.Smoothly.ConsCarry.{message_sent}
+
+none_here : (c : C.Call) (x : Observed) → TakesNoObservation c → observes c ≡ Some x → ⊥
+none_here (C.Observes now path (Ok number)) x none h = none
+none_here (C.Observes now path (Err why)) x none h = cc h
+none_here (C.Calls now r a) x none h = cc h
+none_here (C.Cancels now number a) x none h = cc h
+none_here (C.Forgets number kept a) x none h = cc h
+none_here (C.Feeds now from bytes w up settled event sent token kept) x none h = cc h
+none_here (C.Ticks now w below turn sent token kept a) x none h = cc h
+none_here (C.NextOut a) x none h = cc h
+none_here (C.NextReport a) x none h = cc h
+none_here (C.Asked a) x none h = cc h
+
+none_observed : (t : List C.Call) (x : Observed) → Always (λ past c. TakesNoObservation c) t → WasObserved x t → ⊥
+none_observed [] x all h = h
+none_observed (c ∷ t) x all (inl h) = none_here c x all.0 h
+none_observed (c ∷ t) x all (inr h) = none_observed t x all.1 h
+
+plain_by : (x : Sending) (op : Operation) (os : List Observation) → x.operation ≡ op → x.request ≡ message_of os op
+    → ((number : ℕ) → observation_for op ≡ Some number → ⊥) → IsPlain x
+plain_by x (Calling number r t) os is message f = record {
+  tokenless = ap (λ (q : A.Request). q.token) message;
+  no_cancel = λ n h. (let k = sym is ∙ h in cc k);
+}
+plain_by x Dropped os is message f = record {
+  tokenless = ap (λ (q : A.Request). q.token) message;
+  no_cancel = λ n h. (let k = sym is ∙ h in cc k);
+}
+plain_by x (Registering number path) os is message f = absurd (f number refl_some)
+  where
+    refl_some : Some number ≡ Some number
+    refl_some = ap (λ (n : ℕ). Some n) (λ i. number)
+plain_by x (Fetching number) os is message f = absurd (f number (λ i. Some number))
+plain_by x (Cancelling number) os is message f = absurd (f number (λ i. Some number))
+
+pub was_plain : (sizes : Sizes) (x : Sending) (t : List C.Call) → AreOfObservations sizes t
+    → Always (λ past c. TakesNoObservation c) t → WasSent sizes x t → IsPlain x
+was_plain sizes x [] of none h = absurd h
+was_plain sizes x (c ∷ t) of none (inr h) = was_plain sizes x t of.1 none.1 h
+was_plain sizes x (c ∷ t) of none (inl h) =
+    let m = message_sent (own_of sizes t) c x h in
+    plain_by x x.operation m.observations (λ i. x.operation) m.is
+    (λ number is. (let o = of.0 x number h is in
+    none_observed t (record { number = number; path = o.path }) none.1 o.taken))

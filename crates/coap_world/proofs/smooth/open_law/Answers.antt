@@ -1,0 +1,107 @@
+use Rattle.coap_layer.specs.Machine.State.{usual}
+use Rattle.coap_world.specs.Events.{client_end, server_end}
+use Rattle.coap_world.specs.Hops.{hops_of}
+use Rattle.coap_world.specs.Record.{entries_of, client_of}
+use Rattle.coap_world.proofs.Delivery.HopsAreAChannel as joined
+use Rattle.coap_world.proofs.Smoothly.AllTaken.{all_taken}
+use Rattle.coap_world.proofs.Smoothly.ArrivesInTime.{all_in_time}
+use Rattle.coap_world.proofs.Smoothly.AtOnce.{old_wait}
+use Rattle.coap_world.proofs.Smoothly.ByAnswers.{by_answers}
+use Rattle.coap_world.proofs.Smoothly.FewArrive.{few_arrive}
+use Rattle.coap_world.proofs.Smoothly.SeparateEnds.{separate_ends}
+use Rattle.coap_world.proofs.Smoothly.Standing.{stands, record_of}
+use Rattle.coap_world.proofs.Smoothly.TicksAnswer.{ticks_answer}
+use Rattle.coap_world.proofs.Smoothly.TicksInTime.{ticks_in_time}
+use Rattle.coap_world.proofs.Smoothly.TicksLeave.{ticks_leave}
+use Rattle.coap_world.proofs.smooth.open_law.Goals as goal
+
+pub returns-clause-arrive : goal.returns-clause-arrive
+returns-clause-arrive c config events turns run legal smooth =
+    all_in_time config turns (stands config events turns run legal smooth)
+
+pub returns-clause-few : goal.returns-clause-few
+returns-clause-few c config events turns run legal smooth =
+    few_arrive config turns (stands config events turns run legal smooth) smooth.few_to_client smooth.few_to_server
+
+pub returns-clause-taken : goal.returns-clause-taken
+returns-clause-taken c config events turns run legal smooth =
+    all_taken config
+    (record {
+      within = c.channel_law.ensures.within;
+      ended = c.channel_law.ensures.ended;
+      replies = c.client_exchanges_law.ensures.replies_to_con;
+    })
+    turns (record {
+      stands = stands config events turns run legal smooth;
+      few_client = smooth.few_to_client;
+      few_server = smooth.few_to_server;
+    })
+
+pub returns-clause-by_answers : goal.returns-clause-by_answers
+returns-clause-by_answers c config events turns run legal smooth young =
+    let s = stands config events turns run legal smooth in
+    by_answers config turns s young
+    (c.client_exchanges_law.ensures.ends_in_time server_end config.client_sizes config.client_word
+    (client_of (entries_of turns)) run.client)
+    (c.channel_law.ensures.resets (usual config.client_word) (usual config.server_word) client_end server_end
+    (hops_of config turns) (joined.channel config _ turns (record_of config turns s) s.legal))
+
+pub returns-clause-at_once : goal.returns-clause-at_once
+returns-clause-at_once c config events turns run legal smooth none =
+    old_wait config
+    (record {
+      beneath = record {
+        within = c.channel_law.ensures.within;
+        ended = c.channel_law.ensures.ended;
+        replies = c.client_exchanges_law.ensures.replies_to_con;
+      };
+      acks = c.layer_law.ensures.acks;
+      acks_replied = c.channel_law.ensures.replied;
+      replied_once = c.channel_law.ensures.replied_once;
+      heard = c.client_exchanges_law.ensures.answers_heard;
+      own = c.client_follows_law.ensures.own_tokens;
+      observed = c.client_values_law.ensures.of_observations;
+      handed_on = c.server_law.ensures.handed_on;
+    })
+    smooth.delays
+    turns
+    (record {
+      stands = stands config events turns run legal smooth;
+      few_client = smooth.few_to_client;
+      few_server = smooth.few_to_server;
+    })
+    none
+
+pub returns-clause-separate : goal.returns-clause-separate
+returns-clause-separate c config events turns run legal smooth none =
+    separate_ends config
+    (record {
+      beneath = record {
+        within = c.channel_law.ensures.within;
+        ended = c.channel_law.ensures.ended;
+        replies = c.client_exchanges_law.ensures.replies_to_con;
+      };
+      acks = c.layer_law.ensures.acks;
+      acks_replied = c.channel_law.ensures.replied;
+      replied_once = c.channel_law.ensures.replied_once;
+      heard = c.client_exchanges_law.ensures.answers_heard;
+      own = c.client_follows_law.ensures.own_tokens;
+      observed = c.client_values_law.ensures.of_observations;
+      handed_on = c.server_law.ensures.handed_on;
+    })
+    turns
+    (record {
+      stands = stands config events turns run legal smooth;
+      few_client = smooth.few_to_client;
+      few_server = smooth.few_to_server;
+    })
+    none
+
+pub returns-clause-ticks : goal.returns-clause-ticks
+returns-clause-ticks c config events turns run legal = ticks_answer config legal.range (entries_of turns) run.server
+
+pub returns-clause-leaves : goal.returns-clause-leaves
+returns-clause-leaves c config events turns run legal = ticks_leave config turns run.made run.server
+
+pub returns-clause-often : goal.returns-clause-often
+returns-clause-often c config events turns run legal smooth = ticks_in_time turns legal.events smooth.goes

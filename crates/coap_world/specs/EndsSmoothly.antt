@@ -1,0 +1,9 @@
+-- Where each exchange of a smooth run is young, each ends by an answer: a failure and the end of a wait come too late, and
+-- a request is not rejected (RFC 7252, sections 4.2 and 5.2.2).
+use Rattle.std.specs.Prelude.{List}
+use Rattle.coap_world.specs.Events.{Config}
+use Rattle.coap_world.specs.Record.{Turn, entries_of}
+use Rattle.coap_world.specs.SmoothAnswers.{AreYoung, EndByAnswers}
+
+abbrev pub YoungEndByAnswers : Config → List Turn → Type 0
+YoungEndByAnswers config turns = AreYoung config turns → EndByAnswers config (entries_of turns)
