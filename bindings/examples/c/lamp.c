@@ -1,0 +1,114 @@
+/* lamp serve PORT: a CoAP server of a lamp, coap://127.0.0.1:PORT/lamp, which a client switches by a PUT of "on" or "off".
+ *     A request is carried out half a second later, once, whatever is repeated on the way, and answered then.
+ * lamp switch PORT on|off: the client that switches it. It says what became of the request, and ends with status 0 where
+ *     the lamp was switched, 1 where it was not, and 3 where nobody knows. */
+#include "knifesilver.h"
+#include <arpa/inet.h>
+#include <poll.h>
+#include <stdio.h>
+#include <stdlib.h>
+#include <string.h>
+#include <sys/random.h>
+#include <sys/socket.h>
+#include <time.h>
+
+static int udp;
+static uint8_t buffer[65536];
+
+static uint64_t now_ms(void) {
+    struct timespec t;
+    clock_gettime(CLOCK_MONOTONIC, &t);
+    return (uint64_t)t.tv_sec * 1000 + (uint64_t)t.tv_nsec / 1000000;
+}
+
+static uint64_t random_word(void) {
+    uint64_t word;
+    if (getrandom(&word, sizeof word, 0) != sizeof word) exit(1);
+    return word;
+}
+
+static void send_to(ks_address to, size_t len) {
+    struct sockaddr_in a = {.sin_family = AF_INET, .sin_port = htons(to.port)};
+    memcpy(&a.sin_addr, to.ip, 4);
+    (void)!sendto(udp, buffer, len, 0, (struct sockaddr *)&a, sizeof a);
+}
+
+/* Waits for a datagram until the moment: how many bytes it has, in the buffer, or -1. */
+static ssize_t receive(bool until, uint64_t at, ks_address *from) {
+    uint64_t now = now_ms();
+    int wait = !until ? -1 : at <= now ? 0 : at - now < 60000 ? (int)(at - now) : 60000;
+    struct pollfd on = {.fd = udp, .events = POLLIN};
+    struct sockaddr_in a;
+    socklen_t a_len = sizeof a;
+    if (poll(&on, 1, wait) <= 0) return -1;
+    ssize_t len = recvfrom(udp, buffer, sizeof buffer, MSG_DONTWAIT, (struct sockaddr *)&a, &a_len);
+    if (len >= 0) {
+        memcpy(from->ip, &a.sin_addr, 4);
+        from->port = ntohs(a.sin_port);
+    }
+    return len;
+}
+
+/* Here the lamp is switched: once for each request that was applied, in the call that served it. */
+static void ask_applied(ks_server *server) {
+    char path[KS_PATH_ROOM];
+    ks_applied done;
+    ks_representation lamp = {0};
+    if (ks_server_applied(server, &done, path, sizeof path) != KS_DONE) return;
+    if (done.method != KS_PUT || done.path_len != 5 || memcmp(path, "/lamp", 5) != 0) return;
+    if (ks_server_get(server, "lamp", 4, &lamp, buffer, sizeof buffer) != KS_DONE) return;
+    printf("switched %.*s\n", (int)lamp.body_len, (const char *)buffer);
+    fflush(stdout);
+}
+
+static int serve(const ks_config *config, const ks_seed *seed) {
+    ks_server server = {0};
+    ks_address peer;
+    uint64_t at = 0;
+    size_t len;
+    if (ks_server_new(&server, config, seed) != KS_OK || ks_server_set_delay(&server, "lamp", 4, 500) != KS_OK) return 1;
+    for (;;) {
+        bool until = ks_server_due(&server, &at) == KS_DONE;
+        ssize_t got = receive(until, at, &peer);
+        if (got >= 0 && ks_server_feed(&server, now_ms(), &peer, buffer, (size_t)got, 0) == KS_OK) ask_applied(&server);
+        while (ks_server_tick(&server, now_ms(), random_word()) == KS_DONE) ask_applied(&server);
+        while (ks_server_next_out(&server, &peer, buffer, sizeof buffer, &len) == KS_DONE) send_to(peer, len);
+    }
+}
+
+static int switch_it(const ks_config *config, const ks_seed *seed, ks_address to, const char *state) {
+    ks_client client = {0};
+    ks_request put = {.format = 0, .accept = KS_NO_FORMAT, .method = KS_PUT};
+    ks_report report;
+    ks_tag none = {0};
+    ks_address peer;
+    uint64_t id, at = 0;
+    size_t len;
+    if (ks_client_new(&client, &to, config, seed) != KS_OK) return 2;
+    if (ks_client_call(&client, now_ms(), &put, "lamp", 4, state, strlen(state), &none, 0, &none, 0, &id) != KS_OK) return 2;
+    for (;;) {
+        while (ks_client_tick(&client, now_ms(), random_word()) == KS_DONE) {}
+        while (ks_client_next_out(&client, &peer, buffer, sizeof buffer, &len) == KS_DONE) send_to(peer, len);
+        if (ks_client_next_report(&client, &report, buffer, sizeof buffer) == KS_DONE) break;
+        bool until = ks_client_due(&client, &at) == KS_DONE;
+        ssize_t got = receive(until, at, &peer);
+        if (got >= 0) ks_client_feed(&client, now_ms(), &peer, buffer, (size_t)got, random_word());
+    }
+    ks_client_free(&client);
+    if (report.kind == KS_SUCCESS) return puts("the lamp was switched once"), 0;
+    if (report.kind == KS_FAILED) return printf("not switched: %d.%02d\n", report.code >> 5, report.code & 31), 1;
+    return printf("perhaps switched: report %d\n", report.kind), 3;
+}
+
+int main(int argc, char **argv) {
+    bool serves = argc == 3 && strcmp(argv[1], "serve") == 0;
+    if (!serves && (argc != 4 || strcmp(argv[1], "switch") != 0))
+        return fprintf(stderr, "lamp serve PORT | lamp switch PORT on|off\n"), 2;
+    uint16_t port = (uint16_t)atoi(argv[2]);
+    ks_config config = {0};
+    ks_seed seed = {random_word(), random_word(), random_word()};
+    struct sockaddr_in a = {.sin_family = AF_INET, .sin_port = htons(serves ? port : 0), .sin_addr = {htonl(INADDR_LOOPBACK)}};
+    udp = socket(AF_INET, SOCK_DGRAM, 0);
+    if (udp < 0 || bind(udp, (struct sockaddr *)&a, sizeof a) < 0) return perror("bind"), 2;
+    return serves ? serve(&config, &seed) : switch_it(&config, &seed, (ks_address){{127, 0, 0, 1}, port}, argv[3]);
+}

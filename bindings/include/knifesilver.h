@@ -1,0 +1,298 @@
+/* knifesilver.h: a client and a server of CoAP (RFC 7252, RFC 7641, RFC 7959) with no input or output of their own.
+ *
+ * An end is a value behind a handle. You hand it what arrived and what you want, with the moment; it hands you the
+ * datagrams to send, what a client had it do and what it reports. It opens no socket, reads no clock, starts no thread
+ * and has no global state. Of the C library it calls malloc, realloc, free, memcpy, memmove and memset.
+ *
+ * The loop of an end, whichever it is:
+ *
+ *     for (;;) {
+ *         while (ks_server_tick(&server, now(), word()) == KS_DONE) {}      what is due is done; then
+ *         while (ks_server_next_out(&server, &to, room, sizeof room, &len) == KS_DONE) send(to, room, len);
+ *         wait for a datagram, until the moment that ks_server_due tells;
+ *         ks_server_feed(&server, now(), &from, datagram, datagram_len, word());
+ *     }
+ *
+ * A server asks ks_server_applied after each feed, and after each tick that answered KS_DONE.
+ *
+ * Rules for all calls. Nothing checks them:
+ *  - A handle is all zero before its first call: `ks_server server = {0};`. Change none of its bytes, and do not copy it
+ *    (moving it is fine while no call runs). Two handles share nothing.
+ *  - One call of a handle at a time, and none from a signal handler. A handle may go to another thread, by a lock, by the
+ *    start or join of a thread, or by a sequentially consistent atomic.
+ *  - A pointer is never NULL, also where its length is 0, and what it points to stays as it is until the call returns.
+ *    What a call writes to overlaps with nothing else that the call is handed.
+ *  - Each end has a UDP port of its own. Two ends behind one port kill each other's exchanges: a server answers a
+ *    response with a Reset, as it awaits none. Two clients of one server behind one port break a premise of the theorem.
+ *  - `now` is in milliseconds since a moment that you chose once, the same one for all calls of an end. A moment before
+ *    the last one counts as the last, so a clock that jumps back is harmless.
+ *  - `word` is 64 random bits, new ones for each call; a seed is 24 random bytes. Take both from getrandom(), say. What is
+ *    proved holds whatever they are; that a stranger cannot guess Message IDs, tokens and timeouts rests on them.
+ * Bytes that you hand in are used up before the call returns; bytes that come out are written to your buffers. Nothing of
+ * the library's memory is seen outside.
+ *
+ * What a call answers: KS_OK, KS_DONE, the number of a refusal (above 0, in the enum that stands at the call), or one of
+ * the numbers below 0, the same for all calls. After an answer below 0 the end is as it was before the call. */
+#ifndef KNIFESILVER_H
+#define KNIFESILVER_H
+
+#include <stdbool.h>
+#include <stddef.h>
+#include <stdint.h>
+
+#ifdef __cplusplus
+extern "C" {
+#endif
+
+enum {
+    KS_OK = 0,              /* carried out; or there is nothing */
+    KS_DONE = 1,            /* there was something, and it is done or written */
+    KS_NOT_LIVE = -1,       /* the handle holds no end of this kind */
+    KS_NO_MEMORY = -2,      /* malloc or realloc answered NULL */
+    KS_BAD_PATH = -3,       /* over 16 segments, or one of over 255 bytes */
+    KS_SMALL_ROOM = -4,     /* the buffer is too small: nothing was taken, call again with a larger one */
+    KS_BAD_ARGUMENT = -5,   /* a method that is none, an entity-tag of 0 or over 8 bytes, or over 4 entity-tags */
+    KS_BAD_SIZE = -6,       /* ks_config.size is neither 0 nor sizeof (ks_config) */
+    KS_BAD_BLOCK_SIZE = -7, /* ks_config.block_size is none of 0, 16, 32, 64, 128, 256, 512 and 1,024 */
+    KS_BAD_BODY_LIMIT = -8, /* ks_config.body_limit is over 1,048,576 */
+    KS_BAD_REMEMBERED = -9, /* ks_config.remembered is neither 0 nor 4,096 */
+    KS_BAD_CHANGES = -10    /* ks_config.changes is over 4,194,303 */
+};
+
+#define KS_VERSION 100u         /* of this header: 0.1.0 */
+#define KS_NO_FORMAT (-1)       /* no Content-Format, no Accept; a number that is none counts as this */
+#define KS_DATAGRAM_ROOM 1152   /* no datagram that goes out is longer */
+#define KS_PATH_ROOM 4096       /* no path as text is longer */
+
+/* The version of the library. It should be KS_VERSION. */
+uint32_t ks_version(void);
+
+typedef struct { void *at; bool live; } ks_handle;   /* opaque */
+typedef struct { ks_handle handle; } ks_server;
+typedef struct { ks_handle handle; } ks_client;
+
+/* An IPv4 address, ip[0] the 127 of 127.0.0.1, and a UDP port in the host's order. */
+typedef struct { uint8_t ip[4]; uint16_t port; } ks_address;
+
+/* What an end is made with. All zero it is the usual: `ks_config config = {0};`. To choose, set `size` to
+ * sizeof (ks_config) and the fields that you want; 0 in a field is the usual number.
+ *   block_size  bytes of a block at most: 16, 32, .. 1,024 (1,024)
+ *   body_limit  bytes of a body at most, that is sent, joined from blocks or held: up to 1,048,576 (65,536)
+ *   remembered  how many messages are remembered at once, to tell repeats: 4,096 is the one number that there is so far,
+ *               any other is refused with KS_BAD_REMEMBERED. One is remembered for 247 s; while all places are
+ *               taken, new messages go unanswered
+ *   changes     how many changes a server's store takes in 256 s: up to 4,194,303 (4,194,303); a client has no use for it
+ * Later versions add fields at the end; an older library refuses the larger size. */
+typedef struct { uint32_t size; uint32_t block_size; uint32_t body_limit; uint32_t remembered; uint32_t changes; } ks_config;
+
+/* 24 random bytes: the word picks the first Message ID and token, the keys those of the hash of what is remembered. */
+typedef struct { uint64_t word; uint64_t key0; uint64_t key1; } ks_seed;
+
+/* A path is text, with its length: "temperature", "/floor/2/lamp". Its segments stand between `/`; one `/` in front is
+ * left out; "" and "/" are the root. No percent-decoding: a segment with a `/` in it cannot be named, nor the path of one
+ * empty segment. Where a call writes a path, a `/` stands before each segment. */
+
+/* ---- The server -------------------------------------------------------------------------------------------------- */
+
+/* Makes a server that holds nothing; what the handle held is freed. KS_OK; KS_BAD_SIZE, KS_BAD_BLOCK_SIZE,
+ * KS_BAD_BODY_LIMIT, KS_BAD_REMEMBERED, KS_BAD_CHANGES, KS_NO_MEMORY, after which the handle holds what it held. */
+int32_t ks_server_new(ks_server *handle, const ks_config *config, const ks_seed *seed);
+
+/* Frees it. The handle is empty then: it may be freed again, and used for a new end. */
+void ks_server_free(ks_server *handle);
+
+/* Why a store is not changed. (1 is its want of memory, which calls answer as KS_NO_MEMORY.) */
+enum ks_set_refusal {
+    KS_SET_TOO_LARGE = 2,       /* the body is longer than body_limit */
+    KS_SET_TOO_MANY_PATHS = 3,  /* 256 other paths hold something */
+    KS_SET_RATE_EXCEEDED = 4,   /* the window of 256 s has no change left */
+    KS_SET_VERSIONS_SPENT = 5   /* the last change had the greatest version */
+};
+
+/* Has the path hold the body, and marks its observers, which ticks notify. *version is the number of the change, which
+ * rises with each change of this server; the entity-tag is that number in 8 bytes. Each set is a change, also where the
+ * body is the same. KS_OK; ks_set_refusal; KS_BAD_PATH, KS_NO_MEMORY, KS_NOT_LIVE. */
+int32_t ks_server_set(ks_server *handle, uint64_t now, const char *path, size_t path_len, int32_t format,
+                      const void *body, size_t body_len, uint64_t *version);
+
+/* The same, but where the path holds this very body in this format nothing is changed: KS_DONE where it was set, KS_OK
+ * where nothing changed; *version is the number of what the path holds. Else as ks_server_set. */
+int32_t ks_server_update(ks_server *handle, uint64_t now, const char *path, size_t path_len, int32_t format,
+                         const void *body, size_t body_len, uint64_t *version);
+
+/* Takes away what the path holds; its observers are told. KS_DONE, or KS_OK where it held nothing; KS_SET_RATE_EXCEEDED,
+ * KS_SET_VERSIONS_SPENT; KS_BAD_PATH, KS_NO_MEMORY (for the path), KS_NOT_LIVE. */
+int32_t ks_server_remove(ks_server *handle, uint64_t now, const char *path, size_t path_len);
+
+typedef struct { uint64_t version; size_t body_len; int32_t format; } ks_representation;
+
+/* What the path holds: KS_DONE with *shown written and the body at the front of the room, KS_OK where it holds nothing,
+ * KS_SMALL_ROOM with *shown written. KS_BAD_PATH, KS_NO_MEMORY (for the path), KS_NOT_LIVE. */
+int32_t ks_server_get(ks_server *handle, const char *path, size_t path_len, ks_representation *shown,
+                      void *room, size_t room_len);
+
+enum ks_delay_refusal { KS_DELAY_FULL = 1 };    /* 16 other paths have a delay */
+
+/* Has each Confirmable request of the path wait so many ms, be carried out then, and be answered by a separate response.
+ * KS_OK; ks_delay_refusal; KS_BAD_PATH, KS_NO_MEMORY, KS_NOT_LIVE. */
+int32_t ks_server_set_delay(ks_server *handle, const char *path, size_t path_len, uint64_t ms);
+
+/* Takes a datagram that arrived. KS_OK; KS_NO_MEMORY, after which it counts as lost; KS_NOT_LIVE. Then ask
+ * ks_server_applied, and send what is out. */
+int32_t ks_server_feed(ks_server *handle, uint64_t now, const ks_address *from, const void *datagram,
+                       size_t datagram_len, uint64_t word);
+
+/* Does one thing that is due: a retransmission, a notification, a response that was delayed. KS_DONE where there was one,
+ * KS_OK where there was none, KS_NO_MEMORY (nothing is done: try later), KS_NOT_LIVE. Call it until it does not answer
+ * KS_DONE: at one moment it does so finitely often. Ask ks_server_applied after each KS_DONE, before the next tick. */
+int32_t ks_server_tick(ks_server *handle, uint64_t now, uint64_t word);
+
+/* When the next tick has something to do: KS_DONE with *at, which is never before the last moment that was handed in.
+ * KS_OK: never, unless something is handed in before. KS_NOT_LIVE. Ask again after each other call. */
+int32_t ks_server_due(ks_server *handle, uint64_t *at);
+
+/* Takes the datagram that is to be sent next: KS_DONE with *to, *len and its bytes at the front of the room; KS_OK where
+ * there is none; KS_SMALL_ROOM where the room has under KS_DATAGRAM_ROOM bytes; KS_NOT_LIVE. What you don't send is lost,
+ * as on the way: it is sent again if it is to be. */
+int32_t ks_server_next_out(ks_server *handle, ks_address *to, void *room, size_t room_len, size_t *len);
+
+typedef struct {
+    uint64_t version;           /* that it made; 0 where it changed nothing */
+    size_t path_len;            /* bytes of the path's text */
+    ks_address from;            /* whose request it was */
+    uint8_t method;             /* enum ks_method */
+    uint8_t token_len;
+    uint8_t token[8];
+} ks_applied;
+
+/* What the last feed or tick applied, if it did: a PUT, POST or DELETE of a client that was answered with 2.01, 2.02 or
+ * 2.04, with its path as text at the front of the room (KS_PATH_ROOM bytes are always enough). KS_DONE; KS_OK where there
+ * is nothing; KS_SMALL_ROOM, after which you may ask again; KS_NOT_LIVE. The next feed or tick, an idle one too, empties
+ * it: ask after each feed, and after each tick that answered KS_DONE, before the next. */
+int32_t ks_server_applied(ks_server *handle, ks_applied *done, char *room, size_t room_len);
+
+/* ---- The client of one server ------------------------------------------------------------------------------------ */
+
+/* Makes a client of that server, to which nothing has happened; what the handle held is freed. As ks_server_new. */
+int32_t ks_client_new(ks_client *handle, const ks_address *server, const ks_config *config, const ks_seed *seed);
+
+/* Frees it, as ks_server_free does. What it asked for is not cancelled: an observation ends at the server's next
+ * notification, if your port answers that with a Reset or not at all. */
+void ks_client_free(ks_client *handle);
+
+enum ks_method { KS_GET = 1, KS_POST = 2, KS_PUT = 3, KS_DELETE = 4 };
+
+typedef struct {
+    int32_t format;             /* of the body, or KS_NO_FORMAT */
+    int32_t accept;             /* that is wanted, or KS_NO_FORMAT */
+    uint8_t method;             /* enum ks_method */
+    bool if_none_match;         /* whether nothing may be there yet */
+} ks_request;
+
+typedef struct { uint8_t len; uint8_t bytes[8]; } ks_tag;   /* an entity-tag of 1 to 8 bytes */
+
+/* Why a call or an observation is not taken. (4 is want of memory, answered as KS_NO_MEMORY.) */
+enum ks_call_refusal {
+    KS_CALL_QUEUE_FULL = 1,     /* 8 calls wait */
+    KS_CALL_BODY_TOO_LARGE = 2, /* the body is longer than body_limit */
+    KS_CALL_BAD_PATH = 3,       /* path and options are too long for one message */
+    KS_CALL_WATCHES_FULL = 5,   /* 16 observations wait, run or are live */
+    KS_CALL_CALLS_SPENT = 6     /* each number was given once */
+};
+
+/* Takes a request. It starts at a later tick; one runs at a time, in order, and 8 wait. *id is its number; its report has
+ * that number. At most 4 tags each: for none any pointer and 0. KS_OK; ks_call_refusal; KS_BAD_PATH, KS_BAD_ARGUMENT,
+ * KS_NO_MEMORY, KS_NOT_LIVE. */
+int32_t ks_client_call(ks_client *handle, uint64_t now, const ks_request *what, const char *path, size_t path_len,
+                       const void *body, size_t body_len, const ks_tag *etags, size_t etags_len,
+                       const ks_tag *if_match, size_t if_match_len, uint64_t *id);
+
+/* Takes an observation of what the path holds, whose registration starts at a later tick. Its reports are of kind
+ * KS_VALUE until a last one. As ks_client_call. */
+int32_t ks_client_observe(ks_client *handle, uint64_t now, const char *path, size_t path_len, uint64_t *id);
+
+enum ks_cancel_refusal {
+    KS_CANCEL_UNKNOWN = 1,      /* no live observation has the number, or it is being cancelled */
+    KS_CANCEL_QUEUE_FULL = 2    /* 8 calls wait */
+};
+
+/* Takes the cancel of an observation, which is asked of the server; KS_CANCELLED is its last report. KS_OK;
+ * ks_cancel_refusal; KS_NOT_LIVE. */
+int32_t ks_client_cancel(ks_client *handle, uint64_t now, uint64_t id);
+
+/* Forgets an observation, with no message and no further report; its next notification is answered with a Reset, which
+ * ends it at the server. KS_DONE; KS_OK where none is live with that number; KS_NOT_LIVE. */
+int32_t ks_client_forget(ks_client *handle, uint64_t id);
+
+/* As the server's. A client's calls start in its ticks, so tick after each call, cancel and feed. */
+int32_t ks_client_feed(ks_client *handle, uint64_t now, const ks_address *from, const void *datagram,
+                       size_t datagram_len, uint64_t word);
+int32_t ks_client_tick(ks_client *handle, uint64_t now, uint64_t word);
+int32_t ks_client_due(ks_client *handle, uint64_t *at);
+int32_t ks_client_next_out(ks_client *handle, ks_address *to, void *room, size_t room_len, size_t *len);
+
+enum ks_report_kind {
+    KS_BODY = 1,                /* what a GET asked for: body, format, tag */
+    KS_VALID = 2,               /* one that was named by an entity-tag is valid: tag */
+    KS_SUCCESS = 3,             /* a POST, PUT or DELETE succeeded: code */
+    KS_VALUE = 4,               /* of an observation: sequence, body, format, tag; more may follow */
+    KS_ENDED = 5,               /* the server ended the observation, or did not begin it: code */
+    KS_CANCELLED = 6,           /* the observation is cancelled */
+    KS_FAILED = 7,              /* another response: code */
+    KS_TIMEOUT = 8,             /* no acknowledgement came */
+    KS_RESET = 9,               /* the server rejected the request by a Reset */
+    KS_NO_RESPONSE = 10,        /* acknowledged, but no separate response came */
+    KS_CHANGED = 11,            /* the representation changed again and again while its blocks were fetched */
+    KS_BAD_BLOCK = 12,          /* a block is not the one that was asked for */
+    KS_NO_TAG = 13,             /* one of several blocks has no entity-tag */
+    KS_TOO_LARGE = 14,          /* the body is longer than body_limit */
+    KS_NO_IDS = 15              /* no Message ID or no token was free */
+};
+
+typedef struct {
+    uint64_t id;                /* of which call or observation */
+    size_t body_len;
+    int32_t format;             /* or KS_NO_FORMAT */
+    uint32_t sequence;          /* of a KS_VALUE: rises, modulo 2^24 */
+    uint8_t kind;               /* enum ks_report_kind */
+    uint8_t code;               /* 0x45 for 2.05: three bits of class, five of detail; or 0 */
+    uint8_t tag_len;            /* 0: no entity-tag */
+    uint8_t tag[8];
+} ks_report;
+
+/* Takes the report that is to be taken next: KS_DONE with *report written and its body at the front of the room; KS_OK
+ * where there is none; KS_SMALL_ROOM with *report written, where body_len says how much room is wanted: it is given again.
+ * As many bytes as the client's body_limit are always enough. KS_NOT_LIVE. Each report but a KS_VALUE is the last of its
+ * number. After KS_SUCCESS the request was applied once; after KS_FAILED never; after another last report perhaps. */
+int32_t ks_client_next_report(ks_client *handle, ks_report *report, void *room, size_t room_len);
+
+/* ---- A look at a datagram ---------------------------------------------------------------------------------------- */
+
+/* The first fault of a datagram that is no message of CoAP. */
+enum ks_fault {
+    KS_FAULT_SHORT = 1, KS_FAULT_VERSION = 2, KS_FAULT_TOKEN_LENGTH = 3, KS_FAULT_TOKEN_CUT = 4,
+    KS_FAULT_EMPTY_NOT_BARE = 5, KS_FAULT_DELTA_RESERVED = 6, KS_FAULT_LENGTH_RESERVED = 7, KS_FAULT_OPTION_CUT = 8,
+    KS_FAULT_NUMBER_TOO_LARGE = 9, KS_FAULT_NO_PAYLOAD = 10
+};
+
+typedef struct {
+    size_t fault_at;            /* where the fault is, in bytes from the start; 0 where there is none */
+    size_t path_len;            /* bytes of the path's text */
+    size_t payload_len;
+    uint16_t id;                /* the Message ID; 0 where the fault hides it */
+    uint8_t kind;               /* 0 Confirmable, 1 Non-confirmable, 2 Acknowledgement, 3 Reset; 255 where it is hidden */
+    uint8_t code;               /* as in ks_report; 1 to 4 of a request are enum ks_method; 0 at a fault */
+    uint8_t token_len;
+    uint8_t token[8];
+} ks_message;
+
+/* What a datagram says, so that an application may drop one before ks_server_feed, by its path or its sender; one that is
+ * dropped looks lost to both ends. KS_OK with *shown written and the values of Uri-Path as text at the front of the room,
+ * each behind a `/`; ks_fault with *shown written; KS_SMALL_ROOM with nothing written to *shown: a datagram's length and
+ * 1 are room enough. It needs no end, takes no memory and changes nothing. */
+int32_t ks_peek(const void *datagram, size_t datagram_len, ks_message *shown, char *room, size_t room_len);
+
+#ifdef __cplusplus
+}
+#endif
+#endif

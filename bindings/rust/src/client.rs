@@ -1,0 +1,217 @@
+//! A client of one server.
+
+use crate::errors::{called, cancelled, made, ticked, CallError, CancelError, NewError, OutOfMemory};
+use crate::message::{Code, Method, Tag};
+use crate::raw;
+use crate::setting::{address, format_number, format_of, socket_address, Config, Surroundings, Transmit};
+use crate::MAX_DATAGRAM;
+use std::net::SocketAddrV4;
+use std::time::Instant;
+
+/// A client of one server. One call runs at a time, 8 wait; 16 observations may be live.
+///
+/// A call starts in [`Client::handle_timeout`]: call that after each `call`, `observe`, `cancel` and `handle`.
+pub struct Client {
+    raw: raw::Client,
+    around: Surroundings,
+    room: Vec<u8>,
+}
+
+/// The number of a call or of an observation.
+#[derive(Clone, Copy, Debug, PartialEq, Eq, Hash)]
+pub struct CallId(pub u64);
+
+/// What a call asks for.
+#[derive(Clone, Debug)]
+#[non_exhaustive]
+pub struct Request<'a> {
+    /// What is asked for.
+    pub method: Method,
+    /// Of which resource: segments with `/` between them.
+    pub path: &'a str,
+    /// The body, of a PUT or a POST.
+    pub body: &'a [u8],
+    /// The Content-Format of the body, if it is told.
+    pub format: Option<u16>,
+    /// The Content-Format that is wanted.
+    pub accept: Option<u16>,
+    /// Representations that are known, at most 4 (RFC 7252, section 5.10.6.2).
+    pub etags: &'a [Tag],
+    /// Representations of which one has to be there, at most 4 (RFC 7252, section 5.10.8.1).
+    pub if_match: &'a [Tag],
+    /// Whether nothing may be there yet (RFC 7252, section 5.10.8.2).
+    pub if_none_match: bool,
+}
+
+impl<'a> Request<'a> {
+    /// A request with no body and no conditions; change its fields for more.
+    pub fn new(method: Method, path: &'a str) -> Request<'a> {
+        Request { method, path, body: &[], format: None, accept: None, etags: &[], if_match: &[], if_none_match: false }
+    }
+
+    /// A GET.
+    pub fn get(path: &'a str) -> Request<'a> {
+        Request::new(Method::Get, path)
+    }
+
+    /// A PUT of that body.
+    pub fn put(path: &'a str, format: Option<u16>, body: &'a [u8]) -> Request<'a> {
+        Request { body, format, ..Request::new(Method::Put, path) }
+    }
+}
+
+/// A representation that was fetched.
+#[derive(Clone, Debug, PartialEq, Eq)]
+#[non_exhaustive]
+pub struct Fetched {
+    /// Its entity-tag, where it has one.
+    pub tag: Option<Tag>,
+    /// Its Content-Format, where it is told.
+    pub format: Option<u16>,
+    /// Its bytes.
+    pub body: Vec<u8>,
+}
+
+/// What became of a call or an observation. Each but `Value` is the last one of its number.
+#[derive(Clone, Debug, PartialEq, Eq)]
+#[non_exhaustive]
+pub enum Report {
+    /// What a GET asked for.
+    Body(Fetched),
+    /// One that was named by an entity-tag is valid.
+    Valid(Option<Tag>),
+    /// A POST, PUT or DELETE succeeded: it was applied once.
+    Done(Code),
+    /// What an observed path holds, with a sequence number that rises (modulo 2^24).
+    Value(u32, Fetched),
+    /// The server ended the observation, or did not begin it.
+    Ended(Code),
+    /// The observation is cancelled.
+    Cancelled,
+    /// Another response: the request was not applied.
+    Failed(Code),
+    /// No acknowledgement came.
+    Timeout,
+    /// The server rejected the request by a Reset.
+    Reset,
+    /// It was acknowledged, but no separate response came.
+    NoResponse,
+    /// The representation changed again and again while its blocks were fetched.
+    Changed,
+    /// A block is not the one that was asked for.
+    BadBlock,
+    /// One of several blocks has no entity-tag.
+    NoTag,
+    /// The body is longer than the client's limit.
+    TooLarge,
+    /// No Message ID or no token was free.
+    NoIds,
+}
+
+impl Client {
+    /// A client of that server, to which nothing has happened.
+    pub fn new(config: &Config, server: SocketAddrV4, now: Instant) -> Result<Client, NewError> {
+        let mut around = Surroundings::new(config, now);
+        let mut raw = raw::Client::empty();
+        made(raw.new(&address(server), &config.raw(), &around.seed()))?;
+        Ok(Client { raw, around, room: Vec::new() })
+    }
+
+    /// Takes a request, which starts in `handle_timeout`. Its number.
+    pub fn call(&mut self, now: Instant, request: &Request<'_>) -> Result<CallId, CallError> {
+        let now = self.around.moment(now);
+        let what = raw::ks_request {
+            format: format_number(request.format),
+            accept: format_number(request.accept),
+            method: request.method as u8,
+            if_none_match: request.if_none_match,
+        };
+        let etags: Vec<_> = request.etags.iter().map(Tag::raw).collect();
+        let if_match: Vec<_> = request.if_match.iter().map(Tag::raw).collect();
+        let mut id = 0;
+        called(self.raw.call(now, &what, request.path, request.body, &etags, &if_match, &mut id)).map(|()| CallId(id))
+    }
+
+    /// Takes an observation, whose registration starts in `handle_timeout`. Its number.
+    pub fn observe(&mut self, now: Instant, path: &str) -> Result<CallId, CallError> {
+        let (now, mut id) = (self.around.moment(now), 0);
+        called(self.raw.observe(now, path, &mut id)).map(|()| CallId(id))
+    }
+
+    /// Takes the cancel of an observation, which is asked of the server; `Report::Cancelled` is its last report.
+    pub fn cancel(&mut self, now: Instant, id: CallId) -> Result<(), CancelError> {
+        cancelled(self.raw.cancel(self.around.moment(now), id.0))
+    }
+
+    /// Forgets an observation, with no message and no further report. False where none is live with that number.
+    pub fn forget(&mut self, id: CallId) -> bool {
+        self.raw.forget(id.0) == raw::KS_DONE
+    }
+
+    /// Takes a datagram that arrived.
+    pub fn handle(&mut self, now: Instant, from: SocketAddrV4, datagram: &[u8]) -> Result<(), OutOfMemory> {
+        let (now, word) = (self.around.moment(now), self.around.word());
+        ticked(self.raw.feed(now, &address(from), datagram, word)).map(|_| ())
+    }
+
+    /// When to call `handle_timeout`, unless something is handed in before. None: never.
+    pub fn poll_timeout(&self) -> Option<Instant> {
+        let mut at = 0;
+        match self.raw.due(&mut at) {
+            raw::KS_DONE => self.around.instant(at),
+            _ => None,
+        }
+    }
+
+    /// Does all that is due: starts what waits, sends again, ends waits.
+    pub fn handle_timeout(&mut self, now: Instant) -> Result<(), OutOfMemory> {
+        let now = self.around.moment(now);
+        loop {
+            let word = self.around.word();
+            if !ticked(self.raw.tick(now, word))? {
+                return Ok(());
+            }
+        }
+    }
+
+    /// The datagram that is to be sent next, in the buffer.
+    pub fn poll_transmit(&mut self, buffer: &mut [u8; MAX_DATAGRAM]) -> Option<Transmit> {
+        let (mut to, mut size) = (raw::ks_address::default(), 0);
+        let answer = self.raw.next_out(&mut to, buffer, &mut size);
+        (answer == raw::KS_DONE).then(|| Transmit { destination: socket_address(to), size })
+    }
+
+    /// What became of a call or an observation, in order.
+    pub fn poll_report(&mut self) -> Option<(CallId, Report)> {
+        let mut told = raw::ks_report::default();
+        loop {
+            match self.raw.next_report(&mut told, &mut self.room) {
+                raw::KS_SMALL_ROOM => self.room.resize(told.body_len, 0),
+                raw::KS_DONE => break,
+                _ => return None,
+            }
+        }
+        let tag = Tag::new(told.tag.get(..usize::from(told.tag_len)).unwrap_or_default());
+        let code = Code(told.code);
+        let body = || self.room.get(..told.body_len).unwrap_or_default().to_vec();
+        let fetched = || Fetched { tag, format: format_of(told.format), body: body() };
+        let report = match told.kind {
+            1 => Report::Body(fetched()),
+            2 => Report::Valid(tag),
+            3 => Report::Done(code),
+            4 => Report::Value(told.sequence, fetched()),
+            5 => Report::Ended(code),
+            6 => Report::Cancelled,
+            7 => Report::Failed(code),
+            8 => Report::Timeout,
+            9 => Report::Reset,
+            10 => Report::NoResponse,
+            11 => Report::Changed,
+            12 => Report::BadBlock,
+            13 => Report::NoTag,
+            14 => Report::TooLarge,
+            _ => Report::NoIds,
+        };
+        Some((CallId(told.id), report))
+    }
+}

@@ -1,0 +1,210 @@
+//! Why an end does not do what it is asked for. After each of these the end is as if it had not been asked, but that the
+//! moment may have counted.
+
+use crate::raw;
+use std::error::Error;
+use std::fmt;
+
+macro_rules! errors {
+    ($($(#[$doc:meta])* $name:ident { $($(#[$variant_doc:meta])* $variant:ident = $text:literal,)* })*) => {$(
+        $(#[$doc])*
+        #[derive(Clone, Copy, Debug, PartialEq, Eq, Hash)]
+        #[non_exhaustive]
+        pub enum $name {
+            $($(#[$variant_doc])* $variant,)*
+        }
+
+        impl fmt::Display for $name {
+            fn fmt(&self, f: &mut fmt::Formatter<'_>) -> fmt::Result {
+                f.write_str(match self {
+                    $($name::$variant => $text,)*
+                })
+            }
+        }
+
+        impl Error for $name {}
+    )*};
+}
+
+errors! {
+    /// Why no end is made.
+    NewError {
+        /// An allocation was refused.
+        Memory = "out of memory",
+        /// No block has so many bytes.
+        BlockSize = "the block size is none of 16, 32, .. 1,024",
+        /// No body is limited so.
+        BodyLimit = "the limit of bodies is not 1 to 1,048,576",
+        /// So many messages cannot be remembered.
+        Remembered = "the number of remembered messages is not 4,096",
+        /// No window takes so many changes.
+        Changes = "the number of changes is not 1 to 4,194,303",
+    }
+
+    /// Why a server's resource is not changed.
+    SetError {
+        /// An allocation was refused.
+        Memory = "out of memory",
+        /// The path has over 16 segments, or one of over 255 bytes.
+        BadPath = "over 16 segments, or one of over 255 bytes",
+        /// The body is longer than the server's limit.
+        TooLarge = "the body is longer than the limit",
+        /// 256 other paths hold something.
+        TooManyPaths = "256 other paths hold something",
+        /// The window of 256 s has no change left.
+        RateExceeded = "the window of 256 s has no change left",
+        /// The last change had the greatest version.
+        VersionsSpent = "the versions are spent",
+    }
+
+    /// Why a path is given no delay.
+    DelayError {
+        /// An allocation was refused.
+        Memory = "out of memory",
+        /// The path has over 16 segments, or one of over 255 bytes.
+        BadPath = "over 16 segments, or one of over 255 bytes",
+        /// 16 other paths have a delay.
+        Full = "16 other paths have a delay",
+    }
+
+    /// Why a call or an observation is not taken.
+    CallError {
+        /// An allocation was refused.
+        Memory = "out of memory",
+        /// 8 calls wait.
+        QueueFull = "8 calls wait",
+        /// The body is longer than the client's limit.
+        BodyTooLarge = "the body is longer than the limit",
+        /// The path has over 16 segments or one of over 255 bytes, or is too long for a message.
+        BadPath = "the path is too long",
+        /// 16 observations wait, run or are live.
+        WatchesFull = "16 observations wait, run or are live",
+        /// Each number was given once.
+        CallsSpent = "the numbers of calls are spent",
+        /// There are over 4 entity-tags.
+        TooManyTags = "over 4 entity-tags",
+    }
+
+    /// Why an observation is not cancelled.
+    CancelError {
+        /// No live observation has the number, or it is being cancelled.
+        Unknown = "no live observation has the number",
+        /// 8 calls wait.
+        QueueFull = "8 calls wait",
+    }
+
+    /// Why a datagram is no message of CoAP: its first fault (RFC 7252, section 3).
+    PeekError {
+        /// Fewer than the 4 bytes of a header.
+        Short = "fewer than 4 bytes",
+        /// A version other than 1.
+        Version = "a version other than 1",
+        /// A token length of 9 to 15.
+        TokenLength = "a token length of 9 to 15",
+        /// Fewer bytes than the token length says.
+        TokenCut = "the bytes end inside the token",
+        /// Code 0.00 with a token length, or with bytes behind the Message ID.
+        EmptyNotBare = "an Empty message that is not bare",
+        /// A delta nibble 15 in a byte that is no payload marker.
+        DeltaReserved = "a reserved option delta",
+        /// A length nibble 15.
+        LengthReserved = "a reserved option length",
+        /// The bytes end inside an option.
+        OptionCut = "the bytes end inside an option",
+        /// The deltas sum up to an option number above 65,535.
+        NumberTooLarge = "an option number above 65,535",
+        /// The payload marker is the last byte.
+        NoPayload = "a payload marker with no payload",
+    }
+}
+
+/// An allocation was refused: a datagram that was handed in counts as lost, and what was due is still due.
+#[derive(Clone, Copy, Debug, PartialEq, Eq, Hash)]
+pub struct OutOfMemory;
+
+impl fmt::Display for OutOfMemory {
+    fn fmt(&self, f: &mut fmt::Formatter<'_>) -> fmt::Result {
+        f.write_str("out of memory")
+    }
+}
+
+impl Error for OutOfMemory {}
+
+pub(crate) fn made(answer: i32) -> Result<(), NewError> {
+    match answer {
+        raw::KS_OK => Ok(()),
+        raw::KS_BAD_BLOCK_SIZE => Err(NewError::BlockSize),
+        raw::KS_BAD_BODY_LIMIT => Err(NewError::BodyLimit),
+        raw::KS_BAD_REMEMBERED => Err(NewError::Remembered),
+        raw::KS_BAD_CHANGES => Err(NewError::Changes),
+        _ => Err(NewError::Memory),
+    }
+}
+
+/// Whether there was something.
+pub(crate) fn changed(answer: i32) -> Result<bool, SetError> {
+    match answer {
+        raw::KS_OK => Ok(false),
+        raw::KS_DONE => Ok(true),
+        2 => Err(SetError::TooLarge),
+        3 => Err(SetError::TooManyPaths),
+        4 => Err(SetError::RateExceeded),
+        5 => Err(SetError::VersionsSpent),
+        raw::KS_BAD_PATH => Err(SetError::BadPath),
+        _ => Err(SetError::Memory),
+    }
+}
+
+pub(crate) fn delayed(answer: i32) -> Result<(), DelayError> {
+    match answer {
+        raw::KS_OK => Ok(()),
+        1 => Err(DelayError::Full),
+        raw::KS_BAD_PATH => Err(DelayError::BadPath),
+        _ => Err(DelayError::Memory),
+    }
+}
+
+pub(crate) fn called(answer: i32) -> Result<(), CallError> {
+    match answer {
+        raw::KS_OK => Ok(()),
+        1 => Err(CallError::QueueFull),
+        2 => Err(CallError::BodyTooLarge),
+        3 | raw::KS_BAD_PATH => Err(CallError::BadPath),
+        5 => Err(CallError::WatchesFull),
+        6 => Err(CallError::CallsSpent),
+        raw::KS_NO_MEMORY => Err(CallError::Memory),
+        // What else the library calls an argument at fault cannot be said in these types.
+        _ => Err(CallError::TooManyTags),
+    }
+}
+
+pub(crate) fn cancelled(answer: i32) -> Result<(), CancelError> {
+    match answer {
+        raw::KS_OK => Ok(()),
+        2 => Err(CancelError::QueueFull),
+        _ => Err(CancelError::Unknown),
+    }
+}
+
+pub(crate) fn ticked(answer: i32) -> Result<bool, OutOfMemory> {
+    match answer {
+        raw::KS_OK => Ok(false),
+        raw::KS_DONE => Ok(true),
+        _ => Err(OutOfMemory),
+    }
+}
+
+pub(crate) fn fault(answer: i32) -> PeekError {
+    match answer {
+        1 => PeekError::Short,
+        2 => PeekError::Version,
+        3 => PeekError::TokenLength,
+        4 => PeekError::TokenCut,
+        5 => PeekError::EmptyNotBare,
+        6 => PeekError::DeltaReserved,
+        7 => PeekError::LengthReserved,
+        8 => PeekError::OptionCut,
+        9 => PeekError::NumberTooLarge,
+        _ => PeekError::NoPayload,
+    }
+}

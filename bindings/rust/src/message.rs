@@ -1,0 +1,171 @@
+//! Words of the protocol: codes, methods, entity-tags, and what a datagram says.
+
+use crate::errors::{fault, PeekError};
+use crate::raw;
+use std::fmt;
+
+/// The code of a message: a class and a detail, as 2.05 (RFC 7252, section 3).
+///
+/// ```
+/// # use knifesilver::Code;
+/// assert_eq!(Code::CONTENT.to_string(), "2.05");
+/// assert_eq!((Code::NOT_FOUND.class(), Code::NOT_FOUND.detail()), (4, 4));
+/// ```
+#[derive(Clone, Copy, PartialEq, Eq, PartialOrd, Ord, Hash)]
+pub struct Code(pub u8);
+
+impl Code {
+    /// 2.01 Created.
+    pub const CREATED: Code = Code(0x41);
+    /// 2.02 Deleted.
+    pub const DELETED: Code = Code(0x42);
+    /// 2.04 Changed.
+    pub const CHANGED: Code = Code(0x44);
+    /// 2.05 Content.
+    pub const CONTENT: Code = Code(0x45);
+    /// 4.04 Not Found.
+    pub const NOT_FOUND: Code = Code(0x84);
+    /// 4.12 Precondition Failed.
+    pub const PRECONDITION_FAILED: Code = Code(0x8c);
+
+    /// 0 of a request, 2 to 5 of a response.
+    pub fn class(self) -> u8 {
+        self.0 >> 5
+    }
+
+    /// Which one of its class.
+    pub fn detail(self) -> u8 {
+        self.0 & 31
+    }
+}
+
+impl fmt::Display for Code {
+    fn fmt(&self, f: &mut fmt::Formatter<'_>) -> fmt::Result {
+        write!(f, "{}.{:02}", self.class(), self.detail())
+    }
+}
+
+impl fmt::Debug for Code {
+    fn fmt(&self, f: &mut fmt::Formatter<'_>) -> fmt::Result {
+        write!(f, "Code({self})")
+    }
+}
+
+/// What a request asks for (RFC 7252, section 5.8).
+#[derive(Clone, Copy, Debug, PartialEq, Eq, Hash)]
+pub enum Method {
+    /// The representation.
+    Get = 1,
+    /// That the resource process the body.
+    Post = 2,
+    /// That the resource be made or replaced by the body.
+    Put = 3,
+    /// That the resource be deleted.
+    Delete = 4,
+}
+
+impl Method {
+    /// The method of a request's code.
+    pub fn of(code: Code) -> Option<Method> {
+        match code.0 {
+            1 => Some(Method::Get),
+            2 => Some(Method::Post),
+            3 => Some(Method::Put),
+            4 => Some(Method::Delete),
+            _ => None,
+        }
+    }
+}
+
+/// An entity-tag of 1 to 8 bytes (RFC 7252, section 5.10.6).
+#[derive(Clone, Copy, PartialEq, Eq, Hash)]
+pub struct Tag {
+    len: u8,
+    bytes: [u8; 8],
+}
+
+impl Tag {
+    /// The tag of these bytes, where there are 1 to 8.
+    pub fn new(bytes: &[u8]) -> Option<Tag> {
+        let len = u8::try_from(bytes.len()).ok().filter(|len| *len > 0)?;
+        let mut tag = Tag { len, bytes: [0; 8] };
+        tag.bytes.get_mut(..bytes.len())?.copy_from_slice(bytes);
+        Some(tag)
+    }
+
+    /// Its bytes.
+    pub fn as_slice(&self) -> &[u8] {
+        &self.bytes[..usize::from(self.len)]
+    }
+
+    pub(crate) fn raw(&self) -> raw::ks_tag {
+        raw::ks_tag { len: self.len, bytes: self.bytes }
+    }
+}
+
+impl fmt::Debug for Tag {
+    fn fmt(&self, f: &mut fmt::Formatter<'_>) -> fmt::Result {
+        f.write_str("Tag(")?;
+        self.as_slice().iter().try_for_each(|byte| write!(f, "{byte:02x}"))?;
+        f.write_str(")")
+    }
+}
+
+/// The type of a message (RFC 7252, section 3).
+#[derive(Clone, Copy, Debug, PartialEq, Eq, Hash)]
+pub enum Kind {
+    /// It is to be acknowledged.
+    Confirmable,
+    /// It is not.
+    NonConfirmable,
+    /// It acknowledges another.
+    Acknowledgement,
+    /// It rejects another.
+    Reset,
+}
+
+/// What a datagram says.
+#[derive(Clone, Debug, PartialEq, Eq)]
+#[non_exhaustive]
+pub struct Message {
+    /// Its type.
+    pub kind: Kind,
+    /// Its code.
+    pub code: Code,
+    /// Its Message ID.
+    pub id: u16,
+    /// Its token, of 0 to 8 bytes.
+    pub token: Vec<u8>,
+    /// The values of Uri-Path, each behind a `/`.
+    pub path: Vec<u8>,
+    /// How many bytes its payload has.
+    pub payload_len: usize,
+}
+
+/// What a datagram says, or its first fault and where that is. A program may drop one before [`crate::Server::handle`], by
+/// its path or its sender: it looks lost.
+///
+/// ```
+/// # use knifesilver::{peek, Kind, PeekError};
+/// let message = peek(b"\x40\x01\x7d\x34\xbbtemperature").unwrap();
+/// assert_eq!((message.kind, message.path.as_slice()), (Kind::Confirmable, &b"/temperature"[..]));
+/// assert_eq!(peek(b"\x40"), Err((PeekError::Short, 1)));
+/// ```
+pub fn peek(datagram: &[u8]) -> Result<Message, (PeekError, usize)> {
+    let mut shown = raw::ks_message::default();
+    // Each option takes a byte before its value, and so does its `/`.
+    let mut path = vec![0; datagram.len() + 1];
+    let answer = raw::peek(datagram, &mut shown, &mut path);
+    if answer != raw::KS_OK {
+        return Err((fault(answer), shown.fault_at));
+    }
+    path.truncate(shown.path_len);
+    let kind = match shown.kind {
+        0 => Kind::Confirmable,
+        1 => Kind::NonConfirmable,
+        2 => Kind::Acknowledgement,
+        _ => Kind::Reset,
+    };
+    let token = shown.token[..usize::from(shown.token_len.min(8))].to_vec();
+    Ok(Message { kind, code: Code(shown.code), id: shown.id, token, path, payload_len: shown.payload_len })
+}

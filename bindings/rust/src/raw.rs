@@ -1,0 +1,314 @@
+//! The calls of `knifesilver.h`, and a safe method for each: the one file with `unsafe` in it.
+//!
+//! `bindings/check` compares these declarations with the header and with the library's exports, names and parameters, since
+//! no compiler does.
+
+#![allow(unsafe_code, non_camel_case_types)]
+
+use std::cell::UnsafeCell;
+use std::ffi::{c_char, c_void};
+use std::ptr::null_mut;
+
+pub const KS_OK: i32 = 0;
+pub const KS_DONE: i32 = 1;
+pub const KS_NO_MEMORY: i32 = -2;
+pub const KS_BAD_PATH: i32 = -3;
+pub const KS_SMALL_ROOM: i32 = -4;
+pub const KS_BAD_BLOCK_SIZE: i32 = -7;
+pub const KS_BAD_BODY_LIMIT: i32 = -8;
+pub const KS_BAD_REMEMBERED: i32 = -9;
+pub const KS_BAD_CHANGES: i32 = -10;
+pub const KS_VERSION: u32 = 100;
+pub const KS_NO_FORMAT: i32 = -1;
+pub const KS_DATAGRAM_ROOM: usize = 1152;
+pub const KS_PATH_ROOM: usize = 4096;
+
+#[repr(C)]
+pub struct ks_handle {
+    at: *mut c_void,
+    live: bool,
+}
+
+#[repr(C)]
+pub struct ks_server {
+    handle: ks_handle,
+}
+
+#[repr(C)]
+pub struct ks_client {
+    handle: ks_handle,
+}
+
+#[repr(C)]
+#[derive(Clone, Copy, Default)]
+pub struct ks_address {
+    pub ip: [u8; 4],
+    pub port: u16,
+}
+
+#[repr(C)]
+#[derive(Clone, Copy, Default)]
+pub struct ks_config {
+    pub size: u32,
+    pub block_size: u32,
+    pub body_limit: u32,
+    pub remembered: u32,
+    pub changes: u32,
+}
+
+#[repr(C)]
+#[derive(Clone, Copy)]
+pub struct ks_seed {
+    pub word: u64,
+    pub key0: u64,
+    pub key1: u64,
+}
+
+#[repr(C)]
+#[derive(Clone, Copy, Default)]
+pub struct ks_representation {
+    pub version: u64,
+    pub body_len: usize,
+    pub format: i32,
+}
+
+#[repr(C)]
+#[derive(Clone, Copy, Default)]
+pub struct ks_applied {
+    pub version: u64,
+    pub path_len: usize,
+    pub from: ks_address,
+    pub method: u8,
+    pub token_len: u8,
+    pub token: [u8; 8],
+}
+
+#[repr(C)]
+#[derive(Clone, Copy)]
+pub struct ks_request {
+    pub format: i32,
+    pub accept: i32,
+    pub method: u8,
+    pub if_none_match: bool,
+}
+
+#[repr(C)]
+#[derive(Clone, Copy, Default)]
+pub struct ks_tag {
+    pub len: u8,
+    pub bytes: [u8; 8],
+}
+
+#[repr(C)]
+#[derive(Clone, Copy, Default)]
+pub struct ks_report {
+    pub id: u64,
+    pub body_len: usize,
+    pub format: i32,
+    pub sequence: u32,
+    pub kind: u8,
+    pub code: u8,
+    pub tag_len: u8,
+    pub tag: [u8; 8],
+}
+
+#[repr(C)]
+#[derive(Clone, Copy, Default)]
+pub struct ks_message {
+    pub fault_at: usize,
+    pub path_len: usize,
+    pub payload_len: usize,
+    pub id: u16,
+    pub kind: u8,
+    pub code: u8,
+    pub token_len: u8,
+    pub token: [u8; 8],
+}
+
+#[rustfmt::skip]
+extern "C" {
+    fn ks_version() -> u32;
+    fn ks_server_new(handle: *mut ks_server, config: *const ks_config, seed: *const ks_seed) -> i32;
+    fn ks_server_free(handle: *mut ks_server);
+    fn ks_server_set(handle: *mut ks_server, now: u64, path: *const c_char, path_len: usize, format: i32, body: *const c_void, body_len: usize, version: *mut u64) -> i32;
+    fn ks_server_update(handle: *mut ks_server, now: u64, path: *const c_char, path_len: usize, format: i32, body: *const c_void, body_len: usize, version: *mut u64) -> i32;
+    fn ks_server_remove(handle: *mut ks_server, now: u64, path: *const c_char, path_len: usize) -> i32;
+    fn ks_server_get(handle: *mut ks_server, path: *const c_char, path_len: usize, shown: *mut ks_representation, room: *mut c_void, room_len: usize) -> i32;
+    fn ks_server_set_delay(handle: *mut ks_server, path: *const c_char, path_len: usize, ms: u64) -> i32;
+    fn ks_server_feed(handle: *mut ks_server, now: u64, from: *const ks_address, datagram: *const c_void, datagram_len: usize, word: u64) -> i32;
+    fn ks_server_tick(handle: *mut ks_server, now: u64, word: u64) -> i32;
+    fn ks_server_due(handle: *mut ks_server, at: *mut u64) -> i32;
+    fn ks_server_next_out(handle: *mut ks_server, to: *mut ks_address, room: *mut c_void, room_len: usize, len: *mut usize) -> i32;
+    fn ks_server_applied(handle: *mut ks_server, done: *mut ks_applied, room: *mut c_char, room_len: usize) -> i32;
+    fn ks_client_new(handle: *mut ks_client, server: *const ks_address, config: *const ks_config, seed: *const ks_seed) -> i32;
+    fn ks_client_free(handle: *mut ks_client);
+    fn ks_client_call(handle: *mut ks_client, now: u64, what: *const ks_request, path: *const c_char, path_len: usize, body: *const c_void, body_len: usize, etags: *const ks_tag, etags_len: usize, if_match: *const ks_tag, if_match_len: usize, id: *mut u64) -> i32;
+    fn ks_client_observe(handle: *mut ks_client, now: u64, path: *const c_char, path_len: usize, id: *mut u64) -> i32;
+    fn ks_client_cancel(handle: *mut ks_client, now: u64, id: u64) -> i32;
+    fn ks_client_forget(handle: *mut ks_client, id: u64) -> i32;
+    fn ks_client_feed(handle: *mut ks_client, now: u64, from: *const ks_address, datagram: *const c_void, datagram_len: usize, word: u64) -> i32;
+    fn ks_client_tick(handle: *mut ks_client, now: u64, word: u64) -> i32;
+    fn ks_client_due(handle: *mut ks_client, at: *mut u64) -> i32;
+    fn ks_client_next_out(handle: *mut ks_client, to: *mut ks_address, room: *mut c_void, room_len: usize, len: *mut usize) -> i32;
+    fn ks_client_next_report(handle: *mut ks_client, report: *mut ks_report, room: *mut c_void, room_len: usize) -> i32;
+    fn ks_peek(datagram: *const c_void, datagram_len: usize, shown: *mut ks_message, room: *mut c_char, room_len: usize) -> i32;
+}
+
+// SAFETY of all calls below. The declarations above fit the exports. A handle begins as zeros, is written by exports alone
+// and is private, in an `UnsafeCell`, so that its type is not `Sync`; no call calls back. So calls of one handle come one
+// at a time. Each other pointer is that of a Rust reference, so it is not null and aligned, and where it is written through
+// it is apart from all others; each length is that of its slice. No export asks for more.
+
+const EMPTY: ks_handle = ks_handle { at: null_mut(), live: false };
+
+/// The version of the library that is linked.
+pub fn version() -> u32 {
+    unsafe { ks_version() }
+}
+
+/// What a datagram says.
+pub fn peek(datagram: &[u8], shown: &mut ks_message, room: &mut [u8]) -> i32 {
+    let (at, len) = (datagram.as_ptr().cast(), datagram.len());
+    unsafe { ks_peek(at, len, shown, room.as_mut_ptr().cast(), room.len()) }
+}
+
+/// The handle of a server, or of nothing.
+pub struct Server(UnsafeCell<ks_server>);
+
+// SAFETY: that the handle may go to another thread is proved of it (`unsafe impl Send for KsHandle` in the library), where
+// the way there is ordered by a lock, a start or join of a thread, or a sequentially consistent atomic. What safe Rust
+// moves it by orders at least by release and acquire, which is what the library's plain memory needs.
+unsafe impl Send for Server {}
+
+impl Server {
+    pub fn empty() -> Server {
+        Server(UnsafeCell::new(ks_server { handle: EMPTY }))
+    }
+
+    pub fn new(&mut self, config: &ks_config, seed: &ks_seed) -> i32 {
+        unsafe { ks_server_new(self.0.get_mut(), config, seed) }
+    }
+
+    pub fn set(&mut self, now: u64, path: &str, format: i32, body: &[u8], version: &mut u64) -> i32 {
+        let (text, bytes) = (path.as_ptr().cast(), body.as_ptr().cast());
+        unsafe { ks_server_set(self.0.get_mut(), now, text, path.len(), format, bytes, body.len(), version) }
+    }
+
+    pub fn update(&mut self, now: u64, path: &str, format: i32, body: &[u8], version: &mut u64) -> i32 {
+        let (text, bytes) = (path.as_ptr().cast(), body.as_ptr().cast());
+        unsafe { ks_server_update(self.0.get_mut(), now, text, path.len(), format, bytes, body.len(), version) }
+    }
+
+    pub fn remove(&mut self, now: u64, path: &str) -> i32 {
+        unsafe { ks_server_remove(self.0.get_mut(), now, path.as_ptr().cast(), path.len()) }
+    }
+
+    pub fn get(&self, path: &str, shown: &mut ks_representation, room: &mut [u8]) -> i32 {
+        let (text, place) = (path.as_ptr().cast(), room.as_mut_ptr().cast());
+        unsafe { ks_server_get(self.0.get(), text, path.len(), shown, place, room.len()) }
+    }
+
+    pub fn set_delay(&mut self, path: &str, ms: u64) -> i32 {
+        unsafe { ks_server_set_delay(self.0.get_mut(), path.as_ptr().cast(), path.len(), ms) }
+    }
+
+    pub fn feed(&mut self, now: u64, from: &ks_address, datagram: &[u8], word: u64) -> i32 {
+        unsafe { ks_server_feed(self.0.get_mut(), now, from, datagram.as_ptr().cast(), datagram.len(), word) }
+    }
+
+    pub fn tick(&mut self, now: u64, word: u64) -> i32 {
+        unsafe { ks_server_tick(self.0.get_mut(), now, word) }
+    }
+
+    pub fn due(&self, at: &mut u64) -> i32 {
+        unsafe { ks_server_due(self.0.get(), at) }
+    }
+
+    pub fn next_out(&mut self, to: &mut ks_address, room: &mut [u8], len: &mut usize) -> i32 {
+        unsafe { ks_server_next_out(self.0.get_mut(), to, room.as_mut_ptr().cast(), room.len(), len) }
+    }
+
+    pub fn applied(&self, done: &mut ks_applied, room: &mut [u8]) -> i32 {
+        unsafe { ks_server_applied(self.0.get(), done, room.as_mut_ptr().cast(), room.len()) }
+    }
+}
+
+impl Drop for Server {
+    fn drop(&mut self) {
+        unsafe { ks_server_free(self.0.get_mut()) }
+    }
+}
+
+/// The handle of a client, or of nothing.
+pub struct Client(UnsafeCell<ks_client>);
+
+// SAFETY: as of `Server`.
+unsafe impl Send for Client {}
+
+impl Client {
+    pub fn empty() -> Client {
+        Client(UnsafeCell::new(ks_client { handle: EMPTY }))
+    }
+
+    pub fn new(&mut self, server: &ks_address, config: &ks_config, seed: &ks_seed) -> i32 {
+        unsafe { ks_client_new(self.0.get_mut(), server, config, seed) }
+    }
+
+    #[allow(clippy::too_many_arguments)]
+    pub fn call(
+        &mut self,
+        now: u64,
+        what: &ks_request,
+        path: &str,
+        body: &[u8],
+        etags: &[ks_tag],
+        if_match: &[ks_tag],
+        id: &mut u64,
+    ) -> i32 {
+        let (text, bytes) = (path.as_ptr().cast(), body.as_ptr().cast());
+        let (known, wanted) = (etags.as_ptr(), if_match.as_ptr());
+        unsafe {
+            ks_client_call(
+                self.0.get_mut(), now, what, text, path.len(), bytes, body.len(), known, etags.len(), wanted, if_match.len(), id,
+            )
+        }
+    }
+
+    pub fn observe(&mut self, now: u64, path: &str, id: &mut u64) -> i32 {
+        unsafe { ks_client_observe(self.0.get_mut(), now, path.as_ptr().cast(), path.len(), id) }
+    }
+
+    pub fn cancel(&mut self, now: u64, id: u64) -> i32 {
+        unsafe { ks_client_cancel(self.0.get_mut(), now, id) }
+    }
+
+    pub fn forget(&mut self, id: u64) -> i32 {
+        unsafe { ks_client_forget(self.0.get_mut(), id) }
+    }
+
+    pub fn feed(&mut self, now: u64, from: &ks_address, datagram: &[u8], word: u64) -> i32 {
+        unsafe { ks_client_feed(self.0.get_mut(), now, from, datagram.as_ptr().cast(), datagram.len(), word) }
+    }
+
+    pub fn tick(&mut self, now: u64, word: u64) -> i32 {
+        unsafe { ks_client_tick(self.0.get_mut(), now, word) }
+    }
+
+    pub fn due(&self, at: &mut u64) -> i32 {
+        unsafe { ks_client_due(self.0.get(), at) }
+    }
+
+    pub fn next_out(&mut self, to: &mut ks_address, room: &mut [u8], len: &mut usize) -> i32 {
+        unsafe { ks_client_next_out(self.0.get_mut(), to, room.as_mut_ptr().cast(), room.len(), len) }
+    }
+
+    pub fn next_report(&mut self, report: &mut ks_report, room: &mut [u8]) -> i32 {
+        unsafe { ks_client_next_report(self.0.get_mut(), report, room.as_mut_ptr().cast(), room.len()) }
+    }
+}
+
+impl Drop for Client {
+    fn drop(&mut self) {
+        unsafe { ks_client_free(self.0.get_mut()) }
+    }
+}

@@ -1,0 +1,176 @@
+//! A server.
+
+use crate::errors::{changed, delayed, made, ticked, DelayError, NewError, OutOfMemory, SetError};
+use crate::message::{Code, Method};
+use crate::raw;
+use crate::setting::{address, format_number, format_of, socket_address, Config, Surroundings, Transmit};
+use crate::MAX_DATAGRAM;
+use std::collections::VecDeque;
+use std::net::SocketAddrV4;
+use std::time::{Duration, Instant};
+
+/// A server of CoAP: paths that hold representations, which whoever reaches its port may get, put, post to and delete.
+///
+/// ```
+/// use knifesilver::{Config, Server, MAX_DATAGRAM};
+/// use std::net::{SocketAddr, UdpSocket};
+/// use std::time::Instant;
+///
+/// # fn once(socket: &UdpSocket, server: &mut Server) -> Result<(), Box<dyn std::error::Error>> {
+/// let mut arrived = [0; 65_536];
+/// let mut buffer = [0; MAX_DATAGRAM];
+/// let wait = server.poll_timeout().map(|at| at.saturating_duration_since(Instant::now()));
+/// socket.set_read_timeout(wait.map(|wait| wait.max(std::time::Duration::from_millis(1))))?;
+/// if let Ok((len, SocketAddr::V4(from))) = socket.recv_from(&mut arrived) {
+///     server.handle(Instant::now(), from, &arrived[..len])?;
+/// }
+/// server.handle_timeout(Instant::now())?;
+/// while let Some(applied) = server.poll_applied() {
+///     println!("{:?} of {:?}", applied.method, String::from_utf8_lossy(&applied.path));
+/// }
+/// while let Some(transmit) = server.poll_transmit(&mut buffer) {
+///     socket.send_to(&buffer[..transmit.size], transmit.destination)?;
+/// }
+/// # Ok(())
+/// # }
+/// ```
+pub struct Server {
+    raw: raw::Server,
+    around: Surroundings,
+    applied: VecDeque<Applied>,
+    room: Vec<u8>,
+}
+
+/// What a path holds.
+#[derive(Clone, Debug, PartialEq, Eq)]
+#[non_exhaustive]
+pub struct Representation {
+    /// The number of the change that made it.
+    pub version: u64,
+    /// Its Content-Format, where it is told.
+    pub format: Option<u16>,
+    /// Its bytes.
+    pub body: Vec<u8>,
+}
+
+/// A request of a client that was applied: one that was answered with 2.01, 2.02 or 2.04.
+#[derive(Clone, Debug, PartialEq, Eq)]
+#[non_exhaustive]
+pub struct Applied {
+    /// The version that it made, 0 where it changed nothing.
+    pub version: u64,
+    /// Whose request it was.
+    pub from: SocketAddrV4,
+    /// What it asked for.
+    pub method: Method,
+    /// Its token.
+    pub token: Vec<u8>,
+    /// The path, with a `/` before each segment.
+    pub path: Vec<u8>,
+}
+
+impl Server {
+    /// A server that holds nothing.
+    pub fn new(config: &Config, now: Instant) -> Result<Server, NewError> {
+        let mut around = Surroundings::new(config, now);
+        let mut raw = raw::Server::empty();
+        made(raw.new(&config.raw(), &around.seed()))?;
+        Ok(Server { raw, around, applied: VecDeque::new(), room: vec![0; raw::KS_PATH_ROOM] })
+    }
+
+    /// Has the path hold the body, and marks its observers, also where the body is the same. Its version.
+    pub fn set(&mut self, now: Instant, path: &str, format: Option<u16>, body: &[u8]) -> Result<u64, SetError> {
+        let mut version = 0;
+        let now = self.around.moment(now);
+        changed(self.raw.set(now, path, format_number(format), body, &mut version)).map(|_| version)
+    }
+
+    /// The same, but nothing changes where the path holds this very body in this format: its version, and whether it was
+    /// set. So that a value that is computed is up to date, call this when it has changed, and not at each `handle`.
+    pub fn update(&mut self, now: Instant, path: &str, format: Option<u16>, body: &[u8]) -> Result<(u64, bool), SetError> {
+        let mut version = 0;
+        let now = self.around.moment(now);
+        changed(self.raw.update(now, path, format_number(format), body, &mut version)).map(|done| (version, done))
+    }
+
+    /// Takes away what the path holds, and whether it held something.
+    pub fn remove(&mut self, now: Instant, path: &str) -> Result<bool, SetError> {
+        changed(self.raw.remove(self.around.moment(now), path))
+    }
+
+    /// What the path holds. None too where the text is no path.
+    pub fn get(&self, path: &str) -> Option<Representation> {
+        let mut shown = raw::ks_representation::default();
+        let mut body = Vec::new();
+        loop {
+            match self.raw.get(path, &mut shown, &mut body) {
+                raw::KS_SMALL_ROOM => body.resize(shown.body_len, 0),
+                raw::KS_DONE => break,
+                _ => return None,
+            }
+        }
+        body.truncate(shown.body_len);
+        Some(Representation { version: shown.version, format: format_of(shown.format), body })
+    }
+
+    /// Has each Confirmable request of the path wait so long, be carried out then, and be answered by a response of its own.
+    pub fn set_delay(&mut self, path: &str, delay: Duration) -> Result<(), DelayError> {
+        let ms = u64::try_from(delay.as_millis()).unwrap_or(u64::MAX);
+        delayed(self.raw.set_delay(path, ms))
+    }
+
+    /// Takes a datagram that arrived.
+    pub fn handle(&mut self, now: Instant, from: SocketAddrV4, datagram: &[u8]) -> Result<(), OutOfMemory> {
+        let (now, word) = (self.around.moment(now), self.around.word());
+        ticked(self.raw.feed(now, &address(from), datagram, word))?;
+        self.keep_applied();
+        Ok(())
+    }
+
+    /// When to call `handle_timeout`, unless something is handed in before. None: never.
+    pub fn poll_timeout(&self) -> Option<Instant> {
+        let mut at = 0;
+        match self.raw.due(&mut at) {
+            raw::KS_DONE => self.around.instant(at),
+            _ => None,
+        }
+    }
+
+    /// Does all that is due: retransmissions, notifications, responses that were delayed.
+    pub fn handle_timeout(&mut self, now: Instant) -> Result<(), OutOfMemory> {
+        let now = self.around.moment(now);
+        loop {
+            let word = self.around.word();
+            if !ticked(self.raw.tick(now, word))? {
+                return Ok(());
+            }
+            self.keep_applied();
+        }
+    }
+
+    /// The datagram that is to be sent next, in the buffer.
+    pub fn poll_transmit(&mut self, buffer: &mut [u8; MAX_DATAGRAM]) -> Option<Transmit> {
+        let (mut to, mut size) = (raw::ks_address::default(), 0);
+        let answer = self.raw.next_out(&mut to, buffer, &mut size);
+        (answer == raw::KS_DONE).then(|| Transmit { destination: socket_address(to), size })
+    }
+
+    /// What a client had this server do, each once, in order. It waits here until it is taken.
+    pub fn poll_applied(&mut self) -> Option<Applied> {
+        self.applied.pop_front()
+    }
+
+    // What the last feed or tick applied, which the next one empties.
+    fn keep_applied(&mut self) {
+        let mut done = raw::ks_applied::default();
+        if self.raw.applied(&mut done, &mut self.room) == raw::KS_DONE {
+            self.applied.push_back(Applied {
+                version: done.version,
+                from: socket_address(done.from),
+                method: Method::of(Code(done.method)).unwrap_or(Method::Post),
+                token: done.token[..usize::from(done.token_len.min(8))].to_vec(),
+                path: self.room[..done.path_len].to_vec(),
+            });
+        }
+    }
+}

@@ -1,0 +1,115 @@
+//! What an end is made with, and what it has of time and chance.
+
+use crate::raw;
+use std::collections::hash_map::RandomState;
+use std::hash::{BuildHasher, Hasher};
+use std::net::{Ipv4Addr, SocketAddrV4};
+use std::time::{Duration, Instant};
+
+/// What an end is made with. `Config::default()` is the usual; change its fields for another.
+///
+/// ```
+/// # use knifesilver::Config;
+/// let mut config = Config::default();
+/// config.body_limit = 1_048_576;
+/// ```
+#[derive(Clone, Debug, PartialEq, Eq)]
+#[non_exhaustive]
+pub struct Config {
+    /// Bytes of a block at most: 16, 32, .. 1,024 (RFC 7959, section 2.2).
+    pub block_size: u32,
+    /// Bytes of a body at most, that is sent, joined from blocks or held: 1 to 1,048,576.
+    pub body_limit: u32,
+    /// How many messages are remembered at once: 4,096 so far.
+    pub remembered: u32,
+    /// How many changes a server's store takes in 256 s: 1 to 4,194,303.
+    pub changes: u32,
+    /// Where the end's random numbers come from: the operating system, or for tests this seed.
+    pub rng_seed: Option<u64>,
+}
+
+impl Default for Config {
+    fn default() -> Config {
+        Config { block_size: 1024, body_limit: 65_536, remembered: 4_096, changes: 4_194_303, rng_seed: None }
+    }
+}
+
+impl Config {
+    pub(crate) fn raw(&self) -> raw::ks_config {
+        raw::ks_config {
+            size: std::mem::size_of::<raw::ks_config>() as u32,
+            block_size: self.block_size,
+            body_limit: self.body_limit,
+            remembered: self.remembered,
+            changes: self.changes,
+        }
+    }
+}
+
+/// A datagram to be sent: its bytes are the first `size` of the buffer that was lent.
+#[derive(Clone, Copy, Debug, PartialEq, Eq)]
+#[non_exhaustive]
+pub struct Transmit {
+    /// Where it is to go.
+    pub destination: SocketAddrV4,
+    /// How many bytes it has.
+    pub size: usize,
+}
+
+/// The moment from which an end counts its milliseconds, and its random numbers.
+pub(crate) struct Surroundings {
+    since: Instant,
+    system: Option<RandomState>,
+    count: u64,
+}
+
+impl Surroundings {
+    pub(crate) fn new(config: &Config, now: Instant) -> Surroundings {
+        let system = config.rng_seed.is_none().then(RandomState::new);
+        Surroundings { since: now, system, count: config.rng_seed.unwrap_or(0) }
+    }
+
+    /// Milliseconds since the first moment; one before it counts as it.
+    pub(crate) fn moment(&self, now: Instant) -> u64 {
+        u64::try_from(now.saturating_duration_since(self.since).as_millis()).unwrap_or(u64::MAX)
+    }
+
+    /// The instant of such a moment; None where no instant is so late.
+    pub(crate) fn instant(&self, at: u64) -> Option<Instant> {
+        self.since.checked_add(Duration::from_millis(at))
+    }
+
+    /// 64 random bits: a hash with random keys of a number that no other word had; or a mix of such a number.
+    pub(crate) fn word(&mut self) -> u64 {
+        self.count = self.count.wrapping_add(0x9e37_79b9_7f4a_7c15);
+        if let Some(system) = &self.system {
+            let mut hasher = system.build_hasher();
+            hasher.write_u64(self.count);
+            return hasher.finish();
+        }
+        let mut word = self.count;
+        word = (word ^ (word >> 30)).wrapping_mul(0xbf58_476d_1ce4_e5b9);
+        word = (word ^ (word >> 27)).wrapping_mul(0x94d0_49bb_1331_11eb);
+        word ^ (word >> 31)
+    }
+
+    pub(crate) fn seed(&mut self) -> raw::ks_seed {
+        raw::ks_seed { word: self.word(), key0: self.word(), key1: self.word() }
+    }
+}
+
+pub(crate) fn address(of: SocketAddrV4) -> raw::ks_address {
+    raw::ks_address { ip: of.ip().octets(), port: of.port() }
+}
+
+pub(crate) fn socket_address(of: raw::ks_address) -> SocketAddrV4 {
+    SocketAddrV4::new(Ipv4Addr::from(of.ip), of.port)
+}
+
+pub(crate) fn format_number(format: Option<u16>) -> i32 {
+    format.map_or(raw::KS_NO_FORMAT, i32::from)
+}
+
+pub(crate) fn format_of(number: i32) -> Option<u16> {
+    u16::try_from(number).ok()
+}

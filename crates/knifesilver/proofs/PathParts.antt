@@ -1,0 +1,30 @@
+-- The parts of a text between its slashes, one after the other.
+use Rattle.std.proofs.Common.{◌≡◌, ◌≢◌, ◌∙◌, ap, sym, ℕ, Bool, true, false, List, [], ◌∷◌, ◌++◌, All, length, arith, eqb, true≢false, refl}
+use Rattle.std.proofs.lemmas.Bool.Decides.{nat_tests}
+use Rattle.std.proofs.lemmas.List.{append_assoc}
+use Rattle.std.proofs.lemmas.List.Splits.{slice_split_at, slice_split_none}
+use Rattle.knifesilver.specs.PathTexts.{HasNoSlash, IsCut, is_slash, parts, segments_in}
+
+no_slash : (b : ℕ) → b ≢ 47 → eqb b 47 ≡ false
+no_slash b e = grind (arith, nat_tests)
+
+bare : (bytes : List ℕ) → HasNoSlash bytes → All (λ b. is_slash b ≡ false) bytes
+bare bytes h = λ k d lt. no_slash _ (h k d lt)
+
+-- a segment more, of those that are left
+pub one_on : (path whole : List (List ℕ)) (left first rest : List ℕ) → path ++ parts left ≡ whole
+    → IsCut left first rest → (path ++ first ∷ []) ++ parts rest ≡ whole
+one_on path whole left first rest so cut =
+    let cut_off : parts left ≡ first ∷ parts rest =
+    ap parts cut.0 ∙ slice_split_at is_slash first 47 rest (bare first cut.1) refl in
+    append_assoc path (first ∷ []) (parts rest) ∙ ap (λ ps. path ++ ps) (sym cut_off) ∙ so
+
+-- the last one
+pub the_last : (path whole : List (List ℕ)) (left : List ℕ) → path ++ parts left ≡ whole → HasNoSlash left
+    → path ++ left ∷ [] ≡ whole
+the_last path whole left so none = ap (λ ps. path ++ ps) (sym (slice_split_none is_slash left (bare left none))) ∙ so
+
+-- they are all, where the text is not empty
+pub all_of : (rest : List ℕ) (b : Bool) → b ≡ eqb (length rest) 0 → b ≡ false → segments_in rest ≡ parts rest
+all_of [] b is e = absurd (true≢false (sym is ∙ e))
+all_of (x ∷ xs) b is e = refl

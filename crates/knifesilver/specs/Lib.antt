@@ -1,0 +1,9 @@
+pub mod Answers
+pub mod ClientCalls
+pub mod ClientHeld
+pub mod Configs
+pub mod Formats
+pub mod Owned
+pub mod PathTexts
+pub mod ServerCalls
+pub mod ServerHeld

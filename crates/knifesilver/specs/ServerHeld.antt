@@ -1,0 +1,37 @@
+-- What a handle of a server holds, and what a call of it did.
+use Rattle.std.specs.Prelude.{ℕ, ⊤, List, ◌∷◌, Option, Some, None}
+use Rattle.coap_resource.specs.Entries.{content_of}
+use Rattle.coap_resource.specs.Limits.{Limits}
+use Rattle.coap_server.specs.Led.{Led, State}
+use Rattle.coap_server.specs.Object.Shown.{state_of}
+use Rattle.coap_server.specs.Trace.{Call}
+use Rattle.knifesilver.specs.declared.held.Held.{Held}
+use Rattle.knifesilver.specs.declared.held.Held.TheVariants.{Server, Client}
+
+-- it is a server
+abbrev pub IsServer : Held → Type 0
+IsServer (Server s) = ⊤
+IsServer (Client c) = ⊥
+
+abbrev pub HoldsServer : Option Held → Type 0
+HoldsServer None = ⊥
+HoldsServer (Some held) = IsServer held
+
+-- it is a server in a state of which this holds
+abbrev pub IsServerIn : (State → Type 0) → Held → Type 0
+IsServerIn P (Server s) = P (state_of content_of s)
+IsServerIn P (Client c) = ⊥
+
+abbrev pub HoldsServerIn : (State → Type 0) → Option Held → Type 0
+HoldsServerIn P None = ⊥
+HoldsServerIn P (Some held) = IsServerIn P held
+
+-- these calls can leave a server as what is held (RFC 7252, section 5)
+abbrev pub HoldsLed : Limits → (szx word : ℕ) → List Call → Option Held → Type 0
+HoldsLed limits szx word t held = HoldsServerIn (Led limits szx word t) held
+
+-- One call like this was made, of the server that was held: whatever led to it before leads, with that call, to what is
+-- held then.
+abbrev pub Made : (Call → Type 0) → Option Held → Option Held → Type 0
+Made like old new = (limits : Limits) (szx word : ℕ) (t : List Call) → HoldsLed limits szx word t old
+    → (call : Call) × like call × HoldsLed limits szx word (call ∷ t) new

@@ -1,0 +1,222 @@
+//! What a client is asked for.
+ghost use Rattle.std.specs.Prelude.{◌≡◌, ◌≢◌};
+ghost use Rattle.knifesilver.specs.Answers.{IsRefused};
+ghost use Rattle.knifesilver.specs.ClientHeld.{HoldsClient, IsClient};
+
+use crate::answers::{BAD_ARGUMENT, DONE, NO_MEMORY, NOT_LIVE, NOTHING};
+use crate::crossing::format_of;
+use crate::handle::KsHandle;
+use crate::held::Held;
+use crate::path_text::path_of;
+use bytes::Bytes;
+use coap_ends::{CallId, CallRefusal};
+use coap_types::{Code, Method, Moment, Path, Request, Tag, Tags};
+use std::alloc::Global;
+
+/// C's `ks_request`: what a request says beside its path and its body.
+#[repr(C)]
+#[derive(Clone, Copy)]
+pub struct KsRequest {
+    /// The format of the body, or -1.
+    pub format: i32,
+    /// The format that is wanted, or -1.
+    pub accept: i32,
+    /// The code of the method: 1 GET, 2 POST, 3 PUT, 4 DELETE.
+    pub method: u8,
+    /// Whether nothing may be there yet.
+    pub if_none_match: bool,
+}
+
+/// C's `ks_tag`: an entity-tag, so many of the 8 bytes.
+#[repr(C)]
+#[derive(Clone, Copy)]
+pub struct KsTag {
+    /// How many bytes it has, 1 to 8.
+    pub len: u8,
+    /// Its bytes.
+    pub bytes: [u8; 8],
+}
+
+// The entity-tags; None where one is none, or there are too many.
+fn tags_of(given: &[KsTag]) -> Option<Tags> {
+    let mut tags = Tags::new();
+    for tag in given {
+        let bytes = tag.bytes.get(..usize::from(tag.len))?;
+        tags.push(Tag::new(bytes)?).ok()?;
+    }
+    Some(tags)
+}
+
+// The request of these parts, or what is wrong with them.
+fn request_of(
+    alloc: Global,
+    what: &KsRequest,
+    path: Path,
+    body: &[u8],
+    etags: &[KsTag],
+    if_match: &[KsTag],
+) -> Result<Request, i32> {
+    let Some(method) = Method::of(Code(what.method)) else {
+        return Err(BAD_ARGUMENT);
+    };
+    let (Some(etags), Some(if_match)) = (tags_of(etags), tags_of(if_match)) else {
+        return Err(BAD_ARGUMENT);
+    };
+    let Ok(body) = Bytes::copy_from_slice(alloc, body) else {
+        return Err(NO_MEMORY);
+    };
+    Ok(Request {
+        method,
+        path,
+        format: format_of(what.format),
+        body,
+        etags,
+        if_match,
+        if_none_match: what.if_none_match,
+        accept: format_of(what.accept),
+    })
+}
+
+// What a refusal of the client answers.
+fn refused(why: CallRefusal) -> i32 {
+    match why {
+        CallRefusal::Memory => NO_MEMORY,
+        _ => i32::from(why.number()),
+    }
+}
+
+// What became of a call or of an observation.
+fn taken(number: Result<CallId, CallRefusal>, id: &mut u64) -> i32 {
+    match number {
+        Ok(number) => {
+            *id = number.0;
+            NOTHING
+        }
+        Err(why) => refused(why),
+    }
+}
+
+// Takes a request.
+fn call(held: &mut Held, now: u64, request: Request, id: &mut u64) -> i32 {
+    match held {
+        Held::Client(client) => taken(client.client.call(Moment(now), request), id),
+        Held::Server(_) => NOT_LIVE,
+    }
+}
+
+/// Takes a request, which starts at a later tick.
+#[unsafe(no_mangle)]
+pub extern "C" fn ks_client_call(
+    alloc: Global,
+    handle: &mut KsHandle,
+    now: u64,
+    what: &KsRequest,
+    path: &[u8],
+    body: &[u8],
+    etags: &[KsTag],
+    if_match: &[KsTag],
+    id: &mut u64,
+) -> i32 {
+    let path = match path_of(alloc, path) {
+        Ok(path) => path,
+        Err(answer) => return answer,
+    };
+    let request = match request_of(alloc, what, path, body, etags, if_match) {
+        Ok(request) => request,
+        Err(answer) => return answer,
+    };
+    let Some(mut held) = handle.take(alloc) else {
+        return NOT_LIVE;
+    };
+    let answer = call(held.as_mut(), now, request, id);
+    handle.put(held);
+    answer
+}
+
+// Takes an observation.
+fn observe(held: &mut Held, now: u64, path: Path, id: &mut u64) -> i32 {
+    match held {
+        Held::Client(client) => taken(client.client.observe(Moment(now), path), id),
+        Held::Server(_) => NOT_LIVE,
+    }
+}
+
+/// Takes an observation, whose registration starts at a later tick.
+#[unsafe(no_mangle)]
+pub extern "C" fn ks_client_observe(
+    alloc: Global,
+    handle: &mut KsHandle,
+    now: u64,
+    path: &[u8],
+    id: &mut u64,
+) -> i32 {
+    let path = match path_of(alloc, path) {
+        Ok(path) => path,
+        Err(answer) => return answer,
+    };
+    let Some(mut held) = handle.take(alloc) else {
+        return NOT_LIVE;
+    };
+    let answer = observe(held.as_mut(), now, path, id);
+    handle.put(held);
+    answer
+}
+
+// Takes the cancel of an observation.
+fn cancel(held: &mut Held, now: u64, id: u64) -> i32
+    ensures kept { IsRefused result → held.new ≡ held.old }
+    ensures live { IsClient held.old → result ≢ NOT_LIVE }
+{
+    match held {
+        Held::Client(client) => match client.client.cancel(Moment(now), CallId(id)) {
+            Ok(()) => NOTHING,
+            Err(why) => i32::from(why.number()),
+        },
+        Held::Server(_) => NOT_LIVE,
+    }
+}
+
+/// Takes the cancel of an observation.
+#[unsafe(no_mangle)]
+pub extern "C" fn ks_client_cancel(alloc: Global, handle: &mut KsHandle, now: u64, id: u64) -> i32
+    ensures kept { IsRefused result → handle.new.held ≡ handle.old.held }
+    ensures live { HoldsClient handle.old.held → result ≢ NOT_LIVE }
+{
+    let Some(mut held) = handle.take(alloc) else {
+        return NOT_LIVE;
+    };
+    let answer = cancel(held.as_mut(), now, id);
+    handle.put(held);
+    answer
+}
+
+// Forgets an observation.
+fn forget(held: &mut Held, id: u64) -> i32
+    ensures kept { IsRefused result → held.new ≡ held.old }
+    ensures live { IsClient held.old → result ≢ NOT_LIVE }
+{
+    match held {
+        Held::Client(client) => {
+            if client.client.forget(CallId(id)) {
+                DONE
+            } else {
+                NOTHING
+            }
+        }
+        Held::Server(_) => NOT_LIVE,
+    }
+}
+
+/// Forgets an observation, without a message: 1, or 0 where it is not live or is being cancelled.
+#[unsafe(no_mangle)]
+pub extern "C" fn ks_client_forget(alloc: Global, handle: &mut KsHandle, id: u64) -> i32
+    ensures kept { IsRefused result → handle.new.held ≡ handle.old.held }
+    ensures live { HoldsClient handle.old.held → result ≢ NOT_LIVE }
+{
+    let Some(mut held) = handle.take(alloc) else {
+        return NOT_LIVE;
+    };
+    let answer = forget(held.as_mut(), id);
+    handle.put(held);
+    answer
+}

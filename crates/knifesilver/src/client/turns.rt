@@ -1,0 +1,114 @@
+//! What a client is handed: datagrams and moments.
+ghost use Rattle.std.specs.Prelude.{◌≡◌, ◌≢◌, Some};
+ghost use Rattle.knifesilver.specs.Answers.{IsAnswered, IsRefused};
+ghost use Rattle.knifesilver.specs.ClientCalls.{IsDue, IsFeed, IsTick};
+ghost use Rattle.knifesilver.specs.ClientHeld.{HoldsClient, HoldsClientIn, IsClient, IsClientIn, Made};
+
+use crate::answers::{DONE, NO_MEMORY, NOT_LIVE, NOTHING};
+use crate::crossing::{KsAddress, endpoint};
+use crate::handle::KsHandle;
+use crate::held::Held;
+use coap_types::{Endpoint, Moment};
+use std::alloc::Global;
+
+// Takes a datagram that arrived.
+fn feed(held: &mut Held, now: u64, from: Endpoint, datagram: &[u8], word: u64) -> i32
+    ensures led { IsAnswered result → Made (IsFeed now from datagram.now word) (Some held.old) (Some held.new) }
+    ensures kept { IsRefused result → held.new ≡ held.old }
+    ensures live { IsClient held.old → result ≢ NOT_LIVE }
+{
+    match held {
+        Held::Client(client) => match client.client.feed(Moment(now), from, datagram, word) {
+            Ok(()) => NOTHING,
+            Err(_lost) => NO_MEMORY,
+        },
+        Held::Server(_) => NOT_LIVE,
+    }
+}
+
+/// Takes a datagram that arrived.
+#[unsafe(no_mangle)]
+pub extern "C" fn ks_client_feed(
+    alloc: Global,
+    handle: &mut KsHandle,
+    now: u64,
+    from: &KsAddress,
+    datagram: &[u8],
+    word: u64,
+) -> i32
+    ensures led { IsAnswered result
+        → Made (IsFeed now (record { ip = from.now.ip; port = from.now.port }) datagram.now word) handle.old.held
+        handle.new.held }
+    ensures kept { IsRefused result → handle.new.held ≡ handle.old.held }
+    ensures live { HoldsClient handle.old.held → result ≢ NOT_LIVE }
+{
+    let Some(mut held) = handle.take(alloc) else {
+        return NOT_LIVE;
+    };
+    let answer = feed(held.as_mut(), now, endpoint(from), datagram, word);
+    handle.put(held);
+    answer
+}
+
+// Does one step that is due.
+fn tick(held: &mut Held, now: u64, word: u64) -> i32
+    ensures led { IsAnswered result → Made (IsTick now word result) (Some held.old) (Some held.new) }
+    ensures kept { IsRefused result → held.new ≡ held.old }
+    ensures live { IsClient held.old → result ≢ NOT_LIVE }
+{
+    match held {
+        Held::Client(client) => match client.client.tick(Moment(now), word) {
+            Ok(true) => DONE,
+            Ok(false) => NOTHING,
+            Err(_) => NO_MEMORY,
+        },
+        Held::Server(_) => NOT_LIVE,
+    }
+}
+
+/// Does one step that is due: 1, or 0 where none is.
+#[unsafe(no_mangle)]
+pub extern "C" fn ks_client_tick(alloc: Global, handle: &mut KsHandle, now: u64, word: u64) -> i32
+    ensures led { IsAnswered result → Made (IsTick now word result) handle.old.held handle.new.held }
+    ensures kept { IsRefused result → handle.new.held ≡ handle.old.held }
+    ensures live { HoldsClient handle.old.held → result ≢ NOT_LIVE }
+{
+    let Some(mut held) = handle.take(alloc) else {
+        return NOT_LIVE;
+    };
+    let answer = tick(held.as_mut(), now, word);
+    handle.put(held);
+    answer
+}
+
+// Says when the next tick is due.
+fn due(held: &Held, at: &mut u64) -> i32
+    ensures due { IsAnswered result → IsClientIn (IsDue result at.new) held.now }
+    ensures live { IsClient held.now → result ≢ NOT_LIVE }
+{
+    match held {
+        Held::Client(client) => match client.client.due() {
+            Some(moment) => {
+                *at = moment.0;
+                DONE
+            }
+            None => NOTHING,
+        },
+        Held::Server(_) => NOT_LIVE,
+    }
+}
+
+/// When the next tick has something to do: 1, or 0 where it never has, unless something is handed in before.
+#[unsafe(no_mangle)]
+pub extern "C" fn ks_client_due(alloc: Global, handle: &mut KsHandle, at: &mut u64) -> i32
+    ensures due { IsAnswered result → HoldsClientIn (IsDue result at.new) handle.old.held }
+    ensures kept { handle.new.held ≡ handle.old.held }
+    ensures live { HoldsClient handle.old.held → result ≢ NOT_LIVE }
+{
+    let Some(held) = handle.take(alloc) else {
+        return NOT_LIVE;
+    };
+    let answer = due(held.as_ref(), at);
+    handle.put(held);
+    answer
+}

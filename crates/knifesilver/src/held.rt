@@ -1,0 +1,25 @@
+use coap_ends::{CallId, Client, Report, Server};
+use coap_resource::MapStore;
+use std::alloc::Global;
+use std::hash::RandomState;
+
+/// A server, with its resources in a map.
+pub(crate) type OurServer = Server<MapStore, Global, RandomState>;
+
+/// A client, and the report that was taken from it and is still to be given out.
+#[derive(Drop)]
+pub struct OurClient {
+    /// The client.
+    pub client: Client<Global, RandomState>,
+    /// The report, for which the room was too small.
+    pub report: Option<(CallId, Report)>,
+}
+
+/// What a handle holds.
+#[derive(Drop)]
+pub enum Held {
+    /// A server.
+    Server(OurServer),
+    /// A client.
+    Client(OurClient),
+}

@@ -1,0 +1,85 @@
+//! The text of a path: its segments, with `/` between each two.
+ghost use Rattle.std.specs.Prelude.{◌≡◌, ◌≢◌, IfOk, IfErr, IfSome, IfNone};
+ghost use Rattle.knifesilver.specs.Answers.{IsRefused};
+ghost use Rattle.knifesilver.specs.PathTexts.{HasNoSlash, IsCut, spelled, without_slash};
+
+use crate::answers::{BAD_PATH, NO_MEMORY, NOT_LIVE};
+use crate::crossing::copy_out;
+use coap_types::{Path, PathRefusal};
+use std::alloc::Global;
+
+// What stands between two segments.
+const SLASH: u8 = b'/';
+
+// The text, of which one slash in front is left out.
+fn without_slash(text: &[u8]) -> &[u8]
+    ensures { result.now ≡ without_slash text.now }
+{
+    text.strip_prefix(b"/").unwrap_or(text)
+}
+
+// What stands before the first slash, and what stands behind it.
+fn cut(text: &[u8]) -> Option<(&[u8], &[u8])>
+    ensures cut { IfSome result (λ parts. IsCut text.now parts.0.now parts.1.now) }
+    ensures none { IfNone result (HasNoSlash text.now) }
+{
+    let at = text.iter().position(|byte| *byte == SLASH)?;
+    Some((&text[..at], &text[at + 1..]))
+}
+
+// What a call answers where a path takes no further segment.
+fn refused(why: PathRefusal) -> i32
+    ensures refused { IsRefused result }
+    ensures told { result ≢ NOT_LIVE }
+{
+    match why {
+        PathRefusal::Memory => NO_MEMORY,
+        _ => BAD_PATH,
+    }
+}
+
+/// The path that a text says, else what the call answers.
+pub(crate) fn path_of(alloc: Global, text: &[u8]) -> Result<Path, i32>
+    ensures spelled { IfOk result (λ path. path ≡ spelled text.now) }
+    ensures refused { IfErr result IsRefused }
+    ensures told { IfErr result (λ answer. answer ≢ NOT_LIVE) }
+{
+    let mut path = Path::new(alloc);
+    let rest = without_slash(text);
+    if rest.is_empty() {
+        return Ok(path);
+    }
+    let mut left = rest;
+    'segments: while let Some((segment, behind)) = cut(left) {
+        if let Err(why) = path.push(segment) {
+            return Err(refused(why));
+        }
+        left = behind;
+    }
+    if let Err(why) = path.push(left) {
+        return Err(refused(why));
+    }
+    Ok(path)
+}
+
+/// Writes a segment behind the first bytes of the room, with a `/` before it: how many bytes are written then. None
+/// where they do not fit.
+pub(crate) fn put_segment(room: &mut [u8], len: usize, segment: &[u8]) -> Option<usize> {
+    let place = room.get_mut(len..)?;
+    let (slash, rest) = place.split_first_mut()?;
+    *slash = SLASH;
+    if !copy_out(rest, segment) {
+        return None;
+    }
+    len.checked_add(1)?.checked_add(segment.len())
+}
+
+/// Writes the path to the front of the room, with a `/` before each segment: how many bytes it has. None where they do
+/// not fit.
+pub(crate) fn put_path(path: &Path, room: &mut [u8]) -> Option<usize> {
+    let mut len = 0usize;
+    for segment in path.segments() {
+        len = put_segment(room, len, segment)?;
+    }
+    Some(len)
+}

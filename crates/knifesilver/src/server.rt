@@ -1,0 +1,5 @@
+//! The calls of a server.
+mod local;
+mod made;
+mod out;
+mod turns;

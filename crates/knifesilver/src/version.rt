@@ -1,0 +1,12 @@
+ghost use Rattle.std.specs.Prelude.{◌≡◌};
+
+/// The version of this interface: 10,000 times the first number, 100 times the second, and the third.
+pub const VERSION: u32 = 100;
+
+/// The version of the library, for comparison with the header's `KS_VERSION`.
+#[unsafe(no_mangle)]
+pub extern "C" fn ks_version() -> u32
+    ensures { result ≡ VERSION }
+{
+    VERSION
+}
