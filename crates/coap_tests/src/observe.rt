@@ -70,6 +70,7 @@ fn a_watch_keeps_the_last_newer_number_and_its_moment(rt: HostRuntime) {
     assert!(rt; !watch.is_newer(Moment(257_001), 10));
     assert!(rt; watch.arrive(Moment(257_002), 10));
     coap_observe::newer_laws();
+    coap_observe::fresh_laws();
 }
 
 #[test]
