@@ -43,3 +43,5 @@ pub mod WaitedBefore
 pub mod Young
 pub mod ToClient
 pub mod HeardClient
+pub mod IdsFree
+pub mod AllSent

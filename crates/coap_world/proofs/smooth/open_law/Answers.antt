@@ -3,11 +3,13 @@ use Rattle.coap_world.specs.Events.{client_end, server_end}
 use Rattle.coap_world.specs.Hops.{hops_of}
 use Rattle.coap_world.specs.Record.{entries_of, client_of}
 use Rattle.coap_world.proofs.Delivery.HopsAreAChannel as joined
+use Rattle.coap_world.proofs.Smoothly.AllSent.{all_sent}
 use Rattle.coap_world.proofs.Smoothly.AllTaken.{all_taken}
 use Rattle.coap_world.proofs.Smoothly.ArrivesInTime.{all_in_time}
 use Rattle.coap_world.proofs.Smoothly.AtOnce.{old_wait}
 use Rattle.coap_world.proofs.Smoothly.ByAnswers.{by_answers}
 use Rattle.coap_world.proofs.Smoothly.FewArrive.{few_arrive}
+use Rattle.coap_world.proofs.Smoothly.IdsFree.{has_ids}
 use Rattle.coap_world.proofs.Smoothly.SeparateEnds.{separate_ends}
 use Rattle.coap_world.proofs.Smoothly.Standing.{stands, record_of}
 use Rattle.coap_world.proofs.Smoothly.TicksAnswer.{ticks_answer}
@@ -107,8 +109,23 @@ returns-clause-leaves c config events turns run legal = ticks_leave config turns
 pub returns-clause-often : goal.returns-clause-often
 returns-clause-often c config events turns run legal smooth = ticks_in_time turns legal.events smooth.goes
 
+pub returns-clause-ids : goal.returns-clause-ids
+returns-clause-ids c config events turns run legal smooth none =
+    has_ids config
+    (λ t. c.server_law.ensures.observers config.limits config.server_szx t)
+    (λ t law. c.answerer_law.ensures.id_free config.server_word t law)
+    turns
+    (record {
+      stands = stands config events turns run legal smooth;
+      few_client = smooth.few_to_client;
+      few_server = smooth.few_to_server;
+    })
+    (c.client_values_law.ensures.of_observations server_end config.client_sizes config.client_word
+    (client_of (entries_of turns)) run.client)
+    none
+
 pub returns-clause-young : goal.returns-clause-young
-returns-clause-young c config events turns run legal smooth ids none =
+returns-clause-young c config events turns run legal smooth none =
     are_young config legal.range
     (record {
       laws = record {
@@ -137,5 +154,26 @@ returns-clause-young c config events turns run legal smooth ids none =
       few_client = smooth.few_to_client;
       few_server = smooth.few_to_server;
     })
-    ids
+    (has_ids config
+    (λ t. c.server_law.ensures.observers config.limits config.server_szx t)
+    (λ t law. c.answerer_law.ensures.id_free config.server_word t law)
+    turns
+    (record {
+      stands = stands config events turns run legal smooth;
+      few_client = smooth.few_to_client;
+      few_server = smooth.few_to_server;
+    })
+    (c.client_values_law.ensures.of_observations server_end config.client_sizes config.client_word
+    (client_of (entries_of turns)) run.client)
+    none)
     none
+
+pub returns-clause-sent : goal.returns-clause-sent
+returns-clause-sent c config events turns run legal smooth ends =
+    all_sent config c.client_exchanges_law.ensures.sent_where_answered turns
+    (record {
+      stands = stands config events turns run legal smooth;
+      few_client = smooth.few_to_client;
+      few_server = smooth.few_to_server;
+    })
+    ends
