@@ -44,4 +44,6 @@ pub mod Young
 pub mod ToClient
 pub mod HeardClient
 pub mod IdsFree
+pub mod HandedBetween
+pub mod FewHeard
 pub mod AllSent

@@ -30,7 +30,7 @@ ghost use Rattle.coap_world.specs.Serves.{AllServed};
 ghost use Rattle.coap_world.specs.Smooth.{NoneObserved, Smooth};
 ghost use Rattle.coap_world.specs.SmoothAnswers.{AnsweredSmoothly};
 
-use crate::smooth::{answered_law, open_law};
+use crate::smooth::{answered_law, open_law, sent_law};
 
 /// What comes from an end's address was given out by that end, for the one that it comes to, at most 100,000 ms before.
 pub fn delivery_law()
@@ -218,5 +218,6 @@ pub fn agreement()
         → AnsweredSmoothly config turns) }
 {
     open_law();
+    sent_law();
     answered_law();
 }

@@ -100,14 +100,14 @@ ticked s d passed h word id tick none f =
     every_join IsOther (responding s d passed h word id) (tick ∷ []) (responded s d passed h word id (quiet h f)) (none, tt)
   where
     quiet : (g : S.Handling) → ((o : Observer) (reply : _) → g ≡ S.Notifies o reply → ⊥) → IsNoNotice g
-    quiet (S.Notifies o reply) no = no o reply refl
-    quiet S.Silent no = tt
-    quiet (S.Replies r) no = tt
-    quiet (S.Serves q reply left) no = tt
-    quiet (S.Waits q delay) no = tt
+    quiet (S.Notifies o reply) never = never o reply refl
+    quiet S.Silent never = tt
+    quiet (S.Replies r) never = tt
+    quiet (S.Serves q reply left) never = tt
+    quiet (S.Waits q delay) never = tt
 
 -- more messages came by more entries
-came_more : (since : ℕ) (front es : List L.Entry) → came since es ≤ came since (front ++ es)
+pub came_more : (since : ℕ) (front es : List L.Entry) → came since es ≤ came since (front ++ es)
 came_more since [] es = omega arith
 came_more since (e ∷ front) es = by (handed e) (came_more since front es)
   where

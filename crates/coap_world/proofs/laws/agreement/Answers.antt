@@ -22,7 +22,7 @@ returns-clause-smooth c config events turns run legal smooth none =
     let all : AllAnswer config turns = record {
       none = none;
       by_answers = ends;
-      all_sent = c.open_law.ensures.sent config events turns run legal smooth ends;
+      all_sent = c.sent_law.ensures.all config events turns run legal smooth none ends;
     } in
     record {
       young = young;

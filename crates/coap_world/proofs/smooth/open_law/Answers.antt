@@ -3,7 +3,6 @@ use Rattle.coap_world.specs.Events.{client_end, server_end}
 use Rattle.coap_world.specs.Hops.{hops_of}
 use Rattle.coap_world.specs.Record.{entries_of, client_of}
 use Rattle.coap_world.proofs.Delivery.HopsAreAChannel as joined
-use Rattle.coap_world.proofs.Smoothly.AllSent.{all_sent}
 use Rattle.coap_world.proofs.Smoothly.AllTaken.{all_taken}
 use Rattle.coap_world.proofs.Smoothly.ArrivesInTime.{all_in_time}
 use Rattle.coap_world.proofs.Smoothly.AtOnce.{old_wait}
@@ -167,13 +166,3 @@ returns-clause-young c config events turns run legal smooth none =
     (client_of (entries_of turns)) run.client)
     none)
     none
-
-pub returns-clause-sent : goal.returns-clause-sent
-returns-clause-sent c config events turns run legal smooth ends =
-    all_sent config c.client_exchanges_law.ensures.sent_where_answered turns
-    (record {
-      stands = stands config events turns run legal smooth;
-      few_client = smooth.few_to_client;
-      few_server = smooth.few_to_server;
-    })
-    ends
