@@ -41,6 +41,7 @@ impl<A: Allocator> Model for Observers<A> {
 impl<A: Allocator + Copy> Observers<A> {
     /// Nobody observes anything.
     pub fn new(alloc: A) -> Observers<A>
+        // At first nobody observes anything.
         ensures { result ≡ [] }
     {
         Observers {
@@ -59,12 +60,16 @@ impl<A: Allocator + Copy> Observers<A> {
         path: Path<A>,
         szx: Szx,
     ) -> Result<bool, AllocError>
+        // Where 64 others observe, a registration has no place, and nothing changes (profile).
         ensures full { MAX_OBSERVERS ≤ length (removed from token self.old)
             → (result ≡ Ok false) × (self.new ≡ self.old) }
+        // Where fewer than 64 others observe, a registration stands last, in place of an earlier one of its pair.
         ensures taken { length (removed from token self.old) < MAX_OBSERVERS
             → IfOk result (λ done. (done ≡ true)
             × (self.new ≡ registered from token path szx self.old)) }
+        // A registration of a pair that is there takes no memory.
         ensures again { is_registered from token self.old ≡ true → IsOk result }
+        // A registration that is refused memory changes nothing.
         ensures err { OnErr result (self.new ≡ self.old) }
     {
         if others(&self.list, from, &token) >= MAX_OBSERVERS {
@@ -87,7 +92,9 @@ impl<A: Allocator + Copy> Observers<A> {
 
     /// Removes the registration of this endpoint and token: whether there was one.
     pub fn remove(&mut self, from: Endpoint, token: &Token) -> bool
+        // The answer is whether that endpoint and token were registered.
         ensures was { result ≡ is_registered from token.now self.old }
+        // After a removal that endpoint and token are not registered, and the others are as they were.
         ensures left { self.new ≡ removed from token.now self.old }
     {
         let was_there = has(&self.list, from, token);
@@ -98,6 +105,7 @@ impl<A: Allocator + Copy> Observers<A> {
     /// The representation of the resource at this path changed: a notification is due to each of its
     /// observers (RFC 7641, section 4.2).
     pub fn changed(&mut self, path: &Path<A>)
+        // A change marks each registration of its path, and changes nothing else (RFC 7641, section 4.2).
         ensures { self.new ≡ changed_at path.now self.old }
     {
         mark_all(&mut self.list, path);
@@ -105,7 +113,9 @@ impl<A: Allocator + Copy> Observers<A> {
 
     /// The first observer at this endpoint, in order of registration, to which a notification is due.
     pub fn due(&self, to: Endpoint) -> Option<Notice<'_, A>>
+        // Who is told is the first marked registration of that endpoint.
         ensures first { told_due result ≡ find (is_due_at to) self.now }
+        // What is looked at are registrations.
         ensures registrations { AreRegistrations self.now }
     {
         let entry = first_due(&self.list, to)?;
@@ -115,7 +125,9 @@ impl<A: Allocator + Copy> Observers<A> {
     /// The observer behind `passed` others, of those to which a notification is due, in order of
     /// registration.
     pub fn due_after(&self, passed: usize) -> Option<Notice<'_, A>>
+        // Who is told is the marked registration behind so many others.
         ensures place { told_due result ≡ slice_get (marked_in self.now) passed }
+        // Those that are gone through are registrations.
         ensures registrations { AreRegistrations self.now }
     {
         let entry = due_behind(&self.list, passed)?;
@@ -125,7 +137,9 @@ impl<A: Allocator + Copy> Observers<A> {
     /// The observer at this place, in order of registration from 0, and whether a notification is due
     /// to it.
     pub fn at(&self, i: usize) -> Option<(Notice<'_, A>, bool)>
+        // What is told is the registration at that place.
         ensures place { told_at result ≡ slice_get self.now i }
+        // What stands at the places are registrations.
         ensures registrations { AreRegistrations self.now }
     {
         let entry = self.list.get(i)?;
@@ -134,7 +148,9 @@ impl<A: Allocator + Copy> Observers<A> {
 
     /// The notification of this endpoint and token was sent, so it is due no more: whether it was.
     pub fn sent(&mut self, to: Endpoint, token: &Token) -> bool
+        // The answer is whether a notification was due to that endpoint and token.
         ensures was { result ≡ list_any (is_due_of to token.now) self.old }
+        // After a sending nothing is due to that endpoint and token, and the others are as they were.
         ensures left { self.new ≡ sent_to to token.now self.old }
     {
         let was_due = is_due(&self.list, to, token);
