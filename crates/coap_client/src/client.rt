@@ -286,7 +286,7 @@ impl<A: Allocator + Copy, H: BuildHasher> Client<A, H> {
     /// The request that the last `feed` or `tick` sent for the first time: of which call or
     /// observation, and its token. It takes no memory.
     pub fn asked(&self) -> Option<(CallId, Token)>
-        // What the client is asked to observe and to do is told as its machine has it.
+        // Which request the last datagram or tick sent for the first time is told as the machine has it.
         ensures step { Step self.now (Asked (shown_asked result)) self.now }
         // Every history that led to the client leads on with this question, which changes nothing.
         ensures led { (server : Endpoint) (sizes : Sizes) (w : ℕ) (t : List Call) → Led server sizes w t self.now

@@ -115,7 +115,7 @@ impl<A: Allocator + Copy> Observers<A> {
     pub fn due(&self, to: Endpoint) -> Option<Notice<'_, A>>
         // Who is told is the first marked registration of that endpoint.
         ensures first { told_due result ≡ find (is_due_at to) self.now }
-        // What is looked at are registrations.
+        // Those among which it is looked for are registrations.
         ensures registrations { AreRegistrations self.now }
     {
         let entry = first_due(&self.list, to)?;
@@ -139,7 +139,7 @@ impl<A: Allocator + Copy> Observers<A> {
     pub fn at(&self, i: usize) -> Option<(Notice<'_, A>, bool)>
         // What is told is the registration at that place.
         ensures place { told_at result ≡ slice_get self.now i }
-        // What stands at the places are registrations.
+        // At the places stand registrations.
         ensures registrations { AreRegistrations self.now }
     {
         let entry = self.list.get(i)?;

@@ -82,7 +82,7 @@ pub trait Store<A: Allocator + Copy>: Drop {
         ensures refused { (why : StoreRefusal) → put_refusal (content self.old) now.0 path.now (length body.now)
             ≡ Some why
             → (result ≡ Err why) × (content self.new ≡ later (content self.old) now.0) }
-        // Where it has no reason, a body is refused for want of memory alone.
+        // Where it has no reason, the body is put there, or refused for want of memory.
         ensures taken { put_refusal (content self.old) now.0 path.now (length body.now) ≡ None
             → IfErr result (λ why. why ≡ Memory) }
         // A body is put only where the window has a change left.
@@ -111,7 +111,7 @@ pub trait Store<A: Allocator + Copy>: Drop {
         ensures refused { (held : Held) (why : StoreRefusal) → (content self.old).holds path.now ≡ Some held
             → append_refusal (content self.old) now.0 held (length body.now) ≡ Some why
             → (result ≡ Err why) × (content self.new ≡ later (content self.old) now.0) }
-        // Where it has no reason, what is to be joined is refused for want of memory alone.
+        // Where it has no reason, it is joined, or refused for want of memory.
         ensures taken { (held : Held) → (content self.old).holds path.now ≡ Some held
             → append_refusal (content self.old) now.0 held (length body.now) ≡ None
             → IfErr result (λ why. why ≡ Memory) × IfOk result IsSome }
