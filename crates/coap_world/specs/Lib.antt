@@ -36,3 +36,5 @@ pub mod EndsSmoothly
 pub mod AtOnce
 pub mod Separate
 pub mod TicksLeave
+pub mod HasIds
+pub mod YoungWithIds

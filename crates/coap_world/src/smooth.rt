@@ -13,6 +13,7 @@ ghost use Rattle.coap_world.specs.SmoothGaps.{AreClose, TimesOutRoughly};
 ghost use Rattle.coap_world.specs.SmoothRuns.{DefersLate, DefersLongest, Unanswered};
 ghost use Rattle.coap_world.specs.TakenInTime.{AllTakenInTime};
 ghost use Rattle.coap_world.specs.TicksLeave.{TicksInTime, TicksLeaveNone};
+ghost use Rattle.coap_world.specs.YoungWithIds.{YoungWithIds};
 
 use coap_client::{client_exchanges_law, client_follows_law, client_values_law};
 use coap_layer::{channel_law, layer_law};
@@ -67,6 +68,9 @@ pub fn open_law()
     ensures leaves { OfLegalRuns TicksLeaveNone }
     // In a smooth run it ticks in each 2,000 ms.
     ensures often { OfLegalRuns (λ config turns. Smooth config turns → TicksInTime turns) }
+    // So no exchange is open for more than 20,000 ms, where nothing is observed and at each tick of the server a Message
+    // ID is free (sections 4.2, 4.4 and 5.2.2).
+    ensures young { OfLegalRuns (λ config turns. Smooth config turns → YoungWithIds config turns) }
 {
     channel_law();
     layer_law();

@@ -288,8 +288,7 @@ module _ (sizes : Sizes) where
   by_rows : (t : List Call) → ClientRows sizes t → NoneIsTaken t → Always (IsAlone sizes) t
   by_rows [] rows none = tt
   by_rows (c ∷ t) rows none =
-      let k = alone_of t rows.1 none.1 in
-      (
+      let k = alone_of t rows.1 none.1 in (
         record {
           runs = λ op is. runs_call (own_of sizes t).running k.running op is;
           tells = λ x is. reports_alone (own_of sizes t) c k x is;
