@@ -25,6 +25,7 @@ pub fn client_exchanges_law()
     // section 5.3.2).
     ensures hears_of_open { (server : Endpoint) (sizes : Sizes) (word : ℕ) (t : List Call)
         → ClientLaw server sizes word t → HearsOfOpen server sizes word t }
+    // A response with the open exchange's token is heard if its critical options are recognised (section 5.3.2).
     ensures answers_heard { (server : Endpoint) (sizes : Sizes) (word : ℕ) (t : List Call)
         → ClientLaw server sizes word t → AnswersAreHeard server sizes word t }
     // To each response that comes in a CON it replies in the next entry of its message layer, by an Empty acknowledgement

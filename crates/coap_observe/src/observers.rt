@@ -44,6 +44,7 @@ impl<A: Allocator> Model for Observers<A> {
 impl<A: Allocator + Copy> Observers<A> {
     /// Nobody observes anything.
     pub fn new(alloc: A) -> Observers<A>
+        // At first nobody observes anything.
         ensures { result ≡ record { clock = 0; list = [] } }
     {
         Observers {
@@ -64,15 +65,18 @@ impl<A: Allocator + Copy> Observers<A> {
         path: Path<A>,
         szx: Szx,
     ) -> Result<bool, AllocError>
+        // Where 64 others observe, a registration has no place, and nothing changes (profile).
         ensures full { MAX_OBSERVERS ≤ length (removed from token self.old.list)
             → (result ≡ Ok false)
             × (self.new ≡ record { clock = max self.old.clock now.0; list = self.old.list }) }
+        // Where fewer than 64 others observe, a registration stands last, in place of an earlier one of its pair.
         ensures taken { length (removed from token self.old.list) < MAX_OBSERVERS
             → IfOk result (λ done. (done ≡ true)
             × (self.new ≡ record {
               clock = max self.old.clock now.0;
               list = registered (max self.old.clock now.0) from token path szx self.old.list;
             })) }
+        // A registration of a pair that is there takes no memory.
         ensures again { is_registered from token self.old.list ≡ true → IsOk result }
         ensures err { OnErr result (self.new ≡ self.old) }
     {
@@ -102,7 +106,9 @@ impl<A: Allocator + Copy> Observers<A> {
 
     /// Removes the registration of this endpoint and token: whether there was one.
     pub fn remove(&mut self, from: Endpoint, token: &Token) -> bool
+        // The answer is whether that endpoint and token were registered.
         ensures was { result ≡ is_registered from token.now self.old.list }
+        // After a removal that endpoint and token are not registered, and the others are as they were.
         ensures left { self.new ≡ record { clock = self.old.clock; list = removed from token.now self.old.list } }
     {
         let was_there = has(&self.list, from, token);
@@ -113,6 +119,7 @@ impl<A: Allocator + Copy> Observers<A> {
     /// The representation of the resource at this path changed: a notification is due to each of its
     /// observers (RFC 7641, section 4.2).
     pub fn changed(&mut self, now: Moment, path: &Path<A>)
+        // A change marks each registration of its path, and changes nothing else (RFC 7641, section 4.2).
         ensures { self.new ≡ record {
           clock = max self.old.clock now.0;
           list = changed_at (max self.old.clock now.0) path.now self.old.list;
@@ -125,7 +132,9 @@ impl<A: Allocator + Copy> Observers<A> {
 
     /// The first observer at this endpoint, in order of registration, to which a notification is due.
     pub fn due(&self, to: Endpoint) -> Option<Notice<'_, A>>
+        // Who is told is the first marked registration of that endpoint.
         ensures first { told_due result ≡ option_map but_noted (find (is_due_at to) self.now.list) }
+        // Those among which it is looked for are registrations.
         ensures registrations { AreRegistrations self.now.list }
     {
         let entry = first_due(&self.list, to)?;
@@ -135,7 +144,9 @@ impl<A: Allocator + Copy> Observers<A> {
     /// The observer behind `passed` others, of those to which a notification is due, in order of
     /// registration.
     pub fn due_after(&self, passed: usize) -> Option<Notice<'_, A>>
+        // Who is told is the marked registration behind so many others.
         ensures place { told_due result ≡ option_map but_noted (slice_get (marked_in self.now.list) passed) }
+        // Those that are gone through are registrations.
         ensures registrations { AreRegistrations self.now.list }
     {
         let entry = due_behind(&self.list, passed)?;
@@ -145,7 +156,9 @@ impl<A: Allocator + Copy> Observers<A> {
     /// The observer at this place, in order of registration from 0, and whether a notification is due
     /// to it.
     pub fn at(&self, i: usize) -> Option<(Notice<'_, A>, bool)>
+        // What is told is the registration at that place.
         ensures place { told_at result ≡ option_map but_noted (slice_get self.now.list i) }
+        // At the places stand registrations.
         ensures registrations { AreRegistrations self.now.list }
     {
         let entry = self.list.get(i)?;
@@ -155,7 +168,9 @@ impl<A: Allocator + Copy> Observers<A> {
     /// The notification of this endpoint and token was sent, in a CON or a NON, so it is due no more:
     /// whether it was.
     pub fn sent(&mut self, now: Moment, to: Endpoint, token: &Token, con: bool) -> bool
+        // The answer is whether a notification was due to that endpoint and token.
         ensures was { result ≡ list_any (is_due_of to token.now) self.old.list }
+        // After a sending nothing is due to that endpoint and token, and the others are as they were.
         ensures left { self.new ≡ record {
           clock = max self.old.clock now.0;
           list = sent_to (max self.old.clock now.0) to token.now con self.old.list;
@@ -171,6 +186,7 @@ impl<A: Allocator + Copy> Observers<A> {
     /// The notification of this endpoint and token went in a NON with this Message ID: a Reset of it
     /// is known by that (RFC 7641, section 3.6).
     pub fn noted(&mut self, now: Moment, to: Endpoint, token: &Token, id: Id)
+        // The registration keeps this NON as its last one, and nothing else changes.
         ensures { self.new ≡ record {
           clock = max self.old.clock now.0;
           list = noted_to (max self.old.clock now.0) to token.now id.0 self.old.list;
@@ -184,8 +200,10 @@ impl<A: Allocator + Copy> Observers<A> {
     /// A Reset with this Message ID arrived from there: it removes the registration whose last NON it
     /// rejects, and that one's token is answered.
     pub fn reset(&mut self, now: Moment, to: Endpoint, id: Id) -> Option<Token>
+        // The answer is the token of the registration whose last NON that is.
         ensures whose { result
             ≡ option_map (λ (o : Observer). o.token) (rejected (max self.old.clock now.0) to id.0 self.old.list) }
+        // That registration is gone, and the others are as they were.
         ensures left { self.new ≡ record {
           clock = max self.old.clock now.0;
           list = reset_at (max self.old.clock now.0) to id.0 self.old.list;

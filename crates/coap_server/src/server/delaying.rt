@@ -101,10 +101,14 @@ pub fn give_delay<A: Allocator + Copy>(
     path: &Path<A>,
     ms: u64,
 ) -> Result<bool, AllocError>
+    // A path has the delay that it is given, where it has one already or a place is left.
     ensures given { IfOk result (λ given. (given ≡ may_delay path.now (delays_as delays.old.items))
         × (delays_as delays.new.items ≡ delays_with path.now ms given (delays_as delays.old.items))) }
+    // A delay that is refused memory leaves the delays as they were.
     ensures err { OnErr result (delays.new.items ≡ delays.old.items) }
+    // A delay for which no place is left takes no memory.
     ensures full { may_delay path.now (delays_as delays.old.items) ≡ false → IsOk result }
+    // A further delay for a path that has one takes no memory.
     ensures again { is_some (delay_of path.now (delays_as delays.old.items)) ≡ true → IsOk result }
 {
     if other_delays(delays, path) >= MAX_DELAYS {
