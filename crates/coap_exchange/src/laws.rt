@@ -7,6 +7,7 @@ ghost use Rattle.coap_exchange.specs.AskerLaw.{State, Step, Exchanged, Led, Exch
 ghost use Rattle.coap_exchange.specs.AskerExact.{IsExact};
 ghost use Rattle.coap_exchange.specs.AskerFollows.{AreExchanges, AreTokens, EndInTime, FewKept, AreFromServer};
 ghost use Rattle.coap_exchange.specs.AskerDue.{EndWhenDue};
+ghost use Rattle.coap_exchange.specs.AskerIds.{IdIsFree, IdsCounted, RequestsAreSent};
 ghost use Rattle.coap_exchange.specs.AskerOpen.{IsOutstanding};
 ghost use Rattle.coap_exchange.specs.AskerTells.{AreRefused, AreRejected};
 ghost use Rattle.coap_exchange.specs.AskerResponses.{AreMatched, AreToldAs};
@@ -25,6 +26,9 @@ ghost use Rattle.coap_exchange.specs.AnswererTells.{EndsTold, HandsOrEnds};
 ghost use Rattle.coap_exchange.specs.AnswererDeferrals.{DeferredLongEnough, ReadyWhenDue, EarliestReady};
 ghost use Rattle.coap_exchange.specs.AnswererFollows.{AreResponses, AreRequests, EndsOnce, WaitsForOutstanding};
 ghost use Rattle.coap_exchange.specs.AnswererFollows.{FewDeferred};
+ghost use Rattle.coap_exchange.specs.AnswererIds as ids_given;
+
+use coap_layer::layer_law;
 
 /// What leads to the state of a client's side stands in the law, and what follows from that.
 pub fn asker_law()
@@ -80,7 +84,18 @@ pub fn asker_law()
     // A Reset that is told is that of the request of the exchange (RFC 7252, section 4.2).
     ensures rejected { (server : Endpoint) (word : ℕ) (t : List Call) → ExchangeLaw server word t
         → AreRejected server word t }
-{}
+    // Each Message ID and each fresh token is given to the request of an exchange that ended, or of the one that runs (RFC
+    // 7252, sections 4.4 and 5.3.1) ..
+    ensures ids { (server : Endpoint) (word : ℕ) (t : List Call) → ExchangeLaw server word t → IdsCounted server word t }
+    // .. so where fewer exchanges end in each EXCHANGE_LIFETIME than a quarter of the Message IDs, one is free ..
+    ensures id_free { (server : Endpoint) (word : ℕ) (t : List Call) → ExchangeLaw server word t
+        → IdIsFree server word t }
+    // .. and no request is refused for want of one or of a token.
+    ensures sent { (server : Endpoint) (word : ℕ) (t : List Call) → ExchangeLaw server word t
+        → RequestsAreSent server word t }
+{
+    layer_law();
+}
 
 /// What leads to the state of a server's side stands in the law, and what follows from that.
 pub fn answerer_law()
@@ -125,7 +140,14 @@ pub fn answerer_law()
     ensures alone { (word : ℕ) (t : List trace.Call) → ResponseLaw word t → BeginAlone word t }
     // At most 16 requests are deferred (profile).
     ensures few { (word : ℕ) (t : List trace.Call) → ResponseLaw word t → FewDeferred t }
-{}
+    // Each Message ID is given to the response to a request that came, or to a notification (RFC 7252, section 4.4) ..
+    ensures ids { (word : ℕ) (t : List trace.Call) → ResponseLaw word t → ids_given.IdsCounted word t }
+    // .. so where no notification is sent, and fewer messages come in each EXCHANGE_LIFETIME than a quarter of the
+    // Message IDs, one is free.
+    ensures id_free { (word : ℕ) (t : List trace.Call) → ResponseLaw word t → ids_given.IdIsFree word t }
+{
+    layer_law();
+}
 
 /// A request may be asked that isn't Empty, whose options ascend and are short, and that is short
 /// enough (RFC 7252, section 4.6).

@@ -43,3 +43,7 @@ pub mod WaitedBefore
 pub mod Young
 pub mod ToClient
 pub mod HeardClient
+pub mod IdsFree
+pub mod HandedBetween
+pub mod FewHeard
+pub mod AllSent

@@ -37,4 +37,3 @@ pub mod AtOnce
 pub mod Separate
 pub mod TicksLeave
 pub mod HasIds
-pub mod YoungWithIds

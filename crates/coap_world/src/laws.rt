@@ -27,6 +27,10 @@ ghost use Rattle.coap_world.specs.Noticed.{AllNoticed};
 ghost use Rattle.coap_world.specs.Record.{Turn, entries_of, client_of, server_trace};
 ghost use Rattle.coap_world.specs.Rising.{HeldAreNamed, ValuesRise};
 ghost use Rattle.coap_world.specs.Serves.{AllServed};
+ghost use Rattle.coap_world.specs.Smooth.{NoneObserved, Smooth};
+ghost use Rattle.coap_world.specs.SmoothAnswers.{AnsweredSmoothly};
+
+use crate::smooth::{answered_law, open_law, sent_law};
 
 /// What comes from an end's address was given out by that end, for the one that it comes to, at most 100,000 ms before.
 pub fn delivery_law()
@@ -206,4 +210,14 @@ pub fn agreement()
     ensures bounded { InLegalRuns AreBounded }
     // Whatever may come has a turn, with which the record goes on; and an input that is refused memory is lost.
     ensures no_fault { OfLegalRuns NoFault }
-{}
+    // In a smooth run, in which nothing is lost and nothing is late, and nothing is observed, calls are answered
+    // smoothly: no exchange is open for more than 20,000 ms, each ends by an answer, a GET reports what its path holds, and
+    // any other call the code of a response to it, and it is applied where that says so (RFC 7252, sections 4.2, 5.2 and
+    // 5.8; RFC 7959, section 2).
+    ensures smooth { OfLegalRuns (λ config turns. Smooth config turns → NoneObserved turns
+        → AnsweredSmoothly config turns) }
+{
+    open_law();
+    sent_law();
+    answered_law();
+}

@@ -135,15 +135,11 @@ module _ (config : Config) (observers : (t : List S.Call) → AreObservers confi
       taken [] = h
       taken (p ∷ ps) = (λ from bytes f. absurd (cc f.6), taken ps)
 
-  pub heard_client : (turns : List Turn) → Stands config turns → Heard turns
-  heard_client [] s = subst (Every IsFromClient) (far_is config []) tt
-  heard_client (turn ∷ past) s =
+  one_more : (turn : Turn) (past : List Turn) → Stands config (turn ∷ past) → Heard past → Heard (turn ∷ past)
+  one_more turn past s older =
       by (of_one past turn.event.at turn.event.word turn.refused turn.entries
       (given_by_client past (before config turn past s) older) turn.event.what s.made.0 s.goes.0.of_an_end)
     where
-      older : Heard past
-      older = heard_client past (before config turn past s)
-
       by : ((calls : List C.Call) × OnClient calls turn.entries) ⊎ HearsTurn turn.event.at turn.entries
           → Heard (turn ∷ past)
       by (inl on) =
@@ -160,3 +156,7 @@ module _ (config : Config) (observers : (t : List S.Call) → AreObservers confi
           (adds_heard turn.event.at cs (server_trace config (entries_of past))
           (server_at turn.event.at on.on.outs on.calls on.at) (outs_from on.on.outs on.calls on.from)
           (turned config turn past s).still.server older)
+
+  pub heard_client : (turns : List Turn) → Stands config turns → Heard turns
+  heard_client [] s = subst (Every IsFromClient) (far_is config []) tt
+  heard_client (turn ∷ past) s = one_more turn past s (heard_client past (before config turn past s))

@@ -7,7 +7,7 @@ use Rattle.coap_types.specs.declared.endpoint.Endpoint.{Endpoint}
 use Rattle.coap_codec.specs.Message.{Message}
 use Rattle.coap_layer.specs.Machine.State.{usual}
 use Rattle.coap_layer.specs.Rows.{LayerLaw}
-use Rattle.coap_layer.specs.Sends.{IsIn, GoesOut, EachGoesOut, first, copy, plain, reply, stored, reset}
+use Rattle.coap_layer.specs.Sends.{IsIn, GoesOut, EachGoesOut, first, copy, plain as in_non, reply as in_reply, stored, reset}
 use Rattle.coap_layer.specs.Trace as L
 use Rattle.coap_layer.specs.Words.{Open, begun, Awaited, awaited_of, awaits_in, awaits, from_there, handed_by}
 use Rattle.coap_layer.proofs.Facts.Laws.{each_goes_out}
@@ -254,22 +254,20 @@ module _ (config : Config) (observers : (t : List S.Call) → AreObservers confi
 
   awaited_from : (es : List L.Entry) → Every IsFromClient es → (x : Awaited) → awaits es ≡ Some x → x.from ≡ client_end
   awaited_from [] all x h = absurd (cc h)
-  awaited_from (e ∷ es) all x h = by e.call refl h
+  awaited_from (e ∷ es) all x h = by e.call refl (λ k. awaited_from es all.1 x k) h
     where
-      older : awaits es ≡ Some x → x.from ≡ client_end
-      older k = awaited_from es all.1 x k
-
-      by : (call : L.Call) → e.call ≡ call → awaits_in call e.answer (awaits es) ≡ Some x → x.from ≡ client_end
-      by (L.Receive from bytes) is k = of_handed from (handed_by e.answer) x k ∙ all.0 from bytes is
-      by (L.Settle to id) is k = older k
-      by L.Take is k = older k
-      by (L.Room to) is k = older k
-      by L.AsksFree is k = older k
-      by L.Pass is k = older k
-      by (L.Reply to id bytes) is k = absurd (cc k)
-      by (L.Confirm to content word) is k = absurd (cc k)
-      by (L.Plain to content) is k = absurd (cc k)
-      by L.Ticks is k = absurd (cc k)
+      by : (call : L.Call) → e.call ≡ call → (awaits es ≡ Some x → x.from ≡ client_end)
+          → awaits_in call e.answer (awaits es) ≡ Some x → x.from ≡ client_end
+      by (L.Receive from bytes) is older k = of_handed from (handed_by e.answer) x k ∙ all.0 from bytes is
+      by (L.Settle to id) is older k = older k
+      by L.Take is older k = older k
+      by (L.Room to) is older k = older k
+      by L.AsksFree is older k = older k
+      by L.Pass is older k = older k
+      by (L.Reply to id bytes) is older k = absurd (cc k)
+      by (L.Confirm to content word) is older k = absurd (cc k)
+      by (L.Plain to content) is older k = absurd (cc k)
+      by L.Ticks is older k = absurd (cc k)
 
   out_to : (es : List L.Entry) → EachGoesOut es → Every IsFromClient es → Every PlainToClient es
       → ((con : Open) → Ever (λ b. begun b ≡ Some con) es → con.to ≡ client_end) → Every GoesToClient es
@@ -282,8 +280,8 @@ module _ (config : Config) (observers : (t : List S.Call) → AreObservers confi
       by : (p : L.Packet) → GoesOut es e p → p.to ≡ client_end
       by p (first k) = ap (λ (z : L.Packet). z.to) k.is ∙ cons k.con (inl k.begins)
       by p (copy k) = ap (λ (z : L.Packet). z.to) k.is ∙ cons k.con (inr k.begun_before)
-      by p (plain k) = plain_ones.0 p.to k.content k.call
-      by p (reply k) = awaited_from es from.1 (record { from = p.to; id = k.id }) k.awaited
+      by p (in_non k) = plain_ones.0 p.to k.content k.call
+      by p (in_reply k) = awaited_from es from.1 (record { from = p.to; id = k.id }) k.awaited
       by p (stored k) = from.0 p.to k.bytes k.call
       by p (reset k) = from.0 p.to k.bytes k.call
 

@@ -109,7 +109,7 @@ passed : (clock now delay since at : ℕ) → since ≤ at + max_age → delay �
 passed clock now delay since at h k l = omega (arith, h, k, l)
 
 -- what calls add to the trace of the message layer
-front_of : (config : Config) (cs t : List S.Call)
+pub front_of : (config : Config) (cs t : List S.Call)
     → (front : List L.Entry) × (server_layer config (cs ++ t) ≡ front ++ server_layer config t)
 front_of config [] t = ([], refl)
 front_of config (c ∷ cs) t =

@@ -8,6 +8,7 @@ use Rattle.coap_world.proofs.Smoothly.ArrivesInTime.{all_in_time}
 use Rattle.coap_world.proofs.Smoothly.AtOnce.{old_wait}
 use Rattle.coap_world.proofs.Smoothly.ByAnswers.{by_answers}
 use Rattle.coap_world.proofs.Smoothly.FewArrive.{few_arrive}
+use Rattle.coap_world.proofs.Smoothly.IdsFree.{has_ids}
 use Rattle.coap_world.proofs.Smoothly.SeparateEnds.{separate_ends}
 use Rattle.coap_world.proofs.Smoothly.Standing.{stands, record_of}
 use Rattle.coap_world.proofs.Smoothly.TicksAnswer.{ticks_answer}
@@ -107,8 +108,23 @@ returns-clause-leaves c config events turns run legal = ticks_leave config turns
 pub returns-clause-often : goal.returns-clause-often
 returns-clause-often c config events turns run legal smooth = ticks_in_time turns legal.events smooth.goes
 
+pub returns-clause-ids : goal.returns-clause-ids
+returns-clause-ids c config events turns run legal smooth none =
+    has_ids config
+    (λ t. c.server_law.ensures.observers config.limits config.server_szx t)
+    (λ t law. c.answerer_law.ensures.id_free config.server_word t law)
+    turns
+    (record {
+      stands = stands config events turns run legal smooth;
+      few_client = smooth.few_to_client;
+      few_server = smooth.few_to_server;
+    })
+    (c.client_values_law.ensures.of_observations server_end config.client_sizes config.client_word
+    (client_of (entries_of turns)) run.client)
+    none
+
 pub returns-clause-young : goal.returns-clause-young
-returns-clause-young c config events turns run legal smooth ids none =
+returns-clause-young c config events turns run legal smooth none =
     are_young config legal.range
     (record {
       laws = record {
@@ -137,5 +153,16 @@ returns-clause-young c config events turns run legal smooth ids none =
       few_client = smooth.few_to_client;
       few_server = smooth.few_to_server;
     })
-    ids
+    (has_ids config
+    (λ t. c.server_law.ensures.observers config.limits config.server_szx t)
+    (λ t law. c.answerer_law.ensures.id_free config.server_word t law)
+    turns
+    (record {
+      stands = stands config events turns run legal smooth;
+      few_client = smooth.few_to_client;
+      few_server = smooth.few_to_server;
+    })
+    (c.client_values_law.ensures.of_observations server_end config.client_sizes config.client_word
+    (client_of (entries_of turns)) run.client)
+    none)
     none
