@@ -42,8 +42,8 @@ pub fn client_exchanges_law()
     // section 5.8.1; RFC 7959, section 2.4).
     ensures unchanged { (server : Endpoint) (sizes : Sizes) (word : ℕ) (t : List Call)
         → ClientLaw server sizes word t → AreUnchanged sizes t }
-    // Where fewer exchanges end in each EXCHANGE_LIFETIME than a quarter of the Message IDs, each request that is asked for
-    // is sent: a Message ID and a token are free for it (RFC 7252, sections 4.4 and 5.3.1) ..
+    // Where fewer exchanges end in each EXCHANGE_LIFETIME than a quarter of the Message IDs, each request that is asked
+    // for is sent: a Message ID and a token are free for it (RFC 7252, sections 4.4 and 5.3.1) ..
     ensures sent { (server : Endpoint) (sizes : Sizes) (word : ℕ) (t : List Call)
         → ClientLaw server sizes word t → SentWhereFewEnd sizes t }
     // .. and so it is where each ends by its answer, and fewer answers are heard.

@@ -84,8 +84,8 @@ pub fn asker_law()
     // A Reset that is told is that of the request of the exchange (RFC 7252, section 4.2).
     ensures rejected { (server : Endpoint) (word : ℕ) (t : List Call) → ExchangeLaw server word t
         → AreRejected server word t }
-    // Each Message ID and each fresh token is given to the request of an exchange that ended, or of the one that runs (RFC
-    // 7252, sections 4.4 and 5.3.1) ..
+    // Each Message ID and each fresh token is given to the request of an exchange that ended, or of the one that runs
+    // (RFC 7252, sections 4.4 and 5.3.1) ..
     ensures ids { (server : Endpoint) (word : ℕ) (t : List Call) → ExchangeLaw server word t → IdsCounted server word t }
     // .. so where fewer exchanges end in each EXCHANGE_LIFETIME than a quarter of the Message IDs, one is free ..
     ensures id_free { (server : Endpoint) (word : ℕ) (t : List Call) → ExchangeLaw server word t

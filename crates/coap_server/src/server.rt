@@ -73,14 +73,14 @@ pub struct Server<
 }
 
 impl<S: Store<A>, A: Allocator + Copy, H: BuildHasher> Model for Server<S, A, H> {
-    ghost use Rattle.coap_server.specs.Object.Shown.{Kept, kept_of, state_of};
+    ghost use Rattle.coap_server.specs.Object.Shown.{IsTimed, Kept, kept_of, state_of};
     ghost use Rattle.coap_server.specs.Turns.Work.{WasLed};
 
     ghost Value = { Kept S };
 
     ghost view = { λ s. kept_of s.parts };
 
-    ghost invariant = { λ s. WasLed (state_of S.content (kept_of s.parts)) };
+    ghost invariant = { λ s. WasLed (state_of S.content (kept_of s.parts)) × IsTimed (kept_of s.parts) };
 }
 
 impl<S: Store<A>, A: Allocator + Copy> Server<S, A, BuildHasherDefault<FoldHasher>> {
@@ -339,9 +339,11 @@ fn feed_parts<S: Store<A>, A: Allocator + Copy, H: BuildHasher>(
     from: Endpoint,
     bytes: &[u8],
 ) -> Result<(), AllocError>
+    requires timed { parts.old.observers.clock ≤ parts.old.clock.0 }
     ensures step { OnOk result ((word : ℕ) → (up : below.Answer) × (came : Option (AskedSpec × Message))
         × (h : Handling) × (sent : below.Answer)
         × Step (seen S.content parts.old) (Feeds now.0 from bytes.now word up came h sent) (seen S.content parts.new)) }
+    ensures timed { OnOk result (parts.new.observers.clock ≤ parts.new.clock.0) }
     ensures err { OnErr result (kept_of parts.new ≡ kept_of parts.old) }
     ensures quiet { IsQuiet (made parts.old.exchanges.state.layer (max parts.old.clock.0 now.0)
         (below.Receive from bytes.now)) → IsOk result }

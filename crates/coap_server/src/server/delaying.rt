@@ -128,8 +128,10 @@ pub(crate) fn set_delay_parts<S: Store<A>, A: Allocator + Copy, H: BuildHasher>(
     path: &Path<A>,
     ms: u64,
 ) -> Result<(), DelayRefusal>
+    requires timed { parts.old.observers.clock ≤ parts.old.clock.0 }
     ensures step { result ≢ Err Memory
         → Step (seen S.content parts.old) (Delays path.now ms (is_ok result)) (seen S.content parts.new) }
+    ensures timed { parts.new.observers.clock ≤ parts.new.clock.0 }
     ensures memory { result ≡ Err Memory → kept_of parts.new ≡ kept_of parts.old }
     ensures full { may_delay path.now (delays_as parts.old.delays.items) ≡ false → result ≡ Err Full }
     ensures again { is_some (delay_of path.now (delays_as parts.old.delays.items)) ≡ true → result ≢ Err Memory }
