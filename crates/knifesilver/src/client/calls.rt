@@ -179,7 +179,9 @@ fn cancel(held: &mut Held, now: u64, id: u64) -> i32
 /// Takes the cancel of an observation.
 #[unsafe(no_mangle)]
 pub extern "C" fn ks_client_cancel(alloc: Global, handle: &mut KsHandle, now: u64, id: u64) -> i32
+    // A cancel that is refused leaves the very client in the handle.
     ensures kept { IsRefused result → handle.new.held ≡ handle.old.held }
+    // `cancel` never says of a handle with a client that it holds none.
     ensures live { HoldsClient handle.old.held → result ≢ NOT_LIVE }
 {
     let Some(mut held) = handle.take(alloc) else {
@@ -210,7 +212,9 @@ fn forget(held: &mut Held, id: u64) -> i32
 /// Forgets an observation, without a message: 1, or 0 where it is not live or is being cancelled.
 #[unsafe(no_mangle)]
 pub extern "C" fn ks_client_forget(alloc: Global, handle: &mut KsHandle, id: u64) -> i32
+    // An end of an observation that is refused leaves the very client in the handle.
     ensures kept { IsRefused result → handle.new.held ≡ handle.old.held }
+    // `forget` never says of a handle with a client that it holds none.
     ensures live { HoldsClient handle.old.held → result ≢ NOT_LIVE }
 {
     let Some(mut held) = handle.take(alloc) else {

@@ -195,6 +195,7 @@ pub extern "C" fn ks_server_get(
     shown: &mut KsRepresentation,
     room: &mut [u8],
 ) -> i32
+    // To ask for a value leaves the very server in the handle.
     ensures kept { handle.new.held ≡ handle.old.held }
 {
     let path = match path_of(alloc, path) {
