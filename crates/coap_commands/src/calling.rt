@@ -39,6 +39,7 @@ pub(crate) fn plain<A: Allocator>(method: Method, path: Path<A>, body: Bytes<A>)
 
 /// A PUT of a body at a path (RFC 7252, section 5.8.3).
 pub fn put_request(alloc: Global, path: &Path, body: &[u8]) -> Result<Request, AllocError>
+    // The request that `put` makes is a PUT of that body at that path, and has no option more.
     ensures { IfOk result (λ made. shown_request made ≡ plain_request Put path.now body.now) }
 {
     let body = Bytes::copy_from_slice(alloc, body)?;
@@ -47,6 +48,7 @@ pub fn put_request(alloc: Global, path: &Path, body: &[u8]) -> Result<Request, A
 
 /// A GET of what is at a path (RFC 7252, section 5.8.1).
 pub fn get_request(path: &Path) -> Result<Request, AllocError>
+    // The request that `get` makes is a GET of that path, and has no option more.
     ensures { IfOk result (λ made. shown_request made ≡ plain_request Get path.now []) }
 {
     Ok(plain(Method::Get, path.clone()?, Bytes::new()))

@@ -77,6 +77,7 @@ pub fn get_over<L: Link, T: Timekeeper, H: BuildHasher + Drop, W: Write>(
     limit: BodyLimit,
     out: &mut W,
 ) -> Result<Status, Stop>
+    // A `get` over any link is carried out with status 0 or 1, or stops.
     ensures { IfOk result IsCarriedOut }
 {
     let mut client = fresh_client(alloc, server, word, limit, hasher);

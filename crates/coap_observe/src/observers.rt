@@ -78,6 +78,7 @@ impl<A: Allocator + Copy> Observers<A> {
             })) }
         // A registration of a pair that is there takes no memory.
         ensures again { is_registered from token self.old.list ≡ true → IsOk result }
+        // A registration that is refused memory changes nothing.
         ensures err { OnErr result (self.new ≡ self.old) }
     {
         let at = self.clock.later(now);

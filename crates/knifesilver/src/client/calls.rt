@@ -145,10 +145,14 @@ pub extern "C" fn ks_client_call(
     if_match: &[KsTag],
     id: &mut u64,
 ) -> i32
+    // A call that is answered makes just that call of the client in the handle, with the request that is spelled, and hands on
+    // its number.
     ensures led { IsAnswered result
         → CallsThat now (asked what.now (spelled path.now) body.now etags.now if_match.now) result id.new
         handle.old.held handle.new.held }
+    // A call that is refused leaves the very client in the handle.
     ensures kept { IsRefused result → handle.new.held ≡ handle.old.held }
+    // `call` never says of a handle with a client that it holds none.
     ensures live { HoldsClient handle.old.held → result ≢ NOT_LIVE }
 {
     let path = match path_of(alloc, path) {
@@ -188,9 +192,12 @@ pub extern "C" fn ks_client_observe(
     path: &[u8],
     id: &mut u64,
 ) -> i32
+    // An observation that is answered is just that call of the client in the handle, and its number is handed on.
     ensures led { IsAnswered result
         → Made (IsObserve now (spelled path.now) result id.new) handle.old.held handle.new.held }
+    // An observation that is refused leaves the very client in the handle.
     ensures kept { IsRefused result → handle.new.held ≡ handle.old.held }
+    // `observe` never says of a handle with a client that it holds none.
     ensures live { HoldsClient handle.old.held → result ≢ NOT_LIVE }
 {
     let path = match path_of(alloc, path) {
@@ -223,8 +230,11 @@ fn cancel(held: &mut Held, now: u64, id: u64) -> i32
 /// Takes the cancel of an observation.
 #[unsafe(no_mangle)]
 pub extern "C" fn ks_client_cancel(alloc: Global, handle: &mut KsHandle, now: u64, id: u64) -> i32
+    // A cancel that is answered makes just that call of the client in the handle.
     ensures led { IsAnswered result → Made (IsCancel now id result) handle.old.held handle.new.held }
+    // A cancel that is refused leaves the very client in the handle.
     ensures kept { IsRefused result → handle.new.held ≡ handle.old.held }
+    // `cancel` never says of a handle with a client that it holds none.
     ensures live { HoldsClient handle.old.held → result ≢ NOT_LIVE }
 {
     let Some(mut held) = handle.take(alloc) else {
@@ -256,8 +266,11 @@ fn forget(held: &mut Held, id: u64) -> i32
 /// Forgets an observation, without a message: 1, or 0 where it is not live or is being cancelled.
 #[unsafe(no_mangle)]
 pub extern "C" fn ks_client_forget(alloc: Global, handle: &mut KsHandle, id: u64) -> i32
+    // An end of an observation that is answered makes just that call of the client in the handle, and says whether it was live.
     ensures led { IsAnswered result → Made (IsForget id result) handle.old.held handle.new.held }
+    // An end of an observation that is refused leaves the very client in the handle.
     ensures kept { IsRefused result → handle.new.held ≡ handle.old.held }
+    // `forget` never says of a handle with a client that it holds none.
     ensures live { HoldsClient handle.old.held → result ≢ NOT_LIVE }
 {
     let Some(mut held) = handle.take(alloc) else {

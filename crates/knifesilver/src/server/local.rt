@@ -70,10 +70,13 @@ pub extern "C" fn ks_server_set(
     body: &[u8],
     version: &mut u64,
 ) -> i32
+    // To set a value that is answered makes just that call of the server in the handle, and hands on the version.
     ensures led { IsAnswered result
         → Made (IsSet now (spelled path.now) (format_in format) body.now (pos 0) result version.new) handle.old.held
         handle.new.held }
+    // To set a value that is refused leaves the very server in the handle.
     ensures kept { IsRefused result → handle.new.held ≡ handle.old.held }
+    // `set` never says of a handle with a server that it holds none.
     ensures live { HoldsServer handle.old.held → result ≢ NOT_LIVE }
 {
     let path = match path_of(alloc, path) {
@@ -161,10 +164,13 @@ pub extern "C" fn ks_server_update(
     body: &[u8],
     version: &mut u64,
 ) -> i32
+    // An update that is answered sets the value of the server in the handle where it differs, and else changes nothing.
     ensures led { IsAnswered result
         → Updates now (spelled path.now) (format_in format) body.now result version.new handle.old.held
         handle.new.held }
+    // An update that is refused leaves the very server in the handle.
     ensures kept { IsRefused result → handle.new.held ≡ handle.old.held }
+    // `update` never says of a handle with a server that it holds none.
     ensures live { HoldsServer handle.old.held → result ≢ NOT_LIVE }
 {
     let path = match path_of(alloc, path) {
@@ -204,9 +210,12 @@ pub extern "C" fn ks_server_remove(
     now: u64,
     path: &[u8],
 ) -> i32
+    // A removal that is answered makes just that call of the server in the handle, and says whether the path held something.
     ensures led { IsAnswered result
         → Made (IsRemove now (spelled path.now) result) handle.old.held handle.new.held }
+    // A removal that is refused leaves the very server in the handle.
     ensures kept { IsRefused result → handle.new.held ≡ handle.old.held }
+    // `remove` never says of a handle with a server that it holds none.
     ensures live { HoldsServer handle.old.held → result ≢ NOT_LIVE }
 {
     let path = match path_of(alloc, path) {
@@ -275,11 +284,15 @@ pub extern "C" fn ks_server_get(
     shown: &mut KsRepresentation,
     room: &mut [u8],
 ) -> i32
+    // What is shown is what the path holds at the server in the handle.
     ensures got { IsAnswered result
         → HoldsServerIn (IsGot (spelled path.now) result shown.new room.new) handle.old.held }
+    // A body that is longer than the room is not shown, and its length is.
     ensures long { result ≡ SMALL_ROOM
         → HoldsServerIn (IsTooLong (spelled path.now) shown.new (length room.old)) handle.old.held }
+    // To ask for a value leaves the very server in the handle.
     ensures kept { handle.new.held ≡ handle.old.held }
+    // `get` never says of a handle with a server that it holds none.
     ensures live { HoldsServer handle.old.held → result ≢ NOT_LIVE }
 {
     let path = match path_of(alloc, path) {
@@ -321,9 +334,12 @@ pub extern "C" fn ks_server_set_delay(
     path: &[u8],
     ms: u64,
 ) -> i32
+    // To delay a path that is answered makes just that call of the server in the handle.
     ensures led { IsAnswered result
         → Made (IsDelay (spelled path.now) ms result) handle.old.held handle.new.held }
+    // A delay that is refused leaves the very server in the handle.
     ensures kept { IsRefused result → handle.new.held ≡ handle.old.held }
+    // `set_delay` never says of a handle with a server that it holds none.
     ensures live { HoldsServer handle.old.held → result ≢ NOT_LIVE }
 {
     let path = match path_of(alloc, path) {
