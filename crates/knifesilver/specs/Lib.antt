@@ -3,6 +3,7 @@ pub mod ClientCalls
 pub mod ClientHeld
 pub mod Configs
 pub mod Formats
+pub mod Fresh
 pub mod Owned
 pub mod PathTexts
 pub mod ServerCalls

@@ -1,6 +1,8 @@
 //! A client is made and freed.
-ghost use Rattle.std.specs.Prelude.{◌≡◌, None, IfErr};
-ghost use Rattle.knifesilver.specs.Answers.{IsRefused};
+ghost use Rattle.std.specs.Prelude.{◌≡◌, pos, None, Some, IfOk, IfErr};
+ghost use Rattle.knifesilver.specs.Answers.{IsAnswered, IsRefused};
+ghost use Rattle.knifesilver.specs.Fresh.{IsFreshClient};
+ghost use Rattle.knifesilver.specs.declared.held.Held.TheVariants.{Client as ClientHeld};
 
 use crate::answers::{NO_MEMORY, NOTHING};
 use crate::config::{KsConfig, sizes_of};
@@ -19,6 +21,7 @@ fn fresh_client(
     config: &KsConfig,
     seed: &KsSeed,
 ) -> Result<OurClient, i32>
+    ensures made { IfOk result (λ client. IsFreshClient server config.now seed.now.word (Some (ClientHeld client))) }
     ensures refused { IfErr result IsRefused }
 {
     let (szx, limit) = match sizes_of(config) {
@@ -44,6 +47,9 @@ pub extern "C" fn ks_client_new(
     config: &KsConfig,
     seed: &KsSeed,
 ) -> i32
+    // A client that is made is one that begins, with the numbers of its configuration and its seed.
+    ensures made { IsAnswered result → (result ≡ pos 0) × IsFreshClient (record { ip = server.now.ip; port = server.now.port })
+        config.now seed.now.word handle.new.held }
     // Where no client is made, the handle holds what it held.
     ensures kept { IsRefused result → handle.new.held ≡ handle.old.held }
 {

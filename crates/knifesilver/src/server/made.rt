@@ -1,6 +1,9 @@
 //! A server is made and freed.
-ghost use Rattle.std.specs.Prelude.{◌≡◌, None, IfErr};
-ghost use Rattle.knifesilver.specs.Answers.{IsRefused};
+ghost use Rattle.std.specs.Prelude.{◌≡◌, pos, None, Some, IfOk, IfErr};
+ghost use Rattle.knifesilver.specs.Answers.{IsAnswered, IsRefused};
+ghost use Rattle.knifesilver.specs.Configs.{chosen};
+ghost use Rattle.knifesilver.specs.Fresh.{IsFreshServer};
+ghost use Rattle.knifesilver.specs.declared.held.Held.TheVariants.{Server as ServerHeld};
 
 use crate::answers::{BAD_CHANGES, NO_MEMORY, NOTHING};
 use crate::config::{KsConfig, sizes_of};
@@ -11,20 +14,27 @@ use coap_ends::Server;
 use coap_resource::{MAX_CHANGES_PER_WINDOW, MapStore, Store};
 use std::alloc::Global;
 
+// How many changes a window takes.
+fn changes_of(changes: u32) -> u32
+    ensures { result ≡ chosen MAX_CHANGES_PER_WINDOW changes }
+{
+    if changes == 0 {
+        MAX_CHANGES_PER_WINDOW
+    } else {
+        changes
+    }
+}
+
 // A server that holds nothing, or what is wrong with its configuration.
 fn fresh_server(alloc: Global, config: &KsConfig, seed: &KsSeed) -> Result<OurServer, i32>
+    ensures made { IfOk result (λ server. IsFreshServer config.now seed.now.word (Some (ServerHeld server))) }
     ensures refused { IfErr result IsRefused }
 {
     let (szx, limit) = match sizes_of(config) {
         Ok(sizes) => sizes,
         Err(answer) => return Err(answer),
     };
-    let changes = if config.changes == 0 {
-        MAX_CHANGES_PER_WINDOW
-    } else {
-        config.changes
-    };
-    let Some(store) = MapStore::new_sized(alloc, changes, limit) else {
+    let Some(store) = MapStore::new_sized(alloc, changes_of(config.changes), limit) else {
         return Err(BAD_CHANGES);
     };
     let Some(hasher) = hasher(seed) else {
@@ -41,6 +51,8 @@ pub extern "C" fn ks_server_new(
     config: &KsConfig,
     seed: &KsSeed,
 ) -> i32
+    // A server that is made is one that begins, with the numbers of its configuration and its seed.
+    ensures made { IsAnswered result → (result ≡ pos 0) × IsFreshServer config.now seed.now.word handle.new.held }
     // Where no server is made, the handle holds what it held.
     ensures kept { IsRefused result → handle.new.held ≡ handle.old.held }
 {
