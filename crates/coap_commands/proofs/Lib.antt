@@ -1,4 +1,4 @@
 pub mod PathWords
 pub mod ScriptWords
 pub mod Statuses
-pub mod TurnsAskNothing
+pub mod TurnCalls

@@ -24,26 +24,26 @@ AsksNothing (NextOut answer) = ⊤
 AsksNothing (NextReport answer) = ⊤
 AsksNothing call = ⊥
 
-abbrev pub AskNothing : List Call → Type 0
-AskNothing [] = ⊤
-AskNothing (c ∷ earlier) = AsksNothing c × AskNothing earlier
+abbrev pub Each : (Call → Type 0) → List Call → Type 0
+Each like [] = ⊤
+Each like (c ∷ earlier) = like c × Each like earlier
 
 -- these calls, the newest first, lead from one state to the other
 abbrev pub Chain : State → List Call → State → Type 0
 Chain old [] new = new ≡ old
 Chain old (c ∷ earlier) new = (between : State) × Chain old earlier between × Step between c new
 
--- calls lead from one state to the other that ask for nothing
-abbrev pub Turned : State → State → Type 0
-Turned old new = (calls : List Call) × AskNothing calls × Chain old calls new
+-- such calls alone lead from one state to the other
+abbrev pub Turned : (Call → Type 0) → State → State → Type 0
+Turned like old new = (calls : List Call) × Each like calls × Chain old calls new
 
 -- the report of this number is taken
 abbrev pub takes_report : ℕ → Report → Call
 takes_report number report = NextReport (Some (record { number = number; report = report }))
 
 -- such calls lead to a report of this number, which is taken
-abbrev pub Reports : State → ℕ → Report → Type 0
-Reports old number report = (turned : State) × (taken : State) × Turned old turned
+abbrev pub Reports : (Call → Type 0) → State → ℕ → Report → Type 0
+Reports like old number report = (turned : State) × (taken : State) × Turned like old turned
     × Step turned (takes_report number report) taken
 
 -- A client of this server began with this word and these sizes. It was handed the request, and nothing else: it refused
@@ -52,7 +52,7 @@ abbrev pub Becomes : Endpoint → (sizes : Sizes) → ℕ → Request → Outcom
 Becomes server sizes word request (Refused why) =
     (now : ℕ) × (s : State) × Led server sizes word (Calls now request (Err why) ∷ []) s
 Becomes server sizes word request (Reported report) =
-    (now : ℕ) × (number : ℕ) × (calls : List Call) × (s : State) × AskNothing calls
+    (now : ℕ) × (number : ℕ) × (calls : List Call) × (s : State) × Each AsksNothing calls
     × Led server sizes word (takes_report number (shown_report report) ∷ calls ++ Calls now request (Ok number) ∷ []) s
 
 -- done is a GET of which a body is reported

@@ -7,7 +7,8 @@ ghost use Rattle.coap_client.specs.Object.CallShown.{shown_request};
 ghost use Rattle.coap_client.specs.Object.Shown.{shown_report};
 ghost use Rattle.coap_client.specs.Trace.{NextReport};
 ghost use Rattle.coap_commands.specs.Asked.{IsAsked};
-ghost use Rattle.coap_commands.specs.Asks.{Asks, Becomes, Reports, Turned, changed_status, got_status, status_after};
+ghost use Rattle.coap_commands.specs.Asks.{Asks, AsksNothing, Becomes, Reports, Turned, changed_status};
+ghost use Rattle.coap_commands.specs.Asks.{got_status, status_after};
 ghost use Rattle.coap_commands.specs.Ends.{client_sizes};
 ghost use Rattle.coap_commands.specs.Statuses.{IsCarriedOut};
 
@@ -34,7 +35,7 @@ use std::rt::{Clock, Files};
 fn next_report_of<H: BuildHasher>(client: &mut Client<Global, H>, id: CallId) -> Option<Report>
     ensures some { IfSome result (λ report. Step client.old
         (NextReport (Some (record { number = id.0; report = shown_report report }))) client.new) }
-    ensures none { IfNone result (Turned client.old client.new) }
+    ensures none { IfNone result (Turned AsksNothing client.old client.new) }
 {
     match client.next_report() {
         Some((of, report)) if of.0 == id.0 => Some(report),
@@ -50,7 +51,7 @@ fn reported<H: BuildHasher, L: Link, T: Timekeeper>(
     id: CallId,
     word: u64,
 ) -> Result<Report, Stop>
-    ensures { IfOk result (λ report. Reports client.old id.0 (shown_report report)) }
+    ensures { IfOk result (λ report. Reports AsksNothing client.old id.0 (shown_report report)) }
 {
     let mut tally = fresh_tally(word);
     // More turns than a program lives.
