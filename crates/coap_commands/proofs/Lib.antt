@@ -2,3 +2,4 @@ pub mod PathWords
 pub mod ScriptWords
 pub mod Statuses
 pub mod TurnCalls
+pub mod WhatBecomes

@@ -155,7 +155,7 @@ pub fn ask_over<L: Link, T: Timekeeper, H: BuildHasher + Drop, W: Write>(
     out: &mut W,
 ) -> Result<Status, Stop>
     // The client was called with this request, and the status is that of what became of it.
-    ensures asks { IfOk result (Asks server (client_sizes limit) word (shown_request request)) }
+    ensures { IfOk result (Asks server (client_sizes limit) word (shown_request request)) }
 {
     let mut client = fresh_client(alloc, server, word, limit, hasher);
     let ended = ask_and_tell(alloc, &mut client, link, time, request, word, out);
@@ -172,7 +172,7 @@ pub fn ask<R: AllocGlobal + Files + Net + Clock + RandomSource, W: Write>(
     options: &AskOptions,
     out: &mut W,
 ) -> Result<Status, Stop>
-    ensures { IfOk result (IsAsked port path.now what options.now) }
+    ensures { IfOk result (IsAsked port path.now what.entry options.now) }
 {
     let word = word_of(rt, options.word)?;
     let body = body_of(rt, what, options.limit)?;

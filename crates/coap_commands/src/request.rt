@@ -19,7 +19,7 @@ const STANDARD_INPUT_FILE: &str = "/dev/stdin";
 
 // The method of what is asked for (RFC 7252, section 5.8).
 fn method_of(what: What<'_>) -> Method
-    ensures { result ≡ asked_method what }
+    ensures { result ≡ asked_method what.entry }
 {
     match what {
         What::Get => Method::Get,
@@ -34,8 +34,12 @@ fn copy_of(tags: &Tags) -> Tags
     ensures { result ≡ tags.now }
 {
     let mut copy = Tags::new();
-    for tag in tags.as_slice() {
-        let _fits = copy.push(tag.copy());
+    let all = tags.as_slice();
+    for tag in all {
+        match copy.push(tag.copy()) {
+            Ok(()) => {}
+            Err(_) => unreachable!(),
+        }
     }
     copy
 }
@@ -47,7 +51,7 @@ pub fn request_of(
     options: &AskOptions,
     body: Bytes,
 ) -> Result<Request, AllocError>
-    ensures { IfOk result (λ made. shown_request made ≡ asked_request what path.now options.now body) }
+    ensures { IfOk result (λ made. shown_request made ≡ asked_request what.entry path.now options.now body) }
 {
     Ok(Request {
         method: method_of(what),
@@ -67,7 +71,7 @@ pub fn body_of<R: AllocGlobal + Files>(
     what: What<'_>,
     limit: BodyLimit,
 ) -> Result<Bytes, Stop>
-    ensures { IfOk result (IsBody what) }
+    ensures { IfOk result (IsBody what.entry) }
 {
     match what {
         What::Get | What::Delete => Ok(Bytes::new()),
@@ -82,7 +86,7 @@ fn content_bytes<R: AllocGlobal + Files>(
     content: Content<'_>,
     limit: BodyLimit,
 ) -> Result<Bytes, Stop>
-    ensures { IfOk result (IsContent content) }
+    ensures { IfOk result (IsContent content.entry) }
 {
     match content {
         Content::Text(text) => Ok(Bytes::copy_from_slice(rt.alloc(), text.as_bytes())?),
@@ -91,11 +95,7 @@ fn content_bytes<R: AllocGlobal + Files>(
 }
 
 // What is in a file, of a longer one than the limit one byte more than that.
-fn file_bytes<R: AllocGlobal + Files>(
-    rt: &R,
-    name: &str,
-    limit: BodyLimit,
-) -> Result<Bytes, Stop> {
+fn file_bytes<R: AllocGlobal + Files>(rt: &R, name: &str, limit: BodyLimit) -> Result<Bytes, Stop> {
     let name = if name == STANDARD_INPUT {
         STANDARD_INPUT_FILE
     } else {

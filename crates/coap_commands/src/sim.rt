@@ -9,9 +9,9 @@ use coap_resource::{ListStore, MAX_CHANGES_PER_WINDOW, MapStore};
 use coap_words::StoreKind;
 use coap_world::{Event, RunRefusal, WorldConfig, run_with};
 use std::alloc::Allocator;
+use std::fs;
 use std::io::{Read, Write};
 use std::rt::Files;
-use std::fs;
 
 // The word that each end begins with.
 const WORD: u64 = 0;

@@ -39,10 +39,7 @@ fn said(alloc: Global, words: &[&str]) -> Result<String, AllocError> {
     }
 }
 
-fn check_said<R: Abort + AllocGlobal>(
-    rt: &R,
-    rows: &[(&[&str], &str)],
-) -> Result<(), AllocError> {
+fn check_said<R: Abort + AllocGlobal>(rt: &R, rows: &[(&[&str], &str)]) -> Result<(), AllocError> {
     for (words, text) in rows {
         let said = said(rt.alloc(), words)?;
         assert_eq!(rt; said.as_str(), *text, "at {words:?}");
@@ -101,7 +98,10 @@ fn words_that_ask_for_a_change(rt: HostRuntime) -> Result<(), Fail> {
             NO_TAG,
         ),
         (&["put", "5683", "t", "hi", "--word", "Random"], NO_WORD),
-        (&["pair", "t", "hi", "--word", "18446744073709551616"], NO_WORD),
+        (
+            &["pair", "t", "hi", "--word", "18446744073709551616"],
+            NO_WORD,
+        ),
         (
             &["put", "65536", "t", "hi"],
             "PORT is no number from 0 to 65535",
@@ -196,8 +196,14 @@ fn words_where_none_is_given(rt: HostRuntime) -> Result<(), Fail> {
         (&["put", "5683", "t", "hi"], WordChoice::Random),
         (&["post", "5683", "t", "hi"], WordChoice::Random),
         (&["delete", "5683", "t"], WordChoice::Random),
-        (&["put", "5683", "t", "hi", "--word", "7"], WordChoice::Given(7)),
-        (&["get", "5683", "t", "--word", "random"], WordChoice::Random),
+        (
+            &["put", "5683", "t", "hi", "--word", "7"],
+            WordChoice::Given(7),
+        ),
+        (
+            &["get", "5683", "t", "--word", "random"],
+            WordChoice::Random,
+        ),
     ];
     for (words, choice) in rows {
         assert_eq!(rt; word_in(rt.alloc(), words)?, Some(choice), "at {words:?}");
@@ -227,12 +233,14 @@ fn ask_in_memory<R: AllocGlobal + Files>(
 ) -> Result<u8, AllocError> {
     let alloc = rt.alloc();
     let list = words_of(alloc, words)?;
-    let Ok(Order::Ask {
-        path,
-        what,
-        options,
-        ..
-    }) = order(alloc, list.as_slice())
+    let Ok(
+        Order::Ask {
+            path,
+            what,
+            options,
+            ..
+        },
+    ) = order(alloc, list.as_slice())
     else {
         return Err(AllocError);
     };
@@ -340,7 +348,16 @@ fn what_changes_send_and_print(rt: HostRuntime) -> Result<(), Fail> {
         ),
         // If-Match of two tags, in their order; If-None-Match.
         (
-            &["put", "5683", "t", "hi", "--if-match", "02", "--if-match", "0A01"],
+            &[
+                "put",
+                "5683",
+                "t",
+                "hi",
+                "--if-match",
+                "02",
+                "--if-match",
+                "0A01",
+            ],
             "4803000000000000000000001102020a01a174ff6869",
             PRECONDITION_FAILED,
             (1, "failed 4.12\n"),

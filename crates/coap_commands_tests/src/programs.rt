@@ -1,7 +1,9 @@
 use crate::pair::Clock;
 use crate::refusing_end::RefusingEnd;
 use crate::rows::{Row, check_row, repeated, words_of};
-use coap_commands::{Stop, ask_over, close, command, fresh_server, get_request, hold_resource, serve_over};
+use coap_commands::{
+    Stop, ask_over, close, command, fresh_server, get_request, hold_resource, serve_over,
+};
 use coap_links::{ANY_PORT, Link, MemoryLink, UdpLink};
 use coap_types::{BodyLimit, Endpoint, Path};
 use coap_words::path_of_text;
