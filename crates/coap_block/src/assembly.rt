@@ -47,8 +47,11 @@ impl<A: Allocator + Copy> Assembly<A> {
     /// An assembly of no blocks, that asks for blocks of at most that size, and joins bodies of at most
     /// `DEFAULT_BODY_LIMIT` bytes.
     pub fn new(alloc: A, szx: Szx) -> Assembly<A>
+        // A `new` assembly has no partial body, and the usual limit.
         ensures state { result.state ≡ nothing_yet (usual_sizes szx) }
+        // To a `new` assembly no block has led.
         ensures led { Led (Made (usual_sizes szx)) result.state }
+        // A `new` assembly has no block to take back.
         ensures before { result.before ≡ None }
     {
         Assembly::with_limit(alloc, szx, BodyLimit::default())
@@ -56,8 +59,11 @@ impl<A: Allocator + Copy> Assembly<A> {
 
     /// The same for bodies of at most that limit.
     pub fn with_limit(alloc: A, szx: Szx, limit: BodyLimit) -> Assembly<A>
+        // An assembly of `with_limit` has no partial body, and that limit.
         ensures state { result.state ≡ nothing_yet (record { szx = szx; limit = limit }) }
+        // To an assembly of `with_limit` no block has led.
         ensures led { Led (Made (record { szx = szx; limit = limit })) result.state }
+        // An assembly of `with_limit` has no block to take back.
         ensures before { result.before ≡ None }
     {
         Assembly {
@@ -80,11 +86,15 @@ impl<A: Allocator + Copy> Assembly<A> {
         block: Block,
         payload: &[u8],
     ) -> Result<Took<A>, AllocError>
+        // The answer to a block is the first that holds in the table of blocks (RFC 7959, section 2.9).
         ensures step { IfOk result (λ answer.
             TakesBlock self.old.state now.0 (key_of key.now) block payload.now answer self.new.state) }
+        // Every history that led to the assembly leads on with this block, unless it was refused memory.
         ensures led { OnOk result ((t : AssemblyTrace) → Led t self.old.state
             → Led (Arrived t now.0 (key_of key.now) block payload.now) self.new.state) }
+        // A block that is taken can be taken back.
         ensures before { OnOk result (self.new.before ≡ Some self.old.state) }
+        // A block that is refused memory leaves the assembly as it was.
         ensures err { OnErr result (self.new ≡ self.old) }
         // A refusal takes no memory.
         ensures quiet { IsRefused (verdict_at self.old.state now.0 (key_of key.now) block (length payload.now))
@@ -112,7 +122,9 @@ impl<A: Allocator + Copy> Assembly<A> {
     /// was not refused memory, and no `undo` since.
     pub fn undo(&mut self)
         requires { IsSome self.old.before }
+        // The last block is taken back: the assembly is as it was before it.
         ensures back { self.old.before ≡ Some self.new.state }
+        // After that the assembly has no block to take back.
         ensures spent { self.new.before ≡ None }
     {
         if let Some(before) = self.before.take() {

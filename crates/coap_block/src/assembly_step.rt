@@ -25,6 +25,7 @@ pub enum AssemblyRefusal {
 impl AssemblyRefusal {
     /// The code of the response (RFC 7252, section 12.1.2; RFC 7959, section 2.9).
     pub fn code(self) -> Code
+        // The code is that of the response to such a block (RFC 7252, section 12.1.2; RFC 7959, section 2.9).
         ensures { result ≡ refusal_code self }
     {
         match self {

@@ -40,8 +40,11 @@ impl<A: Allocator + Copy> Fetch<A> {
     /// A fetch that asks for blocks of at most that size, of a body of at most `DEFAULT_BODY_LIMIT`
     /// bytes. The first request carries no Block2.
     pub fn new(alloc: A, szx: Szx) -> Fetch<A>
+        // A `new` fetch has gathered nothing, asks for blocks of that size, and has the usual limit.
         ensures state { result.state ≡ start (usual_sizes szx) 0 }
+        // To a `new` fetch no part has led.
         ensures led { Led (Made (usual_sizes szx)) result.state }
+        // A `new` fetch has no part to take back.
         ensures before { result.before ≡ None }
     {
         Fetch::with_limit(alloc, szx, BodyLimit::default())
@@ -49,8 +52,11 @@ impl<A: Allocator + Copy> Fetch<A> {
 
     /// The same for a body of at most that limit.
     pub fn with_limit(alloc: A, szx: Szx, limit: BodyLimit) -> Fetch<A>
+        // A fetch of `with_limit` has gathered nothing, and has that limit.
         ensures state { result.state ≡ start (record { szx = szx; limit = limit }) 0 }
+        // To a fetch of `with_limit` no part has led.
         ensures led { Led (Made (record { szx = szx; limit = limit })) result.state }
+        // A fetch of `with_limit` has no part to take back.
         ensures before { result.before ≡ None }
     {
         Fetch {
@@ -64,6 +70,7 @@ impl<A: Allocator + Copy> Fetch<A> {
 
     /// The greatest size of the blocks that it asks for.
     pub fn szx(&self) -> Szx
+        // The size is the greatest of the blocks that are asked for.
         ensures { result ≡ self.now.state.szx }
     {
         self.szx
@@ -72,7 +79,9 @@ impl<A: Allocator + Copy> Fetch<A> {
     /// The block that it asked for (RFC 7959, section 2.4); None at its start, where the request
     /// carries no Block2.
     pub fn asked(&self) -> Option<Block>
+        // The block that is asked for is that behind what is gathered, and at first none (RFC 7959, section 2.4).
         ensures block { result ≡ block_asked self.now.state }
+        // The NUM of the block that is asked for can be written.
         ensures numbered { IfSome result (λ block. block.num ≤ MAX_NUM) }
     {
         let asked = self.progress.asked?;
@@ -88,11 +97,16 @@ impl<A: Allocator + Copy> Fetch<A> {
         tag: Option<Tag>,
         payload: &[u8],
     ) -> Result<Step<A>, AllocError>
+        // The answer to a part is the first that holds in the table of parts (RFC 7959, section 2.4).
         ensures step { IfOk result (λ answer. Takes self.old.state block tag payload.now answer self.new.state) }
+        // Every history that led to the fetch leads on with this part, unless it was refused memory.
         ensures led { OnOk result ((t : FetchTrace) → Led t self.old.state
             → Led (Took t block tag payload.now) self.new.state) }
+        // A part that is taken can be taken back.
         ensures before { OnOk result (self.new.before ≡ Some self.old.state) }
+        // A part that is refused memory leaves the fetch as it was.
         ensures err { OnErr result (self.new ≡ self.old) }
+        // The block to ask for next has a NUM that can be written.
         ensures numbered { IfOk result IsNumbered }
         // What is refused or begins anew takes no memory.
         ensures quiet { IsQuiet (verdict self.old.state block tag (length payload.now)) → IsOk result }
@@ -132,7 +146,9 @@ impl<A: Allocator + Copy> Fetch<A> {
     /// one that was not refused memory, and no `undo` since.
     pub fn undo(&mut self)
         requires { IsSome self.old.before }
+        // The last part is taken back: the fetch is as it was before it.
         ensures back { self.old.before ≡ Some self.new.state }
+        // After that the fetch has no part to take back.
         ensures spent { self.new.before ≡ None }
     {
         if let Before::Was(was) = mem::replace(&mut self.before, Before::Nothing) {

@@ -7,7 +7,9 @@ use coap_types::Block;
 /// as its size, or up to the end. None where the block begins at or past the end; block 0 of an
 /// empty body has no byte.
 pub fn slice<'a>(body: &'a [u8], block: Block) -> Option<&'a [u8]>
+    // The bytes that are cut out are those of the block: as many as its size, or up to the end.
     ensures part { IfSome result (λ part. part.now ≡ part_of body.now block.num block.szx) }
+    // A block is cut out exactly where it begins in the body.
     ensures when { IsSome result ↔ Begins body.now block.num block.szx }
 {
     let size = block.szx.size();

@@ -39,7 +39,9 @@ impl<A: Allocator> Model for Upload<A> {
 impl<A: Allocator + Copy> Upload<A> {
     /// An upload of that body, in blocks of at most that size.
     pub fn new(body: Bytes<A>, szx: Szx) -> Upload<A>
+        // A `new` upload has sent nothing of its body, in blocks of that size.
         ensures state { result.state ≡ upload_start body szx }
+        // A `new` upload has nothing to take back.
         ensures before { result.before ≡ None }
     {
         Upload {
@@ -51,6 +53,7 @@ impl<A: Allocator + Copy> Upload<A> {
 
     /// The body, whole, where the upload is over.
     pub fn into_body(self) -> Bytes<A>
+        // The body that is given back is that of the upload, whole.
         ensures { result ≡ self.state.body }
     {
         self.body
@@ -58,8 +61,11 @@ impl<A: Allocator + Copy> Upload<A> {
 
     /// The block to send and its bytes (RFC 7959, section 2.5); the same until it is accepted.
     pub fn next(&self) -> (Block, &[u8])
+        // The block that is to be sent is the next one (RFC 7959, section 2.5).
         ensures block { result.0 ≡ block_to_send self.now.state }
+        // The bytes that are to be sent are the piece of the body at that block.
         ensures piece { Piece self.now.state.body result.0.num result.0.more result.0.szx result.1.now }
+        // The NUM of the block that is to be sent can be written.
         ensures numbered { result.0.num ≤ MAX_NUM }
     {
         let body = self.body.as_slice();
@@ -72,9 +78,13 @@ impl<A: Allocator + Copy> Upload<A> {
     /// another number, M 0, another size (at block 0: a larger one), or the next block would have a
     /// number over `MAX_NUM`.
     pub fn accepted(&mut self, answer: Block) -> bool
+        // A 2.31 is accepted exactly where it fits: its number, M 1, and its size, at block 0 also a smaller one.
         ensures fits { result ≡ continues self.old.state answer }
+        // Where it is accepted, the next block is the one behind, in the size that was answered.
         ensures moved { result ≡ true → self.new.state ≡ moved self.old.state answer }
+        // Where it is not accepted, nothing changes.
         ensures stays { result ≡ false → self.new.state ≡ self.old.state }
+        // What it changes can be taken back.
         ensures before { self.new.before ≡ Some self.old.state }
     {
         let next = place_after(&self.body, self.place, answer);
@@ -92,7 +102,9 @@ impl<A: Allocator + Copy> Upload<A> {
     /// and no `undo` since.
     pub fn undo(&mut self)
         requires { IsSome self.old.before }
+        // The last answer is taken back: the upload is as it was before it.
         ensures back { self.old.before ≡ Some self.new.state }
+        // After that the upload has nothing to take back.
         ensures spent { self.new.before ≡ None }
     {
         if let Some(was) = self.before.take() {

@@ -15,6 +15,7 @@ pub mod OpenRuns
 pub mod OpenSince
 pub mod RepliesToCons
 pub mod SendingsOfACon
+pub mod SentWhereFew
 pub mod SendsBegin
 pub mod SentFor
 pub mod SentIn

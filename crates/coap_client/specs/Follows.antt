@@ -15,6 +15,7 @@ pub mod Ended
 pub mod Ends
 pub mod Exact
 pub mod Fetches
+pub mod Free
 pub mod FromServer
 pub mod Gives
 pub mod GoesOn

@@ -88,7 +88,9 @@ impl<A: Allocator + Copy> Client<A, BuildHasherDefault<FoldHasher>> {
     /// A client to which nothing has happened. It sends and takes bodies of at most `DEFAULT_BODY_LIMIT`
     /// bytes, in blocks of at most that size. The word picks the first token and the first Message ID.
     pub fn new(alloc: A, server: Endpoint, szx: Szx, word: u64) -> Self
+        // To a `new` client no call has led, with the usual limit of a body.
         ensures led { Led server (usual_sizes szx) word [] result }
+        // A `new` client is in the state in which no call was made, by its server, block size and word.
         ensures start { result ≡ fresh_state server (usual_sizes szx) word }
     {
         Client::with_hasher(alloc, server, szx, word, BuildHasherDefault::new())
@@ -98,7 +100,9 @@ impl<A: Allocator + Copy> Client<A, BuildHasherDefault<FoldHasher>> {
 impl<A: Allocator + Copy, H: BuildHasher> Client<A, H> {
     /// The same, with a hasher for the messages that are remembered.
     pub fn with_hasher(alloc: A, server: Endpoint, szx: Szx, word: u64, hasher: H) -> Self
+        // To a client of `with_hasher` no call has led.
         ensures led { Led server (usual_sizes szx) word [] result }
+        // A client of `with_hasher` is in the state in which no call was made, whatever the hasher.
         ensures start { result ≡ fresh_state server (usual_sizes szx) word }
     {
         Client::with_limit(alloc, server, szx, word, BodyLimit::default(), hasher)
@@ -113,7 +117,9 @@ impl<A: Allocator + Copy, H: BuildHasher> Client<A, H> {
         limit: BodyLimit,
         hasher: H,
     ) -> Self
+        // To a client of `with_limit` no call has led, with that limit of a body.
         ensures led { Led server (record { szx = szx; limit = limit }) word [] result }
+        // A client of `with_limit` is in the state in which no call was made, with that limit.
         ensures start { result ≡ fresh_state server (record { szx = szx; limit = limit }) word }
     {
         Client {
@@ -132,14 +138,17 @@ impl<A: Allocator + Copy, H: BuildHasher> Client<A, H> {
         bytes: &[u8],
         word: u64,
     ) -> Result<(), AllocError>
+        // What a datagram makes of the client is a step of its machine.
         ensures step { OnOk result ((up : L.Answer) × (settled : Bool) × (event : Option Event) × (sent : L.Answer)
             × (token : Result (List ℕ) AskRefusal) × (kept : Bool)
             × Step self.old (Feeds now.0 from bytes.now word up settled event sent token kept) self.new) }
+        // Every history that led to the client leads on with this datagram, unless it was refused memory.
         ensures led { OnOk result ((server : Endpoint) (sizes : Sizes) (w : ℕ) (t : List Call)
             → Led server sizes w t self.old
             → (up : L.Answer) × (settled : Bool) × (event : Option Event) × (sent : L.Answer)
             × (token : Result (List ℕ) AskRefusal) × (kept : Bool)
             × Led server sizes w (Feeds now.0 from bytes.now word up settled event sent token kept ∷ t) self.new) }
+        // A datagram that is refused memory leaves the client as it was.
         ensures err { OnErr result (self.new ≡ self.old) }
         // Where nothing is sent, kept or told, as for an acknowledgement that matches nothing, it takes no memory.
         ensures quiet { TellsNothing self.old now.0 from bytes.now → IsOk result }
@@ -157,9 +166,13 @@ impl<A: Allocator + Copy, H: BuildHasher> Client<A, H> {
     /// no earlier than the last that was handed in; None where it never would. Nothing changes. It
     /// takes no memory.
     pub fn due(&self) -> Option<Moment>
+        // Where the client tells no moment, no later tick does anything unless something is handed in.
         ensures none { IfNone result ((now : ℕ) → now < 2 ^ 64 → TicksDo false self.now now) }
+        // No tick of the client before the moment that is told does anything.
         ensures some { IfSome result (λ at. (now : ℕ) → max (latest self.now) now < at.0 → TicksDo false self.now now) }
+        // A tick of the client at the moment that is told does something.
         ensures does { IfSome result (λ at. TicksDo true self.now at.0) }
+        // The moment that the client tells is not before its latest.
         ensures from { IfSome result (λ at. latest self.now ≤ at.0) }
     {
         let from = self.asker.clock().later(self.held.clock);
@@ -184,11 +197,14 @@ impl<A: Allocator + Copy, H: BuildHasher> Client<A, H> {
     /// }
     /// ```
     pub fn call(&mut self, now: Moment, request: Request<A>) -> Result<CallId, CallRefusal>
+        // The number of a call, or why it is refused, and what that leaves, is a step of the client's machine.
         ensures step { result ≢ Err refusals.Memory
             → Step self.old (Calls now.0 (shown_request request) (number_of result)) self.new }
+        // Every history that led to the client leads on with this call, unless it was refused memory.
         ensures led { (server : Endpoint) (sizes : Sizes) (w : ℕ) (t : List Call) → Led server sizes w t self.old
             → result ≢ Err refusals.Memory
             → Led server sizes w (Calls now.0 (shown_request request) (number_of result) ∷ t) self.new }
+        // A call that is refused memory leaves the client as it was.
         ensures memory { result ≡ Err refusals.Memory → self.new ≡ self.old }
         // Where it is refused for another reason, it takes no memory.
         ensures refused { is_ok (call_answer self.old.own (shown_request request)) ≡ false
@@ -201,12 +217,16 @@ impl<A: Allocator + Copy, H: BuildHasher> Client<A, H> {
     /// Takes an observation, whose registration starts at a later tick (RFC 7641, section 3.1): its
     /// number, or why it is not taken, as `call` says it.
     pub fn observe(&mut self, now: Moment, path: Path<A>) -> Result<CallId, CallRefusal>
+        // The number of an observation, or why it is refused, and what that leaves, is a step of the client's machine.
         ensures step { result ≢ Err refusals.Memory
             → Step self.old (Observes now.0 path (number_of result)) self.new }
+        // Every history that led to the client leads on with this observation, unless it was refused memory.
         ensures led { (server : Endpoint) (sizes : Sizes) (w : ℕ) (t : List Call) → Led server sizes w t self.old
             → result ≢ Err refusals.Memory
             → Led server sizes w (Observes now.0 path (number_of result) ∷ t) self.new }
+        // An observation that is refused memory leaves the client as it was.
         ensures memory { result ≡ Err refusals.Memory → self.new ≡ self.old }
+        // An observation that is refused for another reason takes no memory.
         ensures refused { is_ok (observe_answer self.old.own path) ≡ false → result ≢ Err refusals.Memory }
     {
         let long = is_long_path(&path);
@@ -216,7 +236,9 @@ impl<A: Allocator + Copy, H: BuildHasher> Client<A, H> {
     /// Takes the cancel of an observation, which starts at a later tick (RFC 7641, section 3.6). It
     /// takes no memory.
     pub fn cancel(&mut self, now: Moment, id: CallId) -> Result<(), CancelRefusal>
+        // Whether a cancel is taken, and what that leaves, is a step of the client's machine.
         ensures step { Step self.old (Cancels now.0 id.0 (refusal_in result)) self.new }
+        // Every history that led to the client leads on with this cancel, which is never refused memory.
         ensures led { (server : Endpoint) (sizes : Sizes) (w : ℕ) (t : List Call) → Led server sizes w t self.old
             → Led server sizes w (Cancels now.0 id.0 (refusal_in result) ∷ t) self.new }
     {
@@ -227,7 +249,9 @@ impl<A: Allocator + Copy, H: BuildHasher> Client<A, H> {
     /// the server, and no report of it comes later (RFC 7641, section 3.6). False where it is not live,
     /// or is being cancelled. It takes no memory.
     pub fn forget(&mut self, id: CallId) -> bool
+        // Whether there was such an observation, and what its end leaves, is a step of the client's machine.
         ensures step { (kept : Bool) × Step self.old (Forgets id.0 kept result) self.new }
+        // Every history that led to the client leads on with an observation that is forgotten.
         ensures led { (server : Endpoint) (sizes : Sizes) (w : ℕ) (t : List Call) → Led server sizes w t self.old
             → (kept : Bool) × Led server sizes w (Forgets id.0 kept result ∷ t) self.new }
     {
@@ -240,15 +264,18 @@ impl<A: Allocator + Copy, H: BuildHasher> Client<A, H> {
     /// Call it until it answers false: it does at most as often as much is due. After an `Err` the
     /// client is as before.
     pub fn tick(&mut self, now: Moment, word: u64) -> Result<bool, AllocError>
+        // Whether a tick did something, and what that leaves, is a step of the client's machine.
         ensures step { IfOk result (λ did. (below : L.Answer) × (due : Turn) × (sent : L.Answer)
             × (token : Result (List ℕ) AskRefusal)
             × (kept : Bool) × Step self.old (Ticks now.0 word below due sent token kept did) self.new) }
+        // Every history that led to the client leads on with this tick, unless it was refused memory.
         ensures led { (server : Endpoint) (sizes : Sizes) (w : ℕ) (t : List Call) → Led server sizes w t self.old
             → IfOk result (λ did. (below : L.Answer) × (due : Turn) × (sent : L.Answer)
             × (token : Result (List ℕ) AskRefusal)
             × (kept : Bool) × Led server sizes w (Ticks now.0 word below due sent token kept did ∷ t) self.new) }
-        // Each tick that does something leaves less to be done at its moment.
+        // Each tick of a client that does something leaves less to be done at its moment.
         ensures less { result ≡ Ok true → work self.new now.0 < work self.old now.0 }
+        // A tick that is refused memory leaves the client as it was.
         ensures err { OnErr result (self.new ≡ self.old) }
         // Where nothing is due and nothing begins, it takes no memory.
         ensures quiet { IsIdle self.old now.0 → IsOk result }
@@ -259,7 +286,9 @@ impl<A: Allocator + Copy, H: BuildHasher> Client<A, H> {
     /// The request that the last `feed` or `tick` sent for the first time: of which call or
     /// observation, and its token. It takes no memory.
     pub fn asked(&self) -> Option<(CallId, Token)>
+        // Which request the last datagram or tick sent for the first time is told as the machine has it.
         ensures step { Step self.now (Asked (shown_asked result)) self.now }
+        // Every history that led to the client leads on with this question, which changes nothing.
         ensures led { (server : Endpoint) (sizes : Sizes) (w : ℕ) (t : List Call) → Led server sizes w t self.now
             → Led server sizes w (Asked (shown_asked result) ∷ t) self.now }
     {
@@ -268,12 +297,16 @@ impl<A: Allocator + Copy, H: BuildHasher> Client<A, H> {
 
     /// The datagram that is to be sent next. It takes no memory.
     pub fn next_out(&mut self) -> Option<Datagram<A>>
+        // Which datagram the client gives out, and what that leaves, is a step of its machine.
         ensures step { Step self.old (NextOut result) self.new }
+        // Every history that led to the client leads on with a datagram that it gives out.
         ensures led { (server : Endpoint) (sizes : Sizes) (w : ℕ) (t : List Call) → Led server sizes w t self.old
             → Led server sizes w (NextOut result ∷ t) self.new }
+        // The datagram that the client gives out is the first that waited.
         ensures some { IfSome result (λ datagram. self.old.layer.layer.queue ≡ datagram ∷ self.new.layer.layer.queue) }
+        // The client gives out none only where none waited, and nothing changes.
         ensures none { IfNone result ((self.old.layer.layer.queue ≡ []) × (self.new ≡ self.old)) }
-        // No more datagrams wait than a list in memory holds.
+        // No more datagrams wait at a client than a list in memory holds.
         ensures few { length self.old.layer.layer.queue < 2 ^ 64 }
     {
         self.asker.next_out()
@@ -281,11 +314,14 @@ impl<A: Allocator + Copy, H: BuildHasher> Client<A, H> {
 
     /// The report that is to be taken next. It takes no memory.
     pub fn next_report(&mut self) -> Option<(CallId, Report<A>)>
+        // Which report is taken, and what that leaves, is a step of the client's machine.
         ensures step { Step self.old (NextReport (option_map shown_reported result)) self.new }
+        // Every history that led to the client leads on with a report that is taken.
         ensures led { (server : Endpoint) (sizes : Sizes) (w : ℕ) (t : List Call) → Led server sizes w t self.old
             → Led server sizes w (NextReport (option_map shown_reported result) ∷ t) self.new }
         // Each report that is taken leaves one less to be taken.
         ensures some { IfSome result (λ report. self.old.own.reports ≡ shown_reported report ∷ self.new.own.reports) }
+        // No report is given only where none waited, and nothing changes.
         ensures none { IfNone result ((self.old.own.reports ≡ []) × (self.new ≡ self.old)) }
         // No more reports wait than a list in memory holds.
         ensures few { length self.old.own.reports < 2 ^ 64 }

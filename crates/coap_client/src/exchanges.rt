@@ -3,6 +3,7 @@ ghost use Rattle.coap_types.specs.declared.endpoint.Endpoint.{Endpoint};
 ghost use Rattle.coap_block.specs.Sizes.{Sizes};
 ghost use Rattle.coap_client.specs.Law.{ClientLaw};
 ghost use Rattle.coap_client.specs.Trace.{Call};
+ghost use Rattle.coap_client.specs.Follows.Free.{SentWhereAnswered, SentWhereFewEnd};
 ghost use Rattle.coap_client.specs.Follows.OfAnswers.{AreByAnswers};
 ghost use Rattle.coap_client.specs.Follows.Open.{AllEndInTime, AnswersAreHeard, HearsOfOpen, OpenRuns};
 ghost use Rattle.coap_client.specs.Follows.Replied.{RepliesToCons};
@@ -24,6 +25,7 @@ pub fn client_exchanges_law()
     // section 5.3.2).
     ensures hears_of_open { (server : Endpoint) (sizes : Sizes) (word : ℕ) (t : List Call)
         → ClientLaw server sizes word t → HearsOfOpen server sizes word t }
+    // A response with the open exchange's token is heard if its critical options are recognised (section 5.3.2).
     ensures answers_heard { (server : Endpoint) (sizes : Sizes) (word : ℕ) (t : List Call)
         → ClientLaw server sizes word t → AnswersAreHeard server sizes word t }
     // To each response that comes in a CON it replies in the next entry of its message layer, by an Empty acknowledgement
@@ -40,6 +42,13 @@ pub fn client_exchanges_law()
     // section 5.8.1; RFC 7959, section 2.4).
     ensures unchanged { (server : Endpoint) (sizes : Sizes) (word : ℕ) (t : List Call)
         → ClientLaw server sizes word t → AreUnchanged sizes t }
+    // Where fewer exchanges end in each EXCHANGE_LIFETIME than a quarter of the Message IDs, each request that is asked
+    // for is sent: a Message ID and a token are free for it (RFC 7252, sections 4.4 and 5.3.1) ..
+    ensures sent { (server : Endpoint) (sizes : Sizes) (word : ℕ) (t : List Call)
+        → ClientLaw server sizes word t → SentWhereFewEnd sizes t }
+    // .. and so it is where each ends by its answer, and fewer answers are heard.
+    ensures sent_where_answered { (server : Endpoint) (sizes : Sizes) (word : ℕ) (t : List Call)
+        → ClientLaw server sizes word t → SentWhereAnswered sizes t }
 {
     asker_law();
 }

@@ -42,8 +42,10 @@ pub fn client_follows_law()
     // observation (RFC 7252, section 5.3.1; RFC 7641, section 3.6).
     ensures own_tokens { (server : Endpoint) (sizes : Sizes) (word : ℕ) (t : List Call) → ClientLaw server sizes word t
         → OwnTokens sizes t }
+    // A token is that of one request, or of an observation and its cancel.
     ensures tokens { (server : Endpoint) (sizes : Sizes) (word : ℕ) (t : List Call) → ClientLaw server sizes word t
         → OneOfToken sizes t }
+    // A token that is sent has at most 8 bytes.
     ensures short_tokens { (server : Endpoint) (sizes : Sizes) (word : ℕ) (t : List Call)
         → ClientLaw server sizes word t
         → ShortTokens sizes t }

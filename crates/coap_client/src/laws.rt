@@ -26,21 +26,23 @@ ghost use Rattle.coap_client.specs.Trace.{Call};
 /// The law of a client that transfers bodies block by block and observes: what leads to its state
 /// stands in it, and what follows from it.
 pub fn client_law()
+    // No call at all leads to the first state of a client.
     ensures start { (server : Endpoint) (sizes : Sizes) (word : ℕ)
         → Led server sizes word [] (fresh_state server sizes word) }
-    // A step lengthens the calls that led to the state before it.
+    // A step of a client lengthens the calls that led to the state before it.
     ensures step { (server : Endpoint) (sizes : Sizes) (word : ℕ) (t : List Call) (c : Call) (old new : State)
         → Led server sizes word t old → Step old c new → Led server sizes word (c ∷ t) new }
+    // A history that leads to a client stands in the client's law.
     ensures law { (server : Endpoint) (sizes : Sizes) (word : ℕ) (t : List Call) (s : State) → Led server sizes word t s
         → ClientLaw server sizes word t }
-    // The calls of its message layer stand in the law of that layer (RFC 7252, section 4).
+    // The calls of the layer beneath a client stand in its law (RFC 7252, section 4).
     ensures layer { (server : Endpoint) (sizes : Sizes) (word : ℕ) (t : List Call) → ClientLaw server sizes word t
         → LayerLaw (usual word) (layer_of server sizes word t) }
-    // The calls before some calls stand in the law too.
+    // The calls of a client before some calls stand in the law too.
     ensures back { (server : Endpoint) (sizes : Sizes) (word : ℕ) (calls t : List Call)
         → ClientLaw server sizes word (calls ++ t)
         → ClientLaw server sizes word t }
-    // The law leaves each call one answer.
+    // The law of a client leaves each call one answer.
     ensures exact { (server : Endpoint) (sizes : Sizes) (word : ℕ) (past : List Call) → IsExact server sizes word past }
     // A retransmission is of a CON that was begun at most LAST_RETRANSMISSION_MS before, with the same bytes (RFC 7252,
     // section 4.2).
@@ -91,9 +93,12 @@ pub fn client_law()
 /// Histories that stand in that law, with their bytes: an observation of two values, and the first
 /// blocks of an upload, of which the server wants smaller ones.
 pub fn client_witness()
+    // A history of a client that observes, written out byte for byte, stands in the law.
     ensures observes { ClientLaw example.server example.sizes 0 example.run }
+    // A history of a client that uploads a body in blocks, byte for byte, stands in the law.
     ensures uploads { ClientLaw example.server example.upload_sizes 0 example.upload }
     // What single calls ask and report behind others, by computation.
     ensures scenes { Scenes }
+    // A body in several blocks is held back, and what waits behind it; a request in one message is not.
     ensures hold { HoldScenes }
 {}

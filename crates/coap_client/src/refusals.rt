@@ -22,6 +22,7 @@ pub enum CallRefusal {
 impl CallRefusal {
     /// The number of the refusal, 1 to 6, in the order of the variants.
     pub fn number(self) -> u8
+        // The number of a call's refusal is its place among the six.
         ensures { result ≡ call_refusal_number self }
     {
         match self {
@@ -47,6 +48,7 @@ pub enum CancelRefusal {
 impl CancelRefusal {
     /// The number of the refusal, 1 or 2, in the order of the variants.
     pub fn number(self) -> u8
+        // The number of a cancel's refusal is its place among the two.
         ensures { result ≡ cancel_refusal_number self }
     {
         match self {

@@ -9,10 +9,10 @@ ghost use Rattle.coap_client.specs.Follows.Rests.{ComesToRest, TicksEnd};
 
 /// How a client goes on, and comes to rest.
 pub fn client_rests_law()
-    // It can go on: each further call has answers that stand in the law.
+    // A client can go on: each further call has answers that stand in the law.
     ensures goes { (server : Endpoint) (sizes : Sizes) (word : ℕ) (t : List Call) → ClientLaw server sizes word t
         → GoesOn server sizes word t }
-    // Calls that stand in the law lead to this state, and to no other.
+    // Calls that stand in the law lead to this state of the client, and to no other.
     ensures left { (server : Endpoint) (sizes : Sizes) (word : ℕ) (t : List Call) → ClientLaw server sizes word t
         → (s : State)
         → Led server sizes word t s ↔ (s ≡ state_left server sizes word t) }

@@ -108,6 +108,7 @@ pub fn decode(bytes: &[u8]) -> Result<View<'_>, Fault>
     ensures none { OnErr result ((m : Message) → Spells bytes.now m → ⊥) }
     // The fault is the first, at its place.
     ensures fault { IfErr result (λ f. Faulty bytes.now f.reason f.at) }
+    // From the third fault on the answer has the type and the Message ID of the datagram too.
     ensures head { IfErr result (λ f. f.head ≡ head_of f.reason bytes.now) }
 {
     read(bytes)

@@ -32,6 +32,7 @@ pub enum Refusal {
 impl Refusal {
     /// The number of the refusal, 1 to 4, in the order of the variants.
     pub fn number(self) -> u8
+        // The number of a refusal is its place among the four.
         ensures { result ≡ refusal_number self }
     {
         match self {
@@ -146,13 +147,17 @@ pub fn encode(
     payload: &[u8],
     out: &mut [u8],
 ) -> Result<usize, Refusal>
+    // The front of the buffer, as long as the answer says, spells the message (RFC 7252, section 3).
     ensures spelled { IfOk result (λ n. (n ≤ length out.old)
         × Spells (take n out.new) (message head.now options.now payload.now)) }
     // What is behind the spelling stays.
     ensures behind { IfOk result (λ n. drop n out.new ≡ drop n out.old) }
 
+    // The refusal is the first that holds, in a fixed order.
     ensures refused { IfErr result (λ r. Refused r (message head.now options.now payload.now) (length out.old)) }
+    // A message is refused only where no spelling of it has room in the buffer.
     ensures none { OnErr result (HasNoSpelling (message head.now options.now payload.now) (length out.old)) }
+    // Where a message is refused, the buffer is as it was.
     ensures unchanged { OnErr result (out.new ≡ out.old) }
 {
     if let Some(refusal) = refuses(head, options, payload, out.len()) {

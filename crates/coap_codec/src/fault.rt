@@ -32,6 +32,7 @@ pub enum Reason {
 impl Reason {
     /// The number of the reason, 1 to 10, in the order of the variants.
     pub fn number(self) -> u8
+        // The number of a fault is its place among the ten.
         ensures { result ≡ reason_number self }
     {
         match self {

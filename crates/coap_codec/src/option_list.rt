@@ -56,9 +56,12 @@ pub(crate) fn are_short(options: &[Opt<'_>]) -> bool
 /// None where no bytes are these options, since a number is below the one before it or a value is
 /// longer than 65,804 bytes; and where they are more bytes than a `usize` counts.
 pub fn options_len(options: &[Opt<'_>]) -> Option<usize>
+    // The length that is counted is that of the bytes of these options.
     ensures some { IfSome result (λ n. n ≡ length (options_bytes 0 (options_of options.now))) }
+    // Bytes of the length that is counted are these options.
     ensures spelled { IfSome result (λ n.
         Options 0 (options_bytes 0 (options_of options.now)) (options_of options.now)) }
+    // No length is answered only where no bytes below 2^64 are these options.
     ensures none { IfNone result ((bytes : List ℕ)
         → Options 0 bytes (options_of options.now) → length bytes < 2 ^ 64 → ⊥) }
 {

@@ -32,6 +32,7 @@ impl<'a> Model for View<'a> {
 impl<'a> View<'a> {
     /// The type.
     pub fn kind(&self) -> Kind
+        // The type is that of the message.
         ensures { result ≡ self.now.kind }
     {
         self.kind
@@ -39,6 +40,7 @@ impl<'a> View<'a> {
 
     /// The code.
     pub fn code(&self) -> Code
+        // The code is that of the message.
         ensures { result.0 ≡ self.now.code }
     {
         self.code
@@ -46,6 +48,7 @@ impl<'a> View<'a> {
 
     /// The Message ID.
     pub fn id(&self) -> Id
+        // The Message ID is that of the message.
         ensures { result.0 ≡ self.now.id }
     {
         self.id
@@ -53,7 +56,9 @@ impl<'a> View<'a> {
 
     /// The token, of 0 to 8 bytes.
     pub fn token(&self) -> &'a [u8]
+        // The token that is lent is that of the message.
         ensures bytes { result.now ≡ self.now.token }
+        // The token of a message has at most 8 bytes (RFC 7252, section 3).
         ensures few { length result.now ≤ max_token_len }
     {
         self.token
@@ -61,6 +66,7 @@ impl<'a> View<'a> {
 
     /// The payload, which is empty where the message has none.
     pub fn payload(&self) -> &'a [u8]
+        // The payload is that of the message.
         ensures { result.now ≡ self.now.payload }
     {
         self.payload
@@ -68,8 +74,11 @@ impl<'a> View<'a> {
 
     /// The options, none of whose numbers is below that of the one before it.
     pub fn options(&self) -> Options<'a>
+        // The options that are lent are those of the message, in order.
         ensures list { result ≡ self.now.options }
+        // The numbers of a message's options never fall.
         ensures order { ascends 0 self.now.options ≡ true }
+        // The options of a message can be counted.
         ensures few { length self.now.options < 2 ^ 63 }
     {
         // An option takes at least a byte, so there are no more of them than a slice has bytes.

@@ -154,7 +154,8 @@ pub fn ask_over<L: Link, T: Timekeeper, H: BuildHasher + Drop, W: Write>(
     limit: BodyLimit,
     out: &mut W,
 ) -> Result<Status, Stop>
-    // The client was called with this request, and the status is that of what became of it.
+    // A client of this server was handed this request, and nothing else; the status is 0 where a body (of a GET) or success was
+    // reported of it, and else 1.
     ensures { IfOk result (Asks server (client_sizes limit) word (shown_request request)) }
 {
     let mut client = fresh_client(alloc, server, word, limit, hasher);

@@ -44,6 +44,7 @@ pub(crate) fn plain<A: Allocator>(method: Method, path: Path<A>, body: Bytes<A>)
 
 /// A PUT of a body at a path (RFC 7252, section 5.8.3).
 pub fn put_request(alloc: Global, path: &Path, body: &[u8]) -> Result<Request, AllocError>
+    // The request that `put` makes is a PUT of that body at that path, and has no option more.
     ensures { IfOk result (λ made. shown_request made ≡ plain_request Put path.now body.now) }
 {
     let body = Bytes::copy_from_slice(alloc, body)?;
@@ -52,6 +53,7 @@ pub fn put_request(alloc: Global, path: &Path, body: &[u8]) -> Result<Request, A
 
 /// A GET of what is at a path (RFC 7252, section 5.8.1).
 pub fn get_request(path: &Path) -> Result<Request, AllocError>
+    // The request that `get` makes is a GET of that path, and has no option more.
     ensures { IfOk result (λ made. shown_request made ≡ plain_request Get path.now []) }
 {
     Ok(plain(Method::Get, path.clone()?, Bytes::new()))
@@ -63,6 +65,7 @@ pub fn call<H: BuildHasher>(
     now: Moment,
     request: Request,
 ) -> Result<Result<CallId, CallRefusal>, Stop>
+    // What leads to the client before the call leads, with the call and its answer, to the client after it.
     ensures led { IfOk result (λ answer. (server : Endpoint) (sizes : Sizes) (w : ℕ) (t : List Call)
         → Led server sizes w t client.old
         → Led server sizes w (Calls now.0 (shown_request request) (number_of answer) ∷ t) client.new) }

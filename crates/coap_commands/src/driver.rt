@@ -63,6 +63,7 @@ fn perform<R: AllocGlobal + Files + Net + Clock + RandomSource, W: Write>(
 
 /// Says why the words give no order.
 pub fn refuse<O: Write, E: Write>(wrong: Wrong, out: &mut O, err: &mut E) -> Result<Status, Stop>
+    // What is wrong in the words is told with its status.
     ensures { IsTold wrong result }
 {
     match wrong {
@@ -105,6 +106,7 @@ fn run<R: AllocGlobal + Files + Net + Clock + RandomSource, O: Write, E: Write>(
 
 /// Says why a run stopped, where it did.
 pub fn close<E: Write>(ended: Result<Status, Stop>, err: &mut E) -> Status
+    // The status is that of how the run ended.
     ensures { result ≡ status_of ended }
 {
     match ended {
@@ -128,6 +130,7 @@ pub fn command<R: AllocGlobal + Files + Net + Clock + RandomSource, O: Write, E:
     out: &mut O,
     err: &mut E,
 ) -> u8
+    // No status is over 4.
     ensures most { result ≤ 4 }
     // What is wrong in the words is answered with 2, unless that can't be told ..
     ensures wrong { (wrong : Wrong) → IsWrong (map string_bytes words.now) wrong → IsAnswered wrong result }
@@ -144,6 +147,7 @@ pub fn command<R: AllocGlobal + Files + Net + Clock + RandomSource, O: Write, E:
 
 /// Says why the words of the command line can't be read, and answers the exit status.
 pub fn without_words<E: Write>(error: &io::Error, err: &mut E) -> u8
+    // Where the words themselves can't be had, the status is 2 or 4.
     ensures { (result ≡ 2) ⊎ (result ≡ 4) }
 {
     let status = if error.kind() == ErrorKind::OutOfMemory {

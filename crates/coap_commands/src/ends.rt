@@ -25,6 +25,7 @@ const _: () = prove!(TEXT_PLAIN == 0);
 
 /// The size of the blocks of both ends: the largest (RFC 7959, section 2.2).
 pub fn largest_szx() -> Szx
+    // The size exponent is the greatest, 6.
     ensures { result ≡ MAX_SZX }
 {
     match Szx::new(MAX_SZX) {
@@ -40,6 +41,7 @@ pub fn fresh_server<H: BuildHasher + Drop>(
     limit: BodyLimit,
     hasher: H,
 ) -> Server<MapStore, Global, H>
+    // To the server that a command begins with no call has led.
     ensures { Led (server_limits limit) MAX_SZX word [] (state_of content_of result) }
 {
     let Some(store) = MapStore::new_sized(alloc, MAX_CHANGES_PER_WINDOW, limit) else {
@@ -57,6 +59,7 @@ pub fn fresh_client<H: BuildHasher + Drop>(
     limit: BodyLimit,
     hasher: H,
 ) -> Client<Global, H>
+    // To the client that a command begins with no call has led.
     ensures { ClientLed server (client_sizes limit) word [] result }
 {
     Client::with_limit(alloc, server, largest_szx(), word, limit, hasher)

@@ -155,6 +155,7 @@ pub fn pair_over<
     limit: BodyLimit,
     out: &mut W,
 ) -> Result<Status, Stop>
+    // A `pair` over any links is carried out with status 0 or 1, or stops.
     ensures { IfOk result IsCarriedOut }
 {
     let (client_hasher, server_hasher) = hashers;

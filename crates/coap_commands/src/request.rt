@@ -51,6 +51,7 @@ pub fn request_of(
     options: &AskOptions,
     body: Bytes,
 ) -> Result<Request, AllocError>
+    // The request that the words ask for has their method, path, format, If-Match and If-None-Match, and this body.
     ensures { IfOk result (λ made. shown_request made ≡ asked_request what.entry path.now options.now body) }
 {
     Ok(Request {
@@ -71,6 +72,7 @@ pub fn body_of<R: AllocGlobal + Files>(
     what: What<'_>,
     limit: BodyLimit,
 ) -> Result<Bytes, Stop>
+    // The body of a request is the text of the words; that of a file may be any, and a GET or a DELETE has none.
     ensures { IfOk result (IsBody what.entry) }
 {
     match what {

@@ -29,6 +29,7 @@ pub fn serve_over<A: Allocator + Copy, E: End<A>, L: Link, T: Timekeeper, W: Wri
     word: u64,
     out: &mut W,
 ) -> Result<Status, Stop>
+    // A `serve` over any link is carried out with status 0 or 1, or stops.
     ensures { IfOk result IsCarriedOut }
 {
     let mut tally = fresh_tally(word);

@@ -25,6 +25,7 @@ pub fn sim_to<A: Allocator + Copy, R: Read, W: Write>(
     script: &mut R,
     out: &mut W,
 ) -> Result<Status, Stop>
+    // A script is run with status 0, 1 or 2, or stops.
     ensures { IfOk result IsOfScript }
 {
     sim_with(alloc, script, StoreKind::Map, out)
@@ -37,6 +38,7 @@ pub fn sim_with<A: Allocator + Copy, R: Read, W: Write>(
     store: StoreKind,
     out: &mut W,
 ) -> Result<Status, Stop>
+    // A script is run over either store with status 0, 1 or 2, or stops.
     ensures { IfOk result IsOfScript }
 {
     let mut text = Vec::new(alloc);

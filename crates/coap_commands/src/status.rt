@@ -34,6 +34,7 @@ pub enum Stop {
 impl Status {
     /// The exit status as a number.
     pub fn number(self) -> u8
+        // The number of a status is the exit status that it stands for.
         ensures { result ≡ status_number self }
     {
         match self {

@@ -55,35 +55,47 @@ pub trait End<A: Allocator + Copy> {
         bytes: &[u8],
         word: u64,
     ) -> Result<(), AllocError>
+        // A datagram that is fed makes of an end what its own law says.
         ensures ok { OnOk result (feeds (state self.old) now.0 from bytes.now word (state self.new)) }
+        // A datagram that is refused memory leaves an end as it was.
         ensures err { OnErr result (state self.new ≡ state self.old) }
+        // A datagram of which an end says that it takes no memory is not refused any.
         ensures quiet { quiet_feed (state self.old) now.0 from bytes.now → IsOk result };
 
     /// Does one step that is due at the moment, and answers whether there was one.
     fn tick(&mut self, now: Moment, word: u64) -> Result<bool, AllocError>
+        // A tick makes of an end what its own law says, and tells whether it did something.
         ensures ok { IfOk result (λ did. ticks (state self.old) now.0 word did (state self.new)) }
         // There is less to do after a step, so that the ticks of one moment come to an end.
         ensures less { result ≡ Ok true → work (state self.new) now.0 < work (state self.old) now.0 }
+        // A tick that is refused memory leaves an end as it was.
         ensures err { OnErr result (state self.new ≡ state self.old) }
+        // A tick of which an end says that it takes no memory is not refused any.
         ensures quiet { quiet_tick (state self.old) now.0 → IsOk result };
 
     /// The first moment at which a tick would do something, unless something is handed in before, and no
     /// earlier than the last that was handed in; None where it never would. Nothing changes. It takes no
     /// memory.
     fn due(&self) -> Option<Moment>
+        // Where an end tells no moment, no tick does anything unless something is handed in.
         ensures none { IfNone result ((now word : ℕ) (did : Bool) (n : State) → now < 2 ^ 64
             → ticks (state self.now) now word did n → did ≡ false) }
+        // No tick of an end before the moment that is told does anything.
         ensures some { IfSome result (λ at. (now word : ℕ) (did : Bool) (n : State)
             → max (latest (state self.now)) now < at.0 → ticks (state self.now) now word did n → did ≡ false) }
+        // A tick of an end at the moment that is told does something, whatever the word.
         ensures does { IfSome result (λ at. (word : ℕ) (did : Bool) (n : State)
             → ticks (state self.now) at.0 word did n → did ≡ true) }
+        // The moment that an end tells is not before its latest.
         ensures from { IfSome result (λ at. latest (state self.now) ≤ at.0) };
 
     /// The datagram that is to be sent next. It takes no memory.
     fn next_out(&mut self) -> Option<Datagram<A>>
+        // The datagram that an end gives out is the first that waited.
         ensures some { IfSome result (λ datagram. (waiting (state self.old) ≡ datagram ∷ waiting (state self.new))
             × gives (state self.old) datagram (state self.new)) }
+        // An end gives out none only where none waited, and nothing changes.
         ensures none { IfNone result ((waiting (state self.old) ≡ []) × (state self.new ≡ state self.old)) }
-        // They can be counted.
+        // The datagrams that wait at an end can be counted.
         ensures few { length (waiting (state self.old)) < 2 ^ 64 };
 }

@@ -1,4 +1,5 @@
 pub mod Facts
+pub mod Ids
 pub mod Leading
 pub mod Exact
 pub mod Exchanges

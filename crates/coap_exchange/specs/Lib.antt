@@ -8,6 +8,8 @@ pub mod AskerArrivals
 pub mod AskerSteps
 pub mod AskerLaw
 pub mod AskerFollows
+pub mod Counts
+pub mod AskerIds
 pub mod AskerOpen
 pub mod AskerDue
 pub mod AskerTells
@@ -18,6 +20,7 @@ pub mod AnswererTrace
 pub mod AnswererSteps
 pub mod AnswererLaw
 pub mod AnswererFollows
+pub mod AnswererIds
 pub mod AnswererSends
 pub mod AnswererEmpties
 pub mod AnswererTells

@@ -50,7 +50,9 @@ pub struct Asked {
 impl Asked {
     /// The same again. It takes no memory.
     pub fn copy(&self) -> Asked
+        // The copy of a request's endpoint, Message ID and token is the same.
         ensures same { result ≡ self.now }
+        // The token of the copy has at most 8 bytes.
         ensures few { length result.token ≤ max_token_len }
     {
         let _few = self.token.as_slice();
@@ -151,8 +153,11 @@ impl<A: Allocator + Copy, S: BuildHasher> Model for Answerer<A, S> {
 impl<A: Allocator + Copy> Answerer<A, BuildHasherDefault<FoldHasher>> {
     /// A server's side to which nothing has happened. The word picks its first Message ID.
     pub fn new(alloc: A, word: u64) -> Self
+        // To a `new` answerer no call has led.
         ensures led { Led word [] result.state }
+        // A `new` answerer is in the state in which no call was made, by its word.
         ensures start { result.state ≡ fresh_state word }
+        // A `new` answerer has no input to take back.
         ensures before { result.before ≡ None }
     {
         Answerer::with_hasher(alloc, word, BuildHasherDefault::new())
@@ -162,8 +167,11 @@ impl<A: Allocator + Copy> Answerer<A, BuildHasherDefault<FoldHasher>> {
 impl<A: Allocator + Copy, S: BuildHasher> Answerer<A, S> {
     /// The same, with a hasher for the messages that are remembered.
     pub fn with_hasher(alloc: A, word: u64, hasher: S) -> Self
+        // To an answerer of `with_hasher` no call has led.
         ensures led { Led word [] result.state }
+        // An answerer of `with_hasher` is in the state in which no call was made, whatever the hasher.
         ensures start { result.state ≡ fresh_state word }
+        // An answerer of `with_hasher` has no input to take back.
         ensures before { result.before ≡ None }
     {
         Answerer {
@@ -182,8 +190,9 @@ impl<A: Allocator + Copy, S: BuildHasher> Answerer<A, S> {
 
     /// The last moment that counted.
     pub fn clock(&self) -> Moment
+        // The latest moment that counted is the one of the answerer's own clock.
         ensures own { result.0 ≡ self.now.state.own.clock }
-        // It is that of the layer.
+        // That moment is the one of the message layer.
         ensures layer { result.0 ≡ self.now.state.layer.clock }
     {
         self.layer.clock()
@@ -192,7 +201,9 @@ impl<A: Allocator + Copy, S: BuildHasher> Answerer<A, S> {
     /// The separate response or the notification that a Reset or a failure ended in the last
     /// `incoming` or `tick` (RFC 7252, section 5.2.2; RFC 7641, sections 3.6 and 4.5).
     pub fn ended(&self) -> Option<Ended>
+        // What is told to have ended is what the last call ended.
         ensures same { result ≡ self.now.state.own.ended }
+        // The token of a response that ended has at most 8 bytes.
         ensures few { IfSome result (λ ended. length ended.token ≤ max_token_len) }
     {
         copied_end(&self.ended)
@@ -207,21 +218,27 @@ impl<A: Allocator + Copy, S: BuildHasher> Answerer<A, S> {
         from: Endpoint,
         bytes: &'d [u8],
     ) -> Result<Option<(Asked, View<'d>)>, AllocError>
+        // What becomes of an arrival, and what that leaves, is a step of the answerer's machine.
         ensures step { IfOk result (λ answer. (up : below.Answer)
             × Step self.old.state (Incoming now.0 from bytes.now up answer) self.new.state) }
+        // Every history that led to the answerer leads on with this arrival, unless it was refused memory.
         ensures led { IfOk result (λ answer. (up : below.Answer)
             × Leads self.old (Incoming now.0 from bytes.now up answer) self.new) }
+        // After an arrival a request that was handed up may be answered.
         ensures answerable { OnOk result (self.new.answerable ≡ true) }
+        // The token of a request that is handed up has at most 8 bytes.
         ensures few { IfOk result (λ answer. IfSome (asked_in answer)
             (λ asked. length asked.token ≤ max_token_len)) }
         // What hands up a request ends nothing.
         ensures ends_none { IfOk result (λ answer. is_some answer ≡ true → self.new.state.own.ended ≡ None) }
-        // Where a notification could be sent and nothing is sent now, it still can.
+        // Where a notification could be sent and an arrival sends nothing, it still can.
         ensures kept { OnOk result (self.new.state.layer.queue ≡ self.old.state.layer.queue
             → (at : ℕ) (there : EndpointSpec) → MayNotify self.old at there → MayNotify self.new at there) }
+        // An arrival at the answerer can be taken back.
         ensures before { OnOk result (self.new.before ≡ Some self.old.state) }
+        // An arrival that is refused memory leaves the answerer as it was.
         ensures err { OnErr result (self.new ≡ self.old) }
-        // Where the layer sends nothing and hands nothing up, it takes no memory.
+        // An arrival at the answerer for which the layer sends nothing and hands nothing up takes no memory.
         ensures quiet { IsQuiet (made self.old.state.layer now.0 (below.Receive from bytes.now)) → IsOk result }
     {
         let up = self.layer.receive(now, from, bytes)?;
@@ -245,9 +262,12 @@ impl<A: Allocator + Copy, S: BuildHasher> Answerer<A, S> {
     pub fn answer(&mut self, asked: &Asked, response: &Response<'_>)
         requires may { MayAnswer self.old asked.now }
         requires response { IsAnswer asked.now response.now }
+        // What a response at once leaves is a step of the answerer's machine.
         ensures step { (sent : below.Answer)
             × Step self.old.state (Answers asked.now response.now sent) self.new.state }
+        // Every history that led to the answerer leads on with this response, which is never refused.
         ensures led { (sent : below.Answer) × Leads self.old (Answers asked.now response.now sent) self.new }
+        // A response at once is taken back with the request that it answers.
         ensures before { self.new.before ≡ self.old.before }
     {
         send(&mut self.layer, asked, response);
@@ -261,12 +281,16 @@ impl<A: Allocator + Copy, S: BuildHasher> Answerer<A, S> {
     pub fn defer(&mut self, now: Moment, asked: &Asked, delay_ms: u64) -> bool
         requires may { MayAnswer self.old asked.now }
         requires con { asked.now.kind ≡ Con }
+        // Whether a request is deferred, and what that leaves, is a step of the answerer's machine.
         ensures step { Step self.old.state (Defers now.0 asked.now delay_ms result) self.new.state }
+        // Every history that led to the answerer leads on with this deferral, or with its refusal.
         ensures led { Leads self.old (Defers now.0 asked.now delay_ms result) self.new }
+        // After a deferral, or its refusal, a request may be answered.
         ensures answerable { self.new.answerable ≡ true }
-        // Where a notification could be sent and nothing is sent now, it still can.
+        // Where a notification could be sent and a deferral sends nothing, it still can.
         ensures kept { result ≡ false → (at : ℕ) (there : EndpointSpec) → MayNotify self.old at there
             → MayNotify self.new at there }
+        // A deferral is taken back with the request that it defers.
         ensures before { self.new.before ≡ self.old.before }
     {
         self.layer.pass(now);
@@ -288,16 +312,22 @@ impl<A: Allocator + Copy, S: BuildHasher> Answerer<A, S> {
     /// message is outstanding, and for which a Message ID is free (RFC 7252, sections 4.2, 4.7 and
     /// 5.2.2). `respond` is to be called for that, at the same moment, and takes no memory then.
     pub fn tick(&mut self, now: Moment) -> Result<Due, AllocError>
+        // What a tick does, and what that leaves, is a step of the answerer's machine.
         ensures step { IfOk result (λ due. (done : below.Answer) × (room : Bool)
             × Step self.old.state (Ticks now.0 done room due) self.new.state) }
+        // Every history that led to the answerer leads on with this tick, unless it was refused memory.
         ensures led { IfOk result (λ due. (done : below.Answer) × (room : Bool)
             × Leads self.old (Ticks now.0 done room due) self.new) }
+        // To a request that a tick calls ready a response may be sent at that moment.
         ensures ready { IfOk result (λ due. (a : AskedSpec) → due ≡ dues.Ready a → MayRespond self.new now.0 a) }
+        // The token of a request that a tick calls ready has at most 8 bytes.
         ensures few { IfOk result (λ due. (a : AskedSpec) → due ≡ dues.Ready a → length a.token ≤ max_token_len) }
-        // Where a notification could be sent, it still can.
+        // Where a notification could be sent before a tick, it still can.
         ensures kept { OnOk result ((at : ℕ) (there : EndpointSpec) → MayNotify self.old at there
             → MayNotify self.new at there) }
+        // A tick of the answerer can be taken back.
         ensures before { OnOk result (self.new.before ≡ Some self.old.state) }
+        // A tick that is refused memory leaves the answerer as it was.
         ensures err { OnErr result (self.new ≡ self.old) }
         // A request is ready only where its response can be sent.
         ensures only { IfOk result (λ due. (a : AskedSpec) → due ≡ dues.Ready a
@@ -309,6 +339,7 @@ impl<A: Allocator + Copy, S: BuildHasher> Answerer<A, S> {
         // failure comes first, it takes no memory.
         ensures quiet { copies (max self.old.state.own.clock now.0) self.old.state.layer.open_cons ≡ []
             → takes_response self.old.state now.0 ≡ false → IsOk result }
+        // Where no copy is due and the layer has a failure, the tick tells that.
         ensures fails { copies (max self.old.state.own.clock now.0) self.old.state.layer.open_cons ≡ []
             → answer_of self.old.state.layer (max self.old.state.own.clock now.0) below.Ticks ≢ below.Idle
             → result ≡ Ok dues.Expired }
@@ -335,14 +366,18 @@ impl<A: Allocator + Copy, S: BuildHasher> Answerer<A, S> {
     /// None where it never would. A moment before the last one counts as the last. Nothing changes: the moment doesn't
     /// count. It takes no memory.
     pub fn due(&self, now: Moment) -> Option<Moment>
+        // Where the answerer tells no moment, no later tick does anything unless something is handed in.
         ensures none { IfNone result ((later : ℕ) → now.0 ≤ later → later < 2 ^ 64
             → AnswererRests self.now.state later) }
+        // No tick of the answerer before the moment that is told does anything.
         ensures some { IfSome result (λ at. (later : ℕ) → now.0 ≤ later → max self.now.state.own.clock later < at.0
             → AnswererRests self.now.state later) }
+        // A tick of the answerer at the moment that is told does something.
         ensures does { IfSome result (λ at. (word : ℕ) (t : List Call) → Led word t self.now.state
             → AnswererTurns self.now.state at.0) }
+        // The moment that the answerer tells is not before its clock, nor before the one that was handed in.
         ensures from { IfSome result (λ at. max self.now.state.own.clock now.0 ≤ at.0) }
-        // The same, of what is outstanding and of what is deferred.
+        // The moment that the answerer tells is the first of what is outstanding and of what is deferred.
         ensures first { IsFirstMoment (has_due self.now.state) (max self.now.state.own.clock now.0) result }
     {
         let from = self.layer.clock().later(now);
@@ -354,6 +389,7 @@ impl<A: Allocator + Copy, S: BuildHasher> Answerer<A, S> {
     /// The first moment, from this one on, at which a Message ID is free, unless something is handed in before. A
     /// moment before the last one counts as the last. Nothing changes. It takes no memory.
     pub fn free_from(&self, now: Moment) -> Option<Moment>
+        // The moment that a server's exchanges tell is the first at which a Message ID is free.
         ensures { IsFirstMoment (λ later. is_free later self.now.state.layer.upcoming self.now.state.layer.last_used)
             (max self.now.state.own.clock now.0) result }
     {
@@ -366,8 +402,11 @@ impl<A: Allocator + Copy, S: BuildHasher> Answerer<A, S> {
     pub fn respond(&mut self, now: Moment, asked: &Asked, response: &Response<'_>, word: u64) -> Id
         requires may { MayRespond self.old now.0 asked.now }
         requires response { IsAnswer asked.now response.now }
+        // Which Message ID a separate response has, and what that leaves, is a step of the answerer's machine.
         ensures step { Step self.old.state (Responds now.0 asked.now response.now word result.0) self.new.state }
+        // Every history that led to the answerer leads on with this separate response, which is never refused.
         ensures led { Leads self.old (Responds now.0 asked.now response.now word result.0) self.new }
+        // A separate response is taken back with the tick that called its request ready.
         ensures before { self.new.before ≡ self.old.before }
     {
         let id = confirm(
@@ -388,6 +427,7 @@ impl<A: Allocator + Copy, S: BuildHasher> Answerer<A, S> {
 
     /// What `ready` would answer now. Nothing changes: the moment doesn't count. It takes no memory.
     pub fn would_notify(&self, now: Moment, to: Endpoint) -> bool
+        // What is answered is what `ready` would answer now.
         ensures { answer_of self.now.state.layer (max self.now.state.own.clock now.0) (below.Room to)
             ≡ below.Is result }
     {
@@ -398,18 +438,26 @@ impl<A: Allocator + Copy, S: BuildHasher> Answerer<A, S> {
     /// outstanding, and a Message ID is free (RFC 7252, sections 4.4 and 4.7). After true, `notify`
     /// may be called at the same moment, and takes no memory. Where it is false, it takes no memory.
     pub fn ready(&mut self, now: Moment, to: Endpoint) -> Result<bool, AllocError>
+        // Whether a notification may be sent, and what asking leaves, is a step of the answerer's machine.
         ensures step { IfOk result (λ may. Step self.old.state (Ready now.0 to may) self.new.state) }
+        // Every history that led to the answerer leads on with this question, unless it was refused memory.
         ensures led { IfOk result (λ may. Leads self.old (Ready now.0 to may) self.new) }
+        // A notification may be sent exactly where no CON to the endpoint is outstanding and a Message ID is free.
         ensures answer { IfOk result (λ may. may ≡ takes_con self.old.state now.0 to) }
+        // Where the answer is yes, `notify` may be called at that moment.
         ensures may { IfOk result (λ may. may ≡ true → MayNotify self.new now.0 to) }
+        // The question leaves whether a request may be answered.
         ensures answerable { self.new.answerable ≡ self.old.answerable }
-        // A CON can be sent where it could before.
+        // A CON can be sent after the question where it could before.
         ensures same { (there : EndpointSpec)
             → takes_con self.new.state now.0 there ≡ takes_con self.old.state now.0 there }
-        // Where a notification could be sent, it still can.
+        // Where a notification could be sent before the question, it still can.
         ensures kept { (at : ℕ) (there : EndpointSpec) → MayNotify self.old at there → MayNotify self.new at there }
+        // The question is taken back with the last input.
         ensures before { self.new.before ≡ self.old.before }
+        // A question that is refused memory leaves the answerer as it was.
         ensures err { OnErr result (self.new ≡ self.old) }
+        // An answer that no notification may be sent takes no memory.
         ensures quiet { takes_con self.old.state now.0 to ≡ false → IsOk result }
     {
         if self.layer.would_confirm(now, to) {
@@ -434,8 +482,11 @@ impl<A: Allocator + Copy, S: BuildHasher> Answerer<A, S> {
     ) -> Id
         requires may { MayNotify self.old now.0 to }
         requires response { IsAnswerWith token.now response.now }
+        // Which Message ID a notification has, and what that leaves, is a step of the answerer's machine.
         ensures step { Step self.old.state (Notifies now.0 to token.now response.now word result.0) self.new.state }
+        // Every history that led to the answerer leads on with this notification, which is never refused.
         ensures led { Leads self.old (Notifies now.0 to token.now response.now word result.0) self.new }
+        // A notification is taken back with the last input.
         ensures before { self.new.before ≡ self.old.before }
     {
         let id = confirm(&mut self.layer, now, to, token, response, word);
@@ -448,13 +499,17 @@ impl<A: Allocator + Copy, S: BuildHasher> Answerer<A, S> {
     /// The datagram that is to be sent next. After it, nothing can be taken back. It takes no
     /// memory.
     pub fn next_out(&mut self) -> Option<Datagram<A>>
+        // Which datagram the answerer gives out, and what that leaves, is a step of its machine.
         ensures step { Step self.old.state (Take result) self.new.state }
+        // Every history that led to the answerer leads on with a datagram that it gives out.
         ensures led { Leads self.old (Take result) self.new }
+        // A datagram that is given out leaves whether a request may be answered.
         ensures answerable { self.new.answerable ≡ self.old.answerable }
-        // Where a notification could be sent, it still can.
+        // Where a notification could be sent before a datagram is given out, it still can.
         ensures kept { (at : ℕ) (there : EndpointSpec) → MayNotify self.old at there → MayNotify self.new at there }
+        // What the answerer gave out is not taken back.
         ensures before { self.new.before ≡ None }
-        // No more datagrams wait than a list in memory holds.
+        // No more datagrams wait at an answerer than a list in memory holds.
         ensures few { length self.old.state.layer.queue < 2 ^ 64 }
     {
         self.layer.next_out()
@@ -464,7 +519,9 @@ impl<A: Allocator + Copy, S: BuildHasher> Answerer<A, S> {
     /// No request may be answered or deferred then. It takes no memory.
     pub fn undo(&mut self)
         requires { IsSome self.old.before }
+        // The last input is taken back: the answerer is as it was before it.
         ensures back { self.old.before ≡ Some self.new.state }
+        // After that the answerer has no input to take back.
         ensures spent { self.new.before ≡ None }
     {
         self.layer.undo();

@@ -138,8 +138,11 @@ impl<A: Allocator + Copy> Asker<A, BuildHasherDefault<FoldHasher>> {
     /// A client's side to which nothing has happened. The word picks the first token and the first
     /// Message ID.
     pub fn new(alloc: A, server: Endpoint, word: u64) -> Self
+        // To a `new` asker no call has led.
         ensures led { Led server word [] result.state }
+        // A `new` asker is in the state in which no call was made, by its server and its word.
         ensures start { result.state ≡ fresh_state server word }
+        // A `new` asker has no input to take back.
         ensures before { result.before ≡ None }
     {
         Asker::with_hasher(alloc, server, word, BuildHasherDefault::new())
@@ -149,8 +152,11 @@ impl<A: Allocator + Copy> Asker<A, BuildHasherDefault<FoldHasher>> {
 impl<A: Allocator + Copy, S: BuildHasher> Asker<A, S> {
     /// The same, with a hasher for the messages that are remembered.
     pub fn with_hasher(alloc: A, server: Endpoint, word: u64, hasher: S) -> Self
+        // To an asker of `with_hasher` no call has led.
         ensures led { Led server word [] result.state }
+        // An asker of `with_hasher` is in the state in which no call was made, whatever the hasher.
         ensures start { result.state ≡ fresh_state server word }
+        // An asker of `with_hasher` has no input to take back.
         ensures before { result.before ≡ None }
     {
         Asker {
@@ -164,6 +170,7 @@ impl<A: Allocator + Copy, S: BuildHasher> Asker<A, S> {
 
     /// The last moment that counted.
     pub fn clock(&self) -> Moment
+        // The latest moment that counted is the one of the asker's own clock.
         ensures { result.0 ≡ self.now.state.own.clock }
     {
         self.layer.clock()
@@ -175,15 +182,21 @@ impl<A: Allocator + Copy, S: BuildHasher> Asker<A, S> {
     /// other does.
     pub fn ask(&mut self, now: Moment, ask: &Ask<'_>, word: u64) -> Result<Token, AskRefusal>
         requires { IsAskable ask.now }
+        // The token of a request, or why it is refused, and what that leaves, is a step of the asker's machine.
         ensures step { result ≢ Err refusals.Memory → (answer : below.Answer)
             × Step self.old.state (Asks now.0 ask.now word answer result) self.new.state }
+        // Every history that led to the asker leads on with this request, unless it was refused memory.
         ensures led { result ≢ Err refusals.Memory → (answer : below.Answer)
             × Leads self.old (Asks now.0 ask.now word answer result) self.new }
+        // The token that a request gets has at most 8 bytes.
         ensures few { IfOk result (λ token. length token ≤ max_token_len) }
+        // A request is taken back with the last input.
         ensures before { self.new.before ≡ self.old.before }
+        // A request that is refused memory leaves the asker as it was.
         ensures memory { result ≡ Err refusals.Memory → self.new ≡ self.old }
-        // Where it refuses for another reason, it takes no memory.
+        // A request that is refused before the layer is asked takes no memory.
         ensures opens { opening_of self.old.state.own ask.now ≢ openings.Sends → result ≢ Err refusals.Memory }
+        // Where the layer has no room for a CON to the server, the refusal takes no memory.
         ensures quiet { answer_of self.old.state.layer (max self.old.state.own.clock now.0)
             (below.Room self.old.state.own.server) ≡ below.Is false → result ≢ Err refusals.Memory }
     {
@@ -237,14 +250,19 @@ impl<A: Allocator + Copy, S: BuildHasher> Asker<A, S> {
         from: Endpoint,
         bytes: &'d [u8],
     ) -> Result<Option<Event<'d>>, AllocError>
+        // What becomes of an arrival, and what that leaves, is a step of the asker's machine.
         ensures step { IfOk result (λ event. (up : below.Answer) × (settled : Bool)
             × Step self.old.state (Receive now.0 from bytes.now up settled event) self.new.state) }
+        // Every history that led to the asker leads on with this arrival, unless it was refused memory.
         ensures led { IfOk result (λ event. (up : below.Answer) × (settled : Bool)
             × Leads self.old (Receive now.0 from bytes.now up settled event) self.new) }
+        // The token of a response that is told has at most 8 bytes.
         ensures few { IfOk result (λ event. IfSome (message_told event) (λ m. length m.token ≤ max_token_len)) }
+        // An arrival at the asker can be taken back.
         ensures before { OnOk result (self.new.before ≡ Some self.old.state) }
+        // An arrival that is refused memory leaves the asker as it was.
         ensures err { OnErr result (self.new ≡ self.old) }
-        // Where the layer sends nothing and hands nothing up, it takes no memory.
+        // An arrival at the asker for which the layer sends nothing and hands nothing up takes no memory.
         ensures quiet { IsQuiet (made self.old.state.layer now.0 (below.Receive from bytes.now)) → IsOk result }
     {
         let up = self.layer.receive(now, from, bytes)?;
@@ -268,12 +286,17 @@ impl<A: Allocator + Copy, S: BuildHasher> Asker<A, S> {
     /// Does the first that is due: the failure of the request, a retransmission, the end of the wait
     /// for a response (RFC 7252, sections 4.2 and 5.2.2).
     pub fn tick(&mut self, now: Moment) -> Result<Turn, AllocError>
+        // What a tick does, and what that leaves, is a step of the asker's machine.
         ensures step { IfOk result (λ turn. (answer : below.Answer)
             × Step self.old.state (Ticks now.0 answer turn) self.new.state) }
+        // Every history that led to the asker leads on with this tick, unless it was refused memory.
         ensures led { IfOk result (λ turn. (answer : below.Answer)
             × Leads self.old (Ticks now.0 answer turn) self.new) }
+        // A tick of the asker can be taken back.
         ensures before { OnOk result (self.new.before ≡ Some self.old.state) }
+        // A tick that is refused memory leaves the asker as it was.
         ensures err { OnErr result (self.new ≡ self.old) }
+        // A tick of the asker at which no copy is due takes no memory.
         ensures quiet { copies (max self.old.state.own.clock now.0) self.old.state.layer.open_cons ≡ [] → IsOk result }
     {
         let tick = self.layer.tick(now)?;
@@ -288,14 +311,18 @@ impl<A: Allocator + Copy, S: BuildHasher> Asker<A, S> {
     /// None where it never would. A moment before the last one counts as the last. Nothing changes: the moment doesn't
     /// count. It takes no memory.
     pub fn due(&self, now: Moment) -> Option<Moment>
+        // Where the asker tells no moment, no later tick does anything unless something is handed in.
         ensures none { IfNone result ((later : ℕ) → now.0 ≤ later → later < 2 ^ 64
             → AskerRests self.now.state later) }
+        // No tick of the asker before the moment that is told does anything.
         ensures some { IfSome result (λ at. (later : ℕ) → now.0 ≤ later → max self.now.state.own.clock later < at.0
             → AskerRests self.now.state later) }
+        // A tick of the asker at the moment that is told does something.
         ensures does { IfSome result (λ at. (server : EndpointSpec) (word : ℕ) (t : List Call)
             → Led server word t self.now.state → AskerTurns self.now.state at.0) }
+        // The moment that the asker tells is not before its clock, nor before the one that was handed in.
         ensures from { IfSome result (λ at. max self.now.state.own.clock now.0 ≤ at.0) }
-        // The same, of what is outstanding and of the wait.
+        // The moment that the asker tells is the first of what is outstanding and of its wait.
         ensures first { IsFirstMoment (has_turn self.now.state) (max self.now.state.own.clock now.0) result }
     {
         let from = self.layer.clock().later(now);
@@ -305,8 +332,11 @@ impl<A: Allocator + Copy, S: BuildHasher> Asker<A, S> {
     /// Keeps the token of an observation, so that its notifications are told (RFC 7641, section
     /// 3.2); false where 16 others are kept. It takes no memory.
     pub fn keep(&mut self, token: &Token) -> bool
+        // Whether a token is kept, and what that leaves, is a step of the asker's machine.
         ensures step { Step self.old.state (Keep token.now result) self.new.state }
+        // Every history that led to the asker leads on with a token that is kept, or has no place.
         ensures led { Leads self.old (Keep token.now result) self.new }
+        // That a token is kept is taken back with the last input.
         ensures before { self.new.before ≡ self.old.before }
     {
         self.held.kept.keep(token)
@@ -315,8 +345,11 @@ impl<A: Allocator + Copy, S: BuildHasher> Asker<A, S> {
     /// Keeps the token no more, so that its notifications are rejected; false where it isn't kept.
     /// It takes no memory.
     pub fn release(&mut self, token: &Token) -> bool
+        // Whether a token was kept, and what its release leaves, is a step of the asker's machine.
         ensures step { Step self.old.state (Release token.now result) self.new.state }
+        // Every history that led to the asker leads on with a token that is released.
         ensures led { Leads self.old (Release token.now result) self.new }
+        // That a token is released is taken back with the last input.
         ensures before { self.new.before ≡ self.old.before }
     {
         self.held.kept.release(token)
@@ -325,10 +358,13 @@ impl<A: Allocator + Copy, S: BuildHasher> Asker<A, S> {
     /// The datagram that is to be sent next. After it, nothing can be taken back. It takes no
     /// memory.
     pub fn next_out(&mut self) -> Option<Datagram<A>>
+        // Which datagram the asker gives out, and what that leaves, is a step of its machine.
         ensures step { Step self.old.state (Take result) self.new.state }
+        // Every history that led to the asker leads on with a datagram that it gives out.
         ensures led { Leads self.old (Take result) self.new }
+        // What the asker gave out is not taken back.
         ensures before { self.new.before ≡ None }
-        // No more datagrams wait than a list in memory holds.
+        // No more datagrams wait at an asker than a list in memory holds.
         ensures few { length self.old.state.layer.queue < 2 ^ 64 }
     {
         self.layer.next_out()
@@ -338,7 +374,9 @@ impl<A: Allocator + Copy, S: BuildHasher> Asker<A, S> {
     /// It takes no memory.
     pub fn undo(&mut self)
         requires { IsSome self.old.before }
+        // The last input is taken back: the asker is as it was before it.
         ensures back { self.old.before ≡ Some self.new.state }
+        // After that the asker has no input to take back.
         ensures spent { self.new.before ≡ None }
     {
         self.layer.undo();

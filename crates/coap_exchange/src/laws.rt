@@ -7,6 +7,7 @@ ghost use Rattle.coap_exchange.specs.AskerLaw.{State, Step, Exchanged, Led, Exch
 ghost use Rattle.coap_exchange.specs.AskerExact.{IsExact};
 ghost use Rattle.coap_exchange.specs.AskerFollows.{AreExchanges, AreTokens, EndInTime, FewKept, AreFromServer};
 ghost use Rattle.coap_exchange.specs.AskerDue.{EndWhenDue};
+ghost use Rattle.coap_exchange.specs.AskerIds.{IdIsFree, IdsCounted, RequestsAreSent};
 ghost use Rattle.coap_exchange.specs.AskerOpen.{IsOutstanding};
 ghost use Rattle.coap_exchange.specs.AskerTells.{AreRefused, AreRejected};
 ghost use Rattle.coap_exchange.specs.AskerResponses.{AreMatched, AreToldAs};
@@ -25,21 +26,27 @@ ghost use Rattle.coap_exchange.specs.AnswererTells.{EndsTold, HandsOrEnds};
 ghost use Rattle.coap_exchange.specs.AnswererDeferrals.{DeferredLongEnough, ReadyWhenDue, EarliestReady};
 ghost use Rattle.coap_exchange.specs.AnswererFollows.{AreResponses, AreRequests, EndsOnce, WaitsForOutstanding};
 ghost use Rattle.coap_exchange.specs.AnswererFollows.{FewDeferred};
+ghost use Rattle.coap_exchange.specs.AnswererIds as ids_given;
+
+use coap_layer::layer_law;
 
 /// What leads to the state of a client's side stands in the law, and what follows from that.
 pub fn asker_law()
+    // No call at all leads to the first state of an asker.
     ensures start { (server : Endpoint) (word : ℕ) → Led server word [] (fresh_state server word) }
-    // A step lengthens the calls that led to the state before it.
+    // A step of an asker lengthens the calls that led to the state before it.
     ensures step { (server : Endpoint) (word : ℕ) (t : List Call) (c : Call) (old new : State) → Led server word t old
         → Step old c new → Led server word (c ∷ t) new }
+    // What several steps lengthen leads to the asker's state behind them.
     ensures steps { (server : Endpoint) (word : ℕ) (t calls : List Call) (old new : State) → Led server word t old
         → Exchanged old calls new → Led server word (calls ++ t) new }
+    // A history that leads to an asker stands in the law of its exchanges.
     ensures law { (server : Endpoint) (word : ℕ) (t : List Call) (s : State) → Led server word t s
         → ExchangeLaw server word t }
-    // The calls of the layer beneath stand in its law (RFC 7252, section 4).
+    // The calls of the layer beneath an asker stand in its law (RFC 7252, section 4).
     ensures layer { (server : Endpoint) (word : ℕ) (t : List Call) → ExchangeLaw server word t
         → LayerLaw (usual word) (below_of server word t) }
-    // The law leaves each call one answer.
+    // The law of an asker leaves each call one answer.
     ensures exact { (server : Endpoint) (word : ℕ) (past : List Call) → IsExact server word past }
     // Exchanges don't overlap, each ends at most once, and an answer has the token of the one that is open
     // (RFC 7252, sections 4.7 and 5.3.2); a notification has a kept token (RFC 7641, section 3.2).
@@ -57,7 +64,7 @@ pub fn asker_law()
     // Until it is acknowledged, the request of the exchange that runs is outstanding (RFC 7252, section 4.2).
     ensures outstanding { (server : Endpoint) (word : ℕ) (t : List Call) → ExchangeLaw server word t
         → IsOutstanding server word t }
-    // The tokens that are kept, at most 16 (RFC 7641, section 3.2).
+    // The tokens that are kept are those kept and not released since, at most 16 (RFC 7641, section 3.2).
     ensures few_kept { (server : Endpoint) (word : ℕ) (t : List Call) → ExchangeLaw server word t
         → FewKept server word t }
     // What is told came from the server, and is what a datagram spelled (RFC 7252, section 5.3.2).
@@ -77,20 +84,34 @@ pub fn asker_law()
     // A Reset that is told is that of the request of the exchange (RFC 7252, section 4.2).
     ensures rejected { (server : Endpoint) (word : ℕ) (t : List Call) → ExchangeLaw server word t
         → AreRejected server word t }
-{}
+    // Each Message ID and each fresh token is given to the request of an exchange that ended, or of the one that runs
+    // (RFC 7252, sections 4.4 and 5.3.1) ..
+    ensures ids { (server : Endpoint) (word : ℕ) (t : List Call) → ExchangeLaw server word t → IdsCounted server word t }
+    // .. so where fewer exchanges end in each EXCHANGE_LIFETIME than a quarter of the Message IDs, one is free ..
+    ensures id_free { (server : Endpoint) (word : ℕ) (t : List Call) → ExchangeLaw server word t
+        → IdIsFree server word t }
+    // .. and no request is refused for want of one or of a token.
+    ensures sent { (server : Endpoint) (word : ℕ) (t : List Call) → ExchangeLaw server word t
+        → RequestsAreSent server word t }
+{
+    layer_law();
+}
 
 /// What leads to the state of a server's side stands in the law, and what follows from that.
 pub fn answerer_law()
+    // No call at all leads to the first state of an answerer.
     ensures start { (word : ℕ) → answerer.Led word [] (answerer.fresh_state word) }
-    // A step lengthens the calls that led to the state before it.
+    // A step of an answerer lengthens the calls that led to the state before it.
     ensures step { (word : ℕ) (t : List trace.Call) (c : trace.Call) (old new : answerer.State)
         → answerer.Led word t old → answerer.Step old c new → answerer.Led word (c ∷ t) new }
+    // What several steps lengthen leads to the answerer's state behind them.
     ensures steps { (word : ℕ) (t calls : List trace.Call) (old new : answerer.State) → answerer.Led word t old
         → answerer.Exchanged old calls new → answerer.Led word (calls ++ t) new }
+    // A history that leads to an answerer stands in the law of its responses.
     ensures law { (word : ℕ) (t : List trace.Call) (s : answerer.State) → answerer.Led word t s → ResponseLaw word t }
-    // The calls of the layer beneath stand in its law (RFC 7252, section 4).
+    // The calls of the layer beneath an answerer stand in its law (RFC 7252, section 4).
     ensures layer { (word : ℕ) (t : List trace.Call) → ResponseLaw word t → LayerLaw (usual word) (answerer.below_of word t) }
-    // The law leaves each call one answer.
+    // The law of an answerer leaves each call one answer.
     ensures exact { (word : ℕ) (past : List trace.Call) → exactly.IsExact word past }
     // A request that is handed up has at most one response (RFC 7252, section 5.2).
     ensures responses { (word : ℕ) (t : List trace.Call) → ResponseLaw word t → AreResponses t }
@@ -117,29 +138,43 @@ pub fn answerer_law()
     ensures replied { (word : ℕ) (t : List trace.Call) → ResponseLaw word t → rejections.AreReplied t }
     // A CON begins only where none to its endpoint is outstanding (RFC 7252, section 4.7).
     ensures alone { (word : ℕ) (t : List trace.Call) → ResponseLaw word t → BeginAlone word t }
+    // At most 16 requests are deferred (profile).
     ensures few { (word : ℕ) (t : List trace.Call) → ResponseLaw word t → FewDeferred t }
-{}
+    // Each Message ID is given to the response to a request that came, or to a notification (RFC 7252, section 4.4) ..
+    ensures ids { (word : ℕ) (t : List trace.Call) → ResponseLaw word t → ids_given.IdsCounted word t }
+    // .. so where no notification is sent, and fewer messages come in each EXCHANGE_LIFETIME than a quarter of the
+    // Message IDs, one is free.
+    ensures id_free { (word : ℕ) (t : List trace.Call) → ResponseLaw word t → ids_given.IdIsFree word t }
+{
+    layer_law();
+}
 
 /// A request may be asked that isn't Empty, whose options ascend and are short, and that is short
 /// enough (RFC 7252, section 4.6).
 pub fn askable_law()
+    // A request whose bytes are counted by the bound to be few enough may be asked.
     ensures counted { IsAskableWhenShort }
+    // A request whose bytes are counted exactly to be few enough may be asked.
     ensures exact { IsAskableWhenShortExactly }
 {}
 
 /// A response may be given whose code is of class 2 to 5, whose options ascend and are short, and
 /// that is short enough (RFC 7252, section 4.6).
 pub fn answerable_law()
+    // A response whose bytes are counted to be few enough may be given (RFC 7252, section 4.6).
     ensures { IsAnswerWhenShort }
 {}
 
 /// The same of a notification with a token of at most 8 bytes.
 pub fn notifiable_law()
+    // A notification whose bytes are counted to be few enough may be sent.
     ensures { IsNotificationWhenShort }
 {}
 
 /// Histories that stand in the laws, with their bytes.
 pub fn witness_law()
+    // A history of a client, written out byte for byte, stands in the law.
     ensures client { ExchangeLaw client_example.server 0 client_example.run }
+    // A history of a server, written out byte for byte, stands in the law.
     ensures server { ResponseLaw 0 server_example.run }
 {}

@@ -24,6 +24,7 @@ impl<A: Allocator + Copy> Model for Datagram<A> {
 impl<A: Allocator + Copy> Datagram<A> {
     /// Where it is to go.
     pub fn to(&self) -> Endpoint
+        // The endpoint is the one to which the datagram goes.
         ensures { result ≡ self.now.to }
     {
         self.to
@@ -31,6 +32,7 @@ impl<A: Allocator + Copy> Datagram<A> {
 
     /// What it carries.
     pub fn bytes(&self) -> &[u8]
+        // The bytes are those that the datagram carries.
         ensures { result.now ≡ self.now.bytes }
     {
         &self.bytes

@@ -10,6 +10,7 @@ const RESET: u8 = 0x70;
 
 /// The Empty acknowledgement of the message of this Message ID (RFC 7252, section 4.2).
 pub fn ack(id: Id) -> [u8; 4]
+    // The bytes are the Empty acknowledgement of that Message ID (RFC 7252, section 4.2).
     ensures { result ≡ ack_bytes id.0 }
 {
     let [high, low] = id.0.to_be_bytes();
@@ -18,6 +19,7 @@ pub fn ack(id: Id) -> [u8; 4]
 
 /// The Reset that rejects the message of this Message ID (RFC 7252, section 4.2).
 pub fn reset(id: Id) -> [u8; 4]
+    // The bytes are the Reset of that Message ID (RFC 7252, section 4.2).
     ensures { result ≡ reset_bytes id.0 }
 {
     let [high, low] = id.0.to_be_bytes();

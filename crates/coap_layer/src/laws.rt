@@ -20,14 +20,17 @@ ghost use Rattle.coap_layer.specs.Examples.{FiveTimes, IsAcknowledged};
 
 /// What leads to a layer's state stands in the law, and what follows from that.
 pub fn layer_law()
+    // No call at all leads to the first state of a layer.
     ensures start { (setup : Setup) → LayerLed setup [] (start setup) }
-    // A step lengthens the calls that led to the state before it.
+    // A step of a layer lengthens the calls that led to the state before it.
     ensures step { (setup : Setup) (t : List Entry) (old new : State) (now : ℕ) (call : Call) (answer : Answer)
         → LayerLed setup t old → Step old now call answer new → LayerLed setup (made old now call ∷ t) new }
+    // What several steps lengthen leads on as what one does.
     ensures steps { (setup : Setup) (t : List Entry) (old new : State) (calls : List Asked) → LayerLed setup t old
         → Steps old calls new → LayerLed setup (entries old calls ++ t) new }
+    // A history that leads to a layer stands in the law: each call is a row of the standard's tables.
     ensures law { (setup : Setup) (t : List Entry) (s : State) → LayerLed setup t s → LayerLaw setup t }
-    // The law leaves each call one answer.
+    // The law of a layer leaves each call one answer.
     ensures exact { IsExact }
     // A message is handed up once in EXCHANGE_LIFETIME (RFC 7252, section 4.5).
     ensures once { (setup : Setup) (t : List Entry) → LayerLaw setup t → HandedUpOnce t }
@@ -59,14 +62,17 @@ pub fn sending_law()
     ensures five { (setup : Setup) (t : List Entry) → LayerLaw setup t → FiveAtMost t }
     // Each time it goes out within LAST_RETRANSMISSION_MS of the first, with equal bytes, under one Message ID.
     ensures alike { (setup : Setup) (t : List Entry) → LayerLaw setup t → AllAlike t }
+    // The bytes of a Confirmable message spell it, under the Message ID that its row gives.
     ensures spelled { (setup : Setup) (t : List Entry) → LayerLaw setup t → ConsSpelled t }
     // What is outstanding to an endpoint is one Confirmable message (section 4.7).
     ensures alone { (setup : Setup) (t : List Entry) → LayerLaw setup t → OneOpen t }
+    // What is outstanding to an endpoint is the Confirmable message that was begun last to it.
     ensures last { (setup : Setup) (t : List Entry) → LayerLaw setup t → LastBegun t }
     // Each datagram that goes out is one of six kinds.
     ensures kinds { (setup : Setup) (t : List Entry) → LayerLaw setup t → EachGoesOut t }
     // What is taken was sent, in the order of sending, each datagram once.
     ensures order { (setup : Setup) (t : List Entry) → LayerLaw setup t → InOrder t }
+    // A datagram that is taken was sent before.
     ensures before { (setup : Setup) (t : List Entry) → LayerLaw setup t → TakenSent t }
     // .. and since nothing waited.
     ensures since { TakenSince }
@@ -95,12 +101,13 @@ pub fn channel_law()
     // A Confirmable message that arrives where another can be remembered is taken, or was before (sections 4.2 and 4.5).
     ensures taking { (one other : Setup) (near far : Endpoint) (all : List Hop) → ChannelLaw one other near far all
         → ConsTaken other.remembered near all }
-    // .. in time where no datagram is late, and fewer come in EXCHANGE_LIFETIME than can be remembered.
+    // Where no datagram is late and few messages come, each Confirmable message is taken in time.
     ensures within { (one other : Setup) (near far : Endpoint) (all : List Hop) → ChannelLaw one other near far all
         → ConsTakenWithin other.remembered near far all }
     // The same of a Non-confirmable message, which is handed up then, or was before (sections 4.3 and 4.5).
     ensures taking_nons { (one other : Setup) (near far : Endpoint) (all : List Hop)
         → ChannelLaw one other near far all → NonsTaken other.remembered near all }
+    // Where no datagram is late and few messages come, each Non-confirmable message is handed up in time.
     ensures within_nons { (one other : Setup) (near far : Endpoint) (all : List Hop)
         → ChannelLaw one other near far all → NonsTakenWithin other.remembered near far all }
     // Where it is replied to at once, and the reply comes, it is not outstanding after both (section 4.2).
@@ -116,6 +123,7 @@ pub fn channel_law()
     // It is handed up at most once.
     ensures handed { (one other : Setup) (near far : Endpoint) (all : List Hop) → ChannelLaw one other near far all
         → HandedOnce near all }
+    // A Confirmable message that was taken is not handed up again (sections 4.5 and 4.8.2).
     ensures once { (one other : Setup) (near far : Endpoint) (all : List Hop) → ChannelLaw one other near far all
         → TakenOnce near all }
     // One that is taken, or too old to arrive, where a newer one begins isn't handed up behind that one (section 4.7).
@@ -124,6 +132,7 @@ pub fn channel_law()
     // An acknowledgement that is taken is the reply that was given to that very message, which was taken (section 4.2).
     ensures replied { (one other : Setup) (near far : Endpoint) (all : List Hop) → ChannelLaw one other near far all
         → AcksReplied near far all }
+    // An acknowledgement is taken only of a Confirmable message that the other layer has taken.
     ensures taken { (one other : Setup) (near far : Endpoint) (all : List Hop) → ChannelLaw one other near far all
         → AcksTaken near far all }
     // A Reset that is taken for a request or a response is the reply that was given to that very message (section 4.2).
@@ -134,6 +143,7 @@ pub fn channel_law()
 /// What isn't Empty, and has options that ascend and are short, may be sent where its header, its
 /// token, 5 bytes and the value for each option, one byte and its payload are at most `MAX_MESSAGE_LEN`.
 pub fn sendable_law()
+    // A message whose bytes are counted to be few enough may be sent.
     ensures { IsSendableWhenShort }
 {}
 

@@ -78,8 +78,11 @@ impl<A: Allocator + Copy> Layer<A, BuildHasherDefault<FoldHasher>> {
     /// A layer to which nothing has happened. The word picks its first Message ID: the first of
     /// group `word` mod 16.
     pub fn new(alloc: A, word: u64) -> Self
+        // A `new` layer is in the state in which no call was made, by its word.
         ensures start { result.state ≡ start (usual word) }
+        // To a `new` layer no call has led, and 4,096 messages can be remembered.
         ensures led { LayerLed (usual word) [] result.state }
+        // A `new` layer has no input to take back.
         ensures before { result.before ≡ None }
     {
         Layer::with_hasher(alloc, word, BuildHasherDefault::new())
@@ -90,8 +93,11 @@ impl<A: Allocator + Copy, S: BuildHasher> Layer<A, S> {
     /// The same, with a hasher for the messages that are remembered. With one that has random keys,
     /// no stranger can pick Message IDs that make a look-up slow.
     pub fn with_hasher(alloc: A, word: u64, hasher: S) -> Self
+        // A layer of `with_hasher` is in the state in which no call was made, whatever the hasher.
         ensures start { result.state ≡ start (usual word) }
+        // To a layer of `with_hasher` no call has led, and 4,096 messages can be remembered.
         ensures led { LayerLed (usual word) [] result.state }
+        // A layer of `with_hasher` has no input to take back.
         ensures before { result.before ≡ None }
     {
         let setup = Setup {
@@ -103,8 +109,11 @@ impl<A: Allocator + Copy, S: BuildHasher> Layer<A, S> {
 
     /// The same, with so many messages that are remembered at most.
     pub fn with_setup(alloc: A, setup: Setup, hasher: S) -> Self
+        // A layer of `with_setup` is in the state in which no call was made, by its word and number of places.
         ensures start { result.state ≡ start setup }
+        // To a layer of `with_setup` no call has led, and as many messages can be remembered as were chosen.
         ensures led { LayerLed setup [] result.state }
+        // A layer of `with_setup` has no input to take back.
         ensures before { result.before ≡ None }
     {
         Layer {
@@ -126,6 +135,7 @@ impl<A: Allocator + Copy, S: BuildHasher> Layer<A, S> {
 
     /// The last moment that counted.
     pub fn clock(&self) -> Moment
+        // The moment that is told is the latest that counted.
         ensures { result.0 ≡ self.now.state.clock }
     {
         self.clock
@@ -152,14 +162,20 @@ impl<A: Allocator + Copy, S: BuildHasher> Layer<A, S> {
         from: Endpoint,
         bytes: &'d [u8],
     ) -> Result<Up<'d>, AllocError>
+        // What an arrival becomes, and what the layer is then, is a step of its machine.
         ensures step { IfOk result (λ up. Moves self.old now.0 (Receive from bytes.now) (answer_as up) self.new) }
+        // Every history that led to the layer leads on with this arrival, unless it was refused memory.
         ensures led { IsOk result → Leads self.old now.0 (Receive from bytes.now) self.new }
+        // An arrival can be taken back: the state before it is kept.
         ensures before { OnOk result (self.new.before ≡ Some self.old.state) }
+        // To a message that is handed up a reply may be given.
         ensures may_reply { IfOk result (λ up. (m : Message) → handed_by (answer_as up) ≡ Some m
             → MayReply self.new from m.id) }
+        // Room for a message outlasts an arrival.
         ensures kept { self.old.has_room ≡ true → self.new.has_room ≡ true }
+        // An arrival that is refused memory leaves the layer as it was.
         ensures err { OnErr result (self.new ≡ self.old) }
-        // Where nothing is sent and nothing is handed up, it takes no memory.
+        // An arrival for which nothing is sent and nothing is handed up takes no memory.
         ensures quiet { IsQuiet (made self.old.state now.0 (Receive from bytes.now)) → IsOk result }
     {
         let moments = Moments {
@@ -199,8 +215,11 @@ impl<A: Allocator + Copy, S: BuildHasher> Layer<A, S> {
     pub fn reply(&mut self, to: Endpoint, id: Id, bytes: &[u8])
         requires may { MayReply self.old to id.0 }
         requires short { length bytes.now ≤ max_message_len }
+        // What a reply leaves is a step of the layer's machine.
         ensures step { Moves self.old 0 (Reply to id.0 bytes.now) Nothing self.new }
+        // Every history that led to the layer leads on with this reply, which is never refused.
         ensures led { Leads self.old 0 (Reply to id.0 bytes.now) self.new }
+        // A reply belongs to the input that it answers, and is taken back with it.
         ensures before { self.new.before ≡ self.old.before }
     {
         if let Some(room) = self.room.take() {
@@ -228,14 +247,20 @@ impl<A: Allocator + Copy, S: BuildHasher> Layer<A, S> {
         word: u64,
     ) -> Result<Id, SendRefusal>
         requires { IsSendable content.now }
+        // What the sending of a Confirmable message answers and leaves is a step of the layer's machine.
         ensures step { result ≢ Err refused.Memory
             → Moves self.old now.0 (Confirm to content.now word) (sent_as result) self.new }
+        // Every history that led to the layer leads on with this Confirmable message, unless it was refused memory.
         ensures led { result ≢ Err refused.Memory → Leads self.old now.0 (Confirm to content.now word) self.new }
+        // A Confirmable message is taken back with the last input.
         ensures before { self.new.before ≡ self.old.before }
+        // With room a Confirmable message is not refused memory.
         ensures room { self.old.has_room ≡ true → result ≢ Err refused.Memory }
+        // A Confirmable message that is refused leaves the room as it was.
         ensures kept { OnErr result (self.new.has_room ≡ self.old.has_room) }
-        // Where it refuses for another reason, it takes no memory.
+        // A Confirmable message that is refused for another reason takes no memory.
         ensures quiet { would_answer self.old now.0 (AsksRoom to) ≡ Is false → result ≢ Err refused.Memory }
+        // A Confirmable message that is refused memory leaves the layer as it was.
         ensures memory { result ≡ Err refused.Memory → self.new ≡ self.old }
     {
         let at = self.clock.later(now);
@@ -269,14 +294,20 @@ impl<A: Allocator + Copy, S: BuildHasher> Layer<A, S> {
         content: &Content<'_>,
     ) -> Result<Id, SendRefusal>
         requires { IsSendable content.now }
+        // What the sending of a Non-confirmable message answers and leaves is a step of the layer's machine.
         ensures step { result ≢ Err refused.Memory
             → Moves self.old now.0 (Plain to content.now) (sent_as result) self.new }
+        // Every history that led to the layer leads on with this Non-confirmable message, unless refused memory.
         ensures led { result ≢ Err refused.Memory → Leads self.old now.0 (Plain to content.now) self.new }
+        // A Non-confirmable message is taken back with the last input.
         ensures before { self.new.before ≡ self.old.before }
+        // With room a Non-confirmable message is not refused memory.
         ensures room { self.old.has_room ≡ true → result ≢ Err refused.Memory }
+        // A Non-confirmable message that is refused leaves the room as it was.
         ensures kept { OnErr result (self.new.has_room ≡ self.old.has_room) }
-        // Where it refuses for another reason, it takes no memory.
+        // A Non-confirmable message that is refused for another reason takes no memory.
         ensures quiet { would_answer self.old now.0 AsksFree ≡ Is false → result ≢ Err refused.Memory }
+        // A Non-confirmable message that is refused memory leaves the layer as it was.
         ensures memory { result ≡ Err refused.Memory → self.new ≡ self.old }
     {
         let at = self.clock.later(now);
@@ -298,6 +329,7 @@ impl<A: Allocator + Copy, S: BuildHasher> Layer<A, S> {
 
     /// What `room` would answer now. Nothing changes: the moment doesn't count.
     pub fn would_confirm(&self, now: Moment, to: Endpoint) -> bool
+        // What is answered is what `room` would answer now.
         ensures { would_answer self.now now.0 (AsksRoom to) ≡ Is result }
     {
         let at = self.clock.later(now);
@@ -308,7 +340,9 @@ impl<A: Allocator + Copy, S: BuildHasher> Layer<A, S> {
     /// Whether `tick` would do a step now. Nothing changes: the moment doesn't count. It takes no
     /// memory.
     pub fn would_tick(&self, now: Moment) -> bool
+        // Where nothing would be done, a tick at that moment is idle.
         ensures idle { result ≡ false → would_answer self.now now.0 Ticks ≡ Idle }
+        // Where something would be done, a tick at that moment is not idle.
         ensures due { result ≡ true → would_answer self.now now.0 Ticks ≢ Idle }
     {
         let at = self.clock.later(now);
@@ -319,13 +353,17 @@ impl<A: Allocator + Copy, S: BuildHasher> Layer<A, S> {
     /// where it never would. A moment before the last one counts as the last. Nothing changes: the moment doesn't
     /// count. It takes no memory.
     pub fn due(&self, now: Moment) -> Option<Moment>
+        // Where no moment is told, no later tick does anything unless something is handed in.
         ensures none { IfNone result ((later : ℕ) → now.0 ≤ later → later < 2 ^ 64
             → would_answer self.now later Ticks ≡ Idle) }
+        // No tick before the moment that is told does anything.
         ensures some { IfSome result (λ at. (later : ℕ) → now.0 ≤ later → max self.now.state.clock later < at.0
             → would_answer self.now later Ticks ≡ Idle) }
+        // A tick at the moment that is told does something.
         ensures does { IfSome result (λ at. would_answer self.now at.0 Ticks ≢ Idle) }
+        // The moment that is told is not before the layer's clock, nor before the one that was handed in.
         ensures from { IfSome result (λ at. max self.now.state.clock now.0 ≤ at.0) }
-        // The same, of the messages that are outstanding.
+        // The moment that is told is that of the first step that is due of what is outstanding.
         ensures first { IsFirstMoment (λ later. any_has_step later self.now.state.open_cons)
             (max self.now.state.clock now.0) result }
     {
@@ -335,6 +373,7 @@ impl<A: Allocator + Copy, S: BuildHasher> Layer<A, S> {
     /// The first moment, from this one on, at which a Message ID is free, unless something is handed in before. A
     /// moment before the last one counts as the last. Nothing changes: the moment doesn't count. It takes no memory.
     pub fn free_from(&self, now: Moment) -> Option<Moment>
+        // The moment that is told is the first at which a Message ID is free, unless something is handed in.
         ensures { IsFirstMoment (λ later. is_free later self.now.state.upcoming self.now.state.last_used)
             (max self.now.state.clock now.0) result }
     {
@@ -345,14 +384,23 @@ impl<A: Allocator + Copy, S: BuildHasher> Layer<A, S> {
     /// `NoIds`. After true, `confirm` and `plain` are not refused memory, until one of them or
     /// `reply` is called. Where it is false, it takes no memory.
     pub fn room(&mut self, now: Moment, to: Endpoint) -> Result<bool, AllocError>
+        // Whether there is room, and what asking leaves, is a step of the layer's machine.
         ensures step { IfOk result (λ may. Moves self.old now.0 (AsksRoom to) (Is may) self.new) }
+        // Every history that led to the layer leads on with the question for room, unless it was refused memory.
         ensures led { IsOk result → Leads self.old now.0 (AsksRoom to) self.new }
+        // A question for room is taken back with the last input.
         ensures before { self.new.before ≡ self.old.before }
+        // Where the answer is yes, there is room for a message.
         ensures room { IfOk result (λ may. may ≡ true → self.new.has_room ≡ true) }
+        // Room that was there outlasts the question.
         ensures kept { self.old.has_room ≡ true → self.new.has_room ≡ true }
+        // A question for room leaves which reply may be given.
         ensures replies { self.new.replies ≡ self.old.replies }
+        // An answer that there is no room takes no memory.
         ensures quiet { would_answer self.old now.0 (AsksRoom to) ≡ Is false → IsOk result }
+        // A question takes no memory where there is room already.
         ensures had { self.old.has_room ≡ true → IsOk result }
+        // A question that is refused memory leaves the layer as it was.
         ensures err { OnErr result (self.new ≡ self.old) }
     {
         let at = self.clock.later(now);
@@ -370,11 +418,17 @@ impl<A: Allocator + Copy, S: BuildHasher> Layer<A, S> {
     /// Makes room for one message: after it, `confirm`, `plain` and a `room` are not refused memory,
     /// until one of the first two or `reply` is called.
     pub fn reserve(&mut self) -> Result<(), AllocError>
+        // To reserve room changes nothing that a law speaks of.
         ensures state { self.new.state ≡ self.old.state }
+        // To reserve room leaves what can be taken back.
         ensures before { self.new.before ≡ self.old.before }
+        // To reserve room leaves which reply may be given.
         ensures replies { self.new.replies ≡ self.old.replies }
+        // Where room is reserved, it is there.
         ensures room { OnOk result (self.new.has_room ≡ true) }
+        // To reserve room takes no memory where it is there already.
         ensures had { self.old.has_room ≡ true → IsOk result }
+        // Where room is refused, the layer is as it was.
         ensures err { OnErr result (self.new ≡ self.old) }
     {
         make_room(self.alloc, &mut self.room, &mut self.lists)?;
@@ -383,10 +437,15 @@ impl<A: Allocator + Copy, S: BuildHasher> Layer<A, S> {
 
     /// Whether a Message ID is free. It takes no memory.
     pub fn is_free(&mut self, now: Moment) -> bool
+        // Whether a Message ID is free, and what asking leaves, is a step of the layer's machine.
         ensures step { Moves self.old now.0 AsksFree (Is result) self.new }
+        // Every history that led to the layer leads on with the question for a Message ID.
         ensures led { Leads self.old now.0 AsksFree self.new }
+        // A question for a Message ID is taken back with the last input.
         ensures before { self.new.before ≡ self.old.before }
+        // A question for a Message ID leaves the room as it was.
         ensures room { self.new.has_room ≡ self.old.has_room }
+        // A question for a Message ID leaves which reply may be given.
         ensures replies { self.new.replies ≡ self.old.replies }
     {
         self.clock = self.clock.later(now);
@@ -395,10 +454,15 @@ impl<A: Allocator + Copy, S: BuildHasher> Layer<A, S> {
 
     /// Lets time pass: the moment counts, and nothing else is done. It takes no memory.
     pub fn pass(&mut self, now: Moment)
+        // That time passes is a step of the layer's machine.
         ensures step { Moves self.old now.0 Pass Nothing self.new }
+        // Every history that led to the layer leads on with a moment that is handed in.
         ensures led { Leads self.old now.0 Pass self.new }
+        // A moment that is handed in is taken back with the last input.
         ensures before { self.new.before ≡ self.old.before }
+        // A moment that is handed in leaves the room as it was.
         ensures room { self.new.has_room ≡ self.old.has_room }
+        // A moment that is handed in leaves which reply may be given.
         ensures replies { self.new.replies ≡ self.old.replies }
     {
         self.clock = now.later(self.clock);
@@ -407,10 +471,15 @@ impl<A: Allocator + Copy, S: BuildHasher> Layer<A, S> {
     /// Ends the retransmission of the message to this endpoint with this Message ID; false where
     /// none is outstanding. It takes no memory.
     pub fn settle(&mut self, to: Endpoint, id: Id) -> bool
+        // That the copies of a message end, since its answer came, is a step of the layer's machine (section 5.2.2).
         ensures step { Moves self.old 0 (Settle to id.0) (Is result) self.new }
+        // Every history that led to the layer leads on with a message that is settled.
         ensures led { Leads self.old 0 (Settle to id.0) self.new }
+        // What is settled is open again once the last input is taken back.
         ensures before { self.new.before ≡ self.old.before }
+        // To settle a message leaves the room as it was.
         ensures room { self.new.has_room ≡ self.old.has_room }
+        // To settle a message leaves which reply may be given.
         ensures replies { self.new.replies ≡ self.old.replies }
     {
         let open = is_outstanding(&self.lists.sendings, to, id);
@@ -421,12 +490,18 @@ impl<A: Allocator + Copy, S: BuildHasher> Layer<A, S> {
     /// Does one step that is due: a retransmission, or the failure of one (RFC 7252, section 4.2).
     /// Where nothing is due, it takes no memory. After an `Err` the layer is as before.
     pub fn tick(&mut self, now: Moment) -> Result<Tick, AllocError>
+        // What a tick does, a copy, a failure or nothing, is a step of the layer's machine.
         ensures step { IfOk result (λ tick. (answer : Answer) × IsTick tick answer
             × Moves self.old now.0 Ticks answer self.new) }
+        // Every history that led to the layer leads on with this tick, unless it was refused memory.
         ensures led { IsOk result → Leads self.old now.0 Ticks self.new }
+        // A tick can be taken back: the state before it is kept.
         ensures before { OnOk result (self.new.before ≡ Some self.old.state) }
+        // A tick that is refused memory leaves the layer as it was.
         ensures err { OnErr result (self.new ≡ self.old) }
+        // A tick at which no copy is due takes no memory.
         ensures quiet { copies (max self.old.state.clock now.0) self.old.state.open_cons ≡ [] → IsOk result }
+        // Room for a message outlasts a tick.
         ensures kept { self.old.has_room ≡ true → self.new.has_room ≡ true }
     {
         let moments = Moments {
@@ -451,12 +526,17 @@ impl<A: Allocator + Copy, S: BuildHasher> Layer<A, S> {
     /// The datagram that is to be sent next. After it, nothing can be taken back. It takes no
     /// memory.
     pub fn next_out(&mut self) -> Option<Datagram<A>>
+        // Which datagram is given out, and what that leaves, is a step of the layer's machine.
         ensures step { Moves self.old 0 Take (Gives result) self.new }
+        // Every history that led to the layer leads on with a datagram that is given out.
         ensures led { Leads self.old 0 Take self.new }
+        // What was given out is not taken back.
         ensures before { self.new.before ≡ None }
+        // A datagram that is given out leaves the room as it was.
         ensures room { self.new.has_room ≡ self.old.has_room }
+        // A datagram that is given out leaves which reply may be given.
         ensures replies { self.new.replies ≡ self.old.replies }
-        // No more datagrams wait than a list in memory holds.
+        // No more datagrams wait at a layer than a list in memory holds.
         ensures few { length self.old.state.queue < 2 ^ 64 }
     {
         self.mark = None;
@@ -468,9 +548,13 @@ impl<A: Allocator + Copy, S: BuildHasher> Layer<A, S> {
     /// No reply may be given then. The room for a message that there is stays. It takes no memory.
     pub fn undo(&mut self)
         requires { IsSome self.old.before }
+        // The last input is taken back: the layer is as it was before it.
         ensures back { self.old.before ≡ Some self.new.state }
+        // After that there is no input to take back.
         ensures spent { self.new.before ≡ None }
+        // To take an input back leaves the room as it was.
         ensures room { self.new.has_room ≡ self.old.has_room }
+        // After that no reply may be given.
         ensures replies { self.new.replies ≡ false }
     {
         if let Some(mark) = self.mark.take() {

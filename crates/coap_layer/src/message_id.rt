@@ -128,7 +128,9 @@ impl IdSource {
 
     /// A source that begins at the group that the word picks: group `word` mod 16.
     pub fn new(word: u64) -> IdSource
+        // To a `new` source of Message IDs no call has led.
         ensures led { Led word [] result }
+        // A `new` source has given no Message ID, and begins at the group that its word names.
         ensures start { result ≡ record {
           clock = 0;
           upcoming = word % groups * group_size;
@@ -144,8 +146,10 @@ impl IdSource {
 
     /// Whether `next` would give a number now. A moment before the last one counts as the last.
     pub fn is_free(&mut self, now: Moment) -> bool
+        // Every history that led to the source leads on with the question whether a Message ID is free.
         ensures led { (word : ℕ) (t : List IdEntry) → Led word t self.old
             → Led word (free_entry t now.0 result ∷ t) self.new }
+        // Whether a Message ID is free is what the next call would find.
         ensures step { Asks self.old now.0 result self.new }
     {
         self.clock = self.clock.later(now);
@@ -155,8 +159,10 @@ impl IdSource {
     /// The next number; `None` where the group is spent and the next one was used at most
     /// `ID_REUSE_AFTER_MS` ago. A moment before the last one counts as the last.
     pub fn next(&mut self, now: Moment) -> Option<Id>
+        // Every history that led to the source leads on with the Message ID that it gives, or with none.
         ensures led { (word : ℕ) (t : List IdEntry) → Led word t self.old
             → Led word (next_entry t now.0 result ∷ t) self.new }
+        // Which Message ID is given, and what that leaves, is by the rule of groups.
         ensures step { Draws self.old now.0 result self.new }
     {
         self.clock = self.clock.later(now);
@@ -170,8 +176,12 @@ impl IdSource {
 /// What leads to a source stands in the law, which leaves each call one answer, and by which equal
 /// numbers are more than `ID_REUSE_AFTER_MS` apart.
 pub fn ids_law()
+    // A history that leads to a source stands in its law.
     ensures law { (word : ℕ) (t : List IdEntry) (s : _) → Led word t s → Ids word t }
+    // The law leaves each question for a Message ID one answer.
     ensures exact { IdsAreExact }
+    // The Message IDs that are given follow the rule of groups (profile).
     ensures numbers { (word : ℕ) (t : List IdEntry) → Ids word t → NumbersLaw word (numbers t) }
+    // Two Message IDs of a source that are equal are more than 400 s apart (section 4.4).
     ensures apart { (word : ℕ) (issued : List Issued) → NumbersLaw word issued → AreApart issued }
 {}

@@ -26,6 +26,7 @@ impl<A: Allocator + Copy> Model for Carried<A> {
 impl<A: Allocator + Copy> Carried<A> {
     /// Where it goes to, or where it came from.
     pub fn peer(&self) -> Endpoint
+        // The endpoint is the one that the datagram goes to, or comes from.
         ensures { result ≡ self.now.0 }
     {
         self.peer
@@ -33,6 +34,7 @@ impl<A: Allocator + Copy> Carried<A> {
 
     /// Its bytes.
     pub fn bytes(&self) -> &[u8]
+        // The bytes are those of the datagram.
         ensures { result.now ≡ self.now.1 }
     {
         &self.bytes

@@ -21,9 +21,12 @@ pub struct Pumped {
 
 /// Hands all that is out to the link, in order, and answers how many datagrams these were.
 pub fn send_all<A: Allocator + Copy, E: End<A>, L: Link>(end: &mut E, link: &mut L) -> u64
+    // All that was out is sent over the link, once, in order.
     ensures chain { SendsAll E.gives L.sends
         (E.state end.old) link.old (E.waiting (E.state end.old)) (E.state end.new) link.new }
+    // Then nothing is out any more.
     ensures empty { E.waiting (E.state end.new) ≡ [] }
+    // The number is that of the datagrams that were out.
     ensures count { result ≡ length (E.waiting (E.state end.old)) }
 {
     let mut sent = 0;
@@ -42,9 +45,12 @@ pub fn pump<A: Allocator + Copy, E: End<A>, L: Link>(
     now: Moment,
     word: u64,
 ) -> Result<Pumped, AllocError>
+    // All that was out is sent, at most one datagram is received, and just that is fed, or lost for want of memory.
     ensures chain { Pumps E.waiting E.gives L.sends L.receives E.quiet_feed E.feeds
         (E.state end.old) link.old now.0 word result (E.state end.new) link.new }
+    // The number of what was sent is that of the datagrams that were out.
     ensures sent { IfOk result (λ pumped. pumped.sent ≡ length (E.waiting (E.state end.old))) }
+    // The number of what was lost is by how much the link's failures rose.
     ensures lost { IfOk result (λ pumped. pumped.lost ≡ L.fault_count link.new - L.fault_count link.old) }
 {
     let faults_before = link.faults();

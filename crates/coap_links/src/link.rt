@@ -26,20 +26,27 @@ pub trait Link {
 
     /// Sends a datagram.
     fn send(&mut self, to: Endpoint, bytes: &[u8])
+        // A link sends just these bytes to that endpoint, as its own words have it.
         ensures sends { sends self.old to bytes.now self.new }
+        // By a send the failures of a link rise by one at most.
         ensures counted { MayRaise (fault_count self.old) (fault_count self.new) };
 
     /// Puts a datagram that came into the front of the buffer, and answers where it came from and
     /// its length; None where none came. One of over `MAX_DATAGRAM_LEN` bytes is dropped.
     fn receive(&mut self, buf: &mut [u8]) -> Option<(Endpoint, usize)>
         requires room { MAX_DATAGRAM_LEN ≤ length buf.old }
+        // A link receives what is answered, or nothing, as its own words have it.
         ensures receives { receives self.old (received result buf.new) self.new }
+        // What is received has at most 2,048 bytes.
         ensures fits { IfSome result (λ came. came.1 ≤ MAX_DATAGRAM_LEN) }
+        // The room that a link is lent stays as long as it was.
         ensures room { length buf.new ≡ length buf.old }
+        // By a receive the failures of a link rise by one at most.
         ensures counted { MayRaise (fault_count self.old) (fault_count self.new) };
 
     /// How many calls failed, up to the last value of a `u64`.
     fn faults(&self) -> u64
+        // The number is that of the calls that failed.
         ensures { result ≡ fault_count self.now };
 
     /// Where it receives.

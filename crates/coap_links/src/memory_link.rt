@@ -109,6 +109,7 @@ fn take_first<A: Allocator + Copy>(
 impl<A: Allocator + Copy> MemoryLink<A> {
     /// A link that receives at this address. It takes no memory.
     pub fn new(alloc: A, address: Endpoint) -> MemoryLink<A>
+        // A `new` link in memory holds nothing, and loses nothing.
         ensures { result ≡ record {
           handed = [];
           coming = [];
@@ -144,7 +145,9 @@ impl<A: Allocator + Copy> MemoryLink<A> {
     /// Makes so many more buffers of `MAX_DATAGRAM_LEN` bytes, of which each send takes one. While one is
     /// left, a send of at most so many bytes takes no memory. After an `Err` the link is as before.
     pub fn reserve(&mut self, n: usize) -> Result<(), AllocError>
+        // So many more buffers are left as were asked for, and all else is as it was.
         ensures ok { OnOk result (self.new ≡ record self.old { reserved = self.old.reserved + n }) }
+        // A link that is refused buffers is as it was.
         ensures err { OnErr result (self.new ≡ self.old) }
     {
         let before = self.spare.len();
@@ -159,6 +162,7 @@ impl<A: Allocator + Copy> MemoryLink<A> {
 
     /// Makes the n-th send from now fail, from 1, once; 0 makes none fail.
     pub fn fail_send(&mut self, n: u64)
+        // The send of that number is to fail, and all else is as it was.
         ensures { self.new ≡ record self.old { failing_send = n } }
     {
         self.failing_send = n;
@@ -166,6 +170,7 @@ impl<A: Allocator + Copy> MemoryLink<A> {
 
     /// Makes the n-th receive from now fail, from 1, once; 0 makes none fail.
     pub fn fail_receive(&mut self, n: u64)
+        // The receive of that number is to fail, and all else is as it was.
         ensures { self.new ≡ record self.old { failing_receive = n } }
     {
         self.failing_receive = n;
@@ -173,7 +178,9 @@ impl<A: Allocator + Copy> MemoryLink<A> {
 
     /// Adds a datagram to those that are to come.
     pub fn give(&mut self, from: Endpoint, bytes: &[u8]) -> Result<(), AllocError>
+        // What the link is given is to come behind what was given before.
         ensures ok { OnOk result (self.new ≡ record self.old { coming = self.old.coming ++ (from, bytes.now) ∷ [] }) }
+        // A link that is refused memory for what it is given is as it was.
         ensures err { OnErr result (self.new ≡ self.old) }
     {
         keep(&mut self.coming, from, bytes, 0)
@@ -181,7 +188,9 @@ impl<A: Allocator + Copy> MemoryLink<A> {
 
     /// Takes out the first datagram that it was handed.
     pub fn next_handed(&mut self) -> Option<Carried<A>>
+        // What is taken is the first datagram that was sent.
         ensures some { IfSome result (λ first. self.old ≡ record self.new { handed = first ∷ self.new.handed }) }
+        // Nothing is taken only where nothing was sent, and nothing changes.
         ensures none { IfNone result ((self.new ≡ self.old) × (self.old.handed ≡ [])) }
     {
         self.handed.pop_front()

@@ -17,6 +17,7 @@ pub struct Tally {
 
 /// Before the first turn of an end that began with this word.
 pub fn fresh_tally(word: u64) -> Tally
+    // A fresh tally has that word, and has counted nothing.
     ensures { result ≡ record { word = word; fed = 0; refused = 0 } }
 {
     Tally {

@@ -44,6 +44,7 @@ pub fn turn<A: Allocator + Copy, E: End<A>, L: Link>(
     now: Moment,
     tally: &mut Tally,
 )
+    // An end is pumped once and then ticked until nothing is due, or a tick is refused memory.
     ensures { Turns E.waiting E.gives L.sends L.receives E.quiet_feed E.feeds E.quiet_tick E.ticks
         (E.state end.old) link.old now.0 tally.old (E.state end.new) link.new tally.new }
 {
@@ -65,6 +66,7 @@ pub fn get_turn<A: Allocator + Copy, E: End<A>, L: Link>(
     now: Moment,
     tally: &mut Tally,
 )
+    // The client of `get` has a turn as any end.
     ensures { Turns E.waiting E.gives L.sends L.receives E.quiet_feed E.feeds E.quiet_tick E.ticks
         (E.state client.old) link.old now.0 tally.old (E.state client.new) link.new tally.new }
 {
@@ -78,6 +80,7 @@ pub fn serve_turn<A: Allocator + Copy, E: End<A>, L: Link>(
     now: Moment,
     tally: &mut Tally,
 )
+    // The server of `serve` has a turn as any end.
     ensures { Turns E.waiting E.gives L.sends L.receives E.quiet_feed E.feeds E.quiet_tick E.ticks
         (E.state server.old) link.old now.0 tally.old (E.state server.new) link.new tally.new }
 {

@@ -41,6 +41,7 @@ fn endpoint_of(address: SocketAddr) -> Option<Endpoint> {
 impl UdpLink {
     /// A socket at a port of 127.0.0.1; at `ANY_PORT`, at one that is free.
     pub fn bind<R: Net>(net: &R, port: u16) -> io::Result<UdpLink>
+        // A link that is bound has failed no call.
         ensures { IfOk result (λ link. link.faults ≡ 0) }
     {
         let socket = UdpSocket::bind(net, (Ipv4Addr::LOCALHOST, port))?;

@@ -53,8 +53,11 @@ impl<W: Drop, O: Drop, A: Allocator + Copy> Operations<W, O, A> {
 
     /// Nothing waits, runs or is live.
     pub fn new(alloc: A) -> Operations<W, O, A>
+        // At first nothing waits.
         ensures queue { result.queue ≡ [] }
+        // At first nothing runs.
         ensures running { result.running ≡ None }
+        // At first nothing is live.
         ensures live { result.live ≡ [] }
     {
         Operations {
@@ -67,7 +70,9 @@ impl<W: Drop, O: Drop, A: Allocator + Copy> Operations<W, O, A> {
 
     /// How many wait.
     pub fn waiting_len(&self) -> usize
+        // The number is that of what waits.
         ensures len { result ≡ length self.now.queue }
+        // At most eight operations wait.
         ensures few { result ≤ MAX_WAITING }
     {
         self.queue.len()
@@ -76,8 +81,10 @@ impl<W: Drop, O: Drop, A: Allocator + Copy> Operations<W, O, A> {
     /// Puts an operation behind those that wait. After an `Err` what waits, runs and is live is as before.
     pub fn push(&mut self, operation: W) -> Result<(), AllocError>
         requires { length self.old.queue < MAX_WAITING }
+        // What is added waits behind the others, and all else is as it was.
         ensures added { OnOk result (self.new ≡ record self.old
             { queue = self.old.queue ++ queued.Starts operation ∷ []; spare = self.new.spare }) }
+        // Where memory is refused, only how much is reserved may differ.
         ensures err { OnErr result (self.new ≡ record self.old { spare = self.new.spare }) }
     {
         let Ok(key) = self.entries.insert(Entry::Operation(operation)) else {
@@ -90,6 +97,7 @@ impl<W: Drop, O: Drop, A: Allocator + Copy> Operations<W, O, A> {
     /// Puts the cancel of an observation behind what waits. It takes no memory.
     pub fn push_cancel(&mut self, number: u64)
         requires { length self.old.queue < MAX_WAITING }
+        // The cancel of an observation waits behind the others, and all else is as it was.
         ensures { self.new ≡ record self.old { queue = self.old.queue ++ queued.Cancels number ∷ [] } }
     {
         self.queue.push(Queued::Cancels(number));
@@ -97,6 +105,7 @@ impl<W: Drop, O: Drop, A: Allocator + Copy> Operations<W, O, A> {
 
     /// Whether a cancel of that observation waits.
     pub fn has_cancel(&self, number: u64) -> bool
+        // The answer is whether a cancel of that observation waits.
         ensures { result ≡ list_any (is_cancel number) self.now.queue }
     {
         has_cancel(self.queue.as_slice(), number)
@@ -104,6 +113,7 @@ impl<W: Drop, O: Drop, A: Allocator + Copy> Operations<W, O, A> {
 
     /// Takes out the cancel of that observation. It takes no memory.
     pub fn drop_cancel(&mut self, number: u64)
+        // No cancel of that observation waits any more, and the others wait in their order.
         ensures { self.new ≡ record self.old { queue = filter (λ q. not (is_cancel number q)) self.old.queue } }
     {
         drop_cancel(&mut self.queue, number);
@@ -111,6 +121,7 @@ impl<W: Drop, O: Drop, A: Allocator + Copy> Operations<W, O, A> {
 
     /// What stands at a place of what waits.
     pub fn waiting(&self, place: usize) -> Option<Queued<&W>>
+        // What is lent is what waits at that place.
         ensures { option_map (queued_map (λ w. w.now)) result ≡ slice_get self.now.queue place }
     {
         match self.queue.get(place)? {
@@ -121,6 +132,7 @@ impl<W: Drop, O: Drop, A: Allocator + Copy> Operations<W, O, A> {
 
     /// What runs.
     pub fn running(&self) -> Option<Running<&W>>
+        // What is lent is what runs.
         ensures { option_map (running_map (λ w. w.now)) result ≡ self.now.running }
     {
         match self.running.as_ref()? {
@@ -134,6 +146,7 @@ impl<W: Drop, O: Drop, A: Allocator + Copy> Operations<W, O, A> {
     /// The first of what waits runs.
     pub fn start_first(&mut self)
         requires { self.old.running ≡ None }
+        // The first that waited runs, and waits no more.
         ensures { self.new ≡ record self.old { queue = drop 1 self.old.queue; running = first_runs self.old.queue } }
     {
         self.running = match self.queue.pop_at(0) {
@@ -145,8 +158,11 @@ impl<W: Drop, O: Drop, A: Allocator + Copy> Operations<W, O, A> {
 
     /// Takes out what runs; what had waited leaves the slab.
     pub fn take_running(&mut self) -> Option<Running<W>>
+        // What is given out is what ran.
         ensures value { result ≡ self.old.running }
+        // Then nothing runs, and all else is as it was.
         ensures after { self.new ≡ record self.old { running = None; spare = self.new.spare } }
+        // Where what ran had waited, its place is free again.
         ensures spare { (w : W) → result ≡ Some (running.Started w) → 0 < self.new.spare }
     {
         match self.running.take()? {
@@ -162,6 +178,7 @@ impl<W: Drop, O: Drop, A: Allocator + Copy> Operations<W, O, A> {
 
     /// Nothing runs any more; what had waited leaves the slab.
     pub fn finish(&mut self)
+        // Nothing runs any more, and what had waited leaves its place.
         ensures { self.new ≡ record self.old { running = None; spare = self.new.spare } }
     {
         self.take_running();
@@ -171,6 +188,7 @@ impl<W: Drop, O: Drop, A: Allocator + Copy> Operations<W, O, A> {
     pub fn run(&mut self, operation: W)
         requires idle { self.old.running ≡ None }
         requires spare { 0 < self.old.spare }
+        // What is handed in runs.
         ensures { self.new ≡ record self.old { running = Some (running.Started operation); spare = self.new.spare } }
     {
         let key = self.entries.insert_reserved(Entry::Operation(operation));
@@ -180,6 +198,7 @@ impl<W: Drop, O: Drop, A: Allocator + Copy> Operations<W, O, A> {
     /// The fetch for the observation of that number runs.
     pub fn fetch(&mut self, number: u64)
         requires { self.old.running ≡ None }
+        // The fetch for that observation runs.
         ensures { self.new ≡ record self.old { running = Some (running.Fetching number) } }
     {
         self.running = Some(Running::Fetching(number));
@@ -187,6 +206,7 @@ impl<W: Drop, O: Drop, A: Allocator + Copy> Operations<W, O, A> {
 
     /// The fetch for the observation of that number no longer counts.
     pub fn drop_fetch(&mut self, number: u64)
+        // Where the fetch for that observation ran, it no longer counts.
         ensures { self.new ≡ record self.old { running = without_fetch number self.old.running } }
     {
         if let Some(Running::Fetching(other)) = self.running {
@@ -198,6 +218,7 @@ impl<W: Drop, O: Drop, A: Allocator + Copy> Operations<W, O, A> {
 
     /// How many observations are live.
     pub fn live_len(&self) -> usize
+        // The number is that of the observations that are live.
         ensures { result ≡ length self.now.live }
     {
         self.live.len()
@@ -205,6 +226,7 @@ impl<W: Drop, O: Drop, A: Allocator + Copy> Operations<W, O, A> {
 
     /// The live observation at that place.
     pub fn live(&self, place: usize) -> Option<&O>
+        // What is told is the live observation at that place.
         ensures { option_copied result ≡ slice_get self.now.live place }
     {
         observation(&self.entries, *self.live.get(place)?)
@@ -214,6 +236,7 @@ impl<W: Drop, O: Drop, A: Allocator + Copy> Operations<W, O, A> {
     pub fn live_mut(&mut self, place: usize) -> &mut O
         requires { place < length self.old.live }
         ensures* writes_back { sem 𝓛 (lends_live W.row O.row A.row A.Allocator self.entry place result) }
+        // What is lent to be changed is the live observation at that place.
         ensures value { slice_get self.old.live place ≡ Some result.now }
     {
         let key = self.live[place];
@@ -222,7 +245,9 @@ impl<W: Drop, O: Drop, A: Allocator + Copy> Operations<W, O, A> {
 
     /// Makes room in the list of the live observations for one more.
     pub fn reserve_live(&mut self) -> Result<(), AllocError>
+        // With what is reserved one more observation can go live.
         ensures room { OnOk result (length self.new.live < self.new.places) }
+        // To reserve a place changes nothing else.
         ensures same { self.new ≡ record self.old { places = self.new.places } }
     {
         self.live.reserve(1)
@@ -232,6 +257,7 @@ impl<W: Drop, O: Drop, A: Allocator + Copy> Operations<W, O, A> {
     pub fn go_live(&mut self, observation: O)
         requires spare { 0 < self.old.spare }
         requires place { length self.old.live < self.old.places }
+        // The observation is live, behind the others, and all else is as it was.
         ensures { self.new ≡ record self.old { live = self.old.live ++ observation ∷ []; spare = self.new.spare } }
     {
         let key = self
@@ -243,6 +269,7 @@ impl<W: Drop, O: Drop, A: Allocator + Copy> Operations<W, O, A> {
     /// The observation at that place is live no more, and leaves the slab. It takes no memory.
     pub fn remove_live(&mut self, place: usize)
         requires { place < length self.old.live }
+        // The observation at that place is live no more, and the others are in their order.
         ensures { self.new ≡ record self.old { live = remove self.old.live place; spare = self.new.spare } }
     {
         let key = self.live.remove(place);

@@ -29,6 +29,7 @@ pub enum StoreRefusal {
 impl StoreRefusal {
     /// The number of the refusal, 1 to 5, in the order of the variants.
     pub fn number(self) -> u8
+        // The number of a store's refusal is its place among the five.
         ensures { result ≡ refusal_number self }
     {
         match self {

@@ -12,6 +12,7 @@ use std::alloc::Allocator;
 
 /// The value of the first option of this number.
 pub fn value_of<'a>(options: &[Opt<'a>], number: u16) -> Option<&'a [u8]>
+    // The value is that of the first option of this number.
     ensures { option_copied result ≡ value_of number (options_of options.now) }
 {
     for option in options {
@@ -24,6 +25,7 @@ pub fn value_of<'a>(options: &[Opt<'a>], number: u16) -> Option<&'a [u8]>
 
 /// Whether there is an option of this number.
 pub fn has(options: &[Opt<'_>], number: u16) -> bool
+    // The answer is whether an option has this number.
     ensures { result ≡ has number (options_of options.now) }
 {
     value_of(options, number).is_some()

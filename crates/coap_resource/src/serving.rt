@@ -220,12 +220,16 @@ pub fn serve<A: Allocator + Copy, S: Store<A>>(
     now: Moment,
     asking: &Asking<'_, A>,
 ) -> Result<Response<A>, AllocError>
+    // The response, and what the store holds then, are those of the table of methods (RFC 7252, section 5.8).
     ensures served { IfOk result (λ r. Serves (S.content store.old) now.0
         (question_of asking.now) (reply_of r) (S.content store.new)) }
+    // The response has a code of a response, short values and at most a block of payload.
     ensures fits { IfOk result (λ r. Fits (reply_of r)) }
+    // A request that is refused memory leaves the store as it was.
     ensures err { OnErr result (store.new ≡ store.old) }
     // A GET leaves the store as it is, and so does a 4.12. What else changes nothing lets the moment count.
     ensures get { asking.now.method ≡ Method.Get → store.new ≡ store.old }
+    // A request whose precondition fails leaves the store as it was (RFC 7252, section 5.10.8).
     ensures failed { precondition_fails ((S.content store.old).holds asking.now.path.now)
         (options_of asking.now.options.now)
         ≡ true → store.new ≡ store.old }

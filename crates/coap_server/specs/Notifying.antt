@@ -40,6 +40,6 @@ NotifiesNext (Some o) store h = h ≡ Notifies o (told store o)
 abbrev pub notification : Content → Observer → Reply → E.Response
 notification store o reply = response_with reply (sequence (store.holds o.path)) None
 
-abbrev pub notified : Option Held → Observer → List Observer → List Observer
-notified None o os = removed o.to o.token os
-notified (Some held) o os = sent_to o.to o.token os
+abbrev pub notified : ℕ → Option Held → Observer → List Observer → List Observer
+notified at None o os = removed o.to o.token os
+notified at (Some held) o os = sent_to at o.to o.token true os

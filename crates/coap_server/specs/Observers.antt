@@ -35,15 +35,15 @@ registers a q reply os =
     && nat_lt (length (removed a.from a.token os)) max_observers))
 
 -- Observe 1 removes, whatever the answer.
-abbrev pub observers_with : Asked → Question → Reply → List Observer → List Observer
-observers_with a q reply os =
-    if registers a q reply os then registered a.from a.token q.path (szx_by (block_of q.options) q.szx) os
+abbrev pub observers_with : ℕ → Asked → Question → Reply → List Observer → List Observer
+observers_with at a q reply os =
+    if registers a q reply os then registered at a.from a.token q.path (szx_by (block_of q.options) q.szx) os
     else if observes 1 q then removed a.from a.token os
     else os
 
--- a change of a path marks its observers
-abbrev pub marked_if : List (List ℕ) → Content → Content → List Observer → List Observer
-marked_if path old left os = if left.tally.version == old.tally.version then os else changed_at path os
+-- a change of a path marks its observers, with its moment
+abbrev pub marked_if : ℕ → List (List ℕ) → Content → Content → List Observer → List Observer
+marked_if at path old left os = if left.tally.version == old.tally.version then os else changed_at at path os
 
 -- a Reset of what carried Observe, and that it is given up, removes the observer
 abbrev pub unless_ended : Option Ended → List Observer → List Observer

@@ -23,8 +23,8 @@ abbrev pub response_to : Content → List Observer → Asked → Question → Re
 response_to old os a q reply = response_with reply (sequence_if (registers a q reply os) (old.holds q.path))
     (last_block q)
 
-abbrev pub observers_served : Content → Asked → Question → Reply → Content → List Observer → List Observer
-observers_served old a q reply left os = marked_if q.path old left (observers_with a q reply os)
+abbrev pub observers_served : ℕ → Content → Asked → Question → Reply → Content → List Observer → List Observer
+observers_served at old a q reply left os = marked_if at q.path old left (observers_with at a q reply os)
 
 -- A request is applied where its response says so: 2.01, 2.02 or 2.04.
 abbrev pub is_applied : ℕ → Bool

@@ -48,10 +48,10 @@ abbrev pub store_after : Handling → Content → Content
 store_after (Serves q reply left) old = left
 store_after _ old = old
 
-abbrev pub observers_after : Content → Option Asked → Handling → List Observer → List Observer
-observers_after old (Some a) (Serves q reply left) os = observers_served old a q reply left os
-observers_after old a (Notifies o reply) os = notified (old.holds o.path) o os
-observers_after old a _ os = os
+abbrev pub observers_after : ℕ → Content → Option Asked → Handling → List Observer → List Observer
+observers_after at old (Some a) (Serves q reply left) os = observers_served at old a q reply left os
+observers_after at old a (Notifies o reply) os = notified at (old.holds o.path) o os
+observers_after at old a _ os = os
 
 abbrev pub applied_after : Content → Option Asked → Handling → List Applied
 applied_after old (Some a) (Serves q reply left) = applied_by old a q reply left
@@ -60,7 +60,7 @@ applied_after old a _ = []
 abbrev pub handled : Own → Option Asked → Handling → Own
 handled s a h = record s {
   store = store_after h s.store;
-  observers = observers_after s.store a h s.observers;
+  observers = observers_after s.clock s.store a h s.observers;
   applied = applied_after s.store a h;
 }
 
@@ -103,9 +103,9 @@ due_after s d h asks =
 
 abbrev pub after : Own → Call → Own
 after s (Sets now path format body answer left) =
-    record s { clock = max s.clock now; store = left; observers = marked_if path s.store left s.observers }
+    record s { clock = max s.clock now; store = left; observers = marked_if (max s.clock now) path s.store left s.observers }
 after s (Removes now path answer left) =
-    record s { clock = max s.clock now; store = left; observers = marked_if path s.store left s.observers }
+    record s { clock = max s.clock now; store = left; observers = marked_if (max s.clock now) path s.store left s.observers }
 after s (Delays path ms answer) = record s { delays = delays_with path ms answer s.delays }
 after s (Feeds now from bytes word up came h below) =
     came_after (heard s now (incoming s now from bytes up came)) came h

@@ -48,29 +48,31 @@ ghost use Rattle.coap_server.specs.Follows.Waits.{ReadyAreServed, WaitOn, WaitsA
 /// What leads to the state of a server stands in its whole law, uploads in blocks and observers among it, and what
 /// follows from that.
 pub fn server_law()
+    // No call at all leads to the first state of a server, whose store is empty.
     ensures start { (limits : Limits) (szx word : ℕ) → Led limits szx word [] (fresh_state limits szx word) }
-    // A step lengthens the calls that led to the state before it.
+    // A step of a server lengthens the calls that led to the state before it.
     ensures step { (limits : Limits) (szx word : ℕ) (t : List Call) (c : Call) (old new : State)
         → Led limits szx word t old
         → Step old c new → Led limits szx word (c ∷ t) new }
     // What it keeps of its exchanges is what their calls add up to.
     ensures exchanges { (limits : Limits) (szx : ℕ) (t : List Call)
         → (own_of limits szx t).exchanges ≡ below.own_of (lower_of limits szx t) }
+    // A history that leads to a server stands in the server's law.
     ensures law { (limits : Limits) (szx word : ℕ) (t : List Call) (s : State) → Led limits szx word t s
         → ServerLaw limits szx word t }
-    // The calls of its message layer stand in the law of that layer (RFC 7252, section 4).
+    // The calls of the layer beneath a server stand in its law (RFC 7252, section 4).
     ensures layer { (limits : Limits) (szx word : ℕ) (t : List Call) → ServerLaw limits szx word t
         → LayerLaw (usual word) (layer_of limits szx word t) }
-    // The calls before some calls stand in the law too.
+    // The calls of a server before some calls stand in the law too.
     ensures back { (limits : Limits) (szx word : ℕ) (calls t : List Call) → ServerLaw limits szx word (calls ++ t)
         → ServerLaw limits szx word t }
-    // The law leaves each call one answer.
+    // The law of a server leaves each call one answer.
     ensures exact { (limits : Limits) (szx word : ℕ) (past : List Call) → IsExact limits szx word past }
     // It replies at once: with the Reset of a response, or the acknowledgement of a CON, which may carry the response
     // to it (RFC 7252, sections 4.2 and 5.2.1).
     ensures replies { (limits : Limits) (szx word : ℕ) (t : List Call) → ServerLaw limits szx word t
         → Always RepliesSo (layer_of limits szx word t) }
-    // A message is handed up once in EXCHANGE_LIFETIME (RFC 7252, section 4.5).
+    // A message is handed up once in EXCHANGE_LIFETIME at a server, too (RFC 7252, section 4.5).
     ensures once { (limits : Limits) (szx word : ℕ) (t : List Call) → ServerLaw limits szx word t
         → HandedUpOnce (layer_of limits szx word t) }
     // What is served was handed up, and asks what came, with the whole body of its upload (RFC 7252, section 5.2; RFC
@@ -95,6 +97,7 @@ pub fn server_law()
     // 5.2.2).
     ensures waits { (limits : Limits) (szx word : ℕ) (t : List Call) → ServerLaw limits szx word t
         → WaitsAsDeferred limits szx t }
+    // A deferred request that is ready is served at once.
     ensures ready { (limits : Limits) (szx word : ℕ) (t : List Call) → ServerLaw limits szx word t
         → ReadyAreServed limits szx t }
     // What is handed up came up from the message layer, as often ..
@@ -131,6 +134,7 @@ pub fn server_law()
     // 7959, section 2.4). So with a notification (RFC 7641, section 4.2).
     ensures shows { (limits : Limits) (szx word : ℕ) (t : List Call) → ServerLaw limits szx word t
         → ShowsHeld limits szx t }
+    // A notification shows what the observed path holds, or is a 4.04 where that holds nothing.
     ensures notices { (limits : Limits) (szx word : ℕ) (t : List Call) → ServerLaw limits szx word t
         → NoticesShow limits szx t }
     // The tokens that it answers and keeps have at most 8 bytes (RFC 7252, section 3).
@@ -170,10 +174,10 @@ pub fn server_law()
     // 5.2.2).
     ensures answered { (limits : Limits) (szx word : ℕ) (t : List Call) → ServerLaw limits szx word t
         → FirstIsAnswered limits szx word t }
-    // It can go on: each further call has answers that stand in the law.
+    // A server can go on: each further call has answers that stand in the law.
     ensures goes { (limits : Limits) (szx word : ℕ) (t : List Call) → ServerLaw limits szx word t
         → GoesOn limits szx word t }
-    // Calls that stand in the law lead to this state, and to no other.
+    // Calls that stand in the law lead to this state of the server, and to no other.
     ensures left { (limits : Limits) (szx word : ℕ) (t : List Call) → ServerLaw limits szx word t → (s : State)
         → Led limits szx word t s ↔ (s ≡ state_left limits szx word t) }
     // At one moment its ticks end: at most as many do something as that state has due then, where a request that waits
@@ -262,8 +266,10 @@ pub fn server_must_law()
 
 /// Histories that stand in that law, with their bytes.
 pub fn server_runs()
+    // A history of a server that is observed, written out byte for byte, stands in the law.
     ensures observation { ServerLaw example.limits 6 0 example.run }
     // Its observer is told of version 1 by the answer that registers it, and of version 2 by a notification.
     ensures told { IsTold }
+    // A history of a server to which a body comes in blocks, byte for byte, stands in the law.
     ensures upload { ServerLaw example.limits 6 0 upload_example.run }
 {}

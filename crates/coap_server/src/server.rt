@@ -73,14 +73,14 @@ pub struct Server<
 }
 
 impl<S: Store<A>, A: Allocator + Copy, H: BuildHasher> Model for Server<S, A, H> {
-    ghost use Rattle.coap_server.specs.Object.Shown.{Kept, kept_of, state_of};
+    ghost use Rattle.coap_server.specs.Object.Shown.{IsTimed, Kept, kept_of, state_of};
     ghost use Rattle.coap_server.specs.Turns.Work.{WasLed};
 
     ghost Value = { Kept S };
 
     ghost view = { λ s. kept_of s.parts };
 
-    ghost invariant = { λ s. WasLed (state_of S.content (kept_of s.parts)) };
+    ghost invariant = { λ s. WasLed (state_of S.content (kept_of s.parts)) × IsTimed (kept_of s.parts) };
 }
 
 impl<S: Store<A>, A: Allocator + Copy> Server<S, A, BuildHasherDefault<FoldHasher>> {
@@ -88,8 +88,10 @@ impl<S: Store<A>, A: Allocator + Copy> Server<S, A, BuildHasherDefault<FoldHashe
     /// an upload is joined up to its limit; the word picks the first Message ID.
     pub fn new(alloc: A, store: S, szx: Szx, word: u64) -> Self
         requires fresh { (limits : Limits) × (S.content store ≡ nothing limits) }
+        // To a `new` server over an empty store no call has led.
         ensures led { (limits : Limits) → S.content store ≡ nothing limits
             → Led limits szx word [] (state_of S.content result) }
+        // A `new` server over an empty store is in the state in which no call was made, by its word.
         ensures start { (limits : Limits) → S.content store ≡ nothing limits → state_of S.content result
             ≡ fresh_state limits szx word }
     {
@@ -101,8 +103,10 @@ impl<S: Store<A>, A: Allocator + Copy, H: BuildHasher> Server<S, A, H> {
     /// The same, with a hasher for the messages that are remembered.
     pub fn with_hasher(alloc: A, store: S, szx: Szx, word: u64, hasher: H) -> Self
         requires fresh { (limits : Limits) × (S.content store ≡ nothing limits) }
+        // To a server of `with_hasher` over an empty store no call has led.
         ensures led { (limits : Limits) → S.content store ≡ nothing limits
             → Led limits szx word [] (state_of S.content result) }
+        // A server of `with_hasher` is in the state in which no call was made, whatever the hasher.
         ensures start { (limits : Limits) → S.content store ≡ nothing limits → state_of S.content result
             ≡ fresh_state limits szx word }
     {
@@ -141,15 +145,18 @@ impl<S: Store<A>, A: Allocator + Copy, H: BuildHasher> Server<S, A, H> {
         bytes: &[u8],
         word: u64,
     ) -> Result<(), AllocError>
+        // What a datagram makes of the server is a step of its machine.
         ensures step { OnOk result ((up : below.Answer) × (came : Option (AskedSpec × Message)) × (h : Handling)
             × (sent : below.Answer)
             × Step (state_of S.content self.old) (Feeds now.0 from bytes.now word up came h sent)
             (state_of S.content self.new)) }
+        // Every history that led to the server leads on with this datagram, unless it was refused memory.
         ensures led { (limits : Limits) (szx begin : ℕ) (t : List Call)
             → Led limits szx begin t (state_of S.content self.old)
             → OnOk result ((up : below.Answer) × (came : Option (AskedSpec × Message)) × (h : Handling)
             × (sent : below.Answer)
             × Led limits szx begin (Feeds now.0 from bytes.now word up came h sent ∷ t) (state_of S.content self.new)) }
+        // A datagram that is refused memory leaves the server as it was.
         ensures err { OnErr result (self.new ≡ self.old) }
         // Where the message layer sends nothing and hands nothing up, it takes no memory.
         ensures quiet { IsQuiet (made self.old.exchanges.layer (max self.old.clock now.0)
@@ -164,21 +171,25 @@ impl<S: Store<A>, A: Allocator + Copy, H: BuildHasher> Server<S, A, H> {
     /// the initial timeout of what is sent. Call it until it answers false. After an `Err` the server
     /// is as before.
     pub fn tick(&mut self, now: Moment, word: u64) -> Result<bool, AllocError>
+        // Whether a tick did something, and what that leaves, is a step of the server's machine.
         ensures step { IfOk result (λ did. (done : below.Answer) × (room : Bool) × (due : Due) × (passed : ℕ)
             × (h : Handling) × (id : ℕ)
             × Step (state_of S.content self.old) (Ticks now.0 word done room due passed h id did)
             (state_of S.content self.new)) }
+        // Every history that led to the server leads on with this tick, unless it was refused memory.
         ensures led { (limits : Limits) (szx begin : ℕ) (t : List Call)
             → Led limits szx begin t (state_of S.content self.old)
             → IfOk result (λ did. (done : below.Answer) × (room : Bool) × (due : Due) × (passed : ℕ) × (h : Handling)
             × (id : ℕ)
             × Led limits szx begin (Ticks now.0 word done room due passed h id did ∷ t) (state_of S.content self.new)) }
-        // Each tick that does something leaves less to be done at its moment.
+        // Each tick of a server that does something leaves less to be done at its moment.
         ensures less { result ≡ Ok true
             → work (state_of S.content self.new) now.0 < work (state_of S.content self.old) now.0 }
+        // A tick that is refused memory leaves the server as it was.
         ensures err { OnErr result (self.new ≡ self.old) }
         // Where nothing is to be sent, or a failure comes first, it takes no memory.
         ensures quiet { IsIdle (state_of S.content self.old) now.0 → IsOk result }
+        // A tick at which a failure comes first is not refused memory.
         ensures fails { copies (moment (state_of S.content self.old) now.0) self.old.exchanges.layer.open_cons ≡ []
             → answer_of self.old.exchanges.layer (moment (state_of S.content self.old) now.0) below.Ticks ≢ below.Idle
             → IsOk result }
@@ -190,10 +201,14 @@ impl<S: Store<A>, A: Allocator + Copy, H: BuildHasher> Server<S, A, H> {
     /// earlier than the last that was handed in; None where it never would. Nothing changes. It takes no
     /// memory.
     pub fn due(&self) -> Option<Moment>
+        // Where the server tells no moment, no later tick does anything unless something is handed in.
         ensures none { IfNone result ((now : ℕ) → now < 2 ^ 64 → TicksDo false (state_of S.content self.now) now) }
+        // No tick of the server before the moment that is told does anything.
         ensures some { IfSome result (λ at. (now : ℕ) → max (latest (state_of S.content self.now)) now < at.0
             → TicksDo false (state_of S.content self.now) now) }
+        // A tick of the server at the moment that is told does something.
         ensures does { IfSome result (λ at. TicksDo true (state_of S.content self.now) at.0) }
+        // The moment that the server tells is not before its latest.
         ensures from { IfSome result (λ at. latest (state_of S.content self.now) ≤ at.0) }
     {
         due_parts(&self.parts)
@@ -209,14 +224,17 @@ impl<S: Store<A>, A: Allocator + Copy, H: BuildHasher> Server<S, A, H> {
         format: Option<u16>,
         body: &[u8],
     ) -> Result<u64, StoreRefusal>
+        // The version of a local change, or why it is refused, and what that leaves, is a step of the server.
         ensures step { result ≢ Err store_refusals.Memory → Step (state_of S.content self.old)
             (Sets now.0 path.now format body.now result (state_of S.content self.new).own.store)
             (state_of S.content self.new) }
+        // Every history that led to the server leads on with this local change, unless it was refused memory.
         ensures led { (limits : Limits) (szx begin : ℕ) (t : List Call)
             → Led limits szx begin t (state_of S.content self.old)
             → result ≢ Err store_refusals.Memory
             → Led limits szx begin (Sets now.0 path.now format body.now result
             (state_of S.content self.new).own.store ∷ t) (state_of S.content self.new) }
+        // A local change that is refused memory leaves the server as it was.
         ensures memory { result ≡ Err store_refusals.Memory → self.new ≡ self.old }
         // Where the store has a reason not to put it there at that moment, that is the answer, and never Memory.
         ensures refused { (why : StoreRefusalSpec) → put_refusal (state_of S.content self.old).own.store
@@ -229,8 +247,10 @@ impl<S: Store<A>, A: Allocator + Copy, H: BuildHasher> Server<S, A, H> {
     /// Takes away what the path holds, and marks its observers; false where it holds nothing. It takes
     /// no memory.
     pub fn remove(&mut self, now: Moment, path: &Path<A>) -> Result<bool, StoreRefusal>
+        // What a local removal answers and leaves is a step of the server's machine.
         ensures step { Step (state_of S.content self.old)
             (Removes now.0 path.now result (state_of S.content self.new).own.store) (state_of S.content self.new) }
+        // Every history that led to the server leads on with this removal, which is never refused memory.
         ensures led { (limits : Limits) (szx begin : ℕ) (t : List Call)
             → Led limits szx begin t (state_of S.content self.old)
             → Led limits szx begin (Removes now.0 path.now result (state_of S.content self.new).own.store ∷ t)
@@ -243,15 +263,20 @@ impl<S: Store<A>, A: Allocator + Copy, H: BuildHasher> Server<S, A, H> {
     /// by a separate response (RFC 7252, section 5.2.2; a profile). It takes no memory where
     /// `MAX_DELAYS` other paths have a delay, or the path has one.
     pub fn set_delay(&mut self, path: &Path<A>, ms: u64) -> Result<(), DelayRefusal>
+        // Whether a path is given a delay, and what that leaves, is a step of the server's machine.
         ensures step { result ≢ Err delay_refusals.Memory → Step (state_of S.content self.old)
             (Delays path.now ms (is_ok result)) (state_of S.content self.new) }
+        // Every history that led to the server leads on with this delay, unless it was refused memory.
         ensures led { (limits : Limits) (szx begin : ℕ) (t : List Call)
             → Led limits szx begin t (state_of S.content self.old)
             → result ≢ Err delay_refusals.Memory
             → Led limits szx begin (Delays path.now ms (is_ok result) ∷ t) (state_of S.content self.new) }
+        // A delay that is refused memory leaves the server as it was.
         ensures memory { result ≡ Err delay_refusals.Memory → self.new ≡ self.old }
+        // Where 16 other paths have a delay, a further one is refused as Full.
         ensures full { may_delay path.now (state_of S.content self.old).own.delays ≡ false → result
             ≡ Err delay_refusals.Full }
+        // A path that has a delay is given another without memory.
         ensures again { is_some (delay_of path.now (state_of S.content self.old).own.delays) ≡ true
             → result ≢ Err delay_refusals.Memory }
     {
@@ -260,8 +285,10 @@ impl<S: Store<A>, A: Allocator + Copy, H: BuildHasher> Server<S, A, H> {
 
     /// What the path holds: its version, its format and its body. It takes no memory.
     pub fn get(&self, path: &Path<A>) -> Option<&Representation<A>>
+        // What a path holds is told as the server's machine has it.
         ensures step { Step (state_of S.content self.now) (Gets path.now (shown (option_copied result)))
             (state_of S.content self.now) }
+        // Every history that led to the server leads on with this question for a path, which changes nothing.
         ensures led { (limits : Limits) (szx begin : ℕ) (t : List Call)
             → Led limits szx begin t (state_of S.content self.now)
             → Led limits szx begin (Gets path.now (shown (option_copied result)) ∷ t) (state_of S.content self.now) }
@@ -272,8 +299,10 @@ impl<S: Store<A>, A: Allocator + Copy, H: BuildHasher> Server<S, A, H> {
     /// What the last `feed` or `tick` applied: the PUT, POST or DELETE that it answered 2.01, 2.02 or
     /// 2.04, if any. It takes no memory.
     pub fn applied(&self) -> Option<&Applied<A>>
+        // Which request was applied last is told as the server's machine has it.
         ensures step { Step (state_of S.content self.now) (TellsApplied (applied_list (option_copied result)))
             (state_of S.content self.now) }
+        // Every history that led to the server leads on with the question for what was applied.
         ensures led { (limits : Limits) (szx begin : ℕ) (t : List Call)
             → Led limits szx begin t (state_of S.content self.now)
             → Led limits szx begin (TellsApplied (applied_list (option_copied result)) ∷ t)
@@ -284,15 +313,19 @@ impl<S: Store<A>, A: Allocator + Copy, H: BuildHasher> Server<S, A, H> {
 
     /// The datagram that is to be sent next. It takes no memory.
     pub fn next_out(&mut self) -> Option<Datagram<A>>
+        // Which datagram the server gives out, and what that leaves, is a step of its machine.
         ensures step { Step (state_of S.content self.old) (NextOut result) (state_of S.content self.new) }
+        // Every history that led to the server leads on with a datagram that it gives out.
         ensures led { (limits : Limits) (szx begin : ℕ) (t : List Call)
             → Led limits szx begin t (state_of S.content self.old)
             → Led limits szx begin (NextOut result ∷ t) (state_of S.content self.new) }
+        // The datagram that the server gives out is the first that waited.
         ensures some { IfSome result (λ datagram. self.old.exchanges.layer.queue
             ≡ datagram ∷ self.new.exchanges.layer.queue) }
+        // The server gives out none only where none waited, and nothing changes.
         ensures none { IfNone result ((self.old.exchanges.layer.queue ≡ [])
             × (state_of S.content self.new ≡ state_of S.content self.old)) }
-        // No more datagrams wait than a list in memory holds.
+        // No more datagrams wait at a server than a list in memory holds.
         ensures few { length self.old.exchanges.layer.queue < 2 ^ 64 }
     {
         self.parts.exchanges.next_out()
@@ -306,9 +339,11 @@ fn feed_parts<S: Store<A>, A: Allocator + Copy, H: BuildHasher>(
     from: Endpoint,
     bytes: &[u8],
 ) -> Result<(), AllocError>
+    requires timed { parts.old.observers.clock ≤ parts.old.clock.0 }
     ensures step { OnOk result ((word : ℕ) → (up : below.Answer) × (came : Option (AskedSpec × Message))
         × (h : Handling) × (sent : below.Answer)
         × Step (seen S.content parts.old) (Feeds now.0 from bytes.now word up came h sent) (seen S.content parts.new)) }
+    ensures timed { OnOk result (parts.new.observers.clock ≤ parts.new.clock.0) }
     ensures err { OnErr result (kept_of parts.new ≡ kept_of parts.old) }
     ensures quiet { IsQuiet (made parts.old.exchanges.state.layer (max parts.old.clock.0 now.0)
         (below.Receive from bytes.now)) → IsOk result }

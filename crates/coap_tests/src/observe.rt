@@ -155,7 +155,7 @@ fn at_most_64_are_registered(rt: HostRuntime) -> Result<(), AllocError> {
     );
     let mut observers = Observers::new(rt.alloc());
     for byte in 0..64 {
-        registers(&rt, &mut observers, 1, byte, b't', true)?;
+        registers(&rt, &mut observers, Moment(0), (1, byte), b't', true)?;
     }
     let steps = [
         Step::Registers(1, 64, b't', false),
@@ -173,4 +173,88 @@ fn at_most_64_are_registered(rt: HostRuntime) -> Result<(), AllocError> {
         Step::Registers(2, 0, b't', true),
     ];
     take_steps(&rt, &mut observers, &steps)
+}
+
+#[test]
+fn each_keeps_when_it_changed_and_when_a_con_was_sent(rt: HostRuntime) -> Result<(), AllocError> {
+    from_new(
+        &rt,
+        &[
+            Step::Now(5),
+            Step::Registers(1, 10, b't', true),
+            Step::Since(0, 5, 5),
+            Step::Now(10),
+            Step::Changes(b'u'),
+            Step::Since(0, 5, 5),
+            Step::Now(20),
+            Step::Changes(b't'),
+            Step::Since(0, 5, 20),
+            Step::Now(30),
+            Step::Sends(1, 11, false),
+            Step::Since(0, 5, 20),
+            Step::Sends(1, 10, true),
+            Step::Since(0, 30, 20),
+            // Nothing is due: no CON was sent.
+            Step::Now(40),
+            Step::Sends(1, 10, false),
+            Step::Since(0, 30, 20),
+            Step::Now(50),
+            Step::Changes(b't'),
+            Step::Now(60),
+            Step::SendsPlain(1, 10, 7),
+            Step::At(0, 1, 10, b't', false),
+            Step::Since(0, 30, 50),
+            // A moment before the last one counts as the last one, here 60.
+            Step::Now(7),
+            Step::Changes(b't'),
+            Step::Since(0, 30, 60),
+            Step::Sends(1, 10, true),
+            Step::Since(0, 60, 60),
+        ],
+    )
+}
+
+#[test]
+fn a_reset_of_the_last_non_ends_its_registration(rt: HostRuntime) -> Result<(), AllocError> {
+    // RFC 7641, section 3.6; a Reset can come for 247,000 ms (RFC 7252, section 4.8.2).
+    from_new(
+        &rt,
+        &[
+            Step::Registers(1, 10, b't', true),
+            Step::Registers(1, 11, b't', true),
+            Step::Registers(2, 10, b't', true),
+            Step::Resets(1, 7, None),
+            Step::Changes(b't'),
+            Step::Now(100),
+            Step::SendsPlain(1, 10, 7),
+            Step::SendsPlain(1, 11, 8),
+            Step::SendsPlain(2, 10, 9),
+            Step::Now(200),
+            Step::Changes(b't'),
+            Step::SendsPlain(1, 11, 12),
+            // No other Message ID, from no other endpoint, and of the last NON alone.
+            Step::Resets(1, 9, None),
+            Step::Resets(2, 7, None),
+            Step::Resets(1, 8, None),
+            Step::NoneAt(3),
+            Step::Resets(1, 12, Some(11)),
+            Step::At(0, 1, 10, b't', true),
+            Step::At(1, 2, 10, b't', true),
+            Step::NoneAt(2),
+            Step::Resets(1, 12, None),
+            Step::Now(247_100),
+            Step::Resets(1, 7, Some(10)),
+            Step::At(0, 2, 10, b't', true),
+            Step::NoneAt(1),
+            Step::Now(247_101),
+            Step::Resets(2, 9, None),
+            // A new registration has no NON to be rejected.
+            Step::Registers(2, 10, b't', true),
+            Step::Changes(b't'),
+            Step::SendsPlain(2, 10, 20),
+            Step::Registers(2, 10, b't', true),
+            Step::Resets(2, 20, None),
+            Step::At(0, 2, 10, b't', false),
+        ],
+    )
 }

@@ -36,7 +36,9 @@ impl Block {
     /// The block that a number says; None where NUM is over `MAX_NUM`, and at the reserved SZX 7
     /// (RFC 7959, section 2.2).
     pub fn of(number: u32) -> Option<Block>
+        // The block is that of the number's fields, NUM of 20 bits, M and an SZX but 7 (RFC 7959, section 2.2).
         ensures block { result ≡ block_by number }
+        // The NUM of a block that a number says has at most 20 bits (RFC 7959, section 2.2).
         ensures num { IfSome result (λ block. block.num ≤ MAX_NUM) }
     {
         let num = number / NUM_UNIT;
@@ -54,10 +56,15 @@ impl Block {
     /// The block that an option's value says; None past 3 bytes, and at the reserved SZX 7
     /// (RFC 7959, section 2.2).
     pub fn read(bytes: &[u8]) -> Option<Block>
+        // A value of at most three bytes is read as the block that its number says (RFC 7959, section 2.2).
         ensures block { result ≡ block_in bytes.now }
+        // The number of the block that is read is that of the bytes.
         ensures value { IfSome result (λ block. block_value block ≡ number_of bytes.now) }
+        // The NUM of a block that is read has at most 20 bits.
         ensures num { IfSome result (λ block. block.num ≤ MAX_NUM) }
+        // The SZX of a block that is read is at most 6.
         ensures szx { IfSome result (λ block. block.szx ≤ MAX_SZX) }
+        // A block is read exactly where there are at most three bytes and SZX is not 7 (RFC 7959, section 2.2).
         ensures when { IsSome result
             ↔ ((length bytes.now ≤ MAX_BLOCK_LEN) × (szx_field (number_of bytes.now) ≤ MAX_SZX)) }
     {
@@ -70,9 +77,13 @@ impl Block {
     /// The value of the option, in the fewest bytes (RFC 7959, section 2.2); None where NUM is over
     /// `MAX_NUM`.
     pub fn write(self) -> Option<UintBytes>
+        // A block is written as its number, NUM * 16 + M * 8 + SZX, in the uint format (RFC 7959, section 2.2).
         ensures bytes { IfSome result (λ bytes. bytes ≡ uint (block_value self)) }
+        // What is written is the spelling of the block's number, which no zero byte leads.
         ensures spelling { IfSome result (λ bytes. IsSpelling bytes (block_value self)) }
+        // A block is written in at most three bytes.
         ensures few { IfSome result (λ bytes. length bytes ≤ MAX_BLOCK_LEN) }
+        // A block is written exactly where its NUM has at most 20 bits.
         ensures when { IsSome result ↔ (self.num ≤ MAX_NUM) }
     {
         if self.num > MAX_NUM {
@@ -86,7 +97,10 @@ impl Block {
 /// A value of a Block option is that of one block; what the block that is read says, and when one
 /// is; and a block that is written is read back (RFC 7959, section 2.2).
 pub fn block_law()
+    // Two blocks of one number are one block.
     ensures one_block { OneBlock }
+    // What a block value says, and when it says a block, is as the relation has it (RFC 7959, section 2.2).
     ensures says { BlockIsSaid }
+    // A block that is written is read back as it was.
     ensures read_back { BlockReadsBack }
 {}

@@ -9,6 +9,7 @@ pub fn appended<A: Allocator + Copy>(
     front: &[u8],
     back: &[u8],
 ) -> Result<Bytes<A>, AllocError>
+    // The body that is joined is the first slice and behind it the second.
     ensures { IfOk result (λ whole. whole ≡ front.now ++ back.now) }
 {
     let mut whole = Vec::with_capacity(alloc, front.len() + back.len())?;

@@ -38,6 +38,7 @@ impl Model for BodyLimit {
 impl BodyLimit {
     /// The limit of so many bytes, where that is from 1 to `MAX_BODY_LIMIT`.
     pub fn new(most: usize) -> Option<BodyLimit>
+        // A limit is made exactly of 1 to 1,048,576 bytes.
         ensures { SomeIff result ((1 ≤ most) × (most ≤ MAX_BODY_LIMIT)) most }
     {
         if 1 <= most && most <= MAX_BODY_LIMIT {
@@ -49,8 +50,11 @@ impl BodyLimit {
 
     /// The limit in bytes.
     pub fn get(self) -> usize
+        // The limit is the number that was chosen.
         ensures bytes { result ≡ self }
+        // A limit is at least one byte.
         ensures some { 1 ≤ result }
+        // A limit is at most 1,048,576 bytes.
         ensures within { result ≤ MAX_BODY_LIMIT }
     {
         self.most

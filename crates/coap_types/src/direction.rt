@@ -15,6 +15,7 @@ pub enum Direction {
 impl Direction {
     /// How often an option with this rule is recognised in a message of this direction.
     pub fn occurrence(self, rule: Rule) -> Occurrence
+        // How often an option is recognised is what its rule says for the direction of the message.
         ensures { result ≡ occurrence self rule }
     {
         match self {

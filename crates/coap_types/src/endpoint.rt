@@ -7,6 +7,7 @@ pub struct Moment(pub u64);
 impl Moment {
     /// The later of the two.
     pub fn later(self, other: Moment) -> Moment
+        // The later of two moments is the greater number.
         ensures { result.0 ≡ max self.0 other.0 }
     {
         Moment(self.0.max(other.0))
@@ -14,6 +15,7 @@ impl Moment {
 
     /// How many milliseconds it comes after the other one: 0 where it comes before it.
     pub fn since(self, earlier: Moment) -> u64
+        // The time since an earlier moment is the difference, and 0 where it isn't earlier.
         ensures { result ≡ self.0 - earlier.0 }
     {
         self.0.saturating_sub(earlier.0)

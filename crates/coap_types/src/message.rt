@@ -89,7 +89,9 @@ impl Code {
 
     /// The class, 0 to 7: 0 for a request, 2 to 5 for a response (RFC 7252, section 3).
     pub fn class(self) -> u8
+        // The class of a code is its three high bits (RFC 7252, section 3).
         ensures class { result ≡ self.0 / 32 }
+        // A class is below 8.
         ensures few { result < 8 }
     {
         self.0 / DETAILS
@@ -97,7 +99,9 @@ impl Code {
 
     /// The detail, 0 to 31: which method or response of its class (RFC 7252, section 3).
     pub fn detail(self) -> u8
+        // The detail of a code is its five low bits (RFC 7252, section 3).
         ensures detail { result ≡ self.0 % 32 }
+        // A detail is below 32.
         ensures few { result < 32 }
     {
         self.0 % DETAILS

@@ -61,6 +61,7 @@ impl<A: Allocator> Model for Path<A> {
 impl<A: Allocator + Copy> Path<A> {
     /// The path of no segment, that of the root.
     pub fn new(alloc: A) -> Path<A>
+        // A `new` path has no segment.
         ensures { result ≡ [] }
     {
         Path {
@@ -71,8 +72,11 @@ impl<A: Allocator + Copy> Path<A> {
     /// The path that the options of a request say: the values of Uri-Path, in order. Where several
     /// hold, the first refusal of `push` is answered.
     pub fn of_options(alloc: A, options: &[Opt<'_>]) -> Result<Path<A>, PathRefusal>
+        // The path of a request is the values of its Uri-Path options, in order (RFC 7252, section 5.10.1).
         ensures path { IfOk result (λ path. path ≡ path_of (options_of options.now)) }
+        // A path is answered only where none of its segments would be refused.
         ensures fits { OnOk result (path_refusal (path_of (options_of options.now)) ≡ None) }
+        // Where no path is answered, the reason is the first refusal of a segment, or want of memory.
         ensures refused { IfErr result (λ why. (why ≡ PathRefusal.Memory)
             ⊎ (path_refusal (path_of (options_of options.now)) ≡ Some why)) }
     {
@@ -87,12 +91,17 @@ impl<A: Allocator + Copy> Path<A> {
 
     /// Adds a segment at the end. After an `Err` the path is as before.
     pub fn push(&mut self, segment: &[u8]) -> Result<(), PathRefusal>
+        // A segment that is taken stands at the end of the path.
         ensures added { OnOk result (self.new ≡ self.old ++ segment.now ∷ []) }
+        // A segment is refused as too long exactly where it has over 255 bytes.
         ensures too_long { (result ≡ Err PathRefusal.SegmentTooLong) ↔ (MAX_SEGMENT_LEN < length segment.now) }
+        // A segment of at most 255 bytes is refused as too many exactly where the path has 16.
         ensures too_many { (result ≡ Err PathRefusal.TooManySegments)
             ↔ ((length segment.now ≤ MAX_SEGMENT_LEN) × (MAX_SEGMENTS ≤ length self.old)) }
+        // Want of memory is answered only where the segment is short enough and has a place.
         ensures memory { result ≡ Err PathRefusal.Memory
             → (length segment.now ≤ MAX_SEGMENT_LEN) × (length self.old < MAX_SEGMENTS) }
+        // A path that refuses a segment is as it was.
         ensures err { OnErr result (self.new ≡ self.old) }
     {
         if segment.len() > MAX_SEGMENT_LEN {
@@ -108,8 +117,11 @@ impl<A: Allocator + Copy> Path<A> {
 
     /// The segments in order.
     pub fn segments(&self) -> &[Vec<u8, A>]
+        // The segments that are lent are those of the path, in order.
         ensures segments { segments_of result.now ≡ self.now }
+        // A path has at most 16 segments, of at most 255 bytes each.
         ensures bounds { HoldsAtMost MAX_SEGMENTS MAX_SEGMENT_LEN self.now }
+        // Each segment of a path is bytes.
         ensures bytes { All AreBytes self.now }
     {
         self.segments.as_slice()
@@ -117,7 +129,9 @@ impl<A: Allocator + Copy> Path<A> {
 
     /// How many segments there are.
     pub fn len(&self) -> usize
+        // The length of a path is the number of its segments.
         ensures segments { result ≡ length self.now }
+        // The length of a path is at most 16.
         ensures few { result ≤ MAX_SEGMENTS }
     {
         self.segments().len()
@@ -125,6 +139,7 @@ impl<A: Allocator + Copy> Path<A> {
 
     /// Whether there is no segment.
     pub fn is_empty(&self) -> bool
+        // A path is called empty exactly where it has no segment.
         ensures { IsTrue result ↔ (self.now ≡ []) }
     {
         self.segments.is_empty()
@@ -195,6 +210,8 @@ impl<A: Allocator> Hash for Path<A> {
 /// Which segments make a path; and of the options of a request that are recognised, over
 /// `MAX_SEGMENTS` segments alone refuse it: none of them is too long (RFC 7252, section 5.10).
 pub fn path_law()
+    // Segments make a path exactly where they are at most 16, of at most 255 bytes each.
     ensures within { MakesPathWithin }
+    // Of the recognised options of a request, too many Uri-Path options alone make no path.
     ensures recognised { PathsOfRecognised }
 {}

@@ -66,6 +66,7 @@ pub fn recognised<'a, I: Iterator<Item = Opt<'a>> + Drop, A: Allocator + Copy>(
 ) -> Result<(Vec<Opt<'a>, A>, bool), AllocError>
     requires can { I.can_next options }
     requires ends { IsFinite (I.remaining options) }
+    // Found are the recognised options, in order, and whether a critical one isn't among them (RFC 7252, section 5.4).
     ensures { IfOk result (λ found. (all : List _) × Drains I.next_gives options all
         × Recognised direction (options_of all) (options_of found.0.items) found.1) }
 {
@@ -99,6 +100,7 @@ pub fn lacks_critical<'a, I: Iterator<Item = Opt<'a>> + Drop>(
 ) -> bool
     requires can { I.can_next options }
     requires ends { IsFinite (I.remaining options) }
+    // Whether a critical option is not recognised is answered as `recognised` does (RFC 7252, section 5.4.1).
     ensures { (all : List _) × Drains I.next_gives options all × (result ≡ lacks_critical direction (options_of all)) }
 {
     let mut seen = [false; NUMBERS];
@@ -138,6 +140,7 @@ pub fn recognised_value<'a, I: Iterator<Item = Opt<'a>> + Drop>(
 ) -> Option<&'a [u8]>
     requires can { I.can_next options }
     requires ends { IsFinite (I.remaining options) }
+    // The value that is answered is that of the first recognised option of this number (RFC 7252, section 5.4).
     ensures { (all : List _) × Drains I.next_gives options all
         × (option_copied result ≡ recognised_value direction number (options_of all)) }
 {
@@ -161,6 +164,7 @@ pub fn carries<'a, I: Iterator<Item = Opt<'a>> + Drop>(
 ) -> bool
     requires can { I.can_next options }
     requires ends { IsFinite (I.remaining options) }
+    // An option is carried exactly where a recognised one has this number (RFC 7252, section 5.4).
     ensures { (all : List _) × Drains I.next_gives options all × (result ≡ carries direction number (options_of all)) }
 {
     recognised_value(direction, number, options).is_some()

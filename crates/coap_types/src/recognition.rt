@@ -12,6 +12,7 @@ use crate::option_rule::Rule;
 /// (RFC 7252, section 5.10, table 4; RFC 7641, section 2; RFC 7959, sections 2.1 and 4). Profile:
 /// Uri-Query, Max-Age and the options of a Location are not recognised.
 pub fn rule(number: u16) -> Option<Rule>
+    // The rule of an option is its row in the table of options, and None where it has none (RFC 7252, section 5.10).
     ensures { result ≡ option_rule number }
 {
     match number {

@@ -33,6 +33,7 @@ impl Model for Remembered {
 impl Remembered {
     /// So many messages, where that is from 1 to `MAX_REMEMBERED`.
     pub fn new(most: u32) -> Option<Remembered>
+        // A number of messages is made exactly of 1 to the greatest one.
         ensures { SomeIff result ((1 ≤ most) × (most ≤ MAX_REMEMBERED)) most }
     {
         if 1 <= most && most <= MAX_REMEMBERED {
@@ -44,8 +45,11 @@ impl Remembered {
 
     /// The number.
     pub fn get(self) -> usize
+        // The number of remembered messages is the one that was chosen.
         ensures number { result ≡ self }
+        // At least one message can be remembered.
         ensures some { 1 ≤ result }
+        // The number of remembered messages is at most the greatest one.
         ensures within { result ≤ MAX_REMEMBERED }
     {
         self.most as usize

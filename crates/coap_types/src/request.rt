@@ -25,6 +25,7 @@ pub enum Method {
 impl Method {
     /// Its code, of class 0 (RFC 7252, section 12.1.1).
     pub fn code(self) -> Code
+        // The code of a method is that of RFC 7252, section 12.1.1.
         ensures { result ≡ method_code self }
     {
         match self {
@@ -37,6 +38,7 @@ impl Method {
 
     /// The method of a code (RFC 7252, section 12.1.1); None where it is not that of one of these.
     pub fn of(code: Code) -> Option<Method>
+        // The method of a code is the one that has it, and None where none of the four does (RFC 7252, section 12.1.1).
         ensures { result ≡ method_of code.0 }
     {
         match code {
@@ -76,6 +78,7 @@ impl<A: Allocator + Copy> Request<A> {
     /// What its type says of a request: its numbers are in range and its fields within their
     /// bounds. It does nothing.
     pub fn ranges(&self)
+        // The numbers of a request are in range, and its fields within their bounds.
         ensures { IsInRange self.now }
     {
         let _path = self.path.segments();

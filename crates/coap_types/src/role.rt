@@ -19,6 +19,7 @@ pub enum Role {
 impl Role {
     /// The role of a message with this code.
     pub fn of(code: Code) -> Role
+        // The role of a message is that of its code (RFC 7252, section 12.1).
         ensures { result ≡ role_of code.0 }
     {
         match code.class() {

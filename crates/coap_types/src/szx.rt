@@ -34,6 +34,7 @@ impl Model for Szx {
 impl Szx {
     /// This size exponent, where it is not the reserved 7 or more.
     pub fn new(n: u8) -> Option<Szx>
+        // A size exponent is made exactly of 0 to 6 (RFC 7959, section 2.2).
         ensures { SomeIff result (n ≤ MAX_SZX) n }
     {
         if n <= MAX_SZX {
@@ -45,7 +46,9 @@ impl Szx {
 
     /// The size exponent.
     pub fn get(self) -> u8
+        // The size exponent is the one that was given.
         ensures exponent { result ≡ self }
+        // A size exponent is at most 6 (RFC 7959, section 2.2).
         ensures few { result ≤ MAX_SZX }
     {
         self.exponent
@@ -53,8 +56,11 @@ impl Szx {
 
     /// The size of a block, in bytes.
     pub fn size(self) -> usize
+        // The size of a block is 2 to the power of SZX + 4 (RFC 7959, section 2.2).
         ensures size { result ≡ 2 ^ (self + 4) }
+        // A block size is at least 16 bytes.
         ensures least { MIN_BLOCK_SIZE ≤ result }
+        // A block size is at most 1,024 bytes.
         ensures most { result ≤ 1024 }
     {
         match self.get() {

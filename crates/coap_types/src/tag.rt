@@ -35,6 +35,7 @@ impl Model for Tag {
 impl Tag {
     /// The tag of these bytes, where they are 1 to 8.
     pub fn new(bytes: &[u8]) -> Option<Tag>
+        // An entity-tag is made exactly of 1 to 8 bytes (RFC 7252, section 5.10.6).
         ensures { SomeIff result ((1 ≤ length bytes.now) × (length bytes.now ≤ MAX_TAG_LEN)) bytes.now }
     {
         if bytes.is_empty() {
@@ -56,9 +57,13 @@ impl Tag {
 
     /// The bytes.
     pub fn as_slice(&self) -> &[u8]
+        // The bytes that are lent are those of the entity-tag.
         ensures bytes { result.now ≡ self.now }
+        // An entity-tag has at least one byte (RFC 7252, section 5.10.6).
         ensures some { 1 ≤ length self.now }
+        // An entity-tag has at most 8 bytes (RFC 7252, section 5.10.6).
         ensures few { length self.now ≤ MAX_TAG_LEN }
+        // What is lent may stand in an ETag option.
         ensures tag { IsTag self.now }
     {
         self.bytes.as_slice()
@@ -66,6 +71,7 @@ impl Tag {
 
     /// The same tag again, as `clone`, but with no `Result`: it takes no memory.
     pub fn copy(&self) -> Tag
+        // The copy of an entity-tag is that tag.
         ensures { result ≡ self.now }
     {
         let mut bytes = ArrayVec::new();
@@ -128,6 +134,7 @@ impl Model for Tags {
 impl Tags {
     /// No tag.
     pub fn new() -> Tags
+        // At first there is no entity-tag.
         ensures { result ≡ [] }
     {
         Tags {
@@ -138,10 +145,15 @@ impl Tags {
 
     /// Adds a tag at the end, or gives it back where `MAX_TAGS` are there.
     pub fn push(&mut self, tag: Tag) -> Result<(), Tag>
+        // An entity-tag is taken only where fewer than four are there.
         ensures room { OnOk result (length self.old < MAX_TAGS) }
+        // An entity-tag is refused only where four are there.
         ensures full { OnErr result (length self.old ≡ MAX_TAGS) }
+        // An entity-tag that is taken stands behind the others.
         ensures added { OnOk result (self.new ≡ self.old ++ tag ∷ []) }
+        // An entity-tag that is refused is given back.
         ensures given_back { IfErr result (λ back. back ≡ tag) }
+        // The tags that refuse one more are as they were.
         ensures err { OnErr result (self.new ≡ self.old) }
     {
         if self.len >= MAX_TAGS {
@@ -155,8 +167,11 @@ impl Tags {
 
     /// The tags in order.
     pub fn as_slice(&self) -> &[Tag]
+        // The tags that are lent are those that were taken, in order.
         ensures tags { result.now ≡ self.now }
+        // There are at most four entity-tags.
         ensures few { length self.now ≤ MAX_TAGS }
+        // Each of the tags is an entity-tag of 1 to 8 bytes.
         ensures each { All IsTag self.now }
     {
         &self.tags[..self.len]

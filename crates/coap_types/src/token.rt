@@ -40,6 +40,7 @@ impl Model for Token {
 impl Token {
     /// The token of no bytes (RFC 7252, section 5.3.1).
     pub fn empty() -> Token
+        // The empty token has no bytes (RFC 7252, section 5.3.1).
         ensures { result ≡ [] }
     {
         Token {
@@ -49,6 +50,7 @@ impl Token {
 
     /// The token of these bytes, where they are at most 8.
     pub fn new(bytes: &[u8]) -> Option<Token>
+        // A token is made exactly of at most 8 bytes (RFC 7252, section 3).
         ensures { SomeIff result (length bytes.now ≤ MAX_TOKEN_LEN) bytes.now }
     {
         let mut token = Token::empty();
@@ -58,7 +60,9 @@ impl Token {
 
     /// The bytes.
     pub fn as_slice(&self) -> &[u8]
+        // The bytes that are lent are those of the token.
         ensures bytes { result.now ≡ self.now }
+        // A token has at most 8 bytes (RFC 7252, section 3).
         ensures few { length self.now ≤ MAX_TOKEN_LEN }
     {
         self.bytes.as_slice()
@@ -66,6 +70,7 @@ impl Token {
 
     /// The same token again, as `clone`, but with no `Result`: it takes no memory.
     pub fn copy(&self) -> Token
+        // The copy of a token is that token.
         ensures { result ≡ self.now }
     {
         let mut token = Token::empty();

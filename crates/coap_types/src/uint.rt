@@ -34,9 +34,13 @@ impl Model for UintBytes {
 impl UintBytes {
     /// The bytes.
     pub fn as_slice(&self) -> &[u8]
+        // The bytes that are lent are those of the number.
         ensures bytes { result.now ≡ self.now }
+        // A number in the uint format has at most four bytes here.
         ensures few { length self.now ≤ MAX_UINT_LEN }
+        // No zero byte leads the number (RFC 7252, section 3.2).
         ensures no_zero { LeadsWithNoZero self.now }
+        // Each byte of the number is below 256.
         ensures are_bytes { AreBytes self.now }
     {
         self.bytes.as_slice()
@@ -46,6 +50,7 @@ impl UintBytes {
 /// The number that these bytes spell, in network byte order; None past 4 bytes. Zero bytes in front
 /// are read, and no byte spells 0 (RFC 7252, section 3.2).
 pub fn uint_of(bytes: &[u8]) -> Option<u32>
+    // The number is that of the bytes in network order, zero bytes in front too, and None past four of them.
     ensures { result ≡ uint_value bytes.now }
 {
     let all = match *bytes {
@@ -62,8 +67,11 @@ pub fn uint_of(bytes: &[u8]) -> Option<u32>
 /// The fewest bytes that spell this number, in network byte order; none for 0 (RFC 7252, section
 /// 3.2).
 pub fn uint_bytes(number: u32) -> UintBytes
+    // A number is written in the uint format, in the fewest bytes, and 0 in none (RFC 7252, section 3.2).
     ensures bytes { result ≡ uint number }
+    // What is written spells the number, and no zero byte leads it.
     ensures spelling { IsSpelling result number }
+    // A number that is written is read back as it was.
     ensures read_back { uint_value result ≡ Some number }
 {
     let all = number.to_be_bytes();
@@ -83,12 +91,18 @@ pub fn uint_bytes(number: u32) -> UintBytes
 /// number of 32 bits is spelt by bytes of which none leads with zero, at most 4, and read back from
 /// them; no fewer bytes spell it; and a number has one such spelling.
 pub fn uint_laws()
+    // Zero bytes in front don't change the number that bytes spell.
     ensures leading_zero { (bytes : List ℕ) → number_of (0 ∷ bytes) ≡ number_of bytes }
+    // The bytes of a number of 32 bits spell it.
     ensures spelling { (number : ℕ) → number < 2 ^ 32 → IsSpelling (uint number) number }
+    // The bytes of a number are at most four.
     ensures few { (number : ℕ) → length (uint number) ≤ MAX_UINT_LEN }
+    // The bytes of a number of 32 bits are read as that number.
     ensures read_back { (number : ℕ) → number < 2 ^ 32 → uint_value (uint number) ≡ Some number }
+    // No bytes that are that number are fewer than its spelling.
     ensures fewest { (xs ys : List ℕ) (number : ℕ) → IsSpelling xs number → AreBytes ys
         → number_of ys ≡ number → length xs ≤ length ys }
+    // A number has one spelling.
     ensures one_spelling { (xs ys : List ℕ) (number : ℕ) → IsSpelling xs number → IsSpelling ys number
         → xs ≡ ys }
 {}

@@ -123,6 +123,7 @@ fn add_subcommand<'a>(
 
 /// The command line that the program takes: its words name a subcommand.
 pub fn coap_command<'a>(alloc: Global) -> Result<Command<'a>, AllocError>
+    // The command line is the one that the definitions have: its subcommands with their words.
     ensures { IfOk result (λ c. app_of c ≡ coap_app) }
 {
     let mut program = Command::new(alloc, "coap").subcommand_required(true);

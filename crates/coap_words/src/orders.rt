@@ -231,6 +231,7 @@ pub enum Wrong {
 impl Wrong {
     /// The number of the refusal: 1 for wrong words, 2 for wrong hex, 3 for want of memory.
     pub fn number(&self) -> u8
+        // The number of what is wrong is its place among the six.
         ensures { result ≡ wrong_number self.now }
     {
         match self {

@@ -11,6 +11,7 @@ use std::alloc::Global;
 pub fn path_of_text(alloc: Global, text: &str) -> Result<Path, PathRefusal>
     // The path is what the text says, and the text says no other.
     ensures ok { IfOk result (λ p. IsPathText text.now p × HoldsAtMost MAX_SEGMENTS MAX_SEGMENT_LEN p) }
+    // A text says no path but the one that is answered.
     ensures only { IfOk result (λ p. (segments : List (List ℕ)) → IsPathText text.now segments
         → segments ≡ p) }
     // A text is refused only where what it says is no path, and for the reason that is given; or

@@ -5,6 +5,7 @@ pub mod Standing
 pub mod ArrivesInTime
 pub mod FewArrive
 pub mod WhereItArrives
+pub mod Confirms
 pub mod ConsCarry
 pub mod HandedAs
 pub mod TakenInTime
@@ -31,3 +32,18 @@ pub mod SeparateEnds
 pub mod TicksAnswer
 pub mod TicksLeave
 pub mod TicksInTime
+pub mod OneAnswer
+pub mod NoObservers
+pub mod AnswerMade
+pub mod HeardOrOpen
+pub mod OfOpen
+pub mod ConsAnswer
+pub mod ConsOfOpen
+pub mod WaitedBefore
+pub mod Young
+pub mod ToClient
+pub mod HeardClient
+pub mod IdsFree
+pub mod HandedBetween
+pub mod FewHeard
+pub mod AllSent

@@ -1,12 +1,13 @@
 -- What a smooth run says of an exchange that is open for more than 2,000 ms: its request had to wait at the server (RFC 7252,
 -- sections 4.2, 5.2.1 and 5.2.2).
-use Rattle.std.specs.Prelude.{◌≡◌, ◌⊎◌, ◌≤◌, ◌<◌, ℕ, ◌+◌, Some, List, ◌∷◌}
+use Rattle.std.specs.Prelude.{◌≡◌, ◌⊎◌, ◌≤◌, ◌<◌, ℕ, ◌+◌, Bool, Some, List, ◌∷◌}
 use Rattle.coap_types.specs.Past.{Sometime, Always}
 use Rattle.coap_codec.specs.Message.{Message}
 use Rattle.coap_exchange.specs.declared.answerer.Asked.{Asked}
 use Rattle.coap_client.specs.Follows.Open.{IsOpenSince}
 use Rattle.coap_client.specs.Follows.Words.{Sending, last_sent}
 use Rattle.coap_server.specs.Follows.Attended.{AnswersIt, WaitsToAsk}
+use Rattle.coap_server.specs.Follows.Rests.{IsTick}
 use Rattle.coap_server.specs.Follows.Waits.{WaitsStill}
 use Rattle.coap_server.specs.Law.{own_of}
 use Rattle.coap_server.specs.Trace as S
@@ -28,14 +29,20 @@ module _ (config : Config) where
   WaitsIn by x past (OfClient c) = ⊥
   WaitsIn by x past (OfServer c) = WaitsAt by x past c
 
-  -- it waits, and a call answers it
+  -- it waits, and a tick answers it
+  pub record TickAnswers (w : Waiting) (past : List Entry) (c : S.Call) : Type 0 where
+    pub waited : WaitsStill config.limits config.server_szx w (server_trace config past)
+    pub now : ℕ
+    pub answer : Bool
+    pub tick : IsTick now answer c
+    pub answers : AnswersIt config.limits config.server_szx (server_trace config past) c w.asked
+
   abbrev pub WaitedIn : Waiting → List Entry → Entry → Type 0
   WaitedIn w past (OfClient c) = ⊥
-  WaitedIn w past (OfServer c) = WaitsStill config.limits config.server_szx w (server_trace config past)
-      × AnswersIt config.limits config.server_szx (server_trace config past) c w.asked
+  WaitedIn w past (OfServer c) = TickAnswers w past c
 
   -- The request of an exchange that is open for more than 2,000 ms had to wait, from at most 1,000 ms behind its sending on,
-  -- by at most 10,000 ms, and waits still, or a call answered it.
+  -- by at most 10,000 ms, and waits still, or a tick answered it.
   pub record LastWaits (at : ℕ) (past : List Turn) : Type 0 where
     pub sending : Sending
     pub last : last_sent config.client_sizes (client_of (entries_of past)) ≡ Some sending

@@ -3,7 +3,12 @@
 use Rattle.std.specs.Prelude.{List}
 use Rattle.coap_world.specs.Events.{Config}
 use Rattle.coap_world.specs.Record.{Turn, entries_of}
-use Rattle.coap_world.specs.SmoothAnswers.{AreYoung, EndByAnswers}
+use Rattle.coap_world.specs.SmoothAnswers.{AllAreSent, AreYoung, EndByAnswers}
 
 abbrev pub YoungEndByAnswers : Config → List Turn → Type 0
 YoungEndByAnswers config turns = AreYoung config turns → EndByAnswers config (entries_of turns)
+
+-- Where each exchange of a smooth run ends by an answer, each request is sent: few answers come, so a Message ID and a token
+-- are free (RFC 7252, sections 4.4 and 5.3.1).
+abbrev pub SentByAnswers : Config → List Turn → Type 0
+SentByAnswers config turns = EndByAnswers config (entries_of turns) → AllAreSent config (entries_of turns)

@@ -36,3 +36,4 @@ pub mod EndsSmoothly
 pub mod AtOnce
 pub mod Separate
 pub mod TicksLeave
+pub mod HasIds

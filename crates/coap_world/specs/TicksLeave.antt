@@ -11,13 +11,19 @@ use Rattle.coap_world.specs.Events.{Config, TickServer}
 use Rattle.coap_world.specs.Record.{Turn, entries_of, server_trace}
 use Rattle.coap_world.specs.Smooth.{max_age}
 
+-- hands nothing in
+abbrev pub IsNoFeed : S.Call → Type 0
+IsNoFeed (S.Feeds now from bytes word up came h below) = ⊥
+IsNoFeed c = Unit {0}
+
 module _ (config : Config) where
-  -- these calls begin with ticks that do something, behind which nothing is left
+  -- these calls begin with ticks that do something, behind which nothing is left, and nothing is handed in
   pub record LeavesNone (now : ℕ) (t after : List S.Call) : Type 0 where
     pub later : List S.Call
     pub ticks : List S.Call
     pub is : after ≡ later ++ (ticks ++ t)
     pub each : Each (IsTick now true) ticks
+    pub none_in : Each IsNoFeed later
     pub none : NoId config.limits config.server_szx config.server_word (ticks ++ t) now
         ⊎ NoneToAnswer config.limits config.server_szx config.server_word (ticks ++ t) now
 

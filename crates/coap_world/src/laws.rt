@@ -27,9 +27,14 @@ ghost use Rattle.coap_world.specs.Noticed.{AllNoticed};
 ghost use Rattle.coap_world.specs.Record.{Turn, entries_of, client_of, server_trace};
 ghost use Rattle.coap_world.specs.Rising.{HeldAreNamed, ValuesRise};
 ghost use Rattle.coap_world.specs.Serves.{AllServed};
+ghost use Rattle.coap_world.specs.Smooth.{NoneObserved, Smooth};
+ghost use Rattle.coap_world.specs.SmoothAnswers.{AnsweredSmoothly};
+
+use crate::smooth::{answered_law, open_law, sent_law};
 
 /// What comes from an end's address was given out by that end, for the one that it comes to, at most 100,000 ms before.
 pub fn delivery_law()
+    // What comes from an end's address was given out by that end for this one, at most 100 s before.
     ensures fair { OfLegalRuns (λ config turns. AllFair turns) }
 {}
 
@@ -38,11 +43,13 @@ pub fn hops_law()
     // The near hops are the entries of the client's layer, the far ones of the server's.
     ensures near { (config : Config) (turns : List Turn) → near_of (hops_of config turns)
         ≡ clients.layer_of server_end config.client_sizes config.client_word (client_of (entries_of turns)) }
+    // The far hops are the entries of the server's message layer.
     ensures far { (config : Config) (turns : List Turn) → far_of (hops_of config turns)
         ≡ servers.layer_of config.limits config.server_szx config.server_word (server_trace config (entries_of turns)) }
     // In a legal run they stand in the law of two layers and the datagrams between them.
     ensures channel { OfLegalRuns (λ config turns. ChannelLaw (usual config.client_word) (usual config.server_word)
         client_end server_end (hops_of config turns)) }
+    // They stand in the law of two layers the other way round, too.
     ensures back { OfLegalRuns (λ config turns. ChannelLaw (usual config.server_word) (usual config.client_word)
         server_end client_end (across (hops_of config turns))) }
     // What an end gives out in a turn was sent by its layer in that turn, at its moment.
@@ -96,26 +103,39 @@ pub fn answers_law()
 pub fn legal_law()
     // A datagram may come to 100,000 ms after it was given out, and no later (MAX_LATENCY, RFC 7252, section 4.8.2).
     ensures comes { MayComeTill max_latency }
+    // A run is not legal in which the first datagram comes more than 100,000 ms after it was given out.
     ensures late { NotAfter max_latency }
     // Each kind of event may happen with numbers in range, at a moment that is not before the last: a call, an
     // observation, its cancel and its end, a local change and a removal, ticks, a datagram of any stranger, and each
     // datagram that was given out to an end.
     ensures calls { CallsMay }
+    // An observation whose numbers are in range may happen at each moment that is not before the last.
     ensures observes { ObservesMay }
+    // So may a cancel, and the end of an observation without a message.
     ensures ends { EndsMay }
+    // So may a local change.
     ensures sets { SetsMay }
+    // So may a local removal.
     ensures removes { RemovesMay }
+    // So may the ticks of either end.
     ensures ticks { TicksMay }
+    // So may a datagram of any bytes from any address that is no end's.
     ensures strangers { StrangersMay }
+    // So may each datagram that was given out to an end at most 100,000 ms before.
     ensures deliveries { DeliveriesMay max_latency }
     // Moments don't fall; moments and words have 64 bits, a path has 16 segments at most, and a format has 16 bits.
     ensures falls { NoneFalls }
+    // A run is not legal in which a tick has a moment or a word of over 64 bits.
     ensures over { NoneOver }
+    // A run is not legal in which a path of over 16 segments is removed.
     ensures longer { NoneLonger }
+    // A run is not legal in which a format of over 16 bits is set.
     ensures beyond { NoneBeyond }
     // One that was never given out can't come, and a stranger has no end's address.
     ensures given { NoneRuns never_given }
+    // A run is not legal in which a stranger has the client's address.
     ensures of_client { NoneFrom client_end }
+    // A run is not legal in which a stranger has the server's address.
     ensures of_server { NoneFrom server_end }
 {}
 
@@ -173,6 +193,7 @@ pub fn applied_law()
     // What the server holds are its changes, by their versions (RFC 7252, section 5.10.6), each of which is a local
     // one, or that of the one request to its path that is applied there (section 5.8).
     ensures holds { InLegalRuns HoldsChanges }
+    // Each change in a legal run is a local one, or that of the one request to its path that is applied there.
     ensures owned { InLegalRuns ChangesOwned }
 {}
 
@@ -206,4 +227,14 @@ pub fn agreement()
     ensures bounded { InLegalRuns AreBounded }
     // Whatever may come has a turn, with which the record goes on; and an input that is refused memory is lost.
     ensures no_fault { OfLegalRuns NoFault }
-{}
+    // In a smooth run, in which nothing is lost and nothing is late, and nothing is observed, calls are answered
+    // smoothly: no exchange is open for more than 20,000 ms, each ends by an answer, a GET reports what its path holds, and
+    // any other call the code of a response to it, and it is applied where that says so (RFC 7252, sections 4.2, 5.2 and
+    // 5.8; RFC 7959, section 2).
+    ensures smooth { OfLegalRuns (λ config turns. Smooth config turns → NoneObserved turns
+        → AnsweredSmoothly config turns) }
+{
+    open_law();
+    sent_law();
+    answered_law();
+}

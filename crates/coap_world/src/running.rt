@@ -109,7 +109,9 @@ pub fn run<A: Allocator + Copy>(
     events: &[Event<A>],
     config: &WorldConfig<A>,
 ) -> Result<Record<A>, RunRefusal>
+    // What `run` answers is what the record of these events shows, each of which is legal.
     ensures record { IfOk result (λ shown. IsRunOf config.now (map event_of events.now) shown) }
+    // The event that `run` names is the first that is not legal, in the record of those before it.
     ensures wrong { (number : ℕ) → result ≡ Err (RunRefusal.NotLegal number)
         → IsFirstWrong config.now (map event_of events.now) number }
 {

@@ -1,6 +1,7 @@
 ghost use Rattle.std.specs.Prelude.{map};
 ghost use Rattle.coap_world.specs.AtOnce.{OldWait};
-ghost use Rattle.coap_world.specs.EndsSmoothly.{YoungEndByAnswers};
+ghost use Rattle.coap_world.specs.EndsSmoothly.{SentByAnswers, YoungEndByAnswers};
+ghost use Rattle.coap_world.specs.HasIds.{HasIds};
 ghost use Rattle.coap_world.specs.InTime.{AllInTime, FewArrive};
 ghost use Rattle.coap_world.specs.Legal.{OfLegalRuns};
 ghost use Rattle.coap_world.specs.Prompt.{AllPrompt};
@@ -8,13 +9,14 @@ ghost use Rattle.coap_world.specs.Received.{AreReceived};
 ghost use Rattle.coap_world.specs.Record.{Turn, entries_of};
 ghost use Rattle.coap_world.specs.Separate.{SeparateEnds, TicksAnswer};
 ghost use Rattle.coap_world.specs.Smooth.{NoneObserved, Smooth};
-ghost use Rattle.coap_world.specs.SmoothAnswers.{AllAnswer, ChangesAnswered, GetsHeld};
+ghost use Rattle.coap_world.specs.SmoothAnswers.{AllAnswer, AreYoung, ChangesAnswered, GetsHeld};
 ghost use Rattle.coap_world.specs.SmoothGaps.{AreClose, TimesOutRoughly};
 ghost use Rattle.coap_world.specs.SmoothRuns.{DefersLate, DefersLongest, Unanswered};
 ghost use Rattle.coap_world.specs.TakenInTime.{AllTakenInTime};
 ghost use Rattle.coap_world.specs.TicksLeave.{TicksInTime, TicksLeaveNone};
 
 use coap_client::{client_exchanges_law, client_follows_law, client_values_law};
+use coap_exchange::answerer_law;
 use coap_layer::{channel_law, layer_law};
 use coap_server::server_law;
 
@@ -67,13 +69,28 @@ pub fn open_law()
     ensures leaves { OfLegalRuns TicksLeaveNone }
     // In a smooth run it ticks in each 2,000 ms.
     ensures often { OfLegalRuns (λ config turns. Smooth config turns → TicksInTime turns) }
+    // Where nothing is observed, a Message ID is free at each tick of the server (section 4.4) ..
+    ensures ids { OfLegalRuns (λ config turns. Smooth config turns → NoneObserved turns → HasIds config turns) }
+    // .. so no exchange is open for more than 20,000 ms (sections 4.2 and 5.2.2).
+    ensures young { OfLegalRuns (λ config turns. Smooth config turns → NoneObserved turns → AreYoung config turns) }
 {
     channel_law();
     layer_law();
     client_exchanges_law();
     client_follows_law();
     client_values_law();
+    answerer_law();
     server_law();
+}
+
+/// Which requests of a smooth run are sent.
+pub fn sent_law()
+    // Where nothing is observed in a smooth run and each exchange ends by an answer, each request that is asked for is sent:
+    // a Message ID and a token are free for it (RFC 7252, sections 4.4 and 5.3.1).
+    ensures all { OfLegalRuns (λ config turns. Smooth config turns → NoneObserved turns → SentByAnswers config turns) }
+{
+    client_exchanges_law();
+    client_follows_law();
 }
 
 /// What the calls of a run come to in which each exchange ends by an answer, each request is sent and nothing is observed.

@@ -1,14 +1,22 @@
 -- Which call of a server an export makes, by what the export was handed and answered.
-use Rattle.std.specs.Prelude.{◌≡◌, ◌<◌, ◌⊎◌, ◌^◌, max, ℕ, ℤ, pos, Bool, true, false, List, Option}
+use Rattle.std.specs.Prelude.{◌≡◌, ◌≢◌, ◌<◌, ◌⊎◌, ◌^◌, max, ℕ, ℤ, pos, Bool, true, false, not, List, length, take}
+use Rattle.std.specs.Prelude.{Option, Some, None, Result, Ok, Err}
 use Rattle.coap_types.specs.declared.endpoint.Endpoint.{Endpoint}
 use Rattle.coap_codec.specs.Message.{Message}
 use Rattle.coap_layer.specs.Trace as below
+use Rattle.coap_resource.specs.Content.{Content, refusal_number}
+use Rattle.coap_resource.specs.Content as resource
+use Rattle.coap_resource.specs.declared.refusal.StoreRefusal.{StoreRefusal}
 use Rattle.coap_exchange.specs.declared.answerer.Asked.{Asked}
 use Rattle.coap_exchange.specs.declared.answerer.Due.{Due}
 use Rattle.coap_server.specs.Led.{State}
-use Rattle.coap_server.specs.Trace.{Call, Feeds, Handling, Ticks}
+use Rattle.coap_server.specs.Trace.{Call, Delays, Feeds, Handling, Removes, Sets, Ticks}
 use Rattle.coap_server.specs.Turns.WhenDue.{TicksDo, latest}
+use Rattle.knifesilver.specs.declared.held.Held.{Held}
+use Rattle.knifesilver.specs.declared.server.local.KsRepresentation.{KsRepresentation}
 use Rattle.knifesilver.specs.Answers.{told}
+use Rattle.knifesilver.specs.Formats.{number_of}
+use Rattle.knifesilver.specs.ServerHeld.{HoldsServerIn, Made}
 
 -- a datagram is fed
 abbrev pub IsFeed : ℕ → Endpoint → List ℕ → ℕ → Call → Type 0
@@ -24,3 +32,61 @@ IsTick now word answer call = (done : below.Answer) × (room : Bool) × (due : D
 abbrev pub IsDue : ℤ → ℕ → State → Type 0
 IsDue answer at s = ((answer ≡ pos 0) × ((now : ℕ) → now < 2 ^ 64 → TicksDo false s now))
     ⊎ ((answer ≡ pos 1) × ((now : ℕ) → max (latest s) now < at → TicksDo false s now) × TicksDo true s at)
+
+-- a body was set: the answer is the one for that, and the version is told; or the answer is the number of the refusal
+abbrev pub SetAnswers : (done answer : ℤ) (version : ℕ) → Result ℕ StoreRefusal → Type 0
+SetAnswers done answer version (Ok number) = (answer ≡ done) × (version ≡ number)
+SetAnswers done answer version (Err why) = answer ≡ pos (refusal_number why)
+
+-- the path is to hold the body (RFC 7252, section 5.8.3)
+abbrev pub IsSet : ℕ → List (List ℕ) → Option ℕ → List ℕ → (done answer : ℤ) (version : ℕ) → Call → Type 0
+IsSet now path format body done answer version call = (set : Result ℕ StoreRefusal) × (left : Content)
+    × SetAnswers done answer version set × (call ≡ Sets now path format body set left)
+
+-- the path holds this very body in this format
+abbrev pub HoldsThat : List (List ℕ) → Option ℕ → List ℕ → ℕ → State → Type 0
+HoldsThat path format body version s =
+    s.own.store.holds path ≡ Some (record { version = version; format = format; body = body })
+
+-- .. and where it does, an update changes nothing and answers 0 and the version; else the body is set, which answers 1
+abbrev pub Updates : ℕ → List (List ℕ) → Option ℕ → List ℕ → (answer : ℤ) (version : ℕ) (old new : Option Held) → Type 0
+Updates now path format body answer version old new =
+    (HoldsServerIn (HoldsThat path format body version) old × (answer ≡ pos 0) × (new ≡ old))
+    ⊎ (HoldsServerIn (λ s. (n : ℕ) → HoldsThat path format body n s → ⊥) old
+    × Made (IsSet now path format body (pos 1) answer version) old new)
+
+-- whether there was something that was removed; or the answer is the number of the refusal
+abbrev pub RemoveAnswers : ℤ → Result Bool StoreRefusal → Type 0
+RemoveAnswers answer (Ok held) = answer ≡ told held
+RemoveAnswers answer (Err why) = answer ≡ pos (refusal_number why)
+
+-- what the path holds is to be removed (RFC 7252, section 5.8.4)
+abbrev pub IsRemove : ℕ → List (List ℕ) → ℤ → Call → Type 0
+IsRemove now path answer call = (removed : Result Bool StoreRefusal) × (left : Content)
+    × RemoveAnswers answer removed × (call ≡ Removes now path removed left)
+
+-- the requests of the path are to wait (RFC 7252, section 5.2.2); the answer is 1 where too many other paths have a delay
+abbrev pub IsDelay : List (List ℕ) → ℕ → ℤ → Call → Type 0
+IsDelay path ms answer call = (given : Bool) × (answer ≡ told (not given)) × (call ≡ Delays path ms given)
+
+-- what is told of what a path holds
+abbrev pub representation_of : resource.Held → KsRepresentation
+representation_of held =
+    record { version = held.version; body_len = length held.body; format = number_of held.format }
+
+-- what the path holds is told, and its body stands at the front of the room; or it holds nothing, and the answer is 0
+abbrev pub GetAnswers : ℤ → KsRepresentation → List ℕ → Option resource.Held → Type 0
+GetAnswers answer shown room None = answer ≡ pos 0
+GetAnswers answer shown room (Some held) =
+    (answer ≡ pos 1) × (shown ≡ representation_of held) × (take (length held.body) room ≡ held.body)
+
+abbrev pub IsGot : List (List ℕ) → ℤ → KsRepresentation → List ℕ → State → Type 0
+IsGot path answer shown room s = GetAnswers answer shown room (s.own.store.holds path)
+
+-- .. or it is told, and its body is longer than the room
+abbrev pub IsLong : KsRepresentation → ℕ → Option resource.Held → Type 0
+IsLong shown room None = ⊥
+IsLong shown room (Some held) = (shown ≡ representation_of held) × (room < length held.body)
+
+abbrev pub IsTooLong : List (List ℕ) → KsRepresentation → ℕ → State → Type 0
+IsTooLong path shown room s = IsLong shown room (s.own.store.holds path)

@@ -1,7 +1,6 @@
 //! A client and a server of CoAP for C: the calls of `bindings/include/knifesilver.h`, which says what each one is for.
 //!
-//! Each call takes the end out of its handle, makes one call of it and puts it back; the contracts of feed, tick and due say
-//! which one. What it refuses itself it answers below 0, and the end is as before.
+//! Each call takes the end out of its handle, makes one call of it and puts it back; the contracts say which one (`led`). What it refuses itself it answers below 0, and the end is as before.
 #![tactic(auto)]
 
 mod answers;

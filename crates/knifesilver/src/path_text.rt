@@ -3,7 +3,7 @@ ghost use Rattle.std.specs.Prelude.{◌≡◌, ◌≢◌, IfOk, IfErr, IfSome, I
 ghost use Rattle.knifesilver.specs.Answers.{IsRefused};
 ghost use Rattle.knifesilver.specs.PathTexts.{HasNoSlash, IsCut, spelled, without_slash};
 
-use crate::answers::{BAD_PATH, NO_MEMORY, NOT_LIVE};
+use crate::answers::{BAD_PATH, NO_MEMORY, NOT_LIVE, SMALL_ROOM};
 use crate::crossing::copy_out;
 use coap_types::{Path, PathRefusal};
 use std::alloc::Global;
@@ -30,7 +30,8 @@ fn cut(text: &[u8]) -> Option<(&[u8], &[u8])>
 // What a call answers where a path takes no further segment.
 fn refused(why: PathRefusal) -> i32
     ensures refused { IsRefused result }
-    ensures told { result ≢ NOT_LIVE }
+    ensures live { result ≢ NOT_LIVE }
+    ensures room { result ≢ SMALL_ROOM }
 {
     match why {
         PathRefusal::Memory => NO_MEMORY,
@@ -42,7 +43,8 @@ fn refused(why: PathRefusal) -> i32
 pub(crate) fn path_of(alloc: Global, text: &[u8]) -> Result<Path, i32>
     ensures spelled { IfOk result (λ path. path ≡ spelled text.now) }
     ensures refused { IfErr result IsRefused }
-    ensures told { IfErr result (λ answer. answer ≢ NOT_LIVE) }
+    ensures live { IfErr result (λ answer. answer ≢ NOT_LIVE) }
+    ensures room { IfErr result (λ answer. answer ≢ SMALL_ROOM) }
 {
     let mut path = Path::new(alloc);
     let rest = without_slash(text);

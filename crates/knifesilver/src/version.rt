@@ -6,6 +6,7 @@ pub const VERSION: u32 = 100;
 /// The version of the library, for comparison with the header's `KS_VERSION`.
 #[unsafe(no_mangle)]
 pub extern "C" fn ks_version() -> u32
+    // The version is that of the library.
     ensures { result ≡ VERSION }
 {
     VERSION

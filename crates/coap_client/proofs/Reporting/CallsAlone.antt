@@ -5,7 +5,6 @@ use Rattle.coap_types.specs.Past.{Always}
 use Rattle.coap_types.specs.declared.block.Block.{Block}
 use Rattle.coap_types.specs.declared.endpoint.Endpoint.{Endpoint}
 use Rattle.coap_types.specs.declared.option_number.TheConstants.{BLOCK1 as block1}
-use Rattle.coap_types.specs.declared.request.Method.{Method}
 use Rattle.coap_codec.specs.Message.{Message}
 use Rattle.coap_block.specs.Sizes.{Sizes}
 use Rattle.coap_block.specs.declared.fetch_step.FetchRefusal.{FetchRefusal}
@@ -288,8 +287,7 @@ module _ (sizes : Sizes) where
   by_rows : (t : List Call) → ClientRows sizes t → NoneIsTaken t → Always (IsAlone sizes) t
   by_rows [] rows none = tt
   by_rows (c ∷ t) rows none =
-      let k = alone_of t rows.1 none.1 in
-      (
+      let k = alone_of t rows.1 none.1 in (
         record {
           runs = λ op is. runs_call (own_of sizes t).running k.running op is;
           tells = λ x is. reports_alone (own_of sizes t) c k x is;

@@ -1,6 +1,6 @@
 -- What a client reports that observes nothing: only what becomes of its calls (RFC 7252, section 5.2; RFC 7641, section
 -- 3).
-use Rattle.std.specs.Prelude.{◌≡◌, ℕ, Bool, true, false, Some, List, Ok}
+use Rattle.std.specs.Prelude.{◌≡◌, Bool, true, false, Some, List, Ok}
 use Rattle.coap_types.specs.Past.{Always}
 use Rattle.coap_block.specs.Sizes.{Sizes}
 use Rattle.coap_client.specs.Trace.{Report, Value, Ended, Cancelled, Reported, Call, Observes}

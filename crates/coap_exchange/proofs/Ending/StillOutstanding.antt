@@ -1,5 +1,5 @@
 -- The request of the exchange that runs is outstanding until it is acknowledged.
-use Rattle.std.proofs.Common.{◌≡◌, ◌⊎◌, inl, inr, ℕ, ◌==◌, Bool, true, Option, Some, None, List, [], ◌∷◌, ◌++◌, refl, ap}
+use Rattle.std.proofs.Common.{◌≡◌, inl, inr, ℕ, ◌==◌, true, Some, List, [], refl, ap}
 use Rattle.std.proofs.Common.{sym, subst, ◌∙◌, ◌&&◌}
 use Rattle.std.proofs.lemmas.List.{append-nil}
 use Rattle.std.specs.Cmp.{unsigned_Decides}
@@ -11,7 +11,6 @@ use Rattle.coap_layer.specs.Machine.State as L
 use Rattle.coap_layer.specs.Rows.{Outstanding}
 use Rattle.coap_layer.specs.Words.{Open, is_to, outstanding}
 use Rattle.coap_layer.proofs.Facts.Calls.{led_steps}
-use Rattle.coap_exchange.specs.declared.asker.Exchange.{Exchange}
 use Rattle.coap_exchange.specs.AskerTrace.{Call}
 use Rattle.coap_exchange.specs.AskerLaw.{own_of, lower_of, below_of, ExchangeLaw}
 use Rattle.coap_exchange.specs.AskerFollows.{last_begun}

@@ -1,14 +1,15 @@
 -- The registration of one endpoint and token in the list after each change.
-use Rattle.std.proofs.Common.{◌≡◌, ◌∙◌, ℕ, Bool, true, false, not, ◌&&◌, ◌<◌, ◌++◌, List, [], ◌∷◌, length, filter, find}
+use Rattle.std.proofs.Common.{◌≡◌, ◌∙◌, ℕ, Bool, true, false, not, ◌&&◌, ◌<◌, ◌++◌, List, [], ◌∷◌, length, filter, find, map}
 use Rattle.std.proofs.Common.{Option, None, Some, option_map, if◌then◌else◌, Decides, refl, ap, sym, subst, arith}
 use Rattle.std.specs.Cmp.Lexicographic.{bytes_decides}
 use Rattle.std.proofs.lemmas.Bool.Decides.{Decides-and}
 use Rattle.std.proofs.lemmas.List.{length-append, length-map}
 use Rattle.coap_types.specs.declared.endpoint.Endpoint.{Endpoint}
 use Rattle.coap_types.proofs.Facts.Endpoints.{same_endpoint-decides}
-use Rattle.coap_observe.specs.Observers.{Observer, AreDistinct, AreRegistrations, changed_at, is_of, marked_by}
-use Rattle.coap_observe.specs.Observers.{registered, registration, removed, sent_to, unmarked_by}
-use Rattle.coap_observe.specs.Registrations.{IsOther, OthersStay}
+use Rattle.coap_observe.specs.Observers.{Noted, Observer, AreDistinct, AreRegistrations, begun, changed_at, is_noted_at}
+use Rattle.coap_observe.specs.Observers.{is_of, marked_by, noted_by, noted_to, registered, registration, rejected}
+use Rattle.coap_observe.specs.Observers.{removed, reset_at, sent_to, unmarked_by, without}
+use Rattle.coap_observe.specs.Registrations.{IsOther, OthersStay, ResetTakes, told_by}
 use Rattle.coap_observe.proofs.ListLemmas.{find_before, find_behind, find_gone, find_kept, find_none, find_of_map}
 use Rattle.coap_observe.proofs.ListLemmas.{length_filter}
 
@@ -41,17 +42,17 @@ pub registration-removed : (to : Endpoint) (token : List ℕ) (os : List Observe
 registration-removed to token os = find_gone (is_of to token) (λ o. not (is_of to token o))
     (λ o h. not_true (is_of to token o) h) os
 
-pub registration-registered : (to : Endpoint) (token : List ℕ) (path : List (List ℕ)) (szx : ℕ) (os : List Observer)
-    → registration to token (registered to token path szx os)
-    ≡ Some (record { to = to; token = token; path = path; szx = szx; marked = false })
-registration-registered to token path szx os =
-    let new : Observer = record { to = to; token = token; path = path; szx = szx; marked = false } in
+pub registration-registered : (at : ℕ) (to : Endpoint) (token : List ℕ) (path : List (List ℕ)) (szx : ℕ)
+    (os : List Observer)
+    → registration to token (registered at to token path szx os) ≡ Some (begun at to token path szx)
+registration-registered at to token path szx os =
+    let new : Observer = begun at to token path szx in
     find_behind (is_of to token) (removed to token os) new (registration-removed to token os)
     ((is_of-decides to token new).1 (refl, refl))
 
-pub registration-changed_at : (path : List (List ℕ)) (to : Endpoint) (token : List ℕ) (os : List Observer)
-    → registration to token (changed_at path os) ≡ option_map (marked_by path) (registration to token os)
-registration-changed_at path to token os = find_of_map (marked_by path) (is_of to token) os
+pub registration-changed_at : (at : ℕ) (path : List (List ℕ)) (to : Endpoint) (token : List ℕ) (os : List Observer)
+    → registration to token (changed_at at path os) ≡ option_map (marked_by at path) (registration to token os)
+registration-changed_at at path to token os = find_of_map (marked_by at path) (is_of to token) os
 
 and_true : (b : Bool) → (b && true) ≡ b
 and_true true = refl
@@ -77,14 +78,69 @@ map_same : (r : Option Observer) → option_map (λ (o : Observer). o) r ≡ r
 map_same None = refl
 map_same (Some o) = refl
 
-pub registration-sent_to : (to : Endpoint) (token : List ℕ) (os : List Observer)
-    → registration to token (sent_to to token os)
-    ≡ option_map (λ (o : Observer). record o { marked = false }) (registration to token os)
-registration-sent_to to token os =
-    find_of_map (unmarked_by to token) (is_of to token) os
-    ∙ mapped_find (unmarked_by to token) (λ (o : Observer). record o { marked = false }) (is_of to token)
-    (λ o h. ap (λ (m : Bool). record o { marked = m })
-    (ap (λ (b : Bool). o.marked && b) (not_true (is_of to token o) h) ∙ and_false o.marked)) os
+abbrev with_mark : Observer → Bool → ℕ → Observer
+with_mark o m n = record o { marked = m; con = n }
+
+-- what is marked and said of the sending, by whether it is the one
+sent_by : (at : ℕ) (con own : Bool) (o : Observer) → own ≡ true
+    → with_mark o (o.marked && not own) (if con && (o.marked && own) then at else o.con) ≡ told_by at con o
+sent_by at con true o h =
+    ap (λ (m : Bool). with_mark o m (if con && (o.marked && true) then at else o.con)) (and_false o.marked)
+    ∙ ap (λ (b : Bool). with_mark o false (if con && b then at else o.con)) (and_true o.marked)
+sent_by at con false o h = absurd cc
+
+kept_by : (at : ℕ) (con own : Bool) (o : Observer) → own ≡ false
+    → with_mark o (o.marked && not own) (if con && (o.marked && own) then at else o.con) ≡ o
+kept_by at con false o h =
+    ap (λ (m : Bool). with_mark o m (if con && (o.marked && false) then at else o.con)) (and_true o.marked)
+    ∙ ap (λ (b : Bool). with_mark o o.marked (if con && b then at else o.con)) (and_false o.marked)
+    ∙ ap (λ (b : Bool). with_mark o o.marked (if b then at else o.con)) (and_false con)
+kept_by at con true o h = absurd cc
+
+pub registration-sent_to : (at : ℕ) (to : Endpoint) (token : List ℕ) (con : Bool) (os : List Observer)
+    → registration to token (sent_to at to token con os) ≡ option_map (told_by at con) (registration to token os)
+registration-sent_to at to token con os =
+    find_of_map (unmarked_by at to token con) (is_of to token) os
+    ∙ mapped_find (unmarked_by at to token con) (told_by at con) (is_of to token)
+    (λ o h. sent_by at con (is_of to token o) o h) os
+
+abbrev with_noted : Observer → Option Noted → Observer
+with_noted o n = record o { noted = n }
+
+note_by : (own : Bool) (new : Option Noted) (o : Observer) → own ≡ true
+    → with_noted o (if own then new else o.noted) ≡ with_noted o new
+note_by true new o h = refl
+note_by false new o h = absurd cc
+
+unnoted_by : (own : Bool) (new : Option Noted) (o : Observer) → own ≡ false
+    → with_noted o (if own then new else o.noted) ≡ o
+unnoted_by true new o h = absurd cc
+unnoted_by false new o h = refl
+
+pub registration-noted_to : (at : ℕ) (to : Endpoint) (token : List ℕ) (id : ℕ) (os : List Observer)
+    → registration to token (noted_to at to token id os)
+    ≡ option_map (λ (o : Observer). record o { noted = Some (record { id = id; at = at }) }) (registration to token os)
+registration-noted_to at to token id os =
+    find_of_map (noted_by at to token id) (is_of to token) os
+    ∙ mapped_find (noted_by at to token id)
+    (λ (o : Observer). record o { noted = Some (record { id = id; at = at }) }) (is_of to token)
+    (λ o h. note_by (is_of to token o) (Some (record { id = id; at = at })) o h) os
+
+found_step : (p : Observer → Bool) (b : Bool) (x : Observer) (r : Option Observer) (o : Observer) → p x ≡ b
+    → (if b then Some x else r) ≡ Some o → (r ≡ Some o → p o ≡ true) → p o ≡ true
+found_step p true x r o is e f = let same : x ≡ o = cc e in ap p (sym same) ∙ is
+found_step p false x r o is e f = f e
+
+-- what is found passes
+pub found_passes : (p : Observer → Bool) (os : List Observer) (o : Observer) → find p os ≡ Some o → p o ≡ true
+found_passes p [] o h = absurd cc
+found_passes p (x ∷ os) o h = found_step p (p x) x (find p os) o refl h (found_passes p os o)
+
+pub reset_takes : ResetTakes
+reset_takes at to id os o h = (
+  found_passes (is_noted_at at to id) os o h,
+  ap (λ (r : Option Observer). registration o.to o.token (without r os)) h ∙ registration-removed o.to o.token os,
+)
 
 -- the registrations of others stay
 pub others_stay : (to : Endpoint) (token : List ℕ) (by : Endpoint) (bytes : List ℕ) (os : List Observer)
@@ -94,17 +150,21 @@ others_stay to token by bytes os other =
     let kept : registration to token (removed by bytes os) ≡ registration to token os =
     find_kept (is_of to token) (λ o. not (is_of by bytes o)) (λ o h. not_false (is_of by bytes o) (is_other o h)) os in
     record {
-      registered_stay = λ path szx.
-          let new : Observer = record { to = by; token = bytes; path = path; szx = szx; marked = false } in
+      registered_stay = λ at path szx.
+          let new : Observer = begun at by bytes path szx in
           find_before (is_of to token) (removed by bytes os) new
           (false_by (is_of to token new) (λ h. let e = (is_of-decides to token new).0 h in other (sym e.0, sym e.1)))
           ∙ kept;
       removed_stay = kept;
-      sent_stay =
-          find_of_map (unmarked_by by bytes) (is_of to token) os
-          ∙ mapped_find (unmarked_by by bytes) (λ (o : Observer). o) (is_of to token)
-          (λ o h. ap (λ (m : Bool). record o { marked = m })
-          (ap (λ (b : Bool). o.marked && b) (not_false (is_of by bytes o) (is_other o h)) ∙ and_true o.marked)) os
+      sent_stay = λ at con.
+          find_of_map (unmarked_by at by bytes con) (is_of to token) os
+          ∙ mapped_find (unmarked_by at by bytes con) (λ (o : Observer). o) (is_of to token)
+          (λ o h. kept_by at con (is_of by bytes o) o (is_other o h)) os
+          ∙ map_same (registration to token os);
+      noted_stay = λ at id.
+          find_of_map (noted_by at by bytes id) (is_of to token) os
+          ∙ mapped_find (noted_by at by bytes id) (λ (o : Observer). o) (is_of to token)
+          (λ o h. unnoted_by (is_of by bytes o) (Some (record { id = id; at = at })) o (is_other o h)) os
           ∙ map_same (registration to token os);
     }
 
@@ -135,21 +195,34 @@ distinct_behind (o ∷ os) new none d =
     absurd cc) in
     (find_before (is_of o.to o.token) os new apart ∙ d.0, distinct_behind os new n.1 d.1)
 
-distinct_marked : (path : List (List ℕ)) (os : List Observer) → AreDistinct os → AreDistinct (changed_at path os)
-distinct_marked path [] d = tt
-distinct_marked path (o ∷ os) d = (
-  registration-changed_at path o.to o.token os ∙ ap (λ (r : Option Observer). option_map (marked_by path) r) d.0,
-  distinct_marked path os d.1,
+-- what keeps whose each is
+distinct_map : (f : Observer → Observer)
+    → (same : (to : Endpoint) (token : List ℕ) (os : List Observer)
+    → registration to token (map f os) ≡ option_map f (registration to token os))
+    → (mine : (o : Observer) → ((f o).to ≡ o.to) × ((f o).token ≡ o.token)) (os : List Observer) → AreDistinct os
+    → AreDistinct (map f os)
+distinct_map f same mine [] d = tt
+distinct_map f same mine (o ∷ os) d = (
+  ap (λ (t : Endpoint). registration t (f o).token (map f os)) (mine o).0
+      ∙ (ap (λ (n : List ℕ). registration o.to n (map f os)) (mine o).1
+      ∙ (same o.to o.token os ∙ ap (λ (r : Option Observer). option_map f r) d.0)),
+  distinct_map f same mine os d.1,
 )
 
-distinct_sent : (to : Endpoint) (token : List ℕ) (os : List Observer) → AreDistinct os
-    → AreDistinct (sent_to to token os)
-distinct_sent to token [] d = tt
-distinct_sent to token (o ∷ os) d = (
-  find_of_map (unmarked_by to token) (is_of o.to o.token) os
-      ∙ ap (λ (r : Option Observer). option_map (unmarked_by to token) r) d.0,
-  distinct_sent to token os d.1,
-)
+distinct_marked : (at : ℕ) (path : List (List ℕ)) (os : List Observer) → AreDistinct os
+    → AreDistinct (changed_at at path os)
+distinct_marked at path os d = distinct_map (marked_by at path)
+    (λ to token l. find_of_map (marked_by at path) (is_of to token) l) (λ o. (refl, refl)) os d
+
+distinct_sent : (at : ℕ) (to : Endpoint) (token : List ℕ) (con : Bool) (os : List Observer) → AreDistinct os
+    → AreDistinct (sent_to at to token con os)
+distinct_sent at to token con os d = distinct_map (unmarked_by at to token con)
+    (λ t n l. find_of_map (unmarked_by at to token con) (is_of t n) l) (λ o. (refl, refl)) os d
+
+distinct_noted : (at : ℕ) (to : Endpoint) (token : List ℕ) (id : ℕ) (os : List Observer) → AreDistinct os
+    → AreDistinct (noted_to at to token id os)
+distinct_noted at to token id os d = distinct_map (noted_by at to token id)
+    (λ t n l. find_of_map (noted_by at to token id) (is_of t n) l) (λ o. (refl, refl)) os d
 
 -- the same registrations
 pub registrations-same : (os ps : List Observer) → os ≡ ps → AreRegistrations os → AreRegistrations ps
@@ -163,10 +236,11 @@ registrations-removed to token os r =
     let fewer = length_filter keep os in
     record { few = omega (arith, fewer, r.few); distinct = distinct_filter keep os r.distinct }
 
-pub registrations-registered : (to : Endpoint) (token : List ℕ) (path : List (List ℕ)) (szx : ℕ) (os : List Observer)
-    → AreRegistrations os → length (removed to token os) < 64 → AreRegistrations (registered to token path szx os)
-registrations-registered to token path szx os r room =
-    let new : Observer = record { to = to; token = token; path = path; szx = szx; marked = false } in
+pub registrations-registered : (at : ℕ) (to : Endpoint) (token : List ℕ) (path : List (List ℕ)) (szx : ℕ)
+    (os : List Observer) → AreRegistrations os → length (removed to token os) < 64
+    → AreRegistrations (registered at to token path szx os)
+registrations-registered at to token path szx os r room =
+    let new : Observer = begun at to token path szx in
     let left = registrations-removed to token os r in
     let one_more = length-append (removed to token os) (new ∷ []) in
     record {
@@ -174,14 +248,28 @@ registrations-registered to token path szx os r room =
       distinct = distinct_behind (removed to token os) new (registration-removed to token os) left.distinct;
     }
 
-pub registrations-changed : (path : List (List ℕ)) (os : List Observer) → AreRegistrations os
-    → AreRegistrations (changed_at path os)
-registrations-changed path os r =
-    let same = length-map os (marked_by path) in
-    record { few = omega (arith, same, r.few); distinct = distinct_marked path os r.distinct }
+pub registrations-changed : (at : ℕ) (path : List (List ℕ)) (os : List Observer) → AreRegistrations os
+    → AreRegistrations (changed_at at path os)
+registrations-changed at path os r =
+    let same = length-map os (marked_by at path) in
+    record { few = omega (arith, same, r.few); distinct = distinct_marked at path os r.distinct }
 
-pub registrations-sent : (to : Endpoint) (token : List ℕ) (os : List Observer) → AreRegistrations os
-    → AreRegistrations (sent_to to token os)
-registrations-sent to token os r =
-    let same = length-map os (unmarked_by to token) in
-    record { few = omega (arith, same, r.few); distinct = distinct_sent to token os r.distinct }
+pub registrations-sent : (at : ℕ) (to : Endpoint) (token : List ℕ) (con : Bool) (os : List Observer)
+    → AreRegistrations os → AreRegistrations (sent_to at to token con os)
+registrations-sent at to token con os r =
+    let same = length-map os (unmarked_by at to token con) in
+    record { few = omega (arith, same, r.few); distinct = distinct_sent at to token con os r.distinct }
+
+pub registrations-noted : (at : ℕ) (to : Endpoint) (token : List ℕ) (id : ℕ) (os : List Observer)
+    → AreRegistrations os → AreRegistrations (noted_to at to token id os)
+registrations-noted at to token id os r =
+    let same = length-map os (noted_by at to token id) in
+    record { few = omega (arith, same, r.few); distinct = distinct_noted at to token id os r.distinct }
+
+without_stay : (found : Option Observer) (os : List Observer) → AreRegistrations os → AreRegistrations (without found os)
+without_stay None os r = r
+without_stay (Some o) os r = registrations-removed o.to o.token os r
+
+pub registrations-reset : (at : ℕ) (to : Endpoint) (id : ℕ) (os : List Observer) → AreRegistrations os
+    → AreRegistrations (reset_at at to id os)
+registrations-reset at to id os r = without_stay (rejected at to id os) os r

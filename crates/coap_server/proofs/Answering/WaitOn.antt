@@ -39,7 +39,7 @@ taken_out at a x (w ∷ ws) h = by (is_of at a w) refl (taken_out at a x ws) h
     by false is f (inr k) = ⊎_elim (λ e. inl (inr e)) (λ e. inr e) (f k)
 
 -- what comes goes behind
-behind : (at : ℕ) (came : Option (Asked × Message)) (h : Handling) (x : Waiting) (ws : List Waiting)
+pub behind : (at : ℕ) (came : Option (Asked × Message)) (h : Handling) (x : Waiting) (ws : List Waiting)
     → Ever (λ y. y ≡ x) ws → Ever (λ y. y ≡ x) (waiting_came at came h ws)
 behind at None h x ws k = k
 behind at (Some p) Silent x ws k = k

@@ -58,13 +58,14 @@ pub gets : (old : Content) (at : ℕ) (q : Question) (reply : Reply) (left : Con
     → (is_applied reply.code ≡ false) × (left ≡ old)
 gets old now q reply left get h = by (precondition_fails (old.holds q.path) q.options) old now q reply left get h
 
-same_version : (path : List (List ℕ)) (store : Content) (os : List Observer) → marked_if path store store os ≡ os
-same_version path store os = rw (eq-eqb store.tally.version store.tally.version refl) refl
+same_version : (now : ℕ) (path : List (List ℕ)) (store : Content) (os : List Observer)
+    → marked_if now path store store os ≡ os
+same_version now path store os = rw (eq-eqb store.tally.version store.tally.version refl) refl
 
 module _ (old left : Content) (now : ℕ) (a : Asked) (q : Question) (reply : Reply) (response : E.Response)
     (os told : List Observer) (block : Option ℕ) where
   pub get_served : (number : Option ℕ) → q.method ≡ Get → Serves old now q reply left → left ≡ old
-      → told ≡ observers_with a q reply os
+      → told ≡ observers_with now a q reply os
       → number ≡ sequence_if (registers a q reply os) (left.holds q.path) → block ≡ last_block q
       → response ≡ response_with reply number block
       → ServesRequest old os now a q response [] left told
@@ -77,22 +78,22 @@ module _ (old left : Content) (now : ℕ) (a : Asked) (q : Question) (reply : Re
             (numbered ∙ ap (λ (c : Content). sequence_if (registers a q reply os) (c.holds q.path)) same)
             ∙ ap (response_with reply _) last;
         applied_is = rw g.0 refl;
-        observers_is = observes ∙ sym (ap (λ c. marked_if q.path old c (observers_with a q reply os)) same
-            ∙ same_version q.path old (observers_with a q reply os));
+        observers_is = observes ∙ sym (ap (λ c. marked_if now q.path old c (observers_with now a q reply os)) same
+            ∙ same_version now q.path old (observers_with now a q reply os));
       }
 
   pub change_served : (applied : List Applied) → is_get q.method ≡ false → Serves old now q reply left
-      → told ≡ marked_if q.path old left os
+      → told ≡ marked_if now q.path old left os
       → applied ≡ applied_by old a q reply left → block ≡ last_block q → response ≡ response_with reply None block
       → ServesRequest old os now a q response applied left told
   change_served applied change serves marks applies last says =
       let none : registers a q reply os ≡ false = rw change refl in
-      let kept : observers_with a q reply os ≡ os = rw change refl in
+      let kept : observers_with now a q reply os ≡ os = rw change refl in
       record {
         reply = reply;
         serves = serves;
         response_is = says ∙ ap (response_with reply None) last
             ∙ sym (ap (λ r. response_with reply (sequence_if r (old.holds q.path)) (last_block q)) none);
         applied_is = applies;
-        observers_is = marks ∙ sym (ap (marked_if q.path old left) kept);
+        observers_is = marks ∙ sym (ap (marked_if now q.path old left) kept);
       }

@@ -1,8 +1,9 @@
 -- What is due is done behind what the exchanges do of it, and both are one call of the server (RFC 7252, section 5.2.2;
 -- RFC 7641, section 4.5).
 use Rattle.std.proofs.Common.{◌≡◌, ℕ, max, Bool, true, false, Option, Some, None, Result, Ok, Err, IfOk, List, []}
-use Rattle.std.proofs.Common.{◌∷◌, refl, ap, sym, subst, ◌∙◌}
+use Rattle.std.proofs.Common.{◌∷◌, refl, ap, sym, subst, ◌∙◌, option_map}
 use Rattle.coap_layer.specs.Trace as L
+use Rattle.coap_observe.specs.Notices.{but_noted}
 use Rattle.coap_observe.specs.Observers.{Observer}
 use Rattle.coap_resource.specs.Content.{Content, Held}
 use Rattle.coap_resource.specs.RequestOptions.{precondition_fails}
@@ -28,6 +29,7 @@ use Rattle.coap_server.specs.Steps.{due_after, exchanges_after}
 use Rattle.coap_server.specs.Led.{State, exchanges_of, Step}
 use Rattle.coap_server.specs.Object.Handled.{ServesRequest}
 use Rattle.coap_server.specs.Turns.Turned.{IsTurned}
+use Rattle.coap_server.proofs.Calls.PassedOver.{whole_of}
 use Rattle.coap_server.proofs.Calls.WaitingLists.{all_stay}
 
 -- the whole call
@@ -163,13 +165,18 @@ module _ (s new : State) (a : Asked) (word : ℕ) where
             ∙ ap (λ (xs : List T.Applied). record s.own {
               exchanges = exchanges_after s.own.exchanges (call ∷ []);
               store = left;
-              observers = observers_served s.own.store a q served.reply left s.own.observers;
+              observers = observers_served s.own.clock s.own.store a q served.reply left s.own.observers;
               waiting = without_waiting s.own.clock a s.own.waiting;
               applied = xs;
             }) served.applied_is)));
       }
 
 -- a notification
+
+notified_as : (at : ℕ) (held : Option Held) (o : Observer) (os : List Observer)
+    → notified at held (but_noted o) os ≡ notified at held o os
+notified_as at None o os = refl
+notified_as at (Some held) o os = refl
 
 module _ (s new : State) (word passed : ℕ) where
   abbrev asked : List E.Call
@@ -190,13 +197,13 @@ module _ (s new : State) (word passed : ℕ) where
             (exchanged_own (exchanges_of s) (exchanges_of new) asked asks);
       }
 
-  pub one_notified : (mid : X.State) (o : Observer) (id : ℕ) → behind passed (marked s.own.observers) ≡ Some o
+  one_notified : (mid : X.State) (o : Observer) (id : ℕ) → behind passed (marked s.own.observers) ≡ Some o
       → X.Exchanged (exchanges_of s) asked mid
       → X.Step mid (E.Notifies s.own.clock o.to o.token (notification s.own.store o (told s.own.store o)) word id)
       (exchanges_of new)
       → new.own ≡ record s.own {
         exchanges = new.own.exchanges;
-        observers = notified (s.own.store.holds o.path) o s.own.observers;
+        observers = notified s.own.clock (s.own.store.holds o.path) o s.own.observers;
         applied = [];
       }
       → IsTurned s due.Idle word true new
@@ -215,22 +222,22 @@ module _ (s new : State) (word passed : ℕ) where
         left = kept
             ∙ ap (λ (e : E.Own). record s.own {
               exchanges = e;
-              observers = notified (s.own.store.holds o.path) o s.own.observers;
+              observers = notified s.own.clock (s.own.store.holds o.path) o s.own.observers;
               applied = [];
             })
             (exchanged_own (exchanges_of s) (exchanges_of new) calls all);
       }
 
   -- .. where the response, the store and the observers are said apart
-  pub one_told : (mid : X.State) (o : Observer) (id : ℕ) (response : E.Response) (store : Content)
+  one_whole : (mid : X.State) (o : Observer) (id : ℕ) (response : E.Response) (store : Content)
       (observers : List Observer) → behind passed (marked s.own.observers) ≡ Some o
       → X.Exchanged (exchanges_of s) asked mid
       → X.Step mid (E.Notifies s.own.clock o.to o.token response word id) (exchanges_of new)
       → response ≡ notification s.own.store o (told s.own.store o) → store ≡ s.own.store
-      → observers ≡ notified (s.own.store.holds o.path) o s.own.observers
+      → observers ≡ notified s.own.clock (s.own.store.holds o.path) o s.own.observers
       → new.own ≡ record s.own { exchanges = new.own.exchanges; store = store; observers = observers; applied = [] }
       → IsTurned s due.Idle word true new
-  one_told mid o id response store observers there asks step said same left kept =
+  one_whole mid o id response store observers there asks step said same left kept =
       one_notified mid o id there asks (subst (λ r. X.Step mid (E.Notifies s.own.clock o.to o.token r word id)
       (exchanges_of new)) said step)
       (kept ∙ (ap (λ (c : Content). record s.own {
@@ -240,6 +247,25 @@ module _ (s new : State) (word passed : ℕ) where
         applied = [];
       }) same
       ∙ ap (λ (os : List Observer). record s.own { exchanges = new.own.exchanges; observers = os; applied = [] }) left))
+
+  -- .. and of whom all is told but the last NON
+  pub one_told : (mid : X.State) (x : Observer) (id : ℕ) (response : E.Response) (store : Content)
+      (observers : List Observer) → Some x ≡ option_map but_noted (behind passed (marked s.own.observers))
+      → X.Exchanged (exchanges_of s) asked mid
+      → X.Step mid (E.Notifies s.own.clock x.to x.token response word id) (exchanges_of new)
+      → response ≡ notification s.own.store x (told s.own.store x) → store ≡ s.own.store
+      → observers ≡ notified s.own.clock (s.own.store.holds x.path) x s.own.observers
+      → new.own ≡ record s.own { exchanges = new.own.exchanges; store = store; observers = observers; applied = [] }
+      → IsTurned s due.Idle word true new
+  one_told mid x id response store observers there asks step said same left kept =
+      let w = whole_of (behind passed (marked s.own.observers)) x there in
+      let o = w.observer in
+      one_whole mid o id response store observers w.is asks
+      (subst (λ (z : Observer). X.Step mid (E.Notifies s.own.clock z.to z.token response word id) (exchanges_of new))
+      w.told step)
+      (said ∙ ap (λ (z : Observer). notification s.own.store z (told s.own.store z)) w.told) same
+      (left ∙ (ap (λ (z : Observer). notified s.own.clock (s.own.store.holds z.path) z s.own.observers) w.told
+      ∙ notified_as s.own.clock (s.own.store.holds o.path) o s.own.observers)) kept
 
 -- what a GET without options is answered
 unconditional : (held : Option Held) → precondition_fails held [] ≡ false

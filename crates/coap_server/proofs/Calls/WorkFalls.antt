@@ -13,7 +13,7 @@ use Rattle.coap_server.proofs.Exact.Leads.{led_further, led_lawful, led_state}
 use Rattle.coap_server.proofs.Rest.Ending.{size, less, size_is}
 use Rattle.coap_server.specs.declared.server.delaying.DelayRefusal.{DelayRefusal}
 use Rattle.coap_server.specs.declared.server.delaying.DelayRefusal.TheVariants as delay_refusals
-use Rattle.coap_server.specs.Object.Shown.{Kept, state_of}
+use Rattle.coap_server.specs.Object.Shown.{IsTimed, Kept, state_of}
 use Rattle.coap_server.specs.Turns.Work.{work, WasLed}
 
 module _ (limits : Limits) (szx word : ℕ) where
@@ -76,6 +76,10 @@ seen_led content inside outside e led = subst (λ k. WasLed (state_of content k)
 pub same_led : {S : Type 0} (content : S → Content) (old new : Kept S) → WasLed (state_of content old) → new ≡ old
     → WasLed (state_of content new)
 same_led content old new led e = subst (λ k. WasLed (state_of content k)) (sym e) led
+
+-- .. and the moments of its observers stay no later than its own
+pub same_timed : {S : Type 0} (old new : Kept S) → IsTimed old → new ≡ old → IsTimed new
+same_timed old new timed e = subst (λ k. IsTimed k) (sym e) timed
 
 abbrev Ticked : State → ℕ → ℕ → State → Bool → Type 0
 Ticked old now w new did =

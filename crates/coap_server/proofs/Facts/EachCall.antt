@@ -1,4 +1,5 @@
 -- What each call of a server does, for proofs above.
+pub use Rattle.coap_server.proofs.Answering.WaitOn.{behind}
 pub use Rattle.coap_server.proofs.Replying.RefusalsAreErrors.{refusals_are_errors}
 pub use Rattle.coap_server.proofs.Serving.ServedNow.{served_now}
 pub use Rattle.coap_server.proofs.Serving.ServedWasHandedUp.{same_asked_is}

@@ -1,11 +1,13 @@
 -- What follows from the whole law of a server: the clauses of `server_law` and `server_must_law`, for proofs above, and
 -- some that rest on its rows alone.
-use Rattle.std.proofs.Common.{ℕ, List, ◌++◌}
+use Rattle.std.proofs.Common.{◌≡◌, ℕ, List, ◌++◌}
 use Rattle.coap_types.specs.Past.{Always}
 use Rattle.coap_layer.specs.Channel.{RepliesSo}
 use Rattle.coap_layer.specs.Rows.{LayerLaw}
 use Rattle.coap_layer.specs.Machine.State.{usual}
 use Rattle.coap_resource.specs.Limits.{Limits}
+use Rattle.coap_exchange.specs.declared.answerer.Asked.{Asked}
+use Rattle.coap_exchange.specs.AnswererFollows as A
 use Rattle.coap_exchange.proofs.Facts.ServerSide as E
 use Rattle.coap_server.specs.Trace.{Call}
 use Rattle.coap_server.specs.Law.{ServerLaw, lower_of, layer_of}
@@ -28,7 +30,7 @@ use Rattle.coap_server.specs.Follows.Registered.{AllRegister}
 use Rattle.coap_server.specs.Follows.Rejects.{RejectsSo}
 use Rattle.coap_server.specs.Follows.Rests.{ComesToRest}
 use Rattle.coap_server.specs.Follows.SentAs.{AllSentSo}
-use Rattle.coap_server.specs.Follows.Serves.{ServedOnce}
+use Rattle.coap_server.specs.Follows.Serves.{ServedOnce, times_handed}
 use Rattle.coap_server.specs.Follows.Table.{AllMethods, AllUploads, VerdictsAsk}
 use Rattle.coap_server.specs.Follows.Tags.{AreStamped, OneTag}
 use Rattle.coap_server.specs.Follows.Tells.{Follows}
@@ -52,12 +54,12 @@ use Rattle.coap_server.proofs.Observing.UnmarkedAreCurrent.{are_current}
 use Rattle.coap_server.proofs.Progress.GoesOn.{goes_on}
 use Rattle.coap_server.proofs.Replying.AllRecognised.{all_recognised}
 use Rattle.coap_server.proofs.Replying.BlocksContinued.{all_continues_fit}
-use Rattle.coap_server.proofs.Replying.RepliesAtOnce as A
+use Rattle.coap_server.proofs.Replying.RepliesAtOnce as R
 use Rattle.coap_server.proofs.Replying.ResponsesHaveRequests.{sent_responses}
 use Rattle.coap_server.proofs.Rest.Resting.{comes_to_rest}
 use Rattle.coap_server.proofs.Serving.HandedUpAsOften.{counted}
 use Rattle.coap_server.proofs.Serving.MethodsServed.{all_methods, all_uploads, verdicts_ask}
-use Rattle.coap_server.proofs.Serving.ServedOnce.{served_once}
+use Rattle.coap_server.proofs.Serving.ServedOnce.{handed_is, served_once}
 use Rattle.coap_server.proofs.Serving.ServedWasHandedUp.{handed_up, blocks_come}
 use Rattle.coap_server.proofs.Serving.Brought.{servers_back}
 use Rattle.coap_server.proofs.Serving.Reads.{verdicts_read}
@@ -75,6 +77,10 @@ questions = verdicts_ask
 pub delays_stay : (limits : Limits) (szx : ℕ) (t : List Call) → DelaysStay limits szx t
 delays_stay = D.delays_stay
 
+pub handed_as_often : (limits : Limits) (szx : ℕ) (a : Asked) (t : List Call)
+    → A.times_handed a (lower_of limits szx t) ≡ times_handed limits szx a t
+handed_as_often limits szx a t = handed_is limits szx a t
+
 module _ (limits : Limits) (szx word : ℕ) where
   pub back : (calls t : List Call) → ServerLaw limits szx word (calls ++ t) → ServerLaw limits szx word t
   back calls t law = servers_back limits szx word calls t law
@@ -90,10 +96,10 @@ module _ (limits : Limits) (szx word : ℕ) where
     rests = comes_to_rest limits szx word t law
 
     pub replies : Always RepliesSo (layer_of limits szx word t)
-    replies = A.replies_at_once limits szx word t law
+    replies = R.replies_at_once limits szx word t law
 
     pub rejects_responses : Always RejectsSo (layer_of limits szx word t)
-    rejects_responses = A.rejects_responses limits szx word t law
+    rejects_responses = R.rejects_responses limits szx word t law
 
     pub continues_fits : AllContinuesFit limits szx t
     continues_fits = all_continues_fit limits szx word t law

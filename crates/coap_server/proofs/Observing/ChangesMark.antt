@@ -1,6 +1,6 @@
 -- A change of a path marks its observers, and leaves the others as they were.
 use Rattle.std.proofs.Common.{◌≡◌, ℕ, ◌==◌, ◌&&◌, Bool, true, false, Option, Some, None, List, [], ◌∷◌, refl, ap, sym}
-use Rattle.std.proofs.Common.{◌∙◌, cond, length, nat_lt}
+use Rattle.std.proofs.Common.{◌∙◌, cond, length, max, nat_lt}
 use Rattle.std.specs.Cmp.{unsigned_Decides}
 use Rattle.coap_types.specs.OptionValues.{uint_at}
 use Rattle.coap_types.specs.declared.option_number.TheConstants.{OBSERVE as observe}
@@ -22,17 +22,17 @@ use Rattle.coap_server.proofs.Observing.ServedObservers.{ServesAt, served_at}
 use Rattle.coap_server.proofs.Observing.StoreChanges.{get_same}
 use Rattle.coap_server.proofs.Serving.Brought.{server_back}
 
-marks : (path : List (List ℕ)) (old left : Content) (os : List Observer) (x : Change)
-    → change_of path old left ≡ Some x → marked_if path old left os ≡ changed_at x.path os
-marks path old left os x h = by (left.tally.version == old.tally.version) h
+marks : (at : ℕ) (path : List (List ℕ)) (old left : Content) (os : List Observer) (x : Change)
+    → change_of path old left ≡ Some x → marked_if at path old left os ≡ changed_at at x.path os
+marks at path old left os x h = by (left.tally.version == old.tally.version) h
   where
     by : (b : Bool)
         → cond b None (Some (record { path = path; version = left.tally.version; held = left.holds path })) ≡ Some x
-        → cond b os (changed_at path os) ≡ changed_at x.path os
+        → cond b os (changed_at at path os) ≡ changed_at at x.path os
     by true k = absurd (cc k)
     by false k =
         let same : ◌≡◌ {A = Change} (record { path = path; version = left.tally.version; held = left.holds path }) x =
-        cc k in ap (λ (y : Change). changed_at y.path os) same
+        cc k in ap (λ (y : Change). changed_at at y.path os) same
 
 -- what changes is no GET, and registers nobody
 unchanged : (path : List (List ℕ)) (old left : Content) → left ≡ old → change_of path old left ≡ None
@@ -44,12 +44,12 @@ unchanged path old left h =
 not_a_get : (q : Question) (n : ℕ) → is_get q.method ≡ false → observes n q ≡ false
 not_a_get q n h = ap (λ b. b && is_number n (uint_at observe q.options)) h
 
-registers_none : (a : Asked) (q : Question) (reply : Reply) (os : List Observer) → is_get q.method ≡ false
-    → observers_with a q reply os ≡ os
-registers_none a q reply os h =
+registers_none : (at : ℕ) (a : Asked) (q : Question) (reply : Reply) (os : List Observer) → is_get q.method ≡ false
+    → observers_with at a q reply os ≡ os
+registers_none at a q reply os h =
     let zero : registers a q reply os ≡ false = ap (λ b. b && ((reply.code == content)
     && ((reply.offset == 0) && nat_lt (length (removed a.from a.token os)) max_observers))) (not_a_get q 0 h) in
-    ap (λ b. cond b (registered a.from a.token q.path (szx_by (block_of q.options) q.szx) os)
+    ap (λ b. cond b (registered at a.from a.token q.path (szx_by (block_of q.options) q.szx) os)
     (cond (observes 1 q) (removed a.from a.token os) os)) zero
     ∙ ap (λ b. cond b (removed a.from a.token os) os) (not_a_get q 1 h)
 
@@ -58,7 +58,7 @@ module _ (limits : Limits) (szx word : ℕ) where
   own t = own_of limits szx t
 
   abbrev Marked : List Call → Call → Change → Type 0
-  Marked t c x = (own (c ∷ t)).observers ≡ changed_at x.path (own t).observers
+  Marked t c x = (own (c ∷ t)).observers ≡ changed_at (own (c ∷ t)).clock x.path (own t).observers
 
   -- by a request that is served
   served : (t : List Call) (c : Call) → ServerLaw limits szx word (c ∷ t) → (x : Change) → (o : Option Serving)
@@ -75,16 +75,19 @@ module _ (limits : Limits) (szx word : ℕ) where
           (get_same y.old s.serves.0 y.question y.reply y.left e s.serves.1) in
           absurd (let z : None ≡ Some x = sym none ∙ h in cc z)
       by false e =
+          let at : ℕ = (own (c ∷ t)).clock in
           s.observers
-          ∙ (ap (λ z. marked_if y.question.path (own t).store y.left z)
-          (registers_none y.asked y.question y.reply (own t).observers e)
-          ∙ marks y.question.path (own t).store y.left (own t).observers x
+          ∙ (ap (λ z. marked_if at y.question.path (own t).store y.left z)
+          (registers_none at y.asked y.question y.reply (own t).observers e)
+          ∙ marks at y.question.path (own t).store y.left (own t).observers x
           (ap (λ z. change_of y.question.path z y.left) (sym s.old) ∙ h))
 
   here : (t : List Call) (c : Call) → ServerLaw limits szx word (c ∷ t) → (x : Change) → change (own t) c ≡ Some x
       → Marked t c x
-  here t (Sets now path format body answer left) law x h = marks path (own t).store left (own t).observers x h
-  here t (Removes now path answer left) law x h = marks path (own t).store left (own t).observers x h
+  here t (Sets now path format body answer left) law x h =
+      marks (max (own t).clock now) path (own t).store left (own t).observers x h
+  here t (Removes now path answer left) law x h =
+      marks (max (own t).clock now) path (own t).store left (own t).observers x h
   here t (Feeds now from bytes w up came k below) law x h =
       served t (Feeds now from bytes w up came k below) law x _ refl h
   here t (Ticks now w below room d passed k id answer) law x h =

@@ -11,8 +11,8 @@ use Rattle.coap_types.proofs.Facts.Paths.{same_path-decides}
 use Rattle.coap_types.specs.SameEndpoint.{same_endpoint}
 use Rattle.coap_types.specs.declared.endpoint.Endpoint.{Endpoint}
 use Rattle.coap_observe.specs.Observers.{Observer, AreDistinct, registration, removed, registered, changed_at}
-use Rattle.coap_observe.specs.Observers.{marked_by, sent_to}
-use Rattle.coap_observe.specs.Registrations.{IsOther}
+use Rattle.coap_observe.specs.Observers.{begun, marked_by, sent_to}
+use Rattle.coap_observe.specs.Registrations.{IsOther, told_by}
 use Rattle.coap_observe.proofs.Facts.Registrations.{registration-changed_at, registration-registered}
 use Rattle.coap_observe.proofs.Facts.Registrations.{registration-removed, registration-sent_to, others_stay}
 use Rattle.coap_resource.specs.Content.{Content, Held}
@@ -116,11 +116,12 @@ module _ (to : Endpoint) (token : List ℕ) where
   mapped f (Some x) o h = (x, refl, one_some (f x) o h)
 
   -- those that stay unmarked are of other paths
-  kept_good : (last : Option Telling) (holds then : Holdings) (path : List (List ℕ)) (os : List Observer)
+  kept_good : (at : ℕ) (last : Option Telling) (holds then : Holdings) (path : List (List ℕ)) (os : List Observer)
       → ((other : List (List ℕ)) → (other ≡ path → ⊥) → then other ≡ holds other) → Good last holds os
-      → Good last then (changed_at path os)
-  kept_good last holds then path os others g o h m =
-      let k = mapped (marked_by path) (registration to token os) o (sym (registration-changed_at path to token os) ∙ h)
+      → Good last then (changed_at at path os)
+  kept_good at last holds then path os others g o h m =
+      let k = mapped (marked_by at path) (registration to token os) o
+      (sym (registration-changed_at at path to token os) ∙ h)
       in
       let x = k.0 in
       let parts = or_parts x.marked (same_path x.path path) (ap (λ (y : Observer). y.marked) k.2 ∙ m) in
@@ -133,20 +134,20 @@ module _ (to : Endpoint) (token : List ℕ) where
       → Good last then os
   all_good last holds then os e g o h m = held_on last holds then o.path (ap (λ f. f o.path) e) (g o h m)
 
-  pub marked_good : (last : Option Telling) (path : List (List ℕ)) (old left : Content) (os : List Observer)
-      → Effect path old left → Good last old.holds os → Good last left.holds (marked_if path old left os)
-  marked_good last path old left os effect g = by (left.tally.version == old.tally.version) refl effect
+  pub marked_good : (at : ℕ) (last : Option Telling) (path : List (List ℕ)) (old left : Content) (os : List Observer)
+      → Effect path old left → Good last old.holds os → Good last left.holds (marked_if at path old left os)
+  marked_good at last path old left os effect g = by (left.tally.version == old.tally.version) refl effect
     where
       by : (b : Bool) → (left.tally.version == old.tally.version) ≡ b → Effect path old left
-          → Good last left.holds (cond b os (changed_at path os))
+          → Good last left.holds (cond b os (changed_at at path os))
       by true is (inl k) = all_good last old.holds left.holds os k.holds g
       by true is (inr k) =
           let e : left.tally.version ≡ old.tally.version =
           (unsigned_Decides left.tally.version old.tally.version).0 is in
           let v = k.version in
           absurd (omega (arith, e, v))
-      by false is (inl k) = kept_good last old.holds left.holds path os (λ other far. ap (λ f. f other) k.holds) g
-      by false is (inr k) = kept_good last old.holds left.holds path os k.others g
+      by false is (inl k) = kept_good at last old.holds left.holds path os (λ other far. ap (λ f. f other) k.holds) g
+      by false is (inr k) = kept_good at last old.holds left.holds path os k.others g
 
   -- what is told, and to whom
   abbrev is_it : Telling → Bool
@@ -175,18 +176,19 @@ module _ (to : Endpoint) (token : List ℕ) where
   last_good last then holds os e g = subst (λ z. Good z holds os) (sym e) g
 
   -- a notification
-  pub notified_good : (last : Option Telling) (store : Content) (o : Observer) (id : ℕ) (os : List Observer)
+  pub notified_good : (at : ℕ) (last : Option Telling) (store : Content) (o : Observer) (id : ℕ) (os : List Observer)
       → AreDistinct os → registration o.to o.token os ≡ Some o → Good last store.holds os → (held : Option Held)
       → store.holds o.path ≡ held
-      → Good (told_then to token (tells o.to o.token o.path (Some id) false held) last) store.holds (notified held o os)
-  notified_good last store o id os distinct there g None is = removed_good last store.holds o.to o.token os g
-  notified_good last store o id os distinct there g (Some held) is = elim (is_pair to token o.to o.token) [
+      → Good (told_then to token (tells o.to o.token o.path (Some id) false held) last) store.holds (notified at held o os)
+  notified_good at last store o id os distinct there g None is = removed_good last store.holds o.to o.token os g
+  notified_good at last store o id os distinct there g (Some held) is = elim (is_pair to token o.to o.token) [
     | inl p ↦ (λ y h m. (
-        let swap : registration to token (sent_to o.to o.token os) ≡ registration to token (sent_to to token os) =
-        ap (λ z. registration to token (sent_to z o.token os)) p.0
-        ∙ ap (λ z. registration to token (sent_to to z os)) p.1 in
-        let k = mapped (λ (z : Observer). record z { marked = false }) (registration to token os) y
-        (sym (registration-sent_to to token os) ∙ (sym swap ∙ h)) in
+        let swap : registration to token (sent_to at o.to o.token true os)
+        ≡ registration to token (sent_to at to token true os) =
+        ap (λ z. registration to token (sent_to at z o.token true os)) p.0
+        ∙ ap (λ z. registration to token (sent_to at to z true os)) p.1 in
+        let k = mapped (told_by at true) (registration to token os) y
+        (sym (registration-sent_to at to token true os) ∙ (sym swap ∙ h)) in
         let mine : registration to token os ≡ Some o =
         ap (λ z. registration z token os) (sym p.0) ∙ (ap (λ z. registration o.to z os) (sym p.1) ∙ there) in
         let same : k.0 ≡ o = one_some k.0 o (sym k.1 ∙ mine) in
@@ -199,25 +201,27 @@ module _ (to : Endpoint) (token : List ℕ) where
           is_held = ap store.holds path ∙ is;
           version = refl;
         }))
-    | inr other ↦ last_good last _ store.holds (sent_to o.to o.token os) (told_other (notice_of o id held) last other)
-        (moved last store.holds os (sent_to o.to o.token os) (others_stay to token o.to o.token os other).sent_stay g)
+    | inr other ↦ last_good last _ store.holds (sent_to at o.to o.token true os)
+        (told_other (notice_of o id held) last other)
+        (moved last store.holds os (sent_to at o.to o.token true os)
+        ((others_stay to token o.to o.token os other).sent_stay at true) g)
   ]
 
   -- a request that is served
 
-  pub registered_good : (last : Option Telling) (store : Content) (a : Asked) (q : Question) (con : Option ℕ) (size : ℕ)
+  pub registered_good : (at : ℕ) (last : Option Telling) (store : Content) (a : Asked) (q : Question) (con : Option ℕ) (size : ℕ)
       (held : Held) (os : List Observer) → store.holds q.path ≡ Some held → Good last store.holds os
       → Good (told_then to token (tells a.from a.token q.path con true (Some held)) last) store.holds
-      (registered a.from a.token q.path size os)
-  registered_good last store a q con size held os is g = elim (is_pair to token a.from a.token) [
+      (registered at a.from a.token q.path size os)
+  registered_good at last store a q con size held os is g = elim (is_pair to token a.from a.token) [
     | inl p ↦ (λ y h m. (
-        let swap : registration to token (registered a.from a.token q.path size os)
-        ≡ registration to token (registered to token q.path size os) =
-        ap (λ z. registration to token (registered z a.token q.path size os)) p.0
-        ∙ ap (λ z. registration to token (registered to z q.path size os)) p.1 in
-        let new : Observer = record { to = to; token = token; path = q.path; szx = size; marked = false } in
+        let swap : registration to token (registered at a.from a.token q.path size os)
+        ≡ registration to token (registered at to token q.path size os) =
+        ap (λ z. registration to token (registered at z a.token q.path size os)) p.0
+        ∙ ap (λ z. registration to token (registered at to z q.path size os)) p.1 in
+        let new : Observer = begun at to token q.path size in
         let same : new ≡ y = one_some new y
-        (sym (registration-registered to token q.path size os) ∙ (sym swap ∙ h)) in
+        (sym (registration-registered at to token q.path size os) ∙ (sym swap ∙ h)) in
         let path : y.path ≡ q.path = ap (λ (z : Observer). z.path) (sym same) in
         record {
           told = answer_of a q con held;
@@ -227,8 +231,8 @@ module _ (to : Endpoint) (token : List ℕ) where
           is_held = ap store.holds path ∙ is;
           version = refl;
         }))
-    | inr other ↦ last_good last _ store.holds (registered a.from a.token q.path size os)
+    | inr other ↦ last_good last _ store.holds (registered at a.from a.token q.path size os)
         (told_other (answer_of a q con held) last other)
-        (moved last store.holds os (registered a.from a.token q.path size os)
-        ((others_stay to token a.from a.token os other).registered_stay q.path size) g)
+        (moved last store.holds os (registered at a.from a.token q.path size os)
+        ((others_stay to token a.from a.token os other).registered_stay at q.path size) g)
   ]

@@ -28,10 +28,10 @@ pub a_get : (n : ℕ) (q : Question) → observes n q ≡ true → is_get q.meth
 a_get n q h = (and_parts (is_get q.method) (is_number n (uint_at observe q.options)) h).0
 
 -- what is not changed marks nobody
-pub unmarked : (path : List (List ℕ)) (old left : Content) (os : List Observer) → left ≡ old
-    → marked_if path old left os ≡ os
-unmarked path old left os h =
-    ap (λ b. cond b os (changed_at path os))
+pub unmarked : (at : ℕ) (path : List (List ℕ)) (old left : Content) (os : List Observer) → left ≡ old
+    → marked_if at path old left os ≡ os
+unmarked at path old left os h =
+    ap (λ b. cond b os (changed_at at path os))
     (ap (λ (s : Content). s.tally.version == old.tally.version) h
     ∙ (unsigned_Decides old.tally.version old.tally.version).1 refl)
 
@@ -56,10 +56,10 @@ module _ (limits : Limits) (szx word : ℕ) where
         registers = s.registers_so ∙ ap (λ b. pair_if b x.asked) so;
         last =
             s.observers
-            ∙ (unmarked x.question.path (own t).store x.left
-            (observers_with x.asked x.question x.reply (own t).observers) (same ∙ s.old)
+            ∙ (unmarked (own (c ∷ t)).clock x.question.path (own t).store x.left
+            (observers_with (own (c ∷ t)).clock x.asked x.question x.reply (own t).observers) (same ∙ s.old)
             ∙ ap (λ b. cond b
-            (registered x.asked.from x.asked.token x.question.path
+            (registered (own (c ∷ t)).clock x.asked.from x.asked.token x.question.path
             (szx_by (block_of x.question.options) x.question.szx) (own t).observers)
             (cond (observes 1 x.question) (removed x.asked.from x.asked.token (own t).observers)
             (own t).observers)) so);

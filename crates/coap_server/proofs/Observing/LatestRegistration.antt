@@ -1,6 +1,6 @@
 -- Each observer of a server is of the latest registration of its endpoint and token.
 use Rattle.std.proofs.Common.{◌≡◌, ℕ, ◌==◌, ◌&&◌, nat_lt, Bool, true, false, not, Option, Some, None, List, [], ◌∷◌}
-use Rattle.std.proofs.Common.{◌++◌, length, filter, map, refl, ap, sym, subst, ◌∙◌, cond}
+use Rattle.std.proofs.Common.{◌++◌, length, filter, map, max, refl, ap, sym, subst, ◌∙◌, cond}
 use Rattle.std.proofs.lemmas.Bool.{and_parts}
 use Rattle.std.specs.Cmp.{unsigned_Decides}
 use Rattle.coap_types.specs.declared.endpoint.Endpoint.{Endpoint}
@@ -108,24 +108,24 @@ module _ (limits : Limits) (szx : ℕ) where
         (λ o k. made_before c t o.to o.token o.path
         (λ is. absurd (let e : None ≡ pair o.to o.token = sym none ∙ is in cc e)) k) os h
 
-    marked_now : (c : Call) (path : List (List ℕ)) (old left : Content) (os : List Observer) → Now c os
-        → Now c (marked_if path old left os)
-    marked_now c path old left os h = by (left.tally.version == old.tally.version)
+    marked_now : (c : Call) (at : ℕ) (path : List (List ℕ)) (old left : Content) (os : List Observer) → Now c os
+        → Now c (marked_if at path old left os)
+    marked_now c at path old left os h = by (left.tally.version == old.tally.version)
       where
-        by : (b : Bool) → Now c (cond b os (changed_at path os))
+        by : (b : Bool) → Now c (cond b os (changed_at at path os))
         by true = h
-        by false = each_map (IsLatest limits szx (c ∷ t)) (marked_by path) (λ o k. k) os h
+        by false = each_map (IsLatest limits szx (c ∷ t)) (marked_by at path) (λ o k. k) os h
 
-    notified_now : (c : Call) (held : Option Held) (o : Observer) (os : List Observer) → Now c os
-        → Now c (notified held o os)
-    notified_now c None o os h = each_removed (IsLatest limits szx (c ∷ t)) o.to o.token os h
-    notified_now c (Some held) o os h = each_map (IsLatest limits szx (c ∷ t)) (unmarked_by o.to o.token)
+    notified_now : (c : Call) (at : ℕ) (held : Option Held) (o : Observer) (os : List Observer) → Now c os
+        → Now c (notified at held o os)
+    notified_now c at None o os h = each_removed (IsLatest limits szx (c ∷ t)) o.to o.token os h
+    notified_now c at (Some held) o os h = each_map (IsLatest limits szx (c ∷ t)) (unmarked_by at o.to o.token true)
         (λ x k. k) os h
 
     -- a request that is served may make one
     module _ (c : Call) (s : Own) (a : Asked) (q : Question) (reply : Reply) (left : Content) where
       served : registering (own t) c ≡ registers_by s a q reply → serving (own t) c ≡ Some (serving_of s a q reply left)
-          → Before s.observers → Now c (observers_with a q reply s.observers)
+          → Before s.observers → Now c (observers_with s.clock a q reply s.observers)
       served is here h = by (registers a q reply s.observers) refl (observes 1 q)
         where
           made : registers a q reply s.observers ≡ true → MadeBy limits szx a.from a.token q.path t c
@@ -161,7 +161,7 @@ module _ (limits : Limits) (szx : ℕ) where
           none so = is ∙ ap (λ b. cond b (pair a.from a.token) None) so
 
           by : (b : Bool) → registers a q reply s.observers ≡ b → (m : Bool)
-              → Now c (cond b (registered a.from a.token q.path (szx_by (block_of q.options) q.szx) s.observers)
+              → Now c (cond b (registered s.clock a.from a.token q.path (szx_by (block_of q.options) q.szx) s.observers)
               (cond m (removed a.from a.token s.observers) s.observers))
           by true so m =
               each_with (IsLatest limits szx (c ∷ t)) (removed a.from a.token s.observers) _
@@ -180,18 +180,18 @@ module _ (limits : Limits) (szx : ℕ) where
     fed now from bytes w up below None (Serves q reply left) g = later _ refl _ g
     fed now from bytes w up below None (Waits q d) g = later _ refl _ g
     fed now from bytes w up below None (Notifies o reply) g =
-        let s : Own = heard (own t) now (incoming (own t) now from bytes up None) in notified_now _
+        let s : Own = heard (own t) now (incoming (own t) now from bytes up None) in notified_now _ s.clock
         (s.store.holds o.path) o s.observers (later _ refl s.observers g)
     fed now from bytes w up below (Some p) Silent g = later _ refl _ g
     fed now from bytes w up below (Some p) (Replies r) g = later _ refl _ g
     fed now from bytes w up below (Some p) (Waits q d) g = later _ refl _ g
     fed now from bytes w up below (Some p) (Notifies o reply) g =
-        let s : Own = heard (own t) now (incoming (own t) now from bytes up (Some p)) in notified_now _
+        let s : Own = heard (own t) now (incoming (own t) now from bytes up (Some p)) in notified_now _ s.clock
         (s.store.holds o.path) o s.observers (later _ refl s.observers g)
     fed now from bytes w up below (Some p) (Serves q reply left) g =
         let s : Own = heard (own t) now (incoming (own t) now from bytes up (Some p)) in
         let c : Call = Feeds now from bytes w up (Some p) (Serves q reply left) below in
-        marked_now c q.path s.store left (observers_with p.0 q reply s.observers)
+        marked_now c s.clock q.path s.store left (observers_with s.clock p.0 q reply s.observers)
         (served c s p.0 q reply left refl refl g)
 
     module _ (now w : ℕ) (below : L.Answer) (room : Bool) (passed id : ℕ) (answer : Bool) where
@@ -203,16 +203,16 @@ module _ (limits : Limits) (szx : ℕ) where
 
       -- no request that waits is ready
       idle : (d : Due) (h : Handling) → registering (own t) (tick d h) ≡ None
-          → (own (tick d h ∷ t)).observers ≡ observers_after (stage d).store None h (stage d).observers
+          → (own (tick d h ∷ t)).observers ≡ observers_after (stage d).clock (stage d).store None h (stage d).observers
           → Before (stage d).observers → Now (tick d h) (own (tick d h ∷ t)).observers
       idle d h none is g = subst (Now (tick d h)) (sym is) (by h)
         where
-          by : (k : Handling) → Now (tick d h) (observers_after (stage d).store None k (stage d).observers)
+          by : (k : Handling) → Now (tick d h) (observers_after (stage d).clock (stage d).store None k (stage d).observers)
           by Silent = later _ none _ g
           by (Replies r) = later _ none _ g
           by (Serves q reply left) = later _ none _ g
           by (Waits q e) = later _ none _ g
-          by (Notifies o reply) = notified_now _ ((stage d).store.holds o.path) o (stage d).observers (later _ none _ g)
+          by (Notifies o reply) = notified_now _ (stage d).clock ((stage d).store.holds o.path) o (stage d).observers (later _ none _ g)
 
       silent : (d : Due) (h : Handling) → ready_in d ≡ None → registering (own t) (tick d h) ≡ None
       silent due.Idle h is = refl
@@ -228,11 +228,11 @@ module _ (limits : Limits) (szx : ℕ) where
       ticked (due.Ready a) (Replies r) g = later _ refl _ g
       ticked (due.Ready a) (Waits q d) g = later _ refl _ g
       ticked (due.Ready a) (Notifies o reply) g = let s : Own =
-          stage (due.Ready a) in notified_now _ (s.store.holds o.path) o s.observers (later _ refl s.observers g)
+          stage (due.Ready a) in notified_now _ s.clock (s.store.holds o.path) o s.observers (later _ refl s.observers g)
       ticked (due.Ready a) (Serves q reply left) g =
           let s : Own = stage (due.Ready a) in
           let c : Call = tick (due.Ready a) (Serves q reply left) in
-          marked_now c q.path s.store left (observers_with a q reply s.observers)
+          marked_now c s.clock q.path s.store left (observers_with s.clock a q reply s.observers)
           (served c s a q reply left refl refl g)
 
   pub are_latest : (t : List Call) → AreLatest limits szx t
@@ -242,9 +242,9 @@ module _ (limits : Limits) (szx : ℕ) where
       by : (c : Call) → Each (IsLatest limits szx t) (own t).observers
           → Each (IsLatest limits szx (c ∷ t)) (own (c ∷ t)).observers
       by (Sets now path format body answer left) g =
-          marked_now t (Sets now path format body answer left) path (own t).store left (own t).observers
+          marked_now t (Sets now path format body answer left) (max (own t).clock now) path (own t).store left (own t).observers
           (later t _ refl _ g)
-      by (Removes now path answer left) g = marked_now t (Removes now path answer left) path (own t).store left
+      by (Removes now path answer left) g = marked_now t (Removes now path answer left) (max (own t).clock now) path (own t).store left
           (own t).observers (later t _ refl _ g)
       by (Delays path ms answer) g = later t _ refl _ g
       by (Gets path answer) g = later t _ refl _ g

@@ -1,6 +1,6 @@
 -- What is due to an observer stays due until it is notified, registers anew, or its observation ends.
 use Rattle.std.proofs.Common.{◌≡◌, ◌⊎◌, inl, inr, ℕ, ◌==◌, ◌||◌, Bool, true, false, Option, Some, None, List, []}
-use Rattle.std.proofs.Common.{◌∷◌, refl, ap, ◌∙◌, cond, option_map}
+use Rattle.std.proofs.Common.{◌∷◌, refl, ap, ◌∙◌, cond, max, option_map}
 use Rattle.coap_types.specs.Path.{same_path}
 use Rattle.coap_types.specs.declared.endpoint.Endpoint.{Endpoint}
 use Rattle.coap_codec.specs.Message.{Message}
@@ -48,43 +48,44 @@ module _ (to : Endpoint) (token : List ℕ) where
     | inr other ↦ inl (moved os (removed by bytes os) (others_stay to token by bytes os other).removed_stay d)
   ]
 
-  marked_on : (path : List (List ℕ)) (old left : Content) (os : List Observer) → Due_in os
-      → Due_in (marked_if path old left os)
-  marked_on path old left os d = by (left.tally.version == old.tally.version)
+  marked_on : (at : ℕ) (path : List (List ℕ)) (old left : Content) (os : List Observer) → Due_in os
+      → Due_in (marked_if at path old left os)
+  marked_on at path old left os d = by (left.tally.version == old.tally.version)
     where
       still : (b c : Bool) → b ≡ true → (b || c) ≡ true
       still b c h = ap (λ z. z || c) h
 
-      by : (b : Bool) → Due_in (cond b os (changed_at path os))
+      by : (b : Bool) → Due_in (cond b os (changed_at at path os))
       by true = d
       by false = record {
-        observer = marked_by path d.observer;
-        there = registration-changed_at path to token os ∙ ap (option_map (marked_by path)) d.there;
+        observer = marked_by at path d.observer;
+        there = registration-changed_at at path to token os ∙ ap (option_map (marked_by at path)) d.there;
         marked = still d.observer.marked (same_path d.observer.path path) d.marked;
       }
 
-  notified_on : (held : Option Held) (o : Observer) (os : List Observer) → Due_in os
-      → Due_in (notified held o os) ⊎ Same o.to o.token
-  notified_on None o os d = removed_on o.to o.token os d
-  notified_on (Some held) o os d = elim (is_pair to token o.to o.token) [
+  notified_on : (at : ℕ) (held : Option Held) (o : Observer) (os : List Observer) → Due_in os
+      → Due_in (notified at held o os) ⊎ Same o.to o.token
+  notified_on at None o os d = removed_on o.to o.token os d
+  notified_on at (Some held) o os d = elim (is_pair to token o.to o.token) [
     | inl p ↦ inr p
-    | inr other ↦ inl (moved os (sent_to o.to o.token os) (others_stay to token o.to o.token os other).sent_stay d)
+    | inr other ↦ inl (moved os (sent_to at o.to o.token true os)
+        ((others_stay to token o.to o.token os other).sent_stay at true) d)
   ]
 
   -- by a request that is served: it registers this one anew, or cancels it
-  served_on : (a : Asked) (q : Question) (reply : Reply) (os : List Observer) → Due_in os
-      → Due_in (observers_with a q reply os)
+  served_on : (at : ℕ) (a : Asked) (q : Question) (reply : Reply) (os : List Observer) → Due_in os
+      → Due_in (observers_with at a q reply os)
       ⊎ (((registers a q reply os ≡ true) ⊎ (observes 1 q ≡ true)) × Same a.from a.token)
-  served_on a q reply os d = by (registers a q reply os) refl (observes 1 q) refl
+  served_on at a q reply os d = by (registers a q reply os) refl (observes 1 q) refl
     where
       by : (r : Bool) → registers a q reply os ≡ r → (m : Bool) → observes 1 q ≡ m
-          → Due_in (cond r (registered a.from a.token q.path (szx_by (block_of q.options) q.szx) os)
+          → Due_in (cond r (registered at a.from a.token q.path (szx_by (block_of q.options) q.szx) os)
           (cond m (removed a.from a.token os) os))
           ⊎ (((registers a q reply os ≡ true) ⊎ (observes 1 q ≡ true)) × Same a.from a.token)
       by true is m e = elim (is_pair to token a.from a.token) [
         | inl p ↦ inr (inl is, p)
-        | inr other ↦ inl (moved os (registered a.from a.token q.path (szx_by (block_of q.options) q.szx) os)
-            ((others_stay to token a.from a.token os other).registered_stay q.path
+        | inr other ↦ inl (moved os (registered at a.from a.token q.path (szx_by (block_of q.options) q.szx) os)
+            ((others_stay to token a.from a.token os other).registered_stay at q.path
             (szx_by (block_of q.options) q.szx)) d)
       ]
       by false is true e = elim (removed_on a.from a.token os d) [ inl k ↦ inl k | inr p ↦ inr (inr e, p) ]
@@ -123,8 +124,8 @@ module _ (to : Endpoint) (token : List ℕ) where
         (own (Feeds now from bytes w up (Some p) (Serves q reply left) below ∷ t)).observers
     came_on t now from bytes w up p q reply left below d =
         let s : Own = heard (own t) now (incoming (own t) now from bytes up (Some p)) in
-        elim (served_on p.0 q reply s.observers d) [
-          | inl k ↦ inl (marked_on q.path s.store left (observers_with p.0 q reply s.observers) k)
+        elim (served_on s.clock p.0 q reply s.observers d) [
+          | inl k ↦ inl (marked_on s.clock q.path s.store left (observers_with s.clock p.0 q reply s.observers) k)
           | inr k ↦ elim k.0 [
             | inl so ↦ inr (renews (ap (λ b. cond b (Some (record { to = p.0.from; token = p.0.token })) None) so
                 ∙ ap (λ x. Some x) (pair_is p.0 k.1)))
@@ -139,8 +140,8 @@ module _ (to : Endpoint) (token : List ℕ) where
         (own (Ticks now w below room (due.Ready a) passed (Serves q reply left) id answer ∷ t)).observers
     ready_on t now w below room a passed q reply left id answer d =
         let s : Own = heard (own t) now (ticking (own t) now below room (due.Ready a)) in
-        elim (served_on a q reply s.observers d) [
-          | inl k ↦ inl (marked_on q.path s.store left (observers_with a q reply s.observers) k)
+        elim (served_on s.clock a q reply s.observers d) [
+          | inl k ↦ inl (marked_on s.clock q.path s.store left (observers_with s.clock a q reply s.observers) k)
           | inr k ↦ elim k.0 [
             | inl so ↦ inr (renews (ap (λ b. cond b (Some (record { to = a.from; token = a.token })) None) so
                 ∙ ap (λ x. Some x) (pair_is a k.1)))
@@ -151,9 +152,9 @@ module _ (to : Endpoint) (token : List ℕ) where
     notice_on : (t : List Call) (now w : ℕ) (below : L.Answer) (room : Bool) (d : Due) (passed : ℕ) (o : Observer)
         (reply : Reply) (id : ℕ) (answer : Bool) (os : List Observer) → Due_in os
         → On t (Ticks now w below room d passed (Notifies o reply) id answer)
-        (notified ((own t).store.holds o.path) o os)
+        (notified (max (own t).clock now) ((own t).store.holds o.path) o os)
     notice_on t now w below room d passed o reply id answer os k =
-        elim (notified_on ((own t).store.holds o.path) o os k) [
+        elim (notified_on (max (own t).clock now) ((own t).store.holds o.path) o os k) [
           | inl k ↦ inl k
           | inr p ↦ inr (notifies (record { observer = o; reply = reply }) refl p.0 p.1)
         ]
@@ -223,8 +224,8 @@ module _ (to : Endpoint) (token : List ℕ) where
           | inl k ↦ ticked t now w below room d passed h id answer k
           | inr over ↦ inr over
         ]
-    on t (Sets now path format body answer left) rows d = inl (marked_on path (own t).store left (own t).observers d)
-    on t (Removes now path answer left) rows d = inl (marked_on path (own t).store left (own t).observers d)
+    on t (Sets now path format body answer left) rows d = inl (marked_on (max (own t).clock now) path (own t).store left (own t).observers d)
+    on t (Removes now path answer left) rows d = inl (marked_on (max (own t).clock now) path (own t).store left (own t).observers d)
     on t (Delays path ms answer) rows d = inl d
     on t (Gets path answer) rows d = inl d
     on t (TellsApplied answer) rows d = inl d

@@ -41,37 +41,37 @@ not_zero q h = by (uint_at observe q.options) h
         let z = and_parts (is_get q.method) (v == 1) k in
         ap (λ g. g && (v == 0)) z.0 ∙ ap (λ n. n == 0) ((unsigned_Decides v 1).0 z.1)
 
-module _ (a : Asked) (q : Question) (reply : Reply) (os : List Observer) (h : observes 1 q ≡ true) where
+module _ (at : ℕ) (a : Asked) (q : Question) (reply : Reply) (os : List Observer) (h : observes 1 q ≡ true) where
   registers_not : registers a q reply os ≡ false
   registers_not = ap (λ b. b && ((reply.code == content)
       && ((reply.offset == 0) && nat_lt (length (removed a.from a.token os)) max_observers))) (not_zero q h)
 
-  none_with : registration a.from a.token (observers_with a q reply os) ≡ None
+  none_with : registration a.from a.token (observers_with at a q reply os) ≡ None
   none_with =
       ap (λ b. registration a.from a.token (cond b
-      (registered a.from a.token q.path (szx_by (block_of q.options) q.szx) os)
+      (registered at a.from a.token q.path (szx_by (block_of q.options) q.szx) os)
       (cond (observes 1 q) (removed a.from a.token os) os))) registers_not
       ∙ (ap (λ b. registration a.from a.token (cond b (removed a.from a.token os) os)) h
       ∙ registration-removed a.from a.token os)
 
-  none_served : (old left : Content) → registration a.from a.token (observers_served old a q reply left os) ≡ None
+  none_served : (old left : Content) → registration a.from a.token (observers_served at old a q reply left os) ≡ None
   none_served old left = by (left.tally.version == old.tally.version)
     where
       by : (b : Bool) → registration a.from a.token
-          (cond b (observers_with a q reply os) (changed_at q.path (observers_with a q reply os))) ≡ None
+          (cond b (observers_with at a q reply os) (changed_at at q.path (observers_with at a q reply os))) ≡ None
       by true = none_with
-      by false = registration-changed_at q.path a.from a.token (observers_with a q reply os)
-          ∙ ap (option_map (marked_by q.path)) none_with
+      by false = registration-changed_at at q.path a.from a.token (observers_with at a q reply os)
+          ∙ ap (option_map (marked_by at q.path)) none_with
 
 -- what an observer is told
 
 gone_so : (o : Observer) (held : Option Held) → held ≡ None → (got held (asks_for o)).code ≡ not_found
 gone_so o held h = ap (λ z. (got z (asks_for o)).code) h
 
-held_so : (o : Observer) (os : List Observer) (held : Option Held) → (got held (asks_for o)).code ≢ content
-    → registration o.to o.token (notified held o os) ≡ None
-held_so o os None h = registration-removed o.to o.token os
-held_so o os (Some held) h = absurd (h refl)
+held_so : (at : ℕ) (o : Observer) (os : List Observer) (held : Option Held) → (got held (asks_for o)).code ≢ content
+    → registration o.to o.token (notified at held o os) ≡ None
+held_so at o os None h = registration-removed o.to o.token os
+held_so at o os (Some held) h = absurd (h refl)
 
 record IsTold (o : Observer) (store : Content) (reply : Reply) : Type 0 where
   is : reply ≡ told store o
@@ -92,13 +92,13 @@ module _ (limits : Limits) (szx : ℕ) where
   Over t c x = registration x.asked.from x.asked.token (own (c ∷ t)).observers ≡ None
 
   served_over : (t : List Call) (c : Call) (s : Own) (a : Asked) (q : Question) (reply : Reply) (left : Content)
-      (x : Serving) → (own (c ∷ t)).observers ≡ observers_served s.store a q reply left s.observers
+      (x : Serving) → (own (c ∷ t)).observers ≡ observers_served s.clock s.store a q reply left s.observers
       → Some (serving_of s a q reply left) ≡ Some x
       → observes 1 x.question ≡ true → Over t c x
   served_over t c s a q reply left x is e h =
       let same : ◌≡◌ {A = Serving} (serving_of s a q reply left) x = cc e in
       subst (λ (y : Serving). observes 1 y.question ≡ true → Over t c y) same
-      (λ k. ap (registration a.from a.token) is ∙ none_served a q reply s.observers k s.store left) h
+      (λ k. ap (registration a.from a.token) is ∙ none_served s.clock a q reply s.observers k s.store left) h
 
   ends_here : (t : List Call) (c : Call) (x : Serving) → serving (own t) c ≡ Some x → observes 1 x.question ≡ true
       → Over t c x
@@ -142,7 +142,7 @@ module _ (limits : Limits) (szx : ℕ) where
       let code : reply.code ≡ (got (s.store.holds o.path) (asks_for o)).code = ap (λ (r : Reply). r.code) k.is in
       record {
         gone = λ h. code ∙ gone_so o (s.store.holds o.path) h;
-        last = λ h. held_so o s.observers (s.store.holds o.path) (λ e. h (code ∙ e));
+        last = λ h. held_so s.clock o s.observers (s.store.holds o.path) (λ e. h (code ∙ e));
       }
   told_here t now w below room due.Copied passed o reply id answer rows = let k = rows.0.0 in absurd (cc k)
   told_here t now w below room due.Expired passed o reply id answer rows = let k = rows.0.0 in absurd (cc k)

@@ -1,12 +1,12 @@
 -- An observation stays until it is told to have ended, cancelled, or its path is gone.
 use Rattle.std.proofs.Common.{◌≡◌, ◌⊎◌, inl, inr, ℕ, ◌==◌, Bool, true, false, Option, Some, None, List, [], ◌∷◌}
-use Rattle.std.proofs.Common.{refl, sym, subst, ◌∙◌, cond, option_map}
+use Rattle.std.proofs.Common.{refl, sym, subst, ◌∙◌, cond, max, option_map}
 use Rattle.coap_types.specs.declared.endpoint.Endpoint.{Endpoint}
 use Rattle.coap_codec.specs.Message.{Message}
 use Rattle.coap_layer.specs.Trace as L
 use Rattle.coap_observe.specs.Observers.{Observer, is_of, registration, removed, registered, changed_at, marked_by}
-use Rattle.coap_observe.specs.Observers.{sent_to}
-use Rattle.coap_observe.specs.Registrations.{IsOther}
+use Rattle.coap_observe.specs.Observers.{begun, sent_to}
+use Rattle.coap_observe.specs.Registrations.{IsOther, told_by}
 use Rattle.coap_observe.proofs.Facts.Registrations.{is_of-decides, registration-registered, registration-changed_at}
 use Rattle.coap_observe.proofs.Facts.Registrations.{registration-sent_to, others_stay}
 use Rattle.coap_resource.specs.Content.{Content, Held}
@@ -32,7 +32,7 @@ use Rattle.coap_server.proofs.Observing.ObservationEnds.{told_here}
 use Rattle.coap_server.proofs.Observing.Outcomes.{never_notifies}
 
 abbrev asked_of : Endpoint → List ℕ → Observer
-asked_of by bytes = record { to = by; token = bytes; path = []; szx = 0; marked = false }
+asked_of by bytes = begun 0 by bytes [] 0
 
 -- the same endpoint and token, or another
 pub is_pair : (to : Endpoint) (token : List ℕ) (by : Endpoint) (bytes : List ℕ)
@@ -61,46 +61,47 @@ module _ (to : Endpoint) (token : List ℕ) where
   removed_back by bytes os h = elim (is_pair to token by bytes)
       [ inl p ↦ inr p | inr other ↦ inl (sym (others_stay to token by bytes os other).removed_stay ∙ h) ]
 
-  registered_back : (by : Endpoint) (bytes : List ℕ) (path : List (List ℕ)) (szx : ℕ) (os : List Observer)
-      → None_in (registered by bytes path szx os) → None_in os
-  registered_back by bytes path szx os h = elim (is_pair to token by bytes) [
+  registered_back : (at : ℕ) (by : Endpoint) (bytes : List ℕ) (path : List (List ℕ)) (szx : ℕ) (os : List Observer)
+      → None_in (registered at by bytes path szx os) → None_in os
+  registered_back at by bytes path szx os h = elim (is_pair to token by bytes) [
     | inl p ↦ (
-        let there : registration to token (registered to token path szx os)
-        ≡ None = subst (λ x. registration to token (registered x token path szx os) ≡ None) p.0
-        (subst (λ x. registration to token (registered by x path szx os) ≡ None) p.1 h) in
-        let no = sym (registration-registered to token path szx os) ∙ there in absurd (cc no))
-    | inr other ↦ sym ((others_stay to token by bytes os other).registered_stay path szx) ∙ h
+        let there : registration to token (registered at to token path szx os)
+        ≡ None = subst (λ x. registration to token (registered at x token path szx os) ≡ None) p.0
+        (subst (λ x. registration to token (registered at by x path szx os) ≡ None) p.1 h) in
+        let no = sym (registration-registered at to token path szx os) ∙ there in absurd (cc no))
+    | inr other ↦ sym ((others_stay to token by bytes os other).registered_stay at path szx) ∙ h
   ]
 
-  marked_back : (path : List (List ℕ)) (old left : Content) (os : List Observer) → None_in (marked_if path old left os)
+  marked_back : (at : ℕ) (path : List (List ℕ)) (old left : Content) (os : List Observer) → None_in (marked_if at path old left os)
       → None_in os
-  marked_back path old left os h = by (left.tally.version == old.tally.version) h
+  marked_back at path old left os h = by (left.tally.version == old.tally.version) h
     where
-      by : (b : Bool) → None_in (cond b os (changed_at path os)) → None_in os
+      by : (b : Bool) → None_in (cond b os (changed_at at path os)) → None_in os
       by true k = k
-      by false k = mapped_none (marked_by path) (registration to token os)
-          (sym (registration-changed_at path to token os) ∙ k)
+      by false k = mapped_none (marked_by at path) (registration to token os)
+          (sym (registration-changed_at at path to token os) ∙ k)
 
-  notified_back : (held : Option Held) (o : Observer) (os : List Observer) → None_in (notified held o os)
+  notified_back : (at : ℕ) (held : Option Held) (o : Observer) (os : List Observer) → None_in (notified at held o os)
       → None_in os ⊎ ((held ≡ None) × Pair o.to o.token)
-  notified_back None o os h = elim (removed_back o.to o.token os h) [ inl k ↦ inl k | inr p ↦ inr (refl, p) ]
-  notified_back (Some held) o os h = inl (elim (is_pair to token o.to o.token) [
+  notified_back at None o os h = elim (removed_back o.to o.token os h) [ inl k ↦ inl k | inr p ↦ inr (refl, p) ]
+  notified_back at (Some held) o os h = inl (elim (is_pair to token o.to o.token) [
     | inl p ↦ (
-        let there : registration to token (sent_to to token os)
-        ≡ None = subst (λ x. None_in (sent_to x token os)) p.0 (subst (λ x. None_in (sent_to o.to x os)) p.1 h) in
-        mapped_none (λ (x : Observer). record x { marked = false }) (registration to token os)
-        (sym (registration-sent_to to token os) ∙ there))
-    | inr other ↦ sym (others_stay to token o.to o.token os other).sent_stay ∙ h
+        let there : registration to token (sent_to at to token true os)
+        ≡ None = subst (λ x. None_in (sent_to at x token true os)) p.0
+        (subst (λ x. None_in (sent_to at o.to x true os)) p.1 h) in
+        mapped_none (told_by at true) (registration to token os)
+        (sym (registration-sent_to at to token true os) ∙ there))
+    | inr other ↦ sym ((others_stay to token o.to o.token os other).sent_stay at true) ∙ h
   ])
 
-  served_back : (a : Asked) (q : Question) (reply : Reply) (os : List Observer) → None_in (observers_with a q reply os)
+  served_back : (at : ℕ) (a : Asked) (q : Question) (reply : Reply) (os : List Observer) → None_in (observers_with at a q reply os)
       → None_in os ⊎ ((observes 1 q ≡ true) × Pair a.from a.token)
-  served_back a q reply os h = by (registers a q reply os) (observes 1 q) refl h
+  served_back at a q reply os h = by (registers a q reply os) (observes 1 q) refl h
     where
       by : (r m : Bool) → observes 1 q ≡ m → None_in
-          (cond r (registered a.from a.token q.path (szx_by (block_of q.options) q.szx) os)
+          (cond r (registered at a.from a.token q.path (szx_by (block_of q.options) q.szx) os)
           (cond m (removed a.from a.token os) os)) → None_in os ⊎ ((observes 1 q ≡ true) × Pair a.from a.token)
-      by true m e k = inl (registered_back a.from a.token q.path (szx_by (block_of q.options) q.szx) os k)
+      by true m e k = inl (registered_back at a.from a.token q.path (szx_by (block_of q.options) q.szx) os k)
       by false true e k = elim (removed_back a.from a.token os k) [ inl z ↦ inl z | inr p ↦ inr (e, p) ]
       by false false e k = inl k
 
@@ -132,22 +133,24 @@ module _ (to : Endpoint) (token : List ℕ) where
     -- what was served
     came_over : (t : List Call) (now : ℕ) (from : Endpoint) (bytes : List ℕ) (w : ℕ) (up : L.Answer)
         (p : Asked × Message) (q : Question) (reply : Reply) (left : Content) (below : L.Answer) (os : List Observer)
-        → None_in (observers_served (own t).store p.0 q reply left os)
+        → None_in (observers_served (max (own t).clock now) (own t).store p.0 q reply left os)
         → Back t (Feeds now from bytes w up (Some p) (Serves q reply left) below) os
     came_over t now from bytes w up p q reply left below os h =
         let s : Own = heard (own t) now (incoming (own t) now from bytes up (Some p)) in
-        elim (served_back p.0 q reply os (marked_back q.path (own t).store left (observers_with p.0 q reply os) h)) [
+        elim (served_back s.clock p.0 q reply os
+        (marked_back s.clock q.path (own t).store left (observers_with s.clock p.0 q reply os) h)) [
           | inl k ↦ inl k
           | inr k ↦ inr (cancels (serving_of s p.0 q reply left) refl k.0 k.1.0 k.1.1)
         ]
 
     ready_over : (t : List Call) (now w : ℕ) (below : L.Answer) (room : Bool) (a : Asked) (passed : ℕ) (q : Question)
         (reply : Reply) (left : Content) (id : ℕ) (answer : Bool) (os : List Observer)
-        → None_in (observers_served (own t).store a q reply left os)
+        → None_in (observers_served (max (own t).clock now) (own t).store a q reply left os)
         → Back t (Ticks now w below room (due.Ready a) passed (Serves q reply left) id answer) os
     ready_over t now w below room a passed q reply left id answer os h =
         let s : Own = heard (own t) now (ticking (own t) now below room (due.Ready a)) in
-        elim (served_back a q reply os (marked_back q.path (own t).store left (observers_with a q reply os) h)) [
+        elim (served_back s.clock a q reply os
+        (marked_back s.clock q.path (own t).store left (observers_with s.clock a q reply os) h)) [
           | inl k ↦ inl k
           | inr k ↦ inr (cancels (serving_of s a q reply left) refl k.0 k.1.0 k.1.1)
         ]
@@ -155,10 +158,10 @@ module _ (to : Endpoint) (token : List ℕ) where
     notice_over : (t : List Call) (now w : ℕ) (below : L.Answer) (room : Bool) (d : Due) (passed : ℕ) (o : Observer)
         (reply : Reply) (id : ℕ) (answer : Bool) (os : List Observer)
         → ServerRows limits szx (Ticks now w below room d passed (Notifies o reply) id answer ∷ t)
-        → None_in (notified ((own t).store.holds o.path) o os)
+        → None_in (notified (max (own t).clock now) ((own t).store.holds o.path) o os)
         → Back t (Ticks now w below room d passed (Notifies o reply) id answer) os
     notice_over t now w below room d passed o reply id answer os rows h =
-        elim (notified_back ((own t).store.holds o.path) o os h) [
+        elim (notified_back (max (own t).clock now) ((own t).store.holds o.path) o os h) [
           | inl k ↦ inl k
           | inr k ↦ (
               let code = (told_here limits szx t now w below room d passed o reply id answer rows).gone k.0 in
@@ -235,8 +238,8 @@ module _ (to : Endpoint) (token : List ℕ) where
           | inr over ↦ inr over
         ]
     back t (Sets now path format body answer left) rows none =
-        inl (marked_back path (own t).store left (own t).observers none)
-    back t (Removes now path answer left) rows none = inl (marked_back path (own t).store left (own t).observers none)
+        inl (marked_back (max (own t).clock now) path (own t).store left (own t).observers none)
+    back t (Removes now path answer left) rows none = inl (marked_back (max (own t).clock now) path (own t).store left (own t).observers none)
     back t (Delays path ms answer) rows none = inl none
     back t (Gets path answer) rows none = inl none
     back t (TellsApplied answer) rows none = inl none

@@ -1,7 +1,7 @@
 -- The observers of a server are registrations, and each was made by a GET that was served.
 use Rattle.coap_observe.specs.declared.observers.TheConstants.{MAX_OBSERVERS as max_observers}
 use Rattle.std.proofs.Common.{◌≡◌, ◌<◌, inl, inr, ℕ, ◌==◌, ◌&&◌, nat_lt, Bool, true, false, not, Option, Some, None}
-use Rattle.std.proofs.Common.{List, [], ◌∷◌, ◌++◌, length, filter, map, refl, ap, sym, subst, cond, arith}
+use Rattle.std.proofs.Common.{List, [], ◌∷◌, ◌++◌, length, filter, map, max, refl, ap, sym, subst, cond, arith}
 use Rattle.std.proofs.lemmas.Bool.{ltb-true}
 use Rattle.std.specs.Cmp.{unsigned_Decides}
 use Rattle.coap_types.specs.Past.{Sometime}
@@ -100,37 +100,37 @@ module _ (limits : Limits) (szx : ℕ) (t : List Call) where
       by true = good_removed x.to x.token os g
       by false = g
 
-  good_marked : (path : List (List ℕ)) (old left : Content) (os : List Observer) → Good os
-      → Good (marked_if path old left os)
-  good_marked path old left os g = by (left.tally.version == old.tally.version)
+  good_marked : (at : ℕ) (path : List (List ℕ)) (old left : Content) (os : List Observer) → Good os
+      → Good (marked_if at path old left os)
+  good_marked at path old left os g = by (left.tally.version == old.tally.version)
     where
-      by : (b : Bool) → Good (cond b os (changed_at path os))
+      by : (b : Bool) → Good (cond b os (changed_at at path os))
       by true = g
       by false = record {
-        registrations = registrations-changed path os g.registrations;
-        made = each_map (WasMade limits szx t) (marked_by path) (λ o h. h) os g.made;
+        registrations = registrations-changed at path os g.registrations;
+        made = each_map (WasMade limits szx t) (marked_by at path) (λ o h. h) os g.made;
       }
 
-  good_notified : (held : Option Held) (o : Observer) (os : List Observer) → Good os → Good (notified held o os)
-  good_notified None o os g = good_removed o.to o.token os g
-  good_notified (Some h) o os g =
+  good_notified : (at : ℕ) (held : Option Held) (o : Observer) (os : List Observer) → Good os → Good (notified at held o os)
+  good_notified at None o os g = good_removed o.to o.token os g
+  good_notified at (Some h) o os g =
       record {
-        registrations = registrations-sent o.to o.token os g.registrations;
-        made = each_map (WasMade limits szx t) (unmarked_by o.to o.token) (λ x h. h) os g.made;
+        registrations = registrations-sent at o.to o.token true os g.registrations;
+        made = each_map (WasMade limits szx t) (unmarked_by at o.to o.token true) (λ x h. h) os g.made;
       }
 
-  good_with : (a : Asked) (q : Question) (reply : Reply) (os : List Observer)
+  good_with : (at : ℕ) (a : Asked) (q : Question) (reply : Reply) (os : List Observer)
       → (Registers a q reply os → Sometime (MadeWith limits szx a.from a.token q.path
-      (szx_by (block_of q.options) q.szx)) t) → Good os → Good (observers_with a q reply os)
-  good_with a q reply os new g = by (registers a q reply os) refl (observes 1 q)
+      (szx_by (block_of q.options) q.szx)) t) → Good os → Good (observers_with at a q reply os)
+  good_with at a q reply os new g = by (registers a q reply os) refl (observes 1 q)
     where
       by : (b : Bool) → registers a q reply os ≡ b → (m : Bool)
-          → Good (cond b (registered a.from a.token q.path (szx_by (block_of q.options) q.szx) os)
+          → Good (cond b (registered at a.from a.token q.path (szx_by (block_of q.options) q.szx) os)
           (cond m (removed a.from a.token os) os))
       by true e m =
           let k = registers_so a q reply os e in
           record {
-            registrations = registrations-registered a.from a.token q.path
+            registrations = registrations-registered at a.from a.token q.path
                 (szx_by (block_of q.options) q.szx) os g.registrations k.room;
             made = each_with (WasMade limits szx t) (removed a.from a.token os) _
                 (each_kept (WasMade limits szx t) (λ o. not (is_of a.from a.token o)) os g.made) (new k);
@@ -138,11 +138,11 @@ module _ (limits : Limits) (szx : ℕ) (t : List Call) where
       by false e true = good_removed a.from a.token os g
       by false e false = g
 
-  good_served : (old : Content) (a : Asked) (q : Question) (reply : Reply) (left : Content) (os : List Observer)
+  good_served : (at : ℕ) (old : Content) (a : Asked) (q : Question) (reply : Reply) (left : Content) (os : List Observer)
       → (Registers a q reply os → Sometime (MadeWith limits szx a.from a.token q.path
-      (szx_by (block_of q.options) q.szx)) t) → Good os → Good (observers_served old a q reply left os)
-  good_served old a q reply left os new g = good_marked q.path old left (observers_with a q reply os)
-      (good_with a q reply os new g)
+      (szx_by (block_of q.options) q.szx)) t) → Good os → Good (observers_served at old a q reply left os)
+  good_served at old a q reply left os new g = good_marked at q.path old left (observers_with at a q reply os)
+      (good_with at a q reply os new g)
 
 module _ (limits : Limits) (szx : ℕ) where
   abbrev own : List Call → Own
@@ -167,16 +167,16 @@ module _ (limits : Limits) (szx : ℕ) where
     fed None (Waits q d) g = g
     fed None (Notifies o reply) g =
         let s : Own = heard (own t) now (incoming (own t) now from bytes up None) in good_notified limits szx
-        (Feeds now from bytes w up None (Notifies o reply) below ∷ t) (s.store.holds o.path) o s.observers g
+        (Feeds now from bytes w up None (Notifies o reply) below ∷ t) s.clock (s.store.holds o.path) o s.observers g
     fed (Some p) Silent g = g
     fed (Some p) (Replies r) g = g
     fed (Some p) (Waits q d) g = g
     fed (Some p) (Notifies o reply) g =
         let s : Own = heard (own t) now (incoming (own t) now from bytes up (Some p)) in good_notified limits szx
-        (Feeds now from bytes w up (Some p) (Notifies o reply) below ∷ t) (s.store.holds o.path) o s.observers g
+        (Feeds now from bytes w up (Some p) (Notifies o reply) below ∷ t) s.clock (s.store.holds o.path) o s.observers g
     fed (Some p) (Serves q reply left) g =
         let s : Own = heard (own t) now (incoming (own t) now from bytes up (Some p)) in
-        good_served limits szx (Feeds now from bytes w up (Some p) (Serves q reply left) below ∷ t) s.store p.0 q reply
+        good_served limits szx (Feeds now from bytes w up (Some p) (Serves q reply left) below ∷ t) s.clock s.store p.0 q reply
         left s.observers
         (λ k. inl (record {
           made = record {
@@ -200,17 +200,17 @@ module _ (limits : Limits) (szx : ℕ) where
     stage d = heard (own t) now (ticking (own t) now below room d)
 
     ended_ticks : (d : Due) (h : Handling) → ready_in d ≡ None → Good limits szx (call d h ∷ t) (stage d).observers
-        → Good limits szx (call d h ∷ t) (observers_after (stage d).store (ready_in d) h (stage d).observers)
+        → Good limits szx (call d h ∷ t) (observers_after (stage d).clock (stage d).store (ready_in d) h (stage d).observers)
     ended_ticks d h none g = subst (λ a. Good limits szx (call d h ∷ t)
-        (observers_after (stage d).store a h (stage d).observers)) (sym none) (by h g)
+        (observers_after (stage d).clock (stage d).store a h (stage d).observers)) (sym none) (by h g)
       where
         by : (k : Handling) → Good limits szx (call d h ∷ t) (stage d).observers
-            → Good limits szx (call d h ∷ t) (observers_after (stage d).store None k (stage d).observers)
+            → Good limits szx (call d h ∷ t) (observers_after (stage d).clock (stage d).store None k (stage d).observers)
         by Silent g = g
         by (Replies r) g = g
         by (Serves q reply left) g = g
         by (Waits q e) g = g
-        by (Notifies o reply) g = good_notified limits szx (call d h ∷ t) ((stage d).store.holds o.path) o
+        by (Notifies o reply) g = good_notified limits szx (call d h ∷ t) (stage d).clock ((stage d).store.holds o.path) o
             (stage d).observers g
 
     ticked : (d : Due) (h : Handling) → Good limits szx (call d h ∷ t) (stage d).observers
@@ -223,10 +223,10 @@ module _ (limits : Limits) (szx : ℕ) where
     ticked (due.Ready a) (Waits q d) g = g
     ticked (due.Ready a) (Notifies o reply) g =
         let s : Own = stage (due.Ready a) in good_notified limits szx (call (due.Ready a) (Notifies o reply) ∷ t)
-        (s.store.holds o.path) o s.observers g
+        s.clock (s.store.holds o.path) o s.observers g
     ticked (due.Ready a) (Serves q reply left) g =
         let s : Own = stage (due.Ready a) in
-        good_served limits szx (call (due.Ready a) (Serves q reply left) ∷ t) s.store a q reply left s.observers
+        good_served limits szx (call (due.Ready a) (Serves q reply left) ∷ t) s.clock s.store a q reply left s.observers
         (λ k. inl (record {
           made = record {
             request = serving_of s a q reply left;
@@ -247,8 +247,10 @@ module _ (limits : Limits) (szx : ℕ) where
     where
       by : (c : Call) → Good limits szx (c ∷ t) (own t).observers → Good limits szx (c ∷ t) (own (c ∷ t)).observers
       by (Sets now path format body answer left) g =
-          good_marked limits szx (Sets now path format body answer left ∷ t) path (own t).store left (own t).observers g
-      by (Removes now path answer left) g = good_marked limits szx (Removes now path answer left ∷ t) path
+          good_marked limits szx (Sets now path format body answer left ∷ t)
+          (max (own t).clock now) path (own t).store left (own t).observers g
+      by (Removes now path answer left) g = good_marked limits szx (Removes now path answer left ∷ t)
+          (max (own t).clock now) path
           (own t).store left (own t).observers g
       by (Delays path ms answer) g = g
       by (Gets path answer) g = g

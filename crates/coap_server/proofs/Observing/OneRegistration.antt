@@ -6,8 +6,8 @@ use Rattle.coap_types.specs.declared.endpoint.Endpoint.{Endpoint}
 use Rattle.coap_types.specs.Path.{same_path}
 use Rattle.coap_types.proofs.Facts.Paths.{same_path-decides}
 use Rattle.coap_observe.specs.Observers.{Observer, is_of, removed, registered, sent_to, changed_at, marked_by}
-use Rattle.coap_observe.specs.Observers.{registration}
-use Rattle.coap_observe.specs.Registrations.{IsOther}
+use Rattle.coap_observe.specs.Observers.{begun, registration}
+use Rattle.coap_observe.specs.Registrations.{IsOther, told_by}
 use Rattle.coap_observe.proofs.Facts.Registrations.{is_of-decides, others_stay, registration-removed}
 use Rattle.coap_observe.proofs.Facts.Registrations.{registration-changed_at, registration-sent_to}
 use Rattle.coap_resource.specs.Content.{Content, Held}
@@ -19,7 +19,7 @@ use Rattle.coap_server.proofs.Observing.StoreChanges.{IsKept, IsChanged, Effect,
 pub pair_of : (to : Endpoint) (token : List ℕ) (by : Endpoint) (bytes : List ℕ)
     → ((to ≡ by) × (token ≡ bytes)) ⊎ IsOther to token by bytes
 pair_of to token by bytes =
-    let o : Observer = record { to = by; token = bytes; path = []; szx = 0; marked = false } in
+    let o : Observer = begun 0 by bytes [] 0 in
     let d = is_of-decides to token o in
     let go : (b : Bool) → is_of to token o ≡ b → ((to ≡ by) × (token ≡ bytes))
     ⊎ IsOther to token by bytes = λ b e. case to token by bytes d.0 d.1 b e in
@@ -35,14 +35,15 @@ module _ (to : Endpoint) (token : List ℕ) where
   abbrev pub reg : List Observer → Option Observer
   reg os = registration to token os
 
-  abbrev pub unmark : Observer → Observer
-  unmark o = record o { marked = false }
+  -- in a CON
+  abbrev pub told : ℕ → Observer → Observer
+  told at o = told_by at true o
 
   pub data Turn (a b : Content) (os ps : List Observer) : Type 0 where
     gone : reg ps ≡ None → Turn a b os ps
     kept : reg ps ≡ reg os → IsKept a b → Turn a b os ps
-    sent : reg ps ≡ option_map unmark (reg os) → IsKept a b → Turn a b os ps
-    changed : (path : List (List ℕ)) → reg ps ≡ option_map (marked_by path) (reg os) → IsChanged path a b
+    sent : (at : ℕ) → reg ps ≡ option_map (told at) (reg os) → IsKept a b → Turn a b os ps
+    changed : (at : ℕ) (path : List (List ℕ)) → reg ps ≡ option_map (marked_by at path) (reg os) → IsChanged path a b
         → Turn a b os ps
 
   pub same_turn : (s : Content) (os : List Observer) → Turn s s os os
@@ -57,35 +58,36 @@ module _ (to : Endpoint) (token : List ℕ) where
         | inr n ↦ kept (others_stay to token by bytes os n).removed_stay (kept_by s s refl)
       ]
 
-  pub sent_turn : (s : Content) (by : Endpoint) (bytes : List ℕ) (os : List Observer)
-      → Turn s s os (sent_to by bytes os)
-  sent_turn s by bytes os =
+  pub sent_turn : (s : Content) (at : ℕ) (by : Endpoint) (bytes : List ℕ) (os : List Observer)
+      → Turn s s os (sent_to at by bytes true os)
+  sent_turn s at by bytes os =
       elim (pair_of to token by bytes) [
-        | inl e ↦ sent (ap (λ p. registration to token (sent_to p bytes os)) (sym e.0)
-            ∙ (ap (λ n. registration to token (sent_to to n os)) (sym e.1) ∙ registration-sent_to to token os))
+        | inl e ↦ sent at (ap (λ p. registration to token (sent_to at p bytes true os)) (sym e.0)
+            ∙ (ap (λ n. registration to token (sent_to at to n true os)) (sym e.1)
+            ∙ registration-sent_to at to token true os))
             (kept_by s s refl)
-        | inr n ↦ kept (others_stay to token by bytes os n).sent_stay (kept_by s s refl)
+        | inr n ↦ kept ((others_stay to token by bytes os n).sent_stay at true) (kept_by s s refl)
       ]
 
-  pub registered_turn : (s : Content) (by : Endpoint) (bytes : List ℕ) (path : List (List ℕ)) (szx : ℕ)
-      (os : List Observer) → IsOther to token by bytes → Turn s s os (registered by bytes path szx os)
-  registered_turn s by bytes path szx os n = kept ((others_stay to token by bytes os n).registered_stay path szx)
+  pub registered_turn : (s : Content) (at : ℕ) (by : Endpoint) (bytes : List ℕ) (path : List (List ℕ)) (szx : ℕ)
+      (os : List Observer) → IsOther to token by bytes → Turn s s os (registered at by bytes path szx os)
+  registered_turn s at by bytes path szx os n = kept ((others_stay to token by bytes os n).registered_stay at path szx)
       (kept_by s s refl)
 
-  pub marked_turn : (path : List (List ℕ)) (a b : Content) (os : List Observer) → Effect path a b
-      → Turn a b os (marked_if path a b os)
-  marked_turn path a b os (inl k) = by (b.tally.version == a.tally.version)
+  pub marked_turn : (at : ℕ) (path : List (List ℕ)) (a b : Content) (os : List Observer) → Effect path a b
+      → Turn a b os (marked_if at path a b os)
+  marked_turn at path a b os (inl k) = by (b.tally.version == a.tally.version)
       ((unsigned_Decides b.tally.version a.tally.version).1 k.version)
     where
-      by : (n : Bool) → n ≡ true → Turn a b os (cond n os (changed_at path os))
+      by : (n : Bool) → n ≡ true → Turn a b os (cond n os (changed_at at path os))
       by true e = kept refl k
       by false e = absurd (cc e)
-  marked_turn path a b os (inr c) = by (b.tally.version == a.tally.version)
+  marked_turn at path a b os (inr c) = by (b.tally.version == a.tally.version)
       ((unsigned_Decides b.tally.version a.tally.version).0)
     where
-      by : (n : Bool) → (n ≡ true → b.tally.version ≡ a.tally.version) → Turn a b os (cond n os (changed_at path os))
+      by : (n : Bool) → (n ≡ true → b.tally.version ≡ a.tally.version) → Turn a b os (cond n os (changed_at at path os))
       by true f = let e = f refl in let v = c.version in absurd (omega (arith, e, v))
-      by false f = changed path (registration-changed_at path to token os) c
+      by false f = changed at path (registration-changed_at at path to token os) c
 
 -- what was told under a registration that is there
 module _ (x : Telling) (F : Type 0) where
@@ -107,8 +109,8 @@ module _ (x : Telling) (F : Type 0) where
   pub turned : (a b : Content) (os ps : List Observer) → Turn x.to x.token a b os ps → Lives a os → Lives b ps
   turned a b os ps (gone n) l = inl n
   turned a b os ps (kept e k) (inl n) = inl (e ∙ n)
-  turned a b os ps (sent e k) (inl n) = inl (e ∙ ap (option_map (unmark x.to x.token)) n)
-  turned a b os ps (changed path e c) (inl n) = inl (e ∙ ap (option_map (marked_by path)) n)
+  turned a b os ps (sent at e k) (inl n) = inl (e ∙ ap (option_map (told x.to x.token at)) n)
+  turned a b os ps (changed at path e c) (inl n) = inl (e ∙ ap (option_map (marked_by at path)) n)
   turned a b os ps (kept e k) (inr l) =
       inr (record {
         entry = l.entry;
@@ -118,19 +120,19 @@ module _ (x : Telling) (F : Type 0) where
         fresh = λ m held h. l.fresh m held (ap (λ f. f x.path) (sym k.holds) ∙ h);
         flies = l.flies;
       })
-  turned a b os ps (sent e k) (inr l) =
+  turned a b os ps (sent at e k) (inr l) =
       inr (record {
-        entry = record (l.entry) { marked = false };
-        is = e ∙ ap (option_map (unmark x.to x.token)) l.is;
+        entry = told x.to x.token at l.entry;
+        is = e ∙ ap (option_map (told x.to x.token at)) l.is;
         path = l.path;
         low = subst (λ n. x.version ≤ n) (sym k.version) l.low;
         fresh = λ m held h. absurd (cc m);
         flies = l.flies;
       })
-  turned a b os ps (changed path e c) (inr l) =
+  turned a b os ps (changed at path e c) (inr l) =
       inr (record {
-        entry = marked_by path l.entry;
-        is = e ∙ ap (option_map (marked_by path)) l.is;
+        entry = marked_by at path l.entry;
+        is = e ∙ ap (option_map (marked_by at path)) l.is;
         path = l.path;
         low = (let v = c.version in let k = l.low in omega (arith, v, k));
         fresh = λ m held h. by (same_path l.entry.path path) refl m held h;

@@ -40,7 +40,7 @@ module _ (limits : Limits) (szx word : ℕ) where
   pub record ServesAt (t : List Call) (c : Call) (x : Serving) : Type 0 where
     pub old : x.old ≡ (own t).store
     pub observers : (own (c ∷ t)).observers
-        ≡ observers_served (own t).store x.asked x.question x.reply x.left (own t).observers
+        ≡ observers_served (own (c ∷ t)).clock (own t).store x.asked x.question x.reply x.left (own t).observers
     pub says :
         x.sequence
         ≡ sequence_if (registers x.asked x.question x.reply (own t).observers)
@@ -55,15 +55,15 @@ module _ (limits : Limits) (szx word : ℕ) where
 
   staged : (t : List Call) (c : Call) (s : Own) (a : Asked) (q : Question) (reply : Reply) (left : Content)
       → s.observers ≡ (own t).observers → s.store ≡ (own t).store
-      → (own (c ∷ t)).observers ≡ observers_served s.store a q reply left s.observers
+      → (own (c ∷ t)).observers ≡ observers_served (own (c ∷ t)).clock s.store a q reply left s.observers
       → registering (own t) c ≡ registers_by s a q reply
       → (con : Option ℕ) × (telling (own t) c ≡ tells_if (registers a q reply s.observers) (own t) a q con)
       → (at : ℕ) × R.Serves s.store at q reply left → ServesAt t c (serving_of s a q reply left)
   staged t c s a q reply left os store observers registers_is tells serves =
       record {
         old = store;
-        observers = observers ∙ (ap (λ z. observers_served z a q reply left s.observers) store
-            ∙ ap (λ z. observers_served (own t).store a q reply left z) os);
+        observers = observers ∙ (ap (λ z. observers_served (own (c ∷ t)).clock z a q reply left s.observers) store
+            ∙ ap (λ z. observers_served (own (c ∷ t)).clock (own t).store a q reply left z) os);
         says = ap (λ z. sequence_if (registers a q reply z) (s.store.holds q.path)) os
             ∙ ap (λ (z : Content). sequence_if (registers a q reply (own t).observers) (z.holds q.path)) store;
         registers_so = registers_is ∙ ap (λ z. pair_if (registers a q reply z) a) os;

@@ -9,7 +9,7 @@ use Rattle.coap_types.specs.Recognised.{has_number}
 use Rattle.coap_types.specs.declared.endpoint.Endpoint.{Endpoint}
 use Rattle.coap_codec.specs.Message.{Message}
 use Rattle.coap_layer.specs.Trace as L
-use Rattle.coap_observe.specs.Observers.{Observer, removed, registered, sent_to, registration}
+use Rattle.coap_observe.specs.Observers.{Observer, begun, removed, registered, sent_to, registration}
 use Rattle.coap_observe.proofs.Facts.Registrations.{registration-registered, registration-sent_to}
 use Rattle.coap_observe.specs.Versions.{sequence_number}
 use Rattle.coap_resource.specs.Content.{Content, Held}
@@ -41,7 +41,8 @@ use Rattle.coap_server.specs.Law.{ServerLaw, own_of, lower_of}
 use Rattle.coap_server.specs.Follows.Tells.{Telling, tells, tells_if, telling, HearsAck, FollowsOn}
 use Rattle.coap_server.specs.Follows.Tells.{Follows}
 use Rattle.coap_server.proofs.Observing.StoreChanges.{kept_by, get_same}
-use Rattle.coap_server.proofs.Observing.OneRegistration.{marked_turn, unmark, LivesAt, Lives, turned}
+use Rattle.coap_server.proofs.Observing.OneRegistration.{marked_turn, LivesAt, Lives, turned}
+use Rattle.coap_server.proofs.Observing.OneRegistration as T
 use Rattle.coap_server.proofs.Observing.Outcomes.{serves_came, serves_waited}
 use Rattle.coap_server.proofs.Observing.ConsAreAcknowledged.{alone, alone_later, later, begins, not_flying}
 use Rattle.coap_server.proofs.Exact.Leads.{exchanges_kept, kept_behind}
@@ -76,24 +77,24 @@ module _ (s : Own) (a : Asked) (q : Question) (reply : Reply) (left : Content) (
     (F : Type 0) where
   registered_lives : registers a q reply s.observers ≡ true → s.store.holds q.path ≡ Some held
       → (at : ℕ) × R.Serves s.store at q reply left → AreLow s.store → F
-      → Lives (answer_of s a q held con) F left (observers_served s.store a q reply left s.observers)
+      → Lives (answer_of s a q held con) F left (observers_served s.clock s.store a q reply left s.observers)
   registered_lives e is k low f =
       let y : Telling = answer_of s a q held con in
       let szx : ℕ = szx_by (block_of q.options) q.szx in
-      let new : List Observer = registered a.from a.token q.path szx s.observers in
-      let os : List Observer = observers_with a q reply s.observers in
+      let new : List Observer = registered s.clock a.from a.token q.path szx s.observers in
+      let os : List Observer = observers_with s.clock a q reply s.observers in
       let same : os ≡ new = ap (λ b. cond b new (cond (observes 1 q) (removed a.from a.token s.observers) s.observers))
       e in
       let first : LivesAt y F s.store new = record {
-        entry = record { to = a.from; token = a.token; path = q.path; szx = szx; marked = false };
-        is = registration-registered a.from a.token q.path szx s.observers;
+        entry = begun s.clock a.from a.token q.path szx;
+        is = registration-registered s.clock a.from a.token q.path szx s.observers;
         path = refl;
         low = low q.path held is;
         fresh = λ m h z. absurd (cc m);
         flies = f;
       } in
-      turned y F s.store left os (marked_if q.path s.store left os)
-      (marked_turn a.from a.token q.path s.store left os
+      turned y F s.store left os (marked_if s.clock q.path s.store left os)
+      (marked_turn a.from a.token s.clock q.path s.store left os
       (inl (kept_by s.store left (get_same s.store k.0 q reply left (get_of a q reply s.observers e) k.1))))
       (subst (Lives y F s.store) (sym same) (inr first))
 
@@ -258,12 +259,13 @@ module _ (limits : Limits) (szx word : ℕ) where
             let xs : List Separate = (exchanges_after s.exchanges
             (asks older now w below room passed id answer o reply)).separate in
             let y : Telling = notice older now w below room passed id answer o reply held in
-            let left : notified (s.store.holds o.path) o s.observers
-            ≡ sent_to o.to o.token s.observers = ap (λ z. notified z o s.observers) is in
+            let left : notified s.clock (s.store.holds o.path) o s.observers
+            ≡ sent_to s.clock o.to o.token true s.observers = ap (λ z. notified s.clock z o s.observers) is in
             let first : LivesAt y (FlightOf y (Some id) (xs ++ separate_of o.to id o.token r ∷ []) []) s.store
-            (sent_to o.to o.token s.observers) = record {
-              entry = record o { marked = false };
-              is = registration-sent_to o.to o.token s.observers ∙ ap (option_map (unmark o.to o.token)) told.is;
+            (sent_to s.clock o.to o.token true s.observers) = record {
+              entry = T.told o.to o.token s.clock o;
+              is = registration-sent_to s.clock o.to o.token true s.observers
+                  ∙ ap (option_map (T.told o.to o.token s.clock)) told.is;
               path = refl;
               low = are_low limits szx word older (server_back limits szx word _ older law) o.path held is;
               fresh = λ m z e. absurd (cc m);

@@ -61,10 +61,12 @@ module _ (to : Endpoint) (token : List ℕ) (limits : Limits) (szx word : ℕ) w
   served_good t c law x is left_is g =
       subst (λ os. Good to token (last_of (c ∷ t)) (own (c ∷ t)).store.holds os) (sym s.observers)
       (subst (λ (z : Content). Good to token (last_of (c ∷ t)) z.holds
-      (marked_if x.question.path (own t).store x.left (observers_with x.asked x.question x.reply (obs t))))
+      (marked_if (own (c ∷ t)).clock x.question.path (own t).store x.left
+      (observers_with (own (c ∷ t)).clock x.asked x.question x.reply (obs t))))
       (sym left_is)
       (subst (λ z. Good to token (told_then to token z (last_of t)) x.left.holds
-      (marked_if x.question.path (own t).store x.left (observers_with x.asked x.question x.reply (obs t))))
+      (marked_if (own (c ∷ t)).clock x.question.path (own t).store x.left
+      (observers_with (own (c ∷ t)).clock x.asked x.question x.reply (obs t))))
       (sym s.tells_so.1) (by (registers x.asked x.question x.reply (obs t)) refl (observes 1 x.question))))
     where
       s : ServesAt limits szx word t c x
@@ -77,8 +79,8 @@ module _ (to : Endpoint) (token : List ℕ) (limits : Limits) (szx word : ℕ) w
       by : (r : Bool) → registers x.asked x.question x.reply (obs t) ≡ r → (m : Bool)
           → Good to token (told_then to token (tells_if r (own t) x.asked x.question s.tells_so.0) (last_of t))
           x.left.holds
-          (marked_if x.question.path (own t).store x.left
-          (cond r (registered x.asked.from x.asked.token x.question.path (size_of x) (obs t))
+          (marked_if (own (c ∷ t)).clock x.question.path (own t).store x.left
+          (cond r (registered (own (c ∷ t)).clock x.asked.from x.asked.token x.question.path (size_of x) (obs t))
           (cond m (removed x.asked.from x.asked.token (obs t)) (obs t))))
       by true so m =
           let parts = and_parts (observes 0 x.question) ((x.reply.code == content)
@@ -90,17 +92,17 @@ module _ (to : Endpoint) (token : List ℕ) (limits : Limits) (szx word : ℕ) w
           let told = content_law x.old x.left s.serves.0 x.question x.reply s.serves.1 code in
           let there : (own t).store.holds x.question.path ≡ Some told.held =
           ap (λ (z : Content). z.holds x.question.path) (sym s.old) ∙ told.is_held in
-          marked_good to token _ x.question.path (own t).store x.left
-          (registered x.asked.from x.asked.token x.question.path (size_of x) (obs t)) effect
+          marked_good to token (own (c ∷ t)).clock _ x.question.path (own t).store x.left
+          (registered (own (c ∷ t)).clock x.asked.from x.asked.token x.question.path (size_of x) (obs t)) effect
           (subst (λ z. Good to token (told_then to token
           (tells x.asked.from x.asked.token x.question.path s.tells_so.0 true z) (last_of t)) (own t).store.holds
-          (registered x.asked.from x.asked.token x.question.path (size_of x) (obs t))) (sym there)
-          (registered_good to token (last_of t) (own t).store x.asked x.question s.tells_so.0 (size_of x) told.held
+          (registered (own (c ∷ t)).clock x.asked.from x.asked.token x.question.path (size_of x) (obs t))) (sym there)
+          (registered_good to token (own (c ∷ t)).clock (last_of t) (own t).store x.asked x.question s.tells_so.0 (size_of x) told.held
           (obs t) there g))
-      by false so true = marked_good to token (last_of t) x.question.path (own t).store x.left
+      by false so true = marked_good to token (own (c ∷ t)).clock (last_of t) x.question.path (own t).store x.left
           (removed x.asked.from x.asked.token (obs t)) effect
           (removed_good to token (last_of t) (own t).store.holds x.asked.from x.asked.token (obs t) g)
-      by false so false = marked_good to token (last_of t) x.question.path (own t).store x.left (obs t) effect g
+      by false so false = marked_good to token (own (c ∷ t)).clock (last_of t) x.question.path (own t).store x.left (obs t) effect g
 
   fed : (t : List Call) (now : ℕ) (from : Endpoint) (bytes : List ℕ) (w : ℕ) (up : L.Answer)
       (came : Option (Asked × Message)) (h : Handling) (below : L.Answer)
@@ -145,7 +147,7 @@ module _ (to : Endpoint) (token : List ℕ) (limits : Limits) (szx word : ℕ) w
       let distinct = (good_ended limits szx t
       (P.after (own t).exchanges (ticking (own t) now below room due.Idle)).ended (own t).observers
       (good limits szx t)).registrations.distinct in
-      notified_good to token (last_of t) (own t).store o id s.observers distinct (there_is s.observers o distinct there)
+      notified_good to token s.clock (last_of t) (own t).store o id s.observers distinct (there_is s.observers o distinct there)
       (ended_good to token (last_of t) (own t).store.holds _ (own t).observers g) ((own t).store.holds o.path) refl
 
   ticked : (t : List Call) (now w : ℕ) (below : L.Answer) (room : Bool) (d : Due) (passed : ℕ) (h : Handling)
@@ -189,11 +191,11 @@ module _ (to : Endpoint) (token : List ℕ) (limits : Limits) (szx word : ℕ) w
       on (Feeds now from bytes w up came h below) law g = fed t now from bytes w up came h below law g
       on (Ticks now w below room d passed h id answer) law g = ticked t now w below room d passed h id answer law g
       on (Sets now path format body answer left) law g =
-          marked_good to token (last_of t) path (own t).store left (own t).observers
+          marked_good to token (max (own t).clock now) (last_of t) path (own t).store left (own t).observers
           (sets_effect (put_refusal (own t).store (max (own t).clock now) path (length body)) (own t).store
           (max (own t).clock now) path format body answer left law.rows.0) g
       on (Removes now path answer left) law g =
-          marked_good to token (last_of t) path (own t).store left (own t).observers
+          marked_good to token (max (own t).clock now) (last_of t) path (own t).store left (own t).observers
           (removes_effect ((own t).store.holds path) (rate_refusal (own t).store.tally (max (own t).clock now))
           (own t).store (max (own t).clock now) path answer left law.rows.0) g
       on (Delays path ms answer) law g = g

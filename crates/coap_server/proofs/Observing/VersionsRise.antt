@@ -276,19 +276,19 @@ module _ (x : Telling) where
     answering_later s p (Notifies o reply) below = tt
 
   -- a request that is served, and registers nothing of this pair
-  with_turn : (s : Content) (a : Asked) (q : Question) (reply : Reply) (os : List Observer) (mine : Own)
+  with_turn : (s : Content) (at : ℕ) (a : Asked) (q : Question) (reply : Reply) (os : List Observer) (mine : Own)
       → mine.observers ≡ os → (registers_by mine a q reply ≡ Some (record { to = x.to; token = x.token }) → ⊥)
-      → Turn x.to x.token s s os (observers_with a q reply os)
-  with_turn s a q reply os mine e none = by (registers a q reply os) (observes 1 q)
+      → Turn x.to x.token s s os (observers_with at a q reply os)
+  with_turn s at a q reply os mine e none = by (registers a q reply os) (observes 1 q)
       (λ k. none (ap (λ (z : List Observer). cond {A = Option Pair} (registers a q reply z)
       (Some (record { to = a.from; token = a.token })) None) e ∙ k))
     where
       by : (b m : Bool) → (cond {A = Option Pair} b (Some (record { to = a.from; token = a.token })) None
           ≡ Some (record { to = x.to; token = x.token }) → ⊥)
-          → Turn x.to x.token s s os (cond b (registered a.from a.token q.path (szx_by (block_of q.options) q.szx) os)
+          → Turn x.to x.token s s os (cond b (registered at a.from a.token q.path (szx_by (block_of q.options) q.szx) os)
           (cond m (removed a.from a.token os) os))
       by true m f =
-          registered_turn x.to x.token s a.from a.token q.path (szx_by (block_of q.options) q.szx) os
+          registered_turn x.to x.token s at a.from a.token q.path (szx_by (block_of q.options) q.szx) os
           (λ k. f (ap {B = Option Pair} (λ t. Some (record { to = t; token = a.token })) (sym k.0)
           ∙ ap {B = Option Pair} (λ t. Some (record { to = x.to; token = t })) (sym k.1)))
       by false true f = removed_turn x.to x.token s a.from a.token os
@@ -297,17 +297,17 @@ module _ (x : Telling) where
   served_lives : {F : Type 0} (s : Own) (a : Asked) (q : Question) (reply : Reply) (left : Content)
       → (at : ℕ) × R.Serves s.store at q reply left
       → (registers_by s a q reply ≡ Some (record { to = x.to; token = x.token }) → ⊥)
-      → Lives x F s.store s.observers → Lives x F left (observers_served s.store a q reply left s.observers)
+      → Lives x F s.store s.observers → Lives x F left (observers_served s.clock s.store a q reply left s.observers)
   served_lives {F} s a q reply left k none l =
-      let os : List Observer = observers_with a q reply s.observers in
-      turned x F s.store left os (marked_if q.path s.store left os)
-      (marked_turn x.to x.token q.path s.store left os (served_effect s.store k.0 q reply left k.1))
-      (turned x F s.store s.store s.observers os (with_turn s.store a q reply s.observers s refl none) l)
+      let os : List Observer = observers_with s.clock a q reply s.observers in
+      turned x F s.store left os (marked_if s.clock q.path s.store left os)
+      (marked_turn x.to x.token s.clock q.path s.store left os (served_effect s.store k.0 q reply left k.1))
+      (turned x F s.store s.store s.observers os (with_turn s.store s.clock a q reply s.observers s refl none) l)
 
-  notified_turn : (held : Option Held) (s : Content) (o : Observer) (os : List Observer)
-      → Turn x.to x.token s s os (notified held o os)
-  notified_turn None s o os = removed_turn x.to x.token s o.to o.token os
-  notified_turn (Some h) s o os = sent_turn x.to x.token s o.to o.token os
+  notified_turn : (at : ℕ) (held : Option Held) (s : Content) (o : Observer) (os : List Observer)
+      → Turn x.to x.token s s os (notified at held o os)
+  notified_turn at None s o os = removed_turn x.to x.token s o.to o.token os
+  notified_turn at (Some h) s o os = sent_turn x.to x.token s at o.to o.token os
 
   module _ (limits : Limits) (szx word : ℕ) where
     abbrev pub At : List Call → List Call → Type 0
@@ -430,8 +430,8 @@ module _ (x : Telling) where
           let cs : List E.Call = responding s due.Idle passed (Notifies o reply) w id in
           turned x (FlightOf x.con (exchanges_after s.exchanges cs).separate
           (tick_call due.Idle (Notifies o reply) ∷ after)) s.store s.store s.observers
-          (notified (s.store.holds o.path) o s.observers)
-          (notified_turn (s.store.holds o.path) s.store o s.observers)
+          (notified s.clock (s.store.holds o.path) o s.observers)
+          (notified_turn s.clock (s.store.holds o.path) s.store o s.observers)
           (with_asks due.Idle (Notifies o reply) cs s.store s.observers
           (λ n. (tt, readies_later n s.clock passed (marked s.observers))) (tock due.Idle (Notifies o reply) l))
       tick_step (due.Ready a) Silent law none l = tock (due.Ready a) Silent l
@@ -453,16 +453,16 @@ module _ (x : Telling) where
     step t after (Sets now path format body answer left) law none l =
         let s : Own = own limits szx t in
         let at : ℕ = max s.clock now in
-        turned x _ s.store left s.observers (marked_if path s.store left s.observers)
-        (marked_turn x.to x.token path s.store left s.observers
+        turned x _ s.store left s.observers (marked_if at path s.store left s.observers)
+        (marked_turn x.to x.token at path s.store left s.observers
         (sets_effect (put_refusal s.store at path _) s.store at path format body answer left law.rows.0))
         (map_lives s.store s.observers (flight_more x.con s.exchanges.separate after
         (Sets now path format body answer left)) l)
     step t after (Removes now path answer left) law none l =
         let s : Own = own limits szx t in
         let at : ℕ = max s.clock now in
-        turned x _ s.store left s.observers (marked_if path s.store left s.observers)
-        (marked_turn x.to x.token path s.store left s.observers
+        turned x _ s.store left s.observers (marked_if at path s.store left s.observers)
+        (marked_turn x.to x.token at path s.store left s.observers
         (removes_effect (s.store.holds path) (rate_refusal s.store.tally at) s.store at path answer left
         law.rows.0))
         (map_lives s.store s.observers (flight_more x.con s.exchanges.separate after (Removes now path answer left)) l)

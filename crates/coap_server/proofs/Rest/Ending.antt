@@ -93,45 +93,47 @@ dropped_fewer p o (y ∷ os) m n (inr h) = by (p y) y.marked refl (dropped_fewer
     by false true e k = omega (arith, k)
     by false false e k = k
 
-sent_least : (to : Endpoint) (token : List ℕ) (os : List Observer) → marks (sent_to to token os) ≤ marks os
-sent_least to token [] = omega arith
-sent_least to token (o ∷ os) = cons_least (o.marked && not (is_of to token o)) o.marked (unmarked_by to token o) o
-    (marked (sent_to to token os)) (marked os) (sent_least to token os) (left o.marked (not (is_of to token o)))
+sent_least : (at : ℕ) (to : Endpoint) (token : List ℕ) (os : List Observer)
+    → marks (sent_to at to token true os) ≤ marks os
+sent_least at to token [] = omega arith
+sent_least at to token (o ∷ os) = cons_least (o.marked && not (is_of to token o)) o.marked
+    (unmarked_by at to token true o) o (marked (sent_to at to token true os)) (marked os) (sent_least at to token os)
+    (left o.marked (not (is_of to token o)))
   where
     left : (b c : Bool) → (b && c) ≡ true → b ≡ true
     left true c e = refl
     left false c e = absurd (cc e)
 
-sent_fewer : (o : Observer) (os : List Observer) → o.marked ≡ true → IsThere o os
-    → marks (sent_to o.to o.token os) < marks os
-sent_fewer o [] m h = absurd h
-sent_fewer o (y ∷ os) m (inl e) =
-    let k = sent_least o.to o.token os in
+sent_fewer : (at : ℕ) (o : Observer) (os : List Observer) → o.marked ≡ true → IsThere o os
+    → marks (sent_to at o.to o.token true os) < marks os
+sent_fewer at o [] m h = absurd h
+sent_fewer at o (y ∷ os) m (inl e) =
+    let k = sent_least at o.to o.token os in
     let mine : is_of o.to o.token y ≡ true = (is_of-decides o.to o.token y).1
     (ap (λ (z : Observer). z.to) e, ap (λ (z : Observer). z.token) e) in
     let there : y.marked ≡ true = ap (λ (z : Observer). z.marked) e ∙ m in
     let gone : (y.marked && not (is_of o.to o.token y)) ≡ false = ap (λ b. b && not (is_of o.to o.token y)) there
     ∙ ap not mine in
-    let left : marks (sent_to o.to o.token (y ∷ os)) ≡ marks (sent_to o.to o.token os) =
-    ap (λ b. length (cond b (unmarked_by o.to o.token y ∷ marked (sent_to o.to o.token os))
-    (marked (sent_to o.to o.token os)))) gone in
+    let left : marks (sent_to at o.to o.token true (y ∷ os)) ≡ marks (sent_to at o.to o.token true os) =
+    ap (λ b. length (cond b (unmarked_by at o.to o.token true y ∷ marked (sent_to at o.to o.token true os))
+    (marked (sent_to at o.to o.token true os)))) gone in
     let was : marks (y ∷ os) ≡ suc (marks os) = ap (λ b. length (cond b (y ∷ marked os) (marked os))) there in
     omega (arith, k, left, was)
-sent_fewer o (y ∷ os) m (inr h) = by y.marked (is_of o.to o.token y) (sent_fewer o os m h)
+sent_fewer at o (y ∷ os) m (inr h) = by y.marked (is_of o.to o.token y) (sent_fewer at o os m h)
   where
-    by : (b c : Bool) → marks (sent_to o.to o.token os) < marks os
-        → length (cond (b && not c) (unmarked_by o.to o.token y ∷ marked (sent_to o.to o.token os))
-        (marked (sent_to o.to o.token os))) < length (cond b (y ∷ marked os) (marked os))
+    by : (b c : Bool) → marks (sent_to at o.to o.token true os) < marks os
+        → length (cond (b && not c) (unmarked_by at o.to o.token true y ∷ marked (sent_to at o.to o.token true os))
+        (marked (sent_to at o.to o.token true os))) < length (cond b (y ∷ marked os) (marked os))
     by true true k = omega (arith, k)
     by true false k = omega (arith, k)
     by false c k = k
 
-notified_fewer : (held : Option Held) (o : Observer) (os : List Observer) → o.marked ≡ true → IsThere o os
-    → marks (notified held o os) < marks os
-notified_fewer None o os m h =
+notified_fewer : (at : ℕ) (held : Option Held) (o : Observer) (os : List Observer) → o.marked ≡ true → IsThere o os
+    → marks (notified at held o os) < marks os
+notified_fewer at None o os m h =
     let mine : is_of o.to o.token o ≡ true = (is_of-decides o.to o.token o).1 (refl, refl) in
     dropped_fewer (λ x. not (is_of o.to o.token x)) o os m (ap not mine) h
-notified_fewer (Some held) o os m h = sent_fewer o os m h
+notified_fewer at (Some held) o os m h = sent_fewer at o os m h
 
 ended_least : (e : Option Ended) (os : List Observer) → marks (unless_ended e os) ≤ marks os
 ended_least None os = omega arith
@@ -374,7 +376,7 @@ module _ (limits : Limits) (szx word : ℕ) where
         let s : Own = heard (own t) now (ticking (own t) now below room due.Idle) in
         let is = next_is (behind passed (marked s.observers)) s.store o reply law.rows.0.0 in
         let there = marked_there s.observers o (behind_there passed (marked s.observers) o is) in
-        let fewer = notified_fewer (s.store.holds o.path) o s.observers there.1 there.0 in
+        let fewer = notified_fewer s.clock (s.store.holds o.path) o s.observers there.1 there.0 in
         let l = ended_least (P.failed_by below (own t).exchanges.separate) (own t).observers in
         let first : E.Call = ticking (own t) now below room due.Idle in
         let cs : List E.Call = readies at passed (marked s.observers) in

@@ -81,9 +81,19 @@ content_of version body = record {
   offset = 0;
 }
 
--- the observer, to whom a notification is due
+-- the observer, who registered at 1, to whom a notification is due since 3
 abbrev pub observer : Observer
-observer = record { to = client; token = token; path = path; szx = 6; marked = true }
+observer =
+    record {
+      to = client;
+      token = token;
+      path = path;
+      szx = 6;
+      marked = true;
+      con = 1;
+      changed = 3;
+      noted = None;
+    }
 
 -- what is sent: ETag, Observe, Content-Format and the body, in an acknowledgement and in a CON
 abbrev pub response : List ℕ

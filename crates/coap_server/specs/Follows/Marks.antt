@@ -11,11 +11,12 @@ use Rattle.coap_server.specs.Follows.Observes.{Ends, Notice, notice}
 use Rattle.coap_server.specs.Follows.Tells.{registering}
 
 module _ (limits : Limits) (szx : ℕ) where
-  -- A change of a path, by a request that is served or a local one, marks each observer of it, and leaves all else of
-  -- the observers as it was.
+  -- A change of a path, by a request that is served or a local one, marks each observer of it, with its moment, and
+  -- leaves all else of the observers as it was.
   abbrev pub AllMark : List Call → Type 0
   AllMark t = Always (λ past c. (x : Change) → change (own_of limits szx past) c ≡ Some x
-      → (own_of limits szx (c ∷ past)).observers ≡ changed_at x.path (own_of limits szx past).observers) t
+      → (own_of limits szx (c ∷ past)).observers
+      ≡ changed_at (own_of limits szx (c ∷ past)).clock x.path (own_of limits szx past).observers) t
 
   -- a notification is due to the observer of this endpoint and token
   pub record IsDue (to : Endpoint) (token : List ℕ) (t : List Call) : Type 0 where

@@ -28,7 +28,7 @@ pub record ServesRequest (store : Content) (observers : List Observer) (at : ℕ
   pub serves : R.Serves store at q reply left
   pub response_is : response ≡ response_to store observers a q reply
   pub applied_is : applied ≡ applied_by store a q reply left
-  pub observers_is : told ≡ observers_served store a q reply left observers
+  pub observers_is : told ≡ observers_served at store a q reply left observers
 
 -- .. at once, and answered.
 pub record ServesNow (own : Own) (under : X.State) (a : Asked) (q : Question) (new : State) : Type 0 where

@@ -1,5 +1,5 @@
 -- When a request registers an observer, step by step (RFC 7641, section 4.1).
-use Rattle.std.specs.Prelude.{◌==◌, nat_lt, Bool, ◌&&◌, List, length}
+use Rattle.std.specs.Prelude.{ℕ, ◌==◌, nat_lt, Bool, ◌&&◌, List, length}
 use Rattle.coap_observe.specs.Observers.{Observer, registered, removed}
 use Rattle.coap_observe.specs.declared.observers.TheConstants.{MAX_OBSERVERS as max_observers}
 use Rattle.coap_resource.specs.RequestOptions.{block_of, szx_by}
@@ -14,5 +14,5 @@ may_register q reply = observes 0 q && ((reply.code == content) && (reply.offset
 abbrev pub has_place : Asked → List Observer → Bool
 has_place a os = nat_lt (length (removed a.from a.token os)) max_observers
 
-abbrev pub registered_by : Asked → Question → List Observer → List Observer
-registered_by a q os = registered a.from a.token q.path (szx_by (block_of q.options) q.szx) os
+abbrev pub registered_by : ℕ → Asked → Question → List Observer → List Observer
+registered_by at a q os = registered at a.from a.token q.path (szx_by (block_of q.options) q.szx) os

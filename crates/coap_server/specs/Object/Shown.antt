@@ -1,8 +1,8 @@
 -- What contracts see of a server (RFC 7252, section 5).
-use Rattle.std.specs.Prelude.{ℕ, Option, Some, None, List, [], ◌∷◌, map}
+use Rattle.std.specs.Prelude.{ℕ, ◌≤◌, Option, Some, None, List, [], ◌∷◌, map}
 use Rattle.coap_types.specs.CoapOption.{CoapOption}
 use Rattle.coap_block.specs.AssemblyState.{AssemblyState}
-use Rattle.coap_observe.specs.Observers.{Observer}
+use Rattle.coap_observe.specs.Observers.{Roll}
 use Rattle.coap_resource.specs.Content.{Content}
 use Rattle.coap_exchange.specs.AnswererLaw as X
 use Rattle.coap_server.specs.declared.server.parts.Delay.{Delay}
@@ -48,7 +48,7 @@ pub record Kept (S : Type 0) : Type 0 where
   pub exchanges : X.State
   pub store : S
   pub uploads : AssemblyState
-  pub observers : List Observer
+  pub observers : Roll
   pub delays : List T.Delay
   pub waiting : List T.Waiting
   pub applied : List T.Applied
@@ -66,6 +66,10 @@ kept_of p = record {
   applied = applied_list p.applied;
 }
 
+-- no moment was handed to the observers that the server wasn't handed
+abbrev pub IsTimed : {S : Type 0} → Kept S → Type 0
+IsTimed k = k.observers.clock ≤ k.clock
+
 -- .. and the state, by what such a store holds
 abbrev pub state_of : {S : Type 0} → (S → Content) → Kept S → State
 state_of content k = record {
@@ -75,7 +79,7 @@ state_of content k = record {
     exchanges = k.exchanges.own;
     store = content k.store;
     uploads = k.uploads;
-    observers = k.observers;
+    observers = k.observers.list;
     delays = k.delays;
     waiting = k.waiting;
     applied = k.applied;

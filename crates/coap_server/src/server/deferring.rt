@@ -70,9 +70,11 @@ pub(crate) fn handle_whole<S: Store<A>, A: Allocator + Copy, H: BuildHasher>(
     requires may { MayAnswer parts.old.exchanges asked.now }
     requires short { length asked.now.token ≤ max_token_len }
     requires szx { asking.now.szx ≡ parts.old.szx }
+    requires timed { parts.old.observers.clock ≤ parts.old.clock.0 }
     ensures handled { OnOk result
         (IsWhole (seen S.content parts.old) asked.now (question_of asking.now) (seen S.content parts.new)) }
     ensures uploads { parts.new.uploads ≡ parts.old.uploads }
+    ensures timed { OnOk result (parts.new.observers.clock ≤ parts.new.clock.0) }
     ensures before { parts.new.exchanges.before ≡ parts.old.exchanges.before }
     ensures err { OnErr result
         (record (kept_of parts.new) { exchanges = parts.old.exchanges.state } ≡ kept_of parts.old) }
@@ -138,9 +140,11 @@ fn serve_now<S: Store<A>, A: Allocator + Copy, H: BuildHasher>(
 ) -> Result<(), AllocError>
     requires may { MayAnswer parts.old.exchanges asked.now }
     requires short { length asked.now.token ≤ max_token_len }
+    requires timed { parts.old.observers.clock ≤ parts.old.clock.0 }
     ensures served { OnOk result (ServesNow (seen S.content parts.old).own parts.old.exchanges.state asked.now
         (question_of asking.now) (seen S.content parts.new)) }
     ensures uploads { parts.new.uploads ≡ parts.old.uploads }
+    ensures timed { OnOk result (parts.new.observers.clock ≤ parts.new.clock.0) }
     ensures before { parts.new.exchanges.before ≡ parts.old.exchanges.before }
     ensures err { OnErr result (kept_of parts.new ≡ kept_of parts.old) }
 {

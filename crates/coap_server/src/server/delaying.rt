@@ -101,10 +101,14 @@ pub fn give_delay<A: Allocator + Copy>(
     path: &Path<A>,
     ms: u64,
 ) -> Result<bool, AllocError>
+    // A path has the delay that it is given, where it has one already or a place is left.
     ensures given { IfOk result (λ given. (given ≡ may_delay path.now (delays_as delays.old.items))
         × (delays_as delays.new.items ≡ delays_with path.now ms given (delays_as delays.old.items))) }
+    // A delay that is refused memory leaves the delays as they were.
     ensures err { OnErr result (delays.new.items ≡ delays.old.items) }
+    // A delay for which no place is left takes no memory.
     ensures full { may_delay path.now (delays_as delays.old.items) ≡ false → IsOk result }
+    // A further delay for a path that has one takes no memory.
     ensures again { is_some (delay_of path.now (delays_as delays.old.items)) ≡ true → IsOk result }
 {
     if other_delays(delays, path) >= MAX_DELAYS {
@@ -124,8 +128,10 @@ pub(crate) fn set_delay_parts<S: Store<A>, A: Allocator + Copy, H: BuildHasher>(
     path: &Path<A>,
     ms: u64,
 ) -> Result<(), DelayRefusal>
+    requires timed { parts.old.observers.clock ≤ parts.old.clock.0 }
     ensures step { result ≢ Err Memory
         → Step (seen S.content parts.old) (Delays path.now ms (is_ok result)) (seen S.content parts.new) }
+    ensures timed { parts.new.observers.clock ≤ parts.new.clock.0 }
     ensures memory { result ≡ Err Memory → kept_of parts.new ≡ kept_of parts.old }
     ensures full { may_delay path.now (delays_as parts.old.delays.items) ≡ false → result ≡ Err Full }
     ensures again { is_some (delay_of path.now (delays_as parts.old.delays.items)) ≡ true → result ≢ Err Memory }

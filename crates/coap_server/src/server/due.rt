@@ -20,7 +20,7 @@ fn can_notify<A: Allocator + Copy, H: BuildHasher>(
     observers: &Observers<A>,
     at: Moment,
 ) -> bool
-    ensures { result ≡ takes_notice exchanges.now.state at.0 observers.now }
+    ensures { result ≡ takes_notice exchanges.now.state at.0 observers.now.list }
 {
     let mut passed = 0;
     'observers: while let Some(notice) = observers.due_after(passed) {
@@ -40,7 +40,7 @@ fn notices_from<A: Allocator + Copy, H: BuildHasher>(
     from: Moment,
 ) -> Option<Moment>
     ensures { exchanges.now.state.own.clock ≤ from.0
-        → IsFirstMoment (λ now. takes_notice exchanges.now.state now observers.now) from.0 result }
+        → IsFirstMoment (λ now. takes_notice exchanges.now.state now observers.now.list) from.0 result }
 {
     match exchanges.free_from(from) {
         Some(at) => {

@@ -40,8 +40,10 @@ pub(crate) fn handle<S: Store<A>, A: Allocator + Copy, H: BuildHasher>(
 ) -> Result<(), AllocError>
     requires may { MayAnswer parts.old.exchanges asked.now }
     requires short { length asked.now.token ≤ max_token_len }
+    requires timed { parts.old.observers.clock ≤ parts.old.clock.0 }
     ensures handled { OnOk result (IsHandled (seen S.content parts.old) asked.now request.now
         (seen S.content parts.new)) }
+    ensures timed { OnOk result (parts.new.observers.clock ≤ parts.new.clock.0) }
     ensures before { parts.new.exchanges.before ≡ parts.old.exchanges.before }
     ensures err { OnErr result
         (record (kept_of parts.new) { exchanges = parts.old.exchanges.state } ≡ kept_of parts.old) }

@@ -1,5 +1,5 @@
 //! Changes that a server is told of on its own side (RFC 7252, section 5.8; RFC 7641, section 4.2).
-ghost use Rattle.std.specs.Prelude.{◌≡◌, ◌≢◌, Err, Some, length, max};
+ghost use Rattle.std.specs.Prelude.{◌≡◌, ◌≢◌, ◌≤◌, Err, Some, length, max};
 ghost use Rattle.coap_resource.specs.declared.refusal.StoreRefusal.{StoreRefusal as StoreRefusalSpec};
 ghost use Rattle.coap_resource.specs.declared.refusal.StoreRefusal.TheVariants.{Memory};
 ghost use Rattle.coap_resource.specs.Content.{put_refusal};
@@ -59,8 +59,10 @@ pub(crate) fn set_parts<S: Store<A>, A: Allocator + Copy, H: BuildHasher>(
     format: Option<u16>,
     body: &[u8],
 ) -> Result<u64, StoreRefusal>
+    requires timed { parts.old.observers.clock ≤ parts.old.clock.0 }
     ensures step { result ≢ Err Memory → Step (seen S.content parts.old)
         (Sets now.0 path.now format body.now result (S.content parts.new.store)) (seen S.content parts.new) }
+    ensures timed { parts.new.observers.clock ≤ parts.new.clock.0 }
     ensures memory { result ≡ Err Memory → kept_of parts.new ≡ kept_of parts.old }
     ensures refused { (why : StoreRefusalSpec) → put_refusal (S.content parts.old.store) (max parts.old.clock.0 now.0)
         path.now (length body.now) ≡ Some why → result ≡ Err why }
@@ -74,7 +76,7 @@ pub(crate) fn set_parts<S: Store<A>, A: Allocator + Copy, H: BuildHasher>(
     // Nothing fails from here on.
     parts.clock = at;
     let version = parts.store.version();
-    mark(&mut parts.observers, path, before, version);
+    mark(&mut parts.observers, at, path, before, version);
     done
 }
 
@@ -85,14 +87,16 @@ pub(crate) fn remove_parts<S: Store<A>, A: Allocator + Copy, H: BuildHasher>(
     now: Moment,
     path: &Path<A>,
 ) -> Result<bool, StoreRefusal>
+    requires timed { parts.old.observers.clock ≤ parts.old.clock.0 }
     ensures step { Step (seen S.content parts.old)
         (Removes now.0 path.now result (S.content parts.new.store)) (seen S.content parts.new) }
+    ensures timed { parts.new.observers.clock ≤ parts.new.clock.0 }
 {
     let at = later(parts.clock, now);
     let before = parts.store.version();
     let done = delete(&mut parts.store, at, path);
     parts.clock = at;
     let version = parts.store.version();
-    mark(&mut parts.observers, path, before, version);
+    mark(&mut parts.observers, at, path, before, version);
     done
 }

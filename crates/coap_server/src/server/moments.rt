@@ -15,7 +15,8 @@ pub(crate) fn later(a: Moment, b: Moment) -> Moment
 
 /// What ended carried Observe: its observer is removed (RFC 7641, sections 3.6 and 4.5).
 pub(crate) fn forget<A: Allocator + Copy>(observers: &mut Observers<A>, ended: Option<Ended>)
-    ensures { observers.new ≡ unless_ended ended observers.old }
+    ensures { observers.new
+        ≡ record { clock = observers.old.clock; list = unless_ended ended observers.old.list } }
 {
     if let Some(ended) = ended {
         if ended.observe {

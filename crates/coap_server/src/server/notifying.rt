@@ -1,6 +1,7 @@
 //! Which observer is notified next, and of what (RFC 7641, sections 4.2, 4.4 and 4.5).
-ghost use Rattle.std.specs.Prelude.{◌≡◌, ◌≤◌, ℕ, Option, true, false, None, is_some, IfOk, IfSome, IsOk, OnErr, length};
-ghost use Rattle.coap_observe.specs.Notices.{told, told_due};
+ghost use Rattle.std.specs.Prelude.{◌≡◌, ◌≤◌, ℕ, Option, true, false, None, is_some, IfOk, IfSome, IsOk, OnErr, OnOk, length};
+ghost use Rattle.std.specs.Option.{option_map};
+ghost use Rattle.coap_observe.specs.Notices.{but_noted, told, told_due};
 ghost use Rattle.coap_observe.specs.Observers.{Observer};
 ghost use Rattle.coap_resource.specs.Content.{Held};
 ghost use Rattle.coap_exchange.specs.declared.answerer.Due.TheVariants as dues;
@@ -32,12 +33,13 @@ fn first_ready<'o, A: Allocator + Copy, H: BuildHasher>(
     at: Moment,
 ) -> Result<Option<Notice<'o, A>>, AllocError>
     ensures found { IfOk result (λ found. (passed : ℕ)
-        × (told_due found ≡ behind passed (marked observers.now))
-        × Exchanged exchanges.old.state (readies at.0 passed (marked observers.now)) exchanges.new.state) }
+        × (told_due found ≡ option_map but_noted (behind passed (marked observers.now.list)))
+        × Exchanged exchanges.old.state (readies at.0 passed (marked observers.now.list)) exchanges.new.state) }
     ensures may { IfOk result (λ found. IfSome found (λ notice. MayNotify exchanges.new at.0 notice.to)) }
     ensures before { exchanges.new.before ≡ exchanges.old.before }
-    ensures none { takes_notice exchanges.old.state at.0 observers.now ≡ false → IfOk result (λ found. found ≡ None) }
-    ensures quiet { takes_notice exchanges.old.state at.0 observers.now ≡ false → IsOk result }
+    ensures none { takes_notice exchanges.old.state at.0 observers.now.list ≡ false
+        → IfOk result (λ found. found ≡ None) }
+    ensures quiet { takes_notice exchanges.old.state at.0 observers.now.list ≡ false → IsOk result }
 {
     let mut passed = 0;
     'observers: while let Some(notice) = observers.due_after(passed) {
@@ -96,19 +98,22 @@ fn send<A: Allocator + Copy, H: BuildHasher>(
     exchanges.notify(at, to, token, &response.with(&options), word)
 }
 
-// An observer was notified: it was told what the path holds, or that it holds nothing, which ends the
-// registration (RFC 7641, section 4.2).
+// An observer was notified at this moment: it was told what the path holds, or that it holds nothing,
+// which ends the registration (RFC 7641, section 4.2).
 fn note_sent<A: Allocator + Copy>(
     observers: &mut Observers<A>,
+    at: Moment,
     to: Endpoint,
     token: &Token,
     there: bool,
 )
-    ensures { (held : Option Held) (o : Observer) → is_some held ≡ there → o.to ≡ to → o.token ≡ token.now
-        → observers.new ≡ notified held o observers.old }
+    requires timed { observers.old.clock ≤ at.0 }
+    ensures left { (held : Option Held) (o : Observer) → is_some held ≡ there → o.to ≡ to → o.token ≡ token.now
+        → observers.new.list ≡ notified at.0 held o observers.old.list }
+    ensures timed { observers.new.clock ≤ at.0 }
 {
     if there {
-        let _was_due = observers.sent(to, token);
+        let _was_due = observers.sent(at, to, token, true);
     } else {
         let _was_there = observers.remove(to, token);
     }
@@ -121,12 +126,15 @@ pub(crate) fn notify_next<S: Store<A>, A: Allocator + Copy, H: BuildHasher>(
     parts: &mut Parts<S, A, H>,
     word: u64,
 ) -> Result<bool, AllocError>
+    requires timed { parts.old.observers.clock ≤ parts.old.clock.0 }
     ensures turned { IfOk result (λ did. IsTurned (seen S.content parts.old) dues.Idle word did
         (seen S.content parts.new)) }
+    ensures timed { OnOk result (parts.new.observers.clock ≤ parts.new.clock.0) }
     ensures before { parts.new.exchanges.before ≡ parts.old.exchanges.before }
     ensures err { OnErr result
         (record (kept_of parts.new) { exchanges = parts.old.exchanges.state } ≡ kept_of parts.old) }
-    ensures quiet { takes_notice parts.old.exchanges.state parts.old.clock.0 parts.old.observers ≡ false → IsOk result }
+    ensures quiet { takes_notice parts.old.exchanges.state parts.old.clock.0 parts.old.observers.list ≡ false
+        → IsOk result }
 {
     let at = parts.clock;
     let Some(notice) = first_ready(&mut parts.exchanges, &parts.observers, at)? else {
@@ -137,7 +145,7 @@ pub(crate) fn notify_next<S: Store<A>, A: Allocator + Copy, H: BuildHasher>(
     // Nothing fails from here on.
     let Notice { to, token, .. } = notice;
     let _id = send(&mut parts.exchanges, at, to, &token, &response, word);
-    note_sent(&mut parts.observers, to, &token, there);
+    note_sent(&mut parts.observers, at, to, &token, there);
     parts.applied = None;
     Ok(true)
 }

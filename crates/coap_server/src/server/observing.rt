@@ -1,4 +1,4 @@
-ghost use Rattle.std.specs.Prelude.{◌≡◌, Ok, true, false, IfOk, OnErr, OnOk};
+ghost use Rattle.std.specs.Prelude.{◌≡◌, ◌≤◌, Ok, true, false, IfOk, OnErr, OnOk};
 ghost use Rattle.coap_types.specs.CoapOption.{options_of};
 ghost use Rattle.coap_types.specs.OptionValues.{uint_at};
 ghost use Rattle.coap_resource.specs.RequestOptions.{block_of, szx_by};
@@ -11,7 +11,7 @@ use coap_exchange::Asked;
 use coap_observe::{Observers, sequence_number};
 use coap_resource::{Asking, Response, Store, value_of};
 use coap_types::option_number::{BLOCK2, OBSERVE};
-use coap_types::{Block, Code, Method, Opt, Path, Szx, uint_of};
+use coap_types::{Block, Code, Method, Moment, Opt, Path, Szx, uint_of};
 use std::alloc::{AllocError, Allocator};
 
 // What Observe says in a GET that registers (RFC 7641, section 2).
@@ -71,24 +71,27 @@ fn may_register<A: Allocator>(asking: &Asking<'_, A>, response: &Response<A>) ->
     observes(asking, REGISTER) && response.code == Code::CONTENT && response.offset == 0
 }
 
-/// Registers and removes an observer as a request asks that was answered so, and the number that
-/// Observe says in the response (RFC 7641, section 4.1). After an `Err` all is as before.
+/// Registers and removes an observer as a request asks that was answered so at this moment, and the
+/// number that Observe says in the response (RFC 7641, section 4.1). After an `Err` all is as before.
 pub(crate) fn observe<S: Store<A>, A: Allocator + Copy>(
     store: &S,
     observers: &mut Observers<A>,
+    at: Moment,
     asked: &Asked,
     asking: &Asking<'_, A>,
     response: &Response<A>,
 ) -> Result<Option<u32>, AllocError>
-    ensures observers { OnOk result (observers.new
-        ≡ observers_with asked.now (question_of asking.now) (reply_of response.now) observers.old) }
+    requires timed { observers.old.clock ≤ at.0 }
+    ensures observers { OnOk result (observers.new.list
+        ≡ observers_with at.0 asked.now (question_of asking.now) (reply_of response.now) observers.old.list) }
     ensures number { IfOk result (λ number. number
-        ≡ sequence_if (registers asked.now (question_of asking.now) (reply_of response.now) observers.old)
+        ≡ sequence_if (registers asked.now (question_of asking.now) (reply_of response.now) observers.old.list)
         ((S.content store.now).holds asking.now.path.now)) }
+    ensures timed { observers.new.clock ≤ at.0 }
     ensures err { OnErr result (observers.new ≡ observers.old) }
 {
     if may_register(asking, response) {
-        let registered = register(observers, asked, asking)?;
+        let registered = register(observers, at, asked, asking)?;
         return Ok(if registered {
             sequence_of(store, asking.path)
         } else {
@@ -104,16 +107,19 @@ pub(crate) fn observe<S: Store<A>, A: Allocator + Copy>(
 // Registers who asked, where a place is free.
 fn register<A: Allocator + Copy>(
     observers: &mut Observers<A>,
+    at: Moment,
     asked: &Asked,
     asking: &Asking<'_, A>,
 ) -> Result<bool, AllocError>
-    ensures free { IfOk result (λ done. done ≡ has_place asked.now observers.old) }
-    ensures registered { result ≡ Ok true → observers.new
-        ≡ registered_by asked.now (question_of asking.now) observers.old }
-    ensures full { result ≡ Ok false → observers.new ≡ observers.old }
+    requires timed { observers.old.clock ≤ at.0 }
+    ensures free { IfOk result (λ done. done ≡ has_place asked.now observers.old.list) }
+    ensures registered { result ≡ Ok true → observers.new.list
+        ≡ registered_by at.0 asked.now (question_of asking.now) observers.old.list }
+    ensures full { result ≡ Ok false → observers.new.list ≡ observers.old.list }
+    ensures timed { observers.new.clock ≤ at.0 }
     ensures err { OnErr result (observers.new ≡ observers.old) }
 {
     let path = asking.path.clone()?;
     let szx = registered_szx(asking.options, asking.szx);
-    observers.register(asked.from, asked.token.copy(), path, szx)
+    observers.register(at, asked.from, asked.token.copy(), path, szx)
 }

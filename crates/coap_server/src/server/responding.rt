@@ -77,9 +77,11 @@ fn serve_waiting<S: Store<A>, A: Allocator + Copy>(
     asked: &Asked,
     waiting: &Waiting<A>,
 ) -> Result<Served<A>, AllocError>
-    ensures served { IfOk result (λ served. ServesRequest (S.content store.old) observers.old at.0 asked.now
+    requires timed { observers.old.clock ≤ at.0 }
+    ensures served { IfOk result (λ served. ServesRequest (S.content store.old) observers.old.list at.0 asked.now
         (waiting_as szx waiting.now).question served.response (applied_list served.applied)
-        (S.content store.new) observers.new) }
+        (S.content store.new) observers.new.list) }
+    ensures timed { observers.new.clock ≤ at.0 }
     ensures store { OnErr result (store.new ≡ store.old) }
     ensures observers { OnErr result (observers.new ≡ observers.old) }
 {
@@ -120,8 +122,10 @@ pub(crate) fn respond_ready<S: Store<A>, A: Allocator + Copy, H: BuildHasher>(
 ) -> Result<(), AllocError>
     requires may { MayRespond parts.old.exchanges parts.old.clock.0 asked.now }
     requires short { length asked.now.token ≤ max_token_len }
+    requires timed { parts.old.observers.clock ≤ parts.old.clock.0 }
     ensures turned { OnOk result (IsTurned (seen S.content parts.old) (dues.Ready asked.now) word true
         (seen S.content parts.new)) }
+    ensures timed { OnOk result (parts.new.observers.clock ≤ parts.new.clock.0) }
     ensures before { parts.new.exchanges.before ≡ parts.old.exchanges.before }
     ensures err { OnErr result
         (record (kept_of parts.new) { exchanges = parts.old.exchanges.state } ≡ kept_of parts.old) }

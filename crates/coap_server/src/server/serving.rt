@@ -51,8 +51,11 @@ pub(crate) fn serve_request<S: Store<A>, A: Allocator + Copy>(
     asked: &Asked,
     asking: &Asking<'_, A>,
 ) -> Result<Served<A>, AllocError>
-    ensures served { IfOk result (λ served. ServesRequest (S.content store.old) observers.old now.0 asked.now
-        (question_of asking.now) served.response (applied_list served.applied) (S.content store.new) observers.new) }
+    requires timed { observers.old.clock ≤ now.0 }
+    ensures served { IfOk result (λ served. ServesRequest (S.content store.old) observers.old.list now.0 asked.now
+        (question_of asking.now) served.response (applied_list served.applied) (S.content store.new)
+        observers.new.list) }
+    ensures timed { observers.new.clock ≤ now.0 }
     ensures store { OnErr result (store.new ≡ store.old) }
     ensures observers { OnErr result (observers.new ≡ observers.old) }
 {
@@ -73,13 +76,16 @@ fn serve_get<S: Store<A>, A: Allocator + Copy>(
     asking: &Asking<'_, A>,
 ) -> Result<Served<A>, AllocError>
     requires get { asking.now.method ≡ Method.Get }
-    ensures served { IfOk result (λ served. ServesRequest (S.content store.old) observers.old now.0 asked.now
-        (question_of asking.now) served.response (applied_list served.applied) (S.content store.new) observers.new) }
+    requires timed { observers.old.clock ≤ now.0 }
+    ensures served { IfOk result (λ served. ServesRequest (S.content store.old) observers.old.list now.0 asked.now
+        (question_of asking.now) served.response (applied_list served.applied) (S.content store.new)
+        observers.new.list) }
+    ensures timed { observers.new.clock ≤ now.0 }
     ensures store { OnErr result (store.new ≡ store.old) }
     ensures observers { OnErr result (observers.new ≡ observers.old) }
 {
     let response = serve(store, now, asking)?;
-    let number = observe(store, observers, asked, asking, &response)?;
+    let number = observe(store, observers, now, asked, asking, &response)?;
     Ok(Served {
         response: FullResponse::of(response, number, last_block(asking)),
         applied: None,
@@ -95,8 +101,11 @@ fn serve_change<S: Store<A>, A: Allocator + Copy>(
     asking: &Asking<'_, A>,
 ) -> Result<Served<A>, AllocError>
     requires change { is_get asking.now.method ≡ false }
-    ensures served { IfOk result (λ served. ServesRequest (S.content store.old) observers.old now.0 asked.now
-        (question_of asking.now) served.response (applied_list served.applied) (S.content store.new) observers.new) }
+    requires timed { observers.old.clock ≤ now.0 }
+    ensures served { IfOk result (λ served. ServesRequest (S.content store.old) observers.old.list now.0 asked.now
+        (question_of asking.now) served.response (applied_list served.applied) (S.content store.new)
+        observers.new.list) }
+    ensures timed { observers.new.clock ≤ now.0 }
     ensures store { OnErr result (store.new ≡ store.old) }
     ensures observers { OnErr result (observers.new ≡ observers.old) }
 {
@@ -104,7 +113,7 @@ fn serve_change<S: Store<A>, A: Allocator + Copy>(
     let before = store.version();
     let response = serve(store, now, asking)?;
     let version = store.version();
-    mark(observers, asking.path, before, version);
+    mark(observers, now, asking.path, before, version);
     let applied = applied_by(response.code, asked, path, asking.method, before, version);
     Ok(Served {
         response: FullResponse::of(response, None, last_block(asking)),
@@ -112,18 +121,22 @@ fn serve_change<S: Store<A>, A: Allocator + Copy>(
     })
 }
 
-/// Where the version rose, the path changed: its observers are to be notified (RFC 7641, section 4.2).
+/// Where the version rose, the path changed at this moment: its observers are to be notified (RFC 7641,
+/// section 4.2).
 pub(crate) fn mark<A: Allocator + Copy>(
     observers: &mut Observers<A>,
+    at: Moment,
     path: &Path<A>,
     before: u64,
     version: u64,
 )
-    ensures { observers.new
-        ≡ (if version == before then observers.old else changed_at path.now observers.old) }
+    requires timed { observers.old.clock ≤ at.0 }
+    ensures marked { observers.new.list
+        ≡ (if version == before then observers.old.list else changed_at at.0 path.now observers.old.list) }
+    ensures timed { observers.new.clock ≤ at.0 }
 {
     if version != before {
-        observers.changed(path);
+        observers.changed(at, path);
     }
 }
 

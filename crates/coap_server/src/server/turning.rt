@@ -1,5 +1,5 @@
 //! Time passes at a server (RFC 7252, sections 4.2 and 5.2.2; RFC 7641, section 4.5).
-ghost use Rattle.std.specs.Prelude.{◌≡◌, ◌≢◌, ◌≤◌, ℕ, max, Bool, false, [], IfOk, IsOk, OnErr, length};
+ghost use Rattle.std.specs.Prelude.{◌≡◌, ◌≢◌, ◌≤◌, ℕ, max, Bool, false, [], IfOk, IsOk, OnErr, OnOk, length};
 ghost use Rattle.coap_types.specs.declared.token.TheConstants.{MAX_TOKEN_LEN as max_token_len};
 ghost use Rattle.coap_layer.specs.Machine.State.{answer_of, copies};
 ghost use Rattle.coap_layer.specs.Trace as below;
@@ -33,12 +33,14 @@ fn turn<S: Store<A>, A: Allocator + Copy, H: BuildHasher>(
 ) -> Result<bool, AllocError>
     requires ready { (a : AskedSpec) → due ≡ dues.Ready a → MayRespond parts.old.exchanges parts.old.clock.0 a }
     requires short { (a : AskedSpec) → due ≡ dues.Ready a → length a.token ≤ max_token_len }
+    requires timed { parts.old.observers.clock ≤ parts.old.clock.0 }
     ensures turned { IfOk result (λ did. IsTurned (seen S.content parts.old) due word did (seen S.content parts.new)) }
     ensures copied { due ≡ dues.Copied → IsOk result }
     ensures expired { due ≡ dues.Expired → IsOk result }
-    ensures idle { due ≡ dues.Idle → takes_notice parts.old.exchanges.state parts.old.clock.0 parts.old.observers
+    ensures idle { due ≡ dues.Idle → takes_notice parts.old.exchanges.state parts.old.clock.0 parts.old.observers.list
         ≡ false
         → IsOk result }
+    ensures timed { OnOk result (parts.new.observers.clock ≤ parts.new.clock.0) }
     ensures before { parts.new.exchanges.before ≡ parts.old.exchanges.before }
     ensures err { OnErr result
         (record (kept_of parts.new) { exchanges = parts.old.exchanges.state } ≡ kept_of parts.old) }
@@ -68,9 +70,11 @@ pub(crate) fn tick_parts<S: Store<A>, A: Allocator + Copy, H: BuildHasher>(
     now: Moment,
     word: u64,
 ) -> Result<bool, AllocError>
+    requires timed { parts.old.observers.clock ≤ parts.old.clock.0 }
     ensures step { IfOk result (λ did. (done : below.Answer) × (room : Bool) × (due : DueSpec) × (passed : ℕ)
         × (h : Handling) × (id : ℕ)
         × Step (seen S.content parts.old) (Ticks now.0 word done room due passed h id did) (seen S.content parts.new)) }
+    ensures timed { OnOk result (parts.new.observers.clock ≤ parts.new.clock.0) }
     ensures err { OnErr result (kept_of parts.new ≡ kept_of parts.old) }
     ensures quiet { IsIdle (seen S.content parts.old) now.0 → IsOk result }
     ensures fails { copies (moment (seen S.content parts.old) now.0) parts.old.exchanges.state.layer.open_cons ≡ []

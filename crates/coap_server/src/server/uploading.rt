@@ -42,6 +42,7 @@ pub(crate) fn handle_block<S: Store<A>, A: Allocator + Copy, H: BuildHasher>(
     requires may { MayAnswer parts.old.exchanges asked.now }
     requires short { length asked.now.token ≤ max_token_len }
     requires num { upload.block.num ≤ MAX_NUM }
+    requires timed { parts.old.observers.clock ≤ parts.old.clock.0 }
     ensures handled { OnOk result (IsUploaded (seen S.content parts.old) asked.now
         (record {
           method = upload.entry.method;
@@ -51,6 +52,7 @@ pub(crate) fn handle_block<S: Store<A>, A: Allocator + Copy, H: BuildHasher>(
           szx = parts.old.szx;
         })
         upload.entry.block (seen S.content parts.new)) }
+    ensures timed { OnOk result (parts.new.observers.clock ≤ parts.new.clock.0) }
     ensures before { parts.new.exchanges.before ≡ parts.old.exchanges.before }
     ensures err { OnErr result
         (record (kept_of parts.new) { exchanges = parts.old.exchanges.state } ≡ kept_of parts.old) }

@@ -1,6 +1,6 @@
 //! What happens to a list of observers, as steps of one array.
 use coap_observe::{Notice, Observers};
-use coap_types::{Endpoint, Path, Szx, Token};
+use coap_types::{Endpoint, Id, Moment, Path, Szx, Token};
 use std::alloc::{AllocError, AllocGlobal, Global};
 use std::process::Abort;
 use std::test::*;
@@ -9,6 +9,8 @@ use std::test::*;
 /// its token, a path the byte of its segment.
 #[derive(Clone, Copy)]
 pub(super) enum Step {
+    /// What follows happens at this moment.
+    Now(u64),
     /// An observer of a path is registered, or not.
     Registers(u8, u8, u8, bool),
     /// It was registered: it is removed.
@@ -19,11 +21,17 @@ pub(super) enum Step {
     Due(u8, Option<u8>),
     /// The observer is due behind so many others that are.
     DueAfter(usize, Option<(u8, u8)>),
-    /// A notification was due, and is sent.
+    /// A notification was due, and is sent in a CON.
     Sends(u8, u8, bool),
+    /// A notification was due, and is sent in a NON with this Message ID.
+    SendsPlain(u8, u8, u16),
+    /// A Reset with this Message ID ends the registration of this token, or none.
+    Resets(u8, u16, Option<u8>),
     /// At this place is the observer of a path, to which a notification is due or not.
     At(usize, u8, u8, u8, bool),
     NoneAt(usize),
+    /// The observer at this place was notified in a CON at the one moment, and its path changed at the other.
+    Since(usize, u64, u64),
 }
 
 const SERVER_PORT: u16 = 5683;
@@ -49,14 +57,15 @@ fn path(alloc: Global, segment: u8) -> Result<Path, AllocError> {
 pub(super) fn registers<R: Abort + AllocGlobal>(
     rt: &R,
     observers: &mut Observers,
-    from: u8,
-    byte: u8,
+    now: Moment,
+    who: (u8, u8),
     segment: u8,
     is_taken: bool,
 ) -> Result<(), AllocError> {
+    let (from, byte) = who;
     let path = path(rt.alloc(), segment)?;
     let szx = Szx::new(6).expect(rt, "a block size");
-    let taken = observers.register(endpoint(from), token(byte), path, szx)?;
+    let taken = observers.register(now, endpoint(from), token(byte), path, szx)?;
     assert_eq!(rt; taken, is_taken);
     Ok(())
 }
@@ -64,9 +73,10 @@ pub(super) fn registers<R: Abort + AllocGlobal>(
 fn changes<R: Abort + AllocGlobal>(
     rt: &R,
     observers: &mut Observers,
+    now: Moment,
     segment: u8,
 ) -> Result<(), AllocError> {
-    observers.changed(&path(rt.alloc(), segment)?);
+    observers.changed(now, &path(rt.alloc(), segment)?);
     Ok(())
 }
 
@@ -108,40 +118,84 @@ fn is_at<R: Abort + AllocGlobal>(
     Ok(())
 }
 
+fn sends<R: Abort>(
+    rt: &R,
+    observers: &mut Observers,
+    now: Moment,
+    who: (u8, u8),
+    con: bool,
+    was: bool,
+) {
+    assert_eq!(rt;
+        observers.sent(now, endpoint(who.0), &token(who.1), con),
+        was
+    );
+}
+
+fn resets<R: Abort>(
+    rt: &R,
+    observers: &mut Observers,
+    now: Moment,
+    from: u8,
+    id: u16,
+    byte: Option<u8>,
+) {
+    let ended = observers.reset(now, endpoint(from), Id(id));
+    assert_eq!(rt;
+        ended.and_then(|token| token.as_slice().first().copied()),
+        byte
+    );
+}
+
+fn is_since<R: Abort>(rt: &R, observers: &Observers, place: usize, con: u64, changed: u64) {
+    let (notice, _due) = observers.at(place).expect(rt, "one is there");
+    assert_eq!(rt; (notice.con.0, notice.changed.0), (con, changed));
+}
+
 fn take_step<R: Abort + AllocGlobal>(
     rt: &R,
     observers: &mut Observers,
+    now: Moment,
     step: Step,
 ) -> Result<(), AllocError> {
     match step {
+        Step::Now(_) => {}
         Step::Registers(from, byte, segment, is_taken) => {
-            registers(rt, observers, from, byte, segment, is_taken)?;
+            registers(rt, observers, now, (from, byte), segment, is_taken)?;
         }
         Step::Removes(from, byte, was) => {
             assert_eq!(rt; observers.remove(endpoint(from), &token(byte)), was);
         }
-        Step::Changes(segment) => changes(rt, observers, segment)?,
+        Step::Changes(segment) => changes(rt, observers, now, segment)?,
         Step::Due(from, byte) => is_due(rt, observers, from, byte),
         Step::DueAfter(passed, who) => is_due_after(rt, observers, passed, who),
-        Step::Sends(to, byte, was) => {
-            assert_eq!(rt; observers.sent(endpoint(to), &token(byte)), was);
+        Step::Sends(to, byte, was) => sends(rt, observers, now, (to, byte), true, was),
+        Step::SendsPlain(to, byte, id) => {
+            sends(rt, observers, now, (to, byte), false, true);
+            observers.noted(now, endpoint(to), &token(byte), Id(id));
         }
+        Step::Resets(from, id, byte) => resets(rt, observers, now, from, id, byte),
         Step::At(place, from, byte, segment, due) => {
             is_at(rt, observers, place, (from, byte), segment, due)?;
         }
         Step::NoneAt(place) => assert!(rt; observers.at(place).is_none()),
+        Step::Since(place, con, changed) => is_since(rt, observers, place, con, changed),
     }
     Ok(())
 }
 
-/// The steps happen to observers, one after the other.
+/// The steps happen to observers, one after the other, from moment 0 on.
 pub(super) fn take_steps<R: Abort + AllocGlobal>(
     rt: &R,
     observers: &mut Observers,
     steps: &[Step],
 ) -> Result<(), AllocError> {
+    let mut now = Moment(0);
     for step in steps {
-        take_step(rt, observers, *step)?;
+        if let Step::Now(at) = *step {
+            now = Moment(at);
+        }
+        take_step(rt, observers, now, *step)?;
     }
     Ok(())
 }

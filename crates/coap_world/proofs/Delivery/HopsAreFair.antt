@@ -30,7 +30,7 @@ use Rattle.coap_world.proofs.Delivery.ServerTurns as server_turns
 
 -- what was sent there
 
-apart : client_end ≡ server_end → ⊥
+pub apart : client_end ≡ server_end → ⊥
 apart h = let k : 40001 ≡ 5683 = ap (λ (e : Endpoint). e.port) h in absurd (omega (arith, k))
 
 sent_there : (from to : Endpoint) (bytes : List ℕ) (when : ℕ) (g : Given) (e : L.Entry) → D.GaveOut from to bytes when g

@@ -236,29 +236,29 @@ removed_are : (to : _) (token : List ℕ) (os : List Observer) → Each WatcherA
     → Each WatcherAre (removed to token os)
 removed_are to token os h = each_filter WatcherAre _ os h
 
-with_observer_are : (a : Asked) (q : Question) (reply : Reply) (os : List Observer) → AreBytes a.token → QuestionAre q
-    → Each WatcherAre os → Each WatcherAre (observers_with a q reply os)
-with_observer_are a q reply os t k h = by (registers a q reply os) (observes 1 q)
+with_observer_are : (at : ℕ) (a : Asked) (q : Question) (reply : Reply) (os : List Observer) → AreBytes a.token → QuestionAre q
+    → Each WatcherAre os → Each WatcherAre (observers_with at a q reply os)
+with_observer_are at a q reply os t k h = by (registers a q reply os) (observes 1 q)
   where
-    by : (x y : Bool) → Each WatcherAre (cond x (registered a.from a.token q.path
+    by : (x y : Bool) → Each WatcherAre (cond x (registered at a.from a.token q.path
         (szx_by (block_of q.options) q.szx) os) (cond y (removed a.from a.token os) os))
     by true y = each_join WatcherAre (removed a.from a.token os) _ (removed_are a.from a.token os h)
         ((t, size_small (block_of q.options) q.szx k.szx), tt)
     by false true = removed_are a.from a.token os h
     by false false = h
 
-pub marked_are : (path : List (List ℕ)) (old left : Content) (os : List Observer) → Each WatcherAre os
-    → Each WatcherAre (marked_if path old left os)
-marked_are path old left os h = by (left.tally.version == old.tally.version)
+pub marked_are : (at : ℕ) (path : List (List ℕ)) (old left : Content) (os : List Observer) → Each WatcherAre os
+    → Each WatcherAre (marked_if at path old left os)
+marked_are at path old left os h = by (left.tally.version == old.tally.version)
   where
-    by : (b : Bool) → Each WatcherAre (cond b os (changed_at path os))
+    by : (b : Bool) → Each WatcherAre (cond b os (changed_at at path os))
     by true = h
-    by false = each_changed WatcherAre (marked_by path) (λ o w. (w.0, w.1)) os h
+    by false = each_changed WatcherAre (marked_by at path) (λ o w. (w.0, w.1)) os h
 
-notified_are : (held : Option Held) (o : Observer) (os : List Observer) → Each WatcherAre os
-    → Each WatcherAre (notified held o os)
-notified_are None o os h = removed_are o.to o.token os h
-notified_are (Some held) o os h = each_changed WatcherAre (unmarked_by o.to o.token) (λ x w. (w.0, w.1)) os h
+notified_are : (at : ℕ) (held : Option Held) (o : Observer) (os : List Observer) → Each WatcherAre os
+    → Each WatcherAre (notified at held o os)
+notified_are at None o os h = removed_are o.to o.token os h
+notified_are at (Some held) o os h = each_changed WatcherAre (unmarked_by at o.to o.token true) (λ x w. (w.0, w.1)) os h
 
 pub ended_are : (e : Option Ended) (os : List Observer) → Each WatcherAre os → Each WatcherAre (unless_ended e os)
 ended_are None os h = h
@@ -268,20 +268,20 @@ ended_are (Some x) os h = by x.observe
     by true = removed_are x.to x.token os h
     by false = h
 
-pub observers_are : (old : Content) (a : Option Asked) (h : Handling) (os : List Observer)
+pub observers_are : (at : ℕ) (old : Content) (a : Option Asked) (h : Handling) (os : List Observer)
     → IfSome a (λ x. AreBytes x.token) → HandlingAre h → Each WatcherAre os
-    → Each WatcherAre (observers_after old a h os)
-observers_are old (Some a) (Serves q reply left) os t h k =
-    marked_are q.path old left (observers_with a q reply os) (with_observer_are a q reply os t h.0 k)
-observers_are old (Some a) (Notifies o reply) os t h k = notified_are (old.holds o.path) o os k
-observers_are old (Some a) Silent os t h k = k
-observers_are old (Some a) (Replies response) os t h k = k
-observers_are old (Some a) (Waits q delay) os t h k = k
-observers_are old None (Notifies o reply) os t h k = notified_are (old.holds o.path) o os k
-observers_are old None (Serves q reply left) os t h k = k
-observers_are old None Silent os t h k = k
-observers_are old None (Replies response) os t h k = k
-observers_are old None (Waits q delay) os t h k = k
+    → Each WatcherAre (observers_after at old a h os)
+observers_are at old (Some a) (Serves q reply left) os t h k =
+    marked_are at q.path old left (observers_with at a q reply os) (with_observer_are at a q reply os t h.0 k)
+observers_are at old (Some a) (Notifies o reply) os t h k = notified_are at (old.holds o.path) o os k
+observers_are at old (Some a) Silent os t h k = k
+observers_are at old (Some a) (Replies response) os t h k = k
+observers_are at old (Some a) (Waits q delay) os t h k = k
+observers_are at old None (Notifies o reply) os t h k = notified_are at (old.holds o.path) o os k
+observers_are at old None (Serves q reply left) os t h k = k
+observers_are at old None Silent os t h k = k
+observers_are at old None (Replies response) os t h k = k
+observers_are at old None (Waits q delay) os t h k = k
 
 pub store_are : (h : Handling) (old : Content) → HandlingAre h → StoreAre old → StoreAre (store_after h old)
 store_are Silent old h b = b

@@ -261,9 +261,9 @@ token_in (Some p) c = c.0
 -- the observers behind a tick
 observers_then : (s : Own) (d : Due) (passed : ℕ) (h : Handling) → OwnAre s → HandlesDue s d passed h → HandlingAre h
     → Each WatcherAre
-    (Rattle.coap_server.specs.Steps.observers_after s.store (ready_in d) h s.observers)
+    (Rattle.coap_server.specs.Steps.observers_after s.clock s.store (ready_in d) h s.observers)
 observers_then s (due.Ready a) passed (Serves q reply left) own k is =
-    observers_are s.store (Some a) (Serves q reply left) s.observers (ready_are s a q reply left own k) is own.observers
+    observers_are s.clock s.store (Some a) (Serves q reply left) s.observers (ready_are s a q reply left own k) is own.observers
 observers_then s (due.Ready a) passed (Notifies o reply) own k is = absurd (by (question_of s.clock a s.waiting) k)
   where
     by : (q : Option Question) → AnswersWaiting q s.store s.clock (Notifies o reply) → ⊥
@@ -272,9 +272,9 @@ observers_then s (due.Ready a) passed (Notifies o reply) own k is = absurd (by (
 observers_then s (due.Ready a) passed Silent own k is = own.observers
 observers_then s (due.Ready a) passed (Replies response) own k is = own.observers
 observers_then s (due.Ready a) passed (Waits q delay) own k is = own.observers
-observers_then s due.Idle passed h own k is = observers_are s.store None h s.observers tt is own.observers
-observers_then s due.Copied passed h own k is = observers_are s.store None h s.observers tt is own.observers
-observers_then s due.Expired passed h own k is = observers_are s.store None h s.observers tt is own.observers
+observers_then s due.Idle passed h own k is = observers_are s.clock s.store None h s.observers tt is own.observers
+observers_then s due.Copied passed h own k is = observers_are s.clock s.store None h s.observers tt is own.observers
+observers_then s due.Expired passed h own k is = observers_are s.clock s.store None h s.observers tt is own.observers
 
 abbrev Leaves : Own → List E.Call → Type 0
 Leaves new calls = OwnAre new × Each RespondAre calls
@@ -288,7 +288,7 @@ call_are s (Sets now path format body answer left) own right range h =
         store = sets_are (put_refusal s.store at path (length body)) s.store at path format body
             answer left range.1 range.0 right own.store;
         uploads = own.uploads;
-        observers = marked_are path s.store left s.observers own.observers;
+        observers = marked_are at path s.store left s.observers own.observers;
         waiting = own.waiting;
       },
       tt,
@@ -300,7 +300,7 @@ call_are s (Removes now path answer left) own right range h =
         store = removes_are (s.store.holds path)
             (rate_refusal s.store.tally at) s.store at path answer left right own.store;
         uploads = own.uploads;
-        observers = marked_are path s.store left s.observers own.observers;
+        observers = marked_are at path s.store left s.observers own.observers;
         waiting = own.waiting;
       },
       tt,
@@ -337,7 +337,7 @@ call_are s (Feeds now from bytes word up came k below) own right range h =
         szx = o.szx;
         store = store_are k t.store x o.store;
         uploads = uploads_left t.szx o.szx t.clock came t.uploads c o.uploads;
-        observers = observers_are t.store (Rattle.coap_exchange.specs.AnswererSteps.asked_in came) k t.observers
+        observers = observers_are t.clock t.store (Rattle.coap_exchange.specs.AnswererSteps.asked_in came) k t.observers
             (token_in came c) x o.observers;
         waiting = waiting_left t.clock came k t.waiting c x o.waiting;
       },

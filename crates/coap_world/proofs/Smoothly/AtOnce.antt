@@ -231,7 +231,7 @@ module _ (config : Config) where
           now = waits_now config delays (h.con.first + max_age) x (entries_of past) old.stands.server (none_set past old.stands.made)
               (⊎_elim (λ w. w) (λ k. absurd (never k)) (either config con x (entries_of past) comes))
 
-    last_waits : LastWaits config at past
+    pub last_waits : LastWaits config at past
     last_waits =
         let k = open_of server_end config.client_sizes config.client_word at (client_of (entries_of past))
         old.stands.client is_open in

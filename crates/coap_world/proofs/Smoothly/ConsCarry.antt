@@ -24,14 +24,9 @@ use Rattle.coap_layer.specs.declared.setup.Setup.{Setup}
 use Rattle.coap_layer.proofs.Facts.Laws.{begins_of, cons_spelled, spelled_begun}
 use Rattle.coap_exchange.specs.AnswererLaw as answerer
 use Rattle.coap_exchange.specs.AnswererSteps as P
-use Rattle.coap_exchange.specs.AnswererSteps.{reject_by, deferring, may_defer, asking_room, ready_if, ready_at}
 use Rattle.coap_exchange.specs.AnswererTrace as R
-use Rattle.coap_exchange.specs.AskerArrivals.{replying, id_in}
 use Rattle.coap_exchange.specs.AskerTrace as A
-use Rattle.coap_exchange.specs.AskerRequests.{asked}
-use Rattle.coap_exchange.specs.declared.answerer.Asked as request
 use Rattle.coap_exchange.specs.declared.asker.AskRefusal.{AskRefusal}
-use Rattle.coap_exchange.specs.declared.separate.Deferred.{Deferred}
 use Rattle.coap_client.specs.Deeds.{effect}
 use Rattle.coap_client.specs.Effects.{Deed, Rests, Asks, Keeps, Releases, Effect}
 use Rattle.coap_client.specs.Follows.Begins.{WasSent, IsRequestOf}
@@ -44,6 +39,7 @@ use Rattle.coap_block.specs.Sizes.{Sizes}
 use Rattle.coap_world.specs.CameFrom.{request_of}
 use Rattle.coap_world.specs.Events.{server_end}
 use Rattle.coap_world.proofs.Delivery.EntriesInTime.{Every, every_join}
+use Rattle.coap_world.proofs.Smoothly.Confirms.{IsAskedSo, IsEntrySo, SendsSo, sends_so, entries_so}
 
 -- what is sent is the message of an operation
 
@@ -122,76 +118,27 @@ request_told setup t con x law h r m =
 
 -- what a server confirms is a response
 
-pub record IsResponding (a : Asked) : Type 0 where
-  pub confirms : (to : Endpoint) (content : L.Content) (word : ℕ) → a.call ≡ L.Confirm to content word
-      → role_of content.code ≡ role.Response
+abbrev IsResponse : Endpoint → L.Content → Type 0
+IsResponse to content = role_of content.code ≡ role.Response
 
-other : (now : ℕ) (call : L.Call) (up : L.Answer)
-    → ((to : Endpoint) (content : L.Content) (word : ℕ) → call ≡ L.Confirm to content word → ⊥)
-    → IsResponding (asked now call up)
-other now call up f = record { confirms = λ to content word is. absurd (f to content word is) }
+abbrev Any : Endpoint → L.Content → Type 0
+Any to content = Unit {0}
 
-replying_so : (from : Endpoint) (id : ℕ) (o : Option (List ℕ)) → Every IsResponding (replying from id o)
-replying_so from id None = tt
-replying_so from id (Some b) = (other 0 (L.Reply from id b) L.Nothing (λ to content word is. cc is), tt)
+responds_so : (s : R.Own) (c : R.Call) → P.IsRight s c → SendsSo IsResponse Any c
+responds_so s (R.Responds now a r word id) right = right.1.code
+responds_so s (R.Notifies now to token r word id) right = right.code
+responds_so s (R.Incoming now from bytes up answer) right = tt
+responds_so s (R.Answers a r below) right = tt
+responds_so s (R.Defers now a delay answer) right = tt
+responds_so s (R.Ticks now below room answer) right = tt
+responds_so s (R.Ready now to answer) right = tt
+responds_so s (R.Take answer) right = tt
 
-answering_so : (s : R.Own) (kind : Kind) (a : request.Asked) (r : R.Response) (to : Endpoint) (content : L.Content)
-    (word : ℕ) → P.answering s kind a r ≡ L.Confirm to content word → ⊥
-answering_so s Con a r to content word is = cc is
-answering_so s Non a r to content word is = cc is
-answering_so s Ack a r to content word is = cc is
-answering_so s Rst a r to content word is = cc is
-
-deferring_so : (b : Bool) (a : request.Asked) → Every IsResponding (deferring b a)
-deferring_so true a = (other 0 _ _ (λ to content word is. cc is), tt)
-deferring_so false a = tt
-
-room_so : (now : ℕ) (o : Option Deferred) (room : Bool) → Every IsResponding (asking_room now o room)
-room_so now None room = tt
-room_so now (Some d) room = (other now _ _ (λ to content word is. cc is), tt)
-
-responds_so : (s : R.Own) (c : R.Call) → P.IsRight s c → Every IsResponding (P.lower s c)
-responds_so s (R.Incoming now from bytes up answer) right =
-    every_join IsResponding (replying from (id_in up) (reject_by up)) (asked now (L.Receive from bytes) up ∷ [])
-    (replying_so from (id_in up) (reject_by up)) (other now (L.Receive from bytes) up (λ to content word is. cc is), tt)
-responds_so s (R.Answers a r below) right = (other s.clock _ below (answering_so s a.kind a r), tt)
-responds_so s (R.Defers now a delay answer) right =
-    every_join IsResponding (deferring (may_defer s.deferred) a) (asked now L.Pass L.Nothing ∷ [])
-    (deferring_so (may_defer s.deferred) a) (other now L.Pass L.Nothing (λ to content word is. cc is), tt)
-responds_so s (R.Ticks now below room answer) right =
-    every_join IsResponding (asking_room now (ready_if below (ready_at s now)) room) (asked now L.Ticks below ∷ [])
-    (room_so now (ready_if below (ready_at s now)) room) (other now L.Ticks below (λ to content word is. cc is), tt)
-responds_so s (R.Responds now a r word id) right = (
-  record {
-    confirms = λ to content w is.
-        (let same : P.content_of a r ≡ content = cc is in
-        ap (λ (z : L.Content). role_of z.code) (sym same) ∙ right.1.code);
-  },
-  tt,
-)
-responds_so s (R.Ready now to answer) right = (other now _ (L.Is answer) (λ x content word is. cc is), tt)
-responds_so s (R.Notifies now to token r word id) right = (
-  record {
-    confirms = λ x content w is.
-        (let same : P.content_with token r ≡ content = cc is in
-        ap (λ (z : L.Content). role_of z.code) (sym same) ∙ right.code);
-  },
-  tt,
-)
-responds_so s (R.Take answer) right = (other 0 L.Take (L.Gives answer) (λ to content word is. cc is), tt)
-
-all_respond : (t : List R.Call) → answerer.AnswererLaw t → Every IsResponding (answerer.lower_of t)
+all_respond : (t : List R.Call) → answerer.AnswererLaw t → Every (IsAskedSo IsResponse Any) (answerer.lower_of t)
 all_respond [] law = tt
-all_respond (c ∷ t) law = every_join IsResponding (P.lower (answerer.own_of t) c) (answerer.lower_of t)
-    (responds_so (answerer.own_of t) c law.0) (all_respond t law.1)
-
-abbrev Carries : L.Entry → Type 0
-Carries e = (to : Endpoint) (content : L.Content) (word : ℕ) → e.call ≡ L.Confirm to content word
-    → role_of content.code ≡ role.Response
-
-entries_respond : (old : State) (asks : List Asked) → Every IsResponding asks → Every Carries (entries old asks)
-entries_respond old [] h = tt
-entries_respond old (a ∷ asks) h = (h.0.confirms, entries_respond old asks h.1)
+all_respond (c ∷ t) law =
+    every_join (IsAskedSo IsResponse Any) (P.lower (answerer.own_of t) c) (answerer.lower_of t)
+    (sends_so IsResponse Any (answerer.own_of t) c (responds_so (answerer.own_of t) c law.0)) (all_respond t law.1)
 
 pub record CarriesResponse (con : Open) : Type 0 where
   pub content : L.Content
@@ -200,7 +147,7 @@ pub record CarriesResponse (con : Open) : Type 0 where
   pub spells : Spells con.bytes (with_head Con con.id content)
   pub small : con.id < 65536
 
-con_carries : (setup : Setup) (t : List L.Entry) (con : Open) → LayerLaw setup t → Every Carries t
+con_carries : (setup : Setup) (t : List L.Entry) (con : Open) → LayerLaw setup t → Every (IsEntrySo IsResponse Any) t
     → Ever (λ b. begun b ≡ Some con) t → CarriesResponse con
 con_carries setup [] con law all h = absurd h
 con_carries setup (e ∷ t) con law all (inr h) = con_carries setup t con law.1 all.1 h
@@ -212,7 +159,7 @@ con_carries setup (e ∷ t) con law all (inl h) =
     let low : con.id < 65536 = let k = s.1.id in let z = s.3 in omega (arith, k, z) in
     record {
       content = b.content;
-      response = all.0 con.to b.content b.word b.call_is;
+      response = all.0.confirms con.to b.content b.word b.call_is;
       bytes = b.bytes_are;
       spells = subst (λ x. Spells x (with_head Con con.id b.content)) (sym b.bytes_are) (row.0 Con con.id low);
       small = low;
@@ -222,7 +169,7 @@ pub server_carries : (word : ℕ) (t : List R.Call) (con : Open) → answerer.An
     → LayerLaw (usual word) (answerer.below_of word t) → Ever (λ b. begun b ≡ Some con) (answerer.below_of word t)
     → CarriesResponse con
 server_carries word t con rows law h = con_carries (usual word) (answerer.below_of word t) con law
-    (entries_respond (start (usual word)) (answerer.lower_of t) (all_respond t rows)) h
+    (entries_so IsResponse Any (start (usual word)) (answerer.lower_of t) (all_respond t rows)) h
 
 pub response_told : (con : Open) → CarriesResponse con → IsTold con.bytes
 response_told con k = record { message = with_head Con con.id k.content; spells = k.spells; class = inr k.response }

@@ -1,18 +1,17 @@
 -- Where nothing is observed each request has a token of its own.
-use Rattle.std.proofs.Common.{◌≡◌, inl, inr, ℕ, Some, List, [], ◌∷◌, ap, sym, ◌∙◌, Ok, Err}
+use Rattle.std.proofs.Common.{◌≡◌, inl, inr, ℕ, Some, List, [], ◌∷◌, refl, ap, sym, ◌∙◌, Ok, Err}
 use Rattle.coap_types.specs.Past.{Always}
 use Rattle.coap_exchange.specs.AskerTrace as A
 use Rattle.coap_block.specs.Sizes.{Sizes}
 use Rattle.coap_client.specs.Follows.Begins.{WasSent}
 use Rattle.coap_client.specs.Follows.OfObservations.{Observed, observes, WasObserved, observation_for, AreOfObservations}
 use Rattle.coap_client.specs.Follows.Words.{Sending}
-use Rattle.coap_client.specs.Law.{own_of}
 use Rattle.coap_client.specs.Own.{Operation, Calling, Registering, Fetching, Cancelling, Dropped, Observation}
 use Rattle.coap_client.specs.Requests.{message_of}
 use Rattle.coap_client.specs.Trace as C
 use Rattle.coap_world.specs.Smooth.{TakesNoObservation}
 use Rattle.coap_world.proofs.Smoothly.AnswerEnds.{IsPlain}
-use Rattle.coap_world.proofs.Smoothly.ConsCarry.{message_sent}
+use Rattle.coap_world.proofs.Smoothly.ConsCarry.{was_message}
 
 none_here : (c : C.Call) (x : Observed) → TakesNoObservation c → observes c ≡ Some x → ⊥
 none_here (C.Observes now path (Ok number)) x none h = none
@@ -48,12 +47,17 @@ plain_by x (Registering number path) os is message f = absurd (f number refl_som
 plain_by x (Fetching number) os is message f = absurd (f number (λ i. Some number))
 plain_by x (Cancelling number) os is message f = absurd (f number (λ i. Some number))
 
+-- what is sent is of no observation
+pub of_none : (sizes : Sizes) (x : Sending) (t : List C.Call) → AreOfObservations sizes t
+    → Always (λ past c. TakesNoObservation c) t → WasSent sizes x t → (number : ℕ)
+    → observation_for x.operation ≡ Some number → ⊥
+of_none sizes x [] of none h number is = h
+of_none sizes x (c ∷ t) of none (inr h) number is = of_none sizes x t of.1 none.1 h number is
+of_none sizes x (c ∷ t) of none (inl h) number is =
+    let o = of.0 x number h is in none_observed t (record { number = number; path = o.path }) none.1 o.taken
+
 pub was_plain : (sizes : Sizes) (x : Sending) (t : List C.Call) → AreOfObservations sizes t
     → Always (λ past c. TakesNoObservation c) t → WasSent sizes x t → IsPlain x
-was_plain sizes x [] of none h = absurd h
-was_plain sizes x (c ∷ t) of none (inr h) = was_plain sizes x t of.1 none.1 h
-was_plain sizes x (c ∷ t) of none (inl h) =
-    let m = message_sent (own_of sizes t) c x h in
-    plain_by x x.operation m.observations (λ i. x.operation) m.is
-    (λ number is. (let o = of.0 x number h is in
-    none_observed t (record { number = number; path = o.path }) none.1 o.taken))
+was_plain sizes x t of none h =
+    let m = was_message sizes x t h in
+    plain_by x x.operation m.observations refl m.is (of_none sizes x t of none h)

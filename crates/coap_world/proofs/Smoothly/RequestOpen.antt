@@ -33,7 +33,7 @@ use Rattle.coap_client.proofs.Sending.StaysOpen.{open_before}
 use Rattle.coap_world.proofs.Smoothly.ExchangeOpen.{OpenOf, Runs, runs_of, Lonely, Waited, lonely, last_of, is_last}
 
 -- what is outstanding was begun
-open_was_begun : (t : List L.Entry) (y : Open) → IsOpen t y → Ever (λ b. begun b ≡ Some y) t
+pub open_was_begun : (t : List L.Entry) (y : Open) → IsOpen t y → Ever (λ b. begun b ≡ Some y) t
 open_was_begun t y o = found (outstanding t) (λ z k. was_begun t z k) o
   where
     found : (cs : List Open) → ((z : Open) → Ever (λ w. w ≡ z) cs → Ever (λ b. begun b ≡ Some (as_begun z)) t)

@@ -111,7 +111,7 @@ module _ (config : Config) (con : Open) (x : Sending) (s : CarriesAnswer x con) 
       by (inr before) older = inr (older before)
 
 module _ (config : Config) (laws : Laws) where
-  ends_here : (turn : Turn) (past : List Turn) → Goes config (turn ∷ past)
+  pub ends_here : (turn : Turn) (past : List Turn) → Goes config (turn ∷ past)
       → Always (λ p c. TakesNoObservation c) (client_of (entries_of past)) → (at : ℕ)
       → IsOpenSince config.client_sizes at (client_of (entries_of past)) → (x : Sending)
       → last_sent config.client_sizes (client_of (entries_of past)) ≡ Some x → (con : Open)

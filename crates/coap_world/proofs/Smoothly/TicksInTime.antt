@@ -13,7 +13,7 @@ use Rattle.coap_world.proofs.Delivery.SmoothGaps.{are_close}
 abbrev AllClose : List Turn → Type 0
 AllClose turns = AreClose (map (λ (t : Turn). t.event) turns)
 
-lifted : (past : List Turn) (at now : ℕ) → at ≤ now → NotBefore past at → NotBefore past now
+pub lifted : (past : List Turn) (at now : ℕ) → at ≤ now → NotBefore past at → NotBefore past now
 lifted [] at now h k = tt
 lifted (t ∷ past) at now h k = omega (arith, h, k)
 

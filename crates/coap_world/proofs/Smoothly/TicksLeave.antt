@@ -11,7 +11,7 @@ use Rattle.coap_server.proofs.Facts.Laws as server_facts
 use Rattle.coap_world.specs.Events.{Config}
 use Rattle.coap_world.specs.Record.{Entry, Turn, AreTicks, OnServer, ServerTick, Makes, begun_with, entries_of, server_of}
 use Rattle.coap_world.specs.Record.{server_trace}
-use Rattle.coap_world.specs.TicksLeave.{LeavesNone, TicksLeaveNone}
+use Rattle.coap_world.specs.TicksLeave.{IsNoFeed, LeavesNone, TicksLeaveNone}
 use Rattle.coap_world.proofs.Delivery.OneEndATurn.{server_server}
 use Rattle.coap_world.proofs.Smoothly.Standing.{AllMade, ForServer, server_behind}
 
@@ -20,6 +20,14 @@ each_is : (at word : ℕ) (calls : List S.Call) → Always (λ past b. ServerTic
 each_is at word [] h = tt
 each_is at word (c ∷ calls) h =
     ((word, h.0.0, h.0.1, h.0.2, h.0.3, h.0.4, h.0.5, h.0.6), each_is at word calls h.1)
+
+outs_in : (outs : List _) (c : S.Call) → IsNoFeed c
+    → Each IsNoFeed ((S.NextOut None ∷ map (λ p. S.NextOut (Some p)) outs) ++ c ∷ [])
+outs_in outs c h = (tt, taken outs)
+  where
+    taken : (ps : List _) → Each IsNoFeed (map (λ p. S.NextOut (Some p)) ps ++ c ∷ [])
+    taken [] = (h, tt)
+    taken (p ∷ ps) = (tt, taken ps)
 
 module _ (config : Config) (past : List Entry) (entries : List Entry) (at word : ℕ) (law : ForServer config (entries ++ past)) where
   abbrev t : List S.Call
@@ -45,6 +53,7 @@ module _ (config : Config) (past : List Entry) (entries : List Entry) (at word :
         ticks = earlier;
         is = is ∙ sym (append_assoc outs (c ∷ []) (earlier ++ t));
         each = each_is at word earlier ticks.1;
+        none_in = outs_in on.outs c (subst IsNoFeed (sym ticks.0.6) tt);
         none = ⊎_elim (λ n. inl n) (λ k. inr k.0) left;
       }
 

@@ -1,16 +1,16 @@
--- A request that had to wait waits still, or a call answered it.
-use Rattle.std.proofs.Common.{◌≡◌, ◌⊎◌, inl, inr, ◌≤◌, ℕ, List, [], ◌∷◌, sym, subst, refl}
+-- A request that had to wait waits still, or a tick answered it.
+use Rattle.std.proofs.Common.{◌≡◌, ◌⊎◌, inl, inr, ⊎_elim, ◌≤◌, ℕ, max, List, [], ◌∷◌, sym, subst, refl}
 use Rattle.std.specs.List.{All}
 use Rattle.coap_types.specs.Past.{Ever, Sometime}
 use Rattle.coap_types.proofs.Facts.Traces.{Ever_back}
 use Rattle.coap_client.specs.Follows.Words.{Sending}
-use Rattle.coap_server.specs.Follows.Attended.{AnswersIt}
 use Rattle.coap_server.specs.Follows.Waits.{WaitsStill}
 use Rattle.coap_server.specs.Law.{own_of}
 use Rattle.coap_server.specs.Trace as S
 use Rattle.coap_server.specs.Trace.{Delay, Waiting}
+use Rattle.coap_server.proofs.Facts.EachCall.{behind}
 use Rattle.coap_server.proofs.Facts.Laws as server_facts
-use Rattle.coap_world.specs.AtOnce.{WaitsAt, WaitsIn, WaitedIn}
+use Rattle.coap_world.specs.AtOnce.{WaitsAt, WaitsIn, TickAnswers, WaitedIn}
 use Rattle.coap_world.specs.Events.{client_end, Config}
 use Rattle.coap_world.specs.Record.{Entry, OfClient, OfServer, server_trace}
 use Rattle.coap_world.specs.Smooth.{max_delay}
@@ -53,23 +53,33 @@ module _ (config : Config) (delays : All (λ (d : Delay). d.ms ≤ max_delay) co
         waits = inl (subst (Ever (λ y. y ≡ w)) (sym k.waits.waits.behind) (Ever_back (λ y. y ≡ w) before (w ∷ []) (inl refl)));
       }
 
-  goes_on : (w : Waiting) (past : List Entry) (c : S.Call) → ForServer config (OfServer c ∷ past)
-      → Still w past ⊎ Sometime (WaitedIn config w) past
-      → Still w (OfServer c ∷ past) ⊎ Sometime (WaitedIn config w) (OfServer c ∷ past)
-  goes_on w past c law (inr h) = inr (inr h)
-  goes_on w past c law (inl h) =
-      by ((server_facts.waits_on config.limits config.server_szx config.server_word (c ∷ server_trace config past) law).0 w
-      h)
-    where
-      by : Still w (OfServer c ∷ past)
-          ⊎ AnswersIt config.limits config.server_szx (server_trace config past) c w.asked
-          → Still w (OfServer c ∷ past) ⊎ Sometime (WaitedIn config w) (OfServer c ∷ past)
-      by (inl still) = inl still
-      by (inr answers) = inr (inl (h, answers))
+  -- what is no tick answers nothing that waits
+  goes_on : (w : Waiting) (past : List Entry) (c : S.Call) → ForServer config (OfServer c ∷ past) → Still w past
+      → Still w (OfServer c ∷ past) ⊎ TickAnswers config w past c
+  goes_on w past (S.Ticks now word below room d passed h id answer) law still =
+      ⊎_elim (λ k. inl k) (λ answers. inr (record {
+        waited = still;
+        now = now;
+        answer = answer;
+        tick = (word, below, room, d, passed, h, id, refl);
+        answers = answers;
+      }))
+      ((server_facts.waits_on config.limits config.server_szx config.server_word
+      (S.Ticks now word below room d passed h id answer ∷ server_trace config past) law).0 w still)
+  goes_on w past (S.Feeds now from bytes word up came h below) law still =
+      let s : S.Own = own_of config.limits config.server_szx (server_trace config past) in
+      inl (behind (max s.clock now) came h w s.waiting still)
+  goes_on w past (S.Sets now path format body answer left) law still = inl still
+  goes_on w past (S.Removes now path answer left) law still = inl still
+  goes_on w past (S.Delays path ms answer) law still = inl still
+  goes_on w past (S.NextOut answer) law still = inl still
+  goes_on w past (S.Gets path answer) law still = inl still
+  goes_on w past (S.TellsApplied answer) law still = inl still
 
   carried : (w : Waiting) (past : List Entry) → Still w past ⊎ Sometime (WaitedIn config w) past → (e : Entry)
       → ForServer config (e ∷ past) → Still w (e ∷ past) ⊎ Sometime (WaitedIn config w) (e ∷ past)
-  carried w past h (OfServer c) law = goes_on w past c law h
+  carried w past (inl h) (OfServer c) law = ⊎_elim (λ k. inl k) (λ k. inr (inl k)) (goes_on w past c law h)
+  carried w past (inr h) (OfServer c) law = inr (inr h)
   carried w past (inl h) (OfClient c) law = inl h
   carried w past (inr h) (OfClient c) law = inr (inr h)
 

@@ -21,7 +21,7 @@ use Rattle.coap_world.proofs.Smoothly.FewArrive.{client_at}
 use Rattle.coap_world.proofs.Smoothly.Standing.{Stands, before, turned, side_of}
 
 -- what begins in a turn begins at its moment
-began_at : (sizes : Sizes) (t at : ℕ) (past : List C.Call) (c : C.Call) → client.IsAt t c → BeginsAt sizes at past c
+pub began_at : (sizes : Sizes) (t at : ℕ) (past : List C.Call) (c : C.Call) → client.IsAt t c → BeginsAt sizes at past c
     → t ≤ at
 began_at sizes t at past (C.Feeds now from bytes w up settled event sent token kept) is b =
     let m = b.moment in omega (arith, is, m)

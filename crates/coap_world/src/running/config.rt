@@ -53,6 +53,7 @@ impl<A: Allocator + Copy> WorldConfig<A> {
         server_szx: Szx,
         changes: u32,
     ) -> Option<WorldConfig<A>>
+        // A `new` run has these words, sizes and changes a window, the usual limits, and no delay.
         ensures config { IfSome result (λ c. c ≡ record {
           client_word = client_word;
           client_sizes = usual_sizes client_szx;
@@ -61,6 +62,7 @@ impl<A: Allocator + Copy> WorldConfig<A> {
           limits = usual_limits changes;
           delays = [];
         }) }
+        // It is made exactly where the changes a window are at least one and at most the greatest number.
         ensures when { IsSome result ↔ ((1 ≤ changes) × (changes ≤ MAX_CHANGES_PER_WINDOW)) }
     {
         if changes < 1 || changes > MAX_CHANGES_PER_WINDOW {
@@ -81,6 +83,7 @@ impl<A: Allocator + Copy> WorldConfig<A> {
 
     /// Has the client and the server begin with these limits of bodies.
     pub fn limits(&mut self, client: BodyLimit, server: BodyLimit)
+        // The run has these limits of bodies, and all else is as it was.
         ensures { self.new ≡ with_limits self.old client server }
     {
         self.client_limit = client;
@@ -91,9 +94,13 @@ impl<A: Allocator + Copy> WorldConfig<A> {
     /// `coap_ends::Server::set_delay` does. It takes no memory where `MAX_DELAYS` other paths have a
     /// delay, or the path has one.
     pub fn delay(&mut self, path: &Path<A>, ms: u64) -> Result<(), DelayRefusal>
+        // The path of a run has the delay that it is given.
         ensures ok { OnOk result (self.new ≡ with_delays self.old (delays_with path.now ms true self.old.delays)) }
+        // A delay that is refused changes nothing in the run.
         ensures err { OnErr result (self.new ≡ self.old) }
+        // A delay is refused as Full exactly where the path has none and 16 others have one.
         ensures full { (result ≡ Err delay_refusals.Full) ↔ (may_delay path.now self.old.delays ≡ false) }
+        // A further delay for a path of the run that has one takes no memory.
         ensures again { is_some (delay_of path.now self.old.delays) ≡ true → result ≢ Err delay_refusals.Memory }
     {
         let _path = path.segments();

@@ -36,6 +36,7 @@ impl<A: Allocator + Copy> Model for Given<A> {
 impl<A: Allocator + Copy> Given<A> {
     /// When it was given out.
     pub fn at(&self) -> Moment
+        // The moment is that at which the datagram was given out.
         ensures { result.0 ≡ self.now.at }
     {
         self.at
@@ -43,6 +44,7 @@ impl<A: Allocator + Copy> Given<A> {
 
     /// By which end.
     pub fn from(&self) -> Endpoint
+        // The endpoint is that of the end which gave it out.
         ensures { result ≡ self.now.from }
     {
         self.from
@@ -50,6 +52,7 @@ impl<A: Allocator + Copy> Given<A> {
 
     /// For whom.
     pub fn to(&self) -> Endpoint
+        // The endpoint is the one to which it is addressed.
         ensures { result ≡ self.now.packet.to }
     {
         self.datagram.to()
@@ -57,6 +60,7 @@ impl<A: Allocator + Copy> Given<A> {
 
     /// Its bytes.
     pub fn bytes(&self) -> &[u8]
+        // The bytes are those of the datagram that was given out.
         ensures { result.now ≡ self.now.packet.bytes }
     {
         self.datagram.bytes()
@@ -167,6 +171,7 @@ impl<A: Allocator + Copy> Record<A> {
 
     /// The datagrams.
     pub fn given(&self) -> &[Given<A>]
+        // What is lent are the datagrams that were given out, in their order.
         ensures { result.now ≡ self.now.given }
     {
         self.given.as_slice()
@@ -174,6 +179,7 @@ impl<A: Allocator + Copy> Record<A> {
 
     /// The lines.
     pub fn lines(&self) -> &[Line<A>]
+        // What is lent are the lines of the record, one an event.
         ensures { result.now ≡ self.now.lines }
     {
         self.lines.as_slice()
@@ -181,6 +187,7 @@ impl<A: Allocator + Copy> Record<A> {
 
     /// The datagram of this number.
     pub fn get(&self, number: usize) -> Option<&Given<A>>
+        // What is lent is the datagram of that number.
         ensures { option_copied result ≡ slice_get self.now.given number }
     {
         self.given.get(number)

@@ -1,7 +1,14 @@
 //! What a client is asked for.
-ghost use Rattle.std.specs.Prelude.{◌≡◌, ◌≢◌};
-ghost use Rattle.knifesilver.specs.Answers.{IsRefused};
-ghost use Rattle.knifesilver.specs.ClientHeld.{HoldsClient, IsClient};
+ghost use Rattle.std.specs.Prelude.{◌≡◌, ◌≢◌, pos, map, Option, Some, IfOk, IfErr, IfSome, Ok, Err};
+ghost use Rattle.coap_client.specs.Object.CallShown.{shown_request};
+ghost use Rattle.coap_client.specs.Object.Shown.{number_of};
+ghost use Rattle.coap_client.specs.RefusalNumbers.{call_refusal_number};
+ghost use Rattle.coap_client.specs.declared.refusals.CallRefusal.TheVariants as refusals;
+ghost use Rattle.knifesilver.specs.Answers.{IsAnswered, IsRefused};
+ghost use Rattle.knifesilver.specs.ClientCalls.{CallsThat, IsCall, IsCancel, IsForget, IsObserve, TakenAnswers, asked};
+ghost use Rattle.knifesilver.specs.ClientCalls.{tag_bytes};
+ghost use Rattle.knifesilver.specs.ClientHeld.{HoldsClient, IsClient, Made};
+ghost use Rattle.knifesilver.specs.PathTexts.{spelled};
 
 use crate::answers::{BAD_ARGUMENT, DONE, NO_MEMORY, NOT_LIVE, NOTHING};
 use crate::crossing::format_of;
@@ -38,7 +45,9 @@ pub struct KsTag {
 }
 
 // The entity-tags; None where one is none, or there are too many.
-fn tags_of(given: &[KsTag]) -> Option<Tags> {
+fn tags_of(given: &[KsTag]) -> Option<Tags>
+    ensures { IfSome result (λ tags. tags ≡ map tag_bytes given.now) }
+{
     let mut tags = Tags::new();
     for tag in given {
         let bytes = tag.bytes.get(..usize::from(tag.len))?;
@@ -55,7 +64,12 @@ fn request_of(
     body: &[u8],
     etags: &[KsTag],
     if_match: &[KsTag],
-) -> Result<Request, i32> {
+) -> Result<Request, i32>
+    ensures says { IfOk result (λ request. asked what.now path body.now etags.now if_match.now
+        ≡ Some (shown_request request)) }
+    ensures refused { IfErr result IsRefused }
+    ensures live { IfErr result (λ answer. answer ≢ NOT_LIVE) }
+{
     let Some(method) = Method::of(Code(what.method)) else {
         return Err(BAD_ARGUMENT);
     };
@@ -78,7 +92,11 @@ fn request_of(
 }
 
 // What a refusal of the client answers.
-fn refused(why: CallRefusal) -> i32 {
+fn refused(why: CallRefusal) -> i32
+    ensures answered { IsAnswered result → (why ≢ refusals.Memory) × (result ≡ pos (call_refusal_number why)) }
+    ensures memory { IsRefused result → why ≡ refusals.Memory }
+    ensures live { result ≢ NOT_LIVE }
+{
     match why {
         CallRefusal::Memory => NO_MEMORY,
         _ => i32::from(why.number()),
@@ -86,7 +104,12 @@ fn refused(why: CallRefusal) -> i32 {
 }
 
 // What became of a call or of an observation.
-fn taken(number: Result<CallId, CallRefusal>, id: &mut u64) -> i32 {
+fn taken(number: Result<CallId, CallRefusal>, id: &mut u64) -> i32
+    ensures answered { IsAnswered result
+        → (number ≢ Err refusals.Memory) × TakenAnswers result id.new (number_of number) }
+    ensures memory { IsRefused result → number ≡ Err refusals.Memory }
+    ensures live { result ≢ NOT_LIVE }
+{
     match number {
         Ok(number) => {
             *id = number.0;
@@ -97,7 +120,12 @@ fn taken(number: Result<CallId, CallRefusal>, id: &mut u64) -> i32 {
 }
 
 // Takes a request.
-fn call(held: &mut Held, now: u64, request: Request, id: &mut u64) -> i32 {
+fn call(held: &mut Held, now: u64, request: Request, id: &mut u64) -> i32
+    ensures led { IsAnswered result
+        → Made (IsCall now (shown_request request) result id.new) (Some held.old) (Some held.new) }
+    ensures kept { IsRefused result → held.new ≡ held.old }
+    ensures live { IsClient held.old → result ≢ NOT_LIVE }
+{
     match held {
         Held::Client(client) => taken(client.client.call(Moment(now), request), id),
         Held::Server(_) => NOT_LIVE,
@@ -116,7 +144,17 @@ pub extern "C" fn ks_client_call(
     etags: &[KsTag],
     if_match: &[KsTag],
     id: &mut u64,
-) -> i32 {
+) -> i32
+    // A call that is answered makes just that call of the client in the handle, with the request that is spelled, and hands on
+    // its number.
+    ensures led { IsAnswered result
+        → CallsThat now (asked what.now (spelled path.now) body.now etags.now if_match.now) result id.new
+        handle.old.held handle.new.held }
+    // A call that is refused leaves the very client in the handle.
+    ensures kept { IsRefused result → handle.new.held ≡ handle.old.held }
+    // `call` never says of a handle with a client that it holds none.
+    ensures live { HoldsClient handle.old.held → result ≢ NOT_LIVE }
+{
     let path = match path_of(alloc, path) {
         Ok(path) => path,
         Err(answer) => return answer,
@@ -134,7 +172,11 @@ pub extern "C" fn ks_client_call(
 }
 
 // Takes an observation.
-fn observe(held: &mut Held, now: u64, path: Path, id: &mut u64) -> i32 {
+fn observe(held: &mut Held, now: u64, path: Path, id: &mut u64) -> i32
+    ensures led { IsAnswered result → Made (IsObserve now path result id.new) (Some held.old) (Some held.new) }
+    ensures kept { IsRefused result → held.new ≡ held.old }
+    ensures live { IsClient held.old → result ≢ NOT_LIVE }
+{
     match held {
         Held::Client(client) => taken(client.client.observe(Moment(now), path), id),
         Held::Server(_) => NOT_LIVE,
@@ -149,7 +191,15 @@ pub extern "C" fn ks_client_observe(
     now: u64,
     path: &[u8],
     id: &mut u64,
-) -> i32 {
+) -> i32
+    // An observation that is answered is just that call of the client in the handle, and its number is handed on.
+    ensures led { IsAnswered result
+        → Made (IsObserve now (spelled path.now) result id.new) handle.old.held handle.new.held }
+    // An observation that is refused leaves the very client in the handle.
+    ensures kept { IsRefused result → handle.new.held ≡ handle.old.held }
+    // `observe` never says of a handle with a client that it holds none.
+    ensures live { HoldsClient handle.old.held → result ≢ NOT_LIVE }
+{
     let path = match path_of(alloc, path) {
         Ok(path) => path,
         Err(answer) => return answer,
@@ -164,6 +214,7 @@ pub extern "C" fn ks_client_observe(
 
 // Takes the cancel of an observation.
 fn cancel(held: &mut Held, now: u64, id: u64) -> i32
+    ensures led { IsAnswered result → Made (IsCancel now id result) (Some held.old) (Some held.new) }
     ensures kept { IsRefused result → held.new ≡ held.old }
     ensures live { IsClient held.old → result ≢ NOT_LIVE }
 {
@@ -179,7 +230,11 @@ fn cancel(held: &mut Held, now: u64, id: u64) -> i32
 /// Takes the cancel of an observation.
 #[unsafe(no_mangle)]
 pub extern "C" fn ks_client_cancel(alloc: Global, handle: &mut KsHandle, now: u64, id: u64) -> i32
+    // A cancel that is answered makes just that call of the client in the handle.
+    ensures led { IsAnswered result → Made (IsCancel now id result) handle.old.held handle.new.held }
+    // A cancel that is refused leaves the very client in the handle.
     ensures kept { IsRefused result → handle.new.held ≡ handle.old.held }
+    // `cancel` never says of a handle with a client that it holds none.
     ensures live { HoldsClient handle.old.held → result ≢ NOT_LIVE }
 {
     let Some(mut held) = handle.take(alloc) else {
@@ -192,6 +247,7 @@ pub extern "C" fn ks_client_cancel(alloc: Global, handle: &mut KsHandle, now: u6
 
 // Forgets an observation.
 fn forget(held: &mut Held, id: u64) -> i32
+    ensures led { IsAnswered result → Made (IsForget id result) (Some held.old) (Some held.new) }
     ensures kept { IsRefused result → held.new ≡ held.old }
     ensures live { IsClient held.old → result ≢ NOT_LIVE }
 {
@@ -210,7 +266,11 @@ fn forget(held: &mut Held, id: u64) -> i32
 /// Forgets an observation, without a message: 1, or 0 where it is not live or is being cancelled.
 #[unsafe(no_mangle)]
 pub extern "C" fn ks_client_forget(alloc: Global, handle: &mut KsHandle, id: u64) -> i32
+    // An end of an observation that is answered makes just that call of the client in the handle, and says whether it was live.
+    ensures led { IsAnswered result → Made (IsForget id result) handle.old.held handle.new.held }
+    // An end of an observation that is refused leaves the very client in the handle.
     ensures kept { IsRefused result → handle.new.held ≡ handle.old.held }
+    // `forget` never says of a handle with a client that it holds none.
     ensures live { HoldsClient handle.old.held → result ≢ NOT_LIVE }
 {
     let Some(mut held) = handle.take(alloc) else {

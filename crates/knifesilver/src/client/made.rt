@@ -44,6 +44,7 @@ pub extern "C" fn ks_client_new(
     config: &KsConfig,
     seed: &KsSeed,
 ) -> i32
+    // Where no client is made, the handle holds what it held.
     ensures kept { IsRefused result → handle.new.held ≡ handle.old.held }
 {
     let client = match fresh_client(alloc, endpoint(server), config, seed) {
@@ -63,6 +64,7 @@ pub extern "C" fn ks_client_new(
 /// Frees the client; the handle is empty then, and may be freed again.
 #[unsafe(no_mangle)]
 pub extern "C" fn ks_client_free(alloc: Global, handle: &mut KsHandle)
+    // The handle of a client that is freed holds nothing.
     ensures { handle.new.held ≡ None }
 {
     let _was = handle.take(alloc);

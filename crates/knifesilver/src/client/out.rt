@@ -42,7 +42,9 @@ pub extern "C" fn ks_client_next_out(
     room: &mut [u8],
     len: &mut usize,
 ) -> i32
+    // Where a client gives out nothing, or the room is too small, the handle holds the very client that it held.
     ensures kept { IsRefused result → handle.new.held ≡ handle.old.held }
+    // `next_out` never says of a handle with a client that it holds none.
     ensures live { HoldsClient handle.old.held → result ≢ NOT_LIVE }
 {
     let Some(mut held) = handle.take(alloc) else {

@@ -1,5 +1,15 @@
 //! What the server's own side does with its resources.
-ghost use Rattle.std.specs.Prelude.{◌≡◌};
+ghost use Rattle.std.specs.Prelude.{◌≡◌, ◌≢◌, ℕ, pos, length, option_copied, Some, IfSome, IfNone};
+ghost use Rattle.coap_resource.specs.Content.{refusal_number};
+ghost use Rattle.coap_resource.specs.Entries.{content_of};
+ghost use Rattle.coap_resource.specs.declared.refusal.StoreRefusal.TheVariants.{Memory};
+ghost use Rattle.coap_server.specs.Object.Shown.{state_of};
+ghost use Rattle.knifesilver.specs.Answers.{IsAnswered, IsRefused};
+ghost use Rattle.knifesilver.specs.Formats.{format_in};
+ghost use Rattle.knifesilver.specs.declared.held.Held.TheVariants.{Server};
+ghost use Rattle.knifesilver.specs.PathTexts.{spelled};
+ghost use Rattle.knifesilver.specs.ServerCalls.{HoldsThat, IsDelay, IsGot, IsRemove, IsSet, IsTooLong, Updates};
+ghost use Rattle.knifesilver.specs.ServerHeld.{HoldsServer, HoldsServerIn, IsServer, IsServerIn, Made};
 
 use crate::answers::{DONE, NO_MEMORY, NOT_LIVE, NOTHING, SMALL_ROOM};
 use crate::crossing::{copy_out, format_number, format_of};
@@ -12,7 +22,11 @@ use coap_types::{Moment, Path};
 use std::alloc::Global;
 
 // What a refusal of the store answers.
-fn refused(why: StoreRefusal) -> i32 {
+fn refused(why: StoreRefusal) -> i32
+    ensures answered { IsAnswered result → (why ≢ Memory) × (result ≡ pos (refusal_number why)) }
+    ensures memory { IsRefused result → why ≡ Memory }
+    ensures live { result ≢ NOT_LIVE }
+{
     match why {
         StoreRefusal::Memory => NO_MEMORY,
         _ => i32::from(why.number()),
@@ -27,16 +41,21 @@ fn set(
     format: Option<u16>,
     body: &[u8],
     version: &mut u64,
-) -> i32 {
-    let Held::Server(server) = held else {
-        return NOT_LIVE;
-    };
-    match server.set(Moment(now), path, format, body) {
-        Ok(number) => {
-            *version = number;
-            NOTHING
-        }
-        Err(why) => refused(why),
+) -> i32
+    ensures led { IsAnswered result
+        → Made (IsSet now path.now format body.now (pos 0) result version.new) (Some held.old) (Some held.new) }
+    ensures kept { IsRefused result → held.new ≡ held.old }
+    ensures live { IsServer held.old → result ≢ NOT_LIVE }
+{
+    match held {
+        Held::Server(server) => match server.set(Moment(now), path, format, body) {
+            Ok(number) => {
+                *version = number;
+                NOTHING
+            }
+            Err(why) => refused(why),
+        },
+        Held::Client(_) => NOT_LIVE,
     }
 }
 
@@ -50,7 +69,16 @@ pub extern "C" fn ks_server_set(
     format: i32,
     body: &[u8],
     version: &mut u64,
-) -> i32 {
+) -> i32
+    // To set a value that is answered makes just that call of the server in the handle, and hands on the version.
+    ensures led { IsAnswered result
+        → Made (IsSet now (spelled path.now) (format_in format) body.now (pos 0) result version.new) handle.old.held
+        handle.new.held }
+    // To set a value that is refused leaves the very server in the handle.
+    ensures kept { IsRefused result → handle.new.held ≡ handle.old.held }
+    // `set` never says of a handle with a server that it holds none.
+    ensures live { HoldsServer handle.old.held → result ≢ NOT_LIVE }
+{
     let path = match path_of(alloc, path) {
         Ok(path) => path,
         Err(answer) => return answer,
@@ -64,12 +92,38 @@ pub extern "C" fn ks_server_set(
 }
 
 // The version of what the path holds, where that is this body in this format.
-fn version_of(server: &OurServer, path: &Path, format: Option<u16>, body: &[u8]) -> Option<u64> {
+fn version_of(server: &OurServer, path: &Path, format: Option<u16>, body: &[u8]) -> Option<u64>
+    ensures same { IfSome result (λ version. HoldsThat path.now format body.now version (state_of content_of server.now)) }
+    ensures other { IfNone result ((n : ℕ) → HoldsThat path.now format body.now n (state_of content_of server.now) → ⊥) }
+{
     let representation = server.get(path)?;
     if representation.format == format && *representation.body.as_slice() == *body {
         Some(representation.version)
     } else {
         None
+    }
+}
+
+// Has the path hold the body, in place of something else.
+fn replace(
+    server: &mut OurServer,
+    now: u64,
+    path: &Path,
+    format: Option<u16>,
+    body: &[u8],
+    version: &mut u64,
+) -> i32
+    ensures led { IsAnswered result → Made (IsSet now path.now format body.now (pos 1) result version.new)
+        (Some (Server server.old)) (Some (Server server.new)) }
+    ensures kept { IsRefused result → server.new ≡ server.old }
+    ensures live { result ≢ NOT_LIVE }
+{
+    match server.set(Moment(now), path, format, body) {
+        Ok(number) => {
+            *version = number;
+            DONE
+        }
+        Err(why) => refused(why),
     }
 }
 
@@ -81,20 +135,21 @@ fn update(
     format: Option<u16>,
     body: &[u8],
     version: &mut u64,
-) -> i32 {
-    let Held::Server(server) = held else {
-        return NOT_LIVE;
-    };
-    if let Some(number) = version_of(server, path, format, body) {
-        *version = number;
-        return NOTHING;
-    }
-    match server.set(Moment(now), path, format, body) {
-        Ok(number) => {
-            *version = number;
-            DONE
-        }
-        Err(why) => refused(why),
+) -> i32
+    ensures led { IsAnswered result
+        → Updates now path.now format body.now result version.new (Some held.old) (Some held.new) }
+    ensures kept { IsRefused result → held.new ≡ held.old }
+    ensures live { IsServer held.old → result ≢ NOT_LIVE }
+{
+    match held {
+        Held::Server(server) => match version_of(server, path, format, body) {
+            Some(number) => {
+                *version = number;
+                NOTHING
+            }
+            None => replace(server, now, path, format, body, version),
+        },
+        Held::Client(_) => NOT_LIVE,
     }
 }
 
@@ -108,7 +163,16 @@ pub extern "C" fn ks_server_update(
     format: i32,
     body: &[u8],
     version: &mut u64,
-) -> i32 {
+) -> i32
+    // An update that is answered sets the value of the server in the handle where it differs, and else changes nothing.
+    ensures led { IsAnswered result
+        → Updates now (spelled path.now) (format_in format) body.now result version.new handle.old.held
+        handle.new.held }
+    // An update that is refused leaves the very server in the handle.
+    ensures kept { IsRefused result → handle.new.held ≡ handle.old.held }
+    // `update` never says of a handle with a server that it holds none.
+    ensures live { HoldsServer handle.old.held → result ≢ NOT_LIVE }
+{
     let path = match path_of(alloc, path) {
         Ok(path) => path,
         Err(answer) => return answer,
@@ -122,15 +186,19 @@ pub extern "C" fn ks_server_update(
 }
 
 // Takes away what the path holds.
-fn remove(held: &mut Held, now: u64, path: &Path) -> i32 {
-    let Held::Server(server) = held else {
-        return NOT_LIVE;
-    };
-    match server.remove(Moment(now), path) {
-        Ok(true) => DONE,
-        Ok(false) => NOTHING,
-        // It takes no memory, so 1 is the number of no refusal here.
-        Err(why) => i32::from(why.number()),
+fn remove(held: &mut Held, now: u64, path: &Path) -> i32
+    ensures led { IsAnswered result → Made (IsRemove now path.now result) (Some held.old) (Some held.new) }
+    ensures kept { IsRefused result → held.new ≡ held.old }
+    ensures live { IsServer held.old → result ≢ NOT_LIVE }
+{
+    match held {
+        Held::Server(server) => match server.remove(Moment(now), path) {
+            Ok(true) => DONE,
+            Ok(false) => NOTHING,
+            // It takes no memory, so 1 is the number of no refusal here.
+            Err(why) => i32::from(why.number()),
+        },
+        Held::Client(_) => NOT_LIVE,
     }
 }
 
@@ -141,7 +209,15 @@ pub extern "C" fn ks_server_remove(
     handle: &mut KsHandle,
     now: u64,
     path: &[u8],
-) -> i32 {
+) -> i32
+    // A removal that is answered makes just that call of the server in the handle, and says whether the path held something.
+    ensures led { IsAnswered result
+        → Made (IsRemove now (spelled path.now) result) handle.old.held handle.new.held }
+    // A removal that is refused leaves the very server in the handle.
+    ensures kept { IsRefused result → handle.new.held ≡ handle.old.held }
+    // `remove` never says of a handle with a server that it holds none.
+    ensures live { HoldsServer handle.old.held → result ≢ NOT_LIVE }
+{
     let path = match path_of(alloc, path) {
         Ok(path) => path,
         Err(answer) => return answer,
@@ -167,10 +243,12 @@ pub struct KsRepresentation {
 }
 
 // What the path holds.
-fn get(held: &Held, path: &Path, shown: &mut KsRepresentation, room: &mut [u8]) -> i32 {
-    let Held::Server(server) = held else {
-        return NOT_LIVE;
-    };
+fn get_from(server: &OurServer, path: &Path, shown: &mut KsRepresentation, room: &mut [u8]) -> i32
+    ensures got { IsAnswered result → IsGot path.now result shown.new room.new (state_of content_of server.now) }
+    ensures long { result ≡ SMALL_ROOM
+        → IsTooLong path.now shown.new (length room.old) (state_of content_of server.now) }
+    ensures live { result ≢ NOT_LIVE }
+{
     let Some(representation) = server.get(path) else {
         return NOTHING;
     };
@@ -186,6 +264,17 @@ fn get(held: &Held, path: &Path, shown: &mut KsRepresentation, room: &mut [u8]) 
     }
 }
 
+// What the path holds.
+fn get(held: &Held, path: &Path, shown: &mut KsRepresentation, room: &mut [u8]) -> i32
+    ensures got { IsAnswered result → IsServerIn (IsGot path.now result shown.new room.new) held.now }
+    ensures long { result ≡ SMALL_ROOM → IsServerIn (IsTooLong path.now shown.new (length room.old)) held.now }
+    ensures live { IsServer held.now → result ≢ NOT_LIVE }
+{
+    match held {
+        Held::Server(server) => get_from(server, path, shown, room),
+        Held::Client(_) => NOT_LIVE,
+    }
+}
 /// What the path holds: 1, or 0 where it holds nothing.
 #[unsafe(no_mangle)]
 pub extern "C" fn ks_server_get(
@@ -195,7 +284,16 @@ pub extern "C" fn ks_server_get(
     shown: &mut KsRepresentation,
     room: &mut [u8],
 ) -> i32
+    // What is shown is what the path holds at the server in the handle.
+    ensures got { IsAnswered result
+        → HoldsServerIn (IsGot (spelled path.now) result shown.new room.new) handle.old.held }
+    // A body that is longer than the room is not shown, and its length is.
+    ensures long { result ≡ SMALL_ROOM
+        → HoldsServerIn (IsTooLong (spelled path.now) shown.new (length room.old)) handle.old.held }
+    // To ask for a value leaves the very server in the handle.
     ensures kept { handle.new.held ≡ handle.old.held }
+    // `get` never says of a handle with a server that it holds none.
+    ensures live { HoldsServer handle.old.held → result ≢ NOT_LIVE }
 {
     let path = match path_of(alloc, path) {
         Ok(path) => path,
@@ -213,14 +311,18 @@ pub extern "C" fn ks_server_get(
 const DELAYS_FULL: i32 = 1;
 
 // Gives the path a delay.
-fn set_delay(held: &mut Held, path: &Path, ms: u64) -> i32 {
-    let Held::Server(server) = held else {
-        return NOT_LIVE;
-    };
-    match server.set_delay(path, ms) {
-        Ok(()) => NOTHING,
-        Err(DelayRefusal::Full) => DELAYS_FULL,
-        Err(DelayRefusal::Memory) => NO_MEMORY,
+fn set_delay(held: &mut Held, path: &Path, ms: u64) -> i32
+    ensures led { IsAnswered result → Made (IsDelay path.now ms result) (Some held.old) (Some held.new) }
+    ensures kept { IsRefused result → held.new ≡ held.old }
+    ensures live { IsServer held.old → result ≢ NOT_LIVE }
+{
+    match held {
+        Held::Server(server) => match server.set_delay(path, ms) {
+            Ok(()) => NOTHING,
+            Err(DelayRefusal::Full) => DELAYS_FULL,
+            Err(DelayRefusal::Memory) => NO_MEMORY,
+        },
+        Held::Client(_) => NOT_LIVE,
     }
 }
 
@@ -231,7 +333,15 @@ pub extern "C" fn ks_server_set_delay(
     handle: &mut KsHandle,
     path: &[u8],
     ms: u64,
-) -> i32 {
+) -> i32
+    // To delay a path that is answered makes just that call of the server in the handle.
+    ensures led { IsAnswered result
+        → Made (IsDelay (spelled path.now) ms result) handle.old.held handle.new.held }
+    // A delay that is refused leaves the very server in the handle.
+    ensures kept { IsRefused result → handle.new.held ≡ handle.old.held }
+    // `set_delay` never says of a handle with a server that it holds none.
+    ensures live { HoldsServer handle.old.held → result ≢ NOT_LIVE }
+{
     let path = match path_of(alloc, path) {
         Ok(path) => path,
         Err(answer) => return answer,

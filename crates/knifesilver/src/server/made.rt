@@ -41,6 +41,7 @@ pub extern "C" fn ks_server_new(
     config: &KsConfig,
     seed: &KsSeed,
 ) -> i32
+    // Where no server is made, the handle holds what it held.
     ensures kept { IsRefused result → handle.new.held ≡ handle.old.held }
 {
     let server = match fresh_server(alloc, config, seed) {
@@ -60,6 +61,7 @@ pub extern "C" fn ks_server_new(
 /// Frees the server; the handle is empty then, and may be freed again.
 #[unsafe(no_mangle)]
 pub extern "C" fn ks_server_free(alloc: Global, handle: &mut KsHandle)
+    // The handle of a server that is freed holds nothing.
     ensures { handle.new.held ≡ None }
 {
     let _was = handle.take(alloc);

@@ -43,7 +43,9 @@ pub extern "C" fn ks_server_next_out(
     room: &mut [u8],
     len: &mut usize,
 ) -> i32
+    // Where a server gives out nothing, or the room is too small, the handle holds the very server that it held.
     ensures kept { IsRefused result → handle.new.held ≡ handle.old.held }
+    // `next_out` never says of a handle with a server that it holds none.
     ensures live { HoldsServer handle.old.held → result ≢ NOT_LIVE }
 {
     let Some(mut held) = handle.take(alloc) else {
@@ -100,6 +102,7 @@ pub extern "C" fn ks_server_applied(
     done: &mut KsApplied,
     room: &mut [u8],
 ) -> i32
+    // To ask what was applied leaves the very server in the handle.
     ensures kept { handle.new.held ≡ handle.old.held }
 {
     let Some(held) = handle.take(alloc) else {

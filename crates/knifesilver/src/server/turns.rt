@@ -36,10 +36,13 @@ pub extern "C" fn ks_server_feed(
     datagram: &[u8],
     word: u64,
 ) -> i32
+    // A feed that is answered makes just that call of the server in the handle.
     ensures led { IsAnswered result
         → Made (IsFeed now (record { ip = from.now.ip; port = from.now.port }) datagram.now word) handle.old.held
         handle.new.held }
+    // A feed that is refused leaves the very server in the handle.
     ensures kept { IsRefused result → handle.new.held ≡ handle.old.held }
+    // `feed` never says of a handle with a server that it holds none.
     ensures live { HoldsServer handle.old.held → result ≢ NOT_LIVE }
 {
     let Some(mut held) = handle.take(alloc) else {
@@ -69,8 +72,11 @@ fn tick(held: &mut Held, now: u64, word: u64) -> i32
 /// Does one step that is due: 1, or 0 where none is.
 #[unsafe(no_mangle)]
 pub extern "C" fn ks_server_tick(alloc: Global, handle: &mut KsHandle, now: u64, word: u64) -> i32
+    // A tick that is answered makes just that call of the server in the handle, and says whether it did something.
     ensures led { IsAnswered result → Made (IsTick now word result) handle.old.held handle.new.held }
+    // A tick that is refused leaves the very server in the handle.
     ensures kept { IsRefused result → handle.new.held ≡ handle.old.held }
+    // `tick` never says of a handle with a server that it holds none.
     ensures live { HoldsServer handle.old.held → result ≢ NOT_LIVE }
 {
     let Some(mut held) = handle.take(alloc) else {
@@ -101,8 +107,12 @@ fn due(held: &Held, at: &mut u64) -> i32
 /// When the next tick has something to do: 1, or 0 where it never has, unless something is handed in before.
 #[unsafe(no_mangle)]
 pub extern "C" fn ks_server_due(alloc: Global, handle: &mut KsHandle, at: &mut u64) -> i32
+    // The moment that is told is the first at which a tick of the server does something; where none is told, none
+    // ever does.
     ensures due { IsAnswered result → HoldsServerIn (IsDue result at.new) handle.old.held }
+    // To ask when a tick is due leaves the very server in the handle.
     ensures kept { handle.new.held ≡ handle.old.held }
+    // `due` never says of a handle with a server that it holds none.
     ensures live { HoldsServer handle.old.held → result ≢ NOT_LIVE }
 {
     let Some(held) = handle.take(alloc) else {

@@ -5,6 +5,8 @@ use Rattle.coap_client.proofs.Sending.EndsInTime.{all_end_in_time}
 use Rattle.coap_client.proofs.Sending.HeardOfOpen.{hears_of_open, answers_are_heard}
 use Rattle.coap_client.proofs.Sending.OpenSince.{open_runs}
 use Rattle.coap_client.proofs.Sending.RepliesToCons.{replies_to_cons}
+use Rattle.coap_client.proofs.Sending.SentWhereFew.{sent_where_few_end}
+use Rattle.coap_client.proofs.Sending.SentWhereFew as where_few
 use Rattle.coap_client.proofs.exchanges.client_exchanges_law.Goals as goal
 
 pub returns-clause-is_open : goal.returns-clause-is_open
@@ -29,3 +31,12 @@ returns-clause-hears_of_open c = hears_of_open
 pub returns-clause-answers_heard : goal.returns-clause-answers_heard
 returns-clause-answers_heard c server sizes word t law =
     answers_are_heard server sizes word t (c.asker_law.ensures.told_as server word (lower_of sizes t) law.exchanges)
+
+pub returns-clause-sent : goal.returns-clause-sent
+returns-clause-sent c server sizes word t law =
+    sent_where_few_end server sizes word t law (c.asker_law.ensures.sent server word (lower_of sizes t) law.exchanges)
+
+pub returns-clause-sent_where_answered : goal.returns-clause-sent_where_answered
+returns-clause-sent_where_answered c server sizes word t law =
+    where_few.sent_where_answered sizes t (sent_where_few_end server sizes word t law
+    (c.asker_law.ensures.sent server word (lower_of sizes t) law.exchanges))

@@ -10,6 +10,10 @@ use Rattle.coap_exchange.proofs.EndsSaid.HandsOrEnds.{hands_or_ends}
 use Rattle.coap_exchange.proofs.EndsSaid.AreOutstanding.{waits}
 use Rattle.coap_exchange.proofs.Responding.EmptyReplies.{are_replied}
 use Rattle.coap_exchange.proofs.Responding.GoesBack.{sends_so}
+use Rattle.coap_exchange.proofs.Ids.ServerIds.{ids_counted}
+use Rattle.coap_exchange.proofs.Ids.ServerIsFree.{id_is_free}
+use Rattle.coap_layer.specs.Machine.State.{usual}
+use Rattle.coap_exchange.specs.AnswererLaw.{below_of}
 use Rattle.coap_exchange.proofs.laws.answerer_law.Goals as goal
 
 pub returns-clause-start : goal.returns-clause-start
@@ -68,3 +72,10 @@ returns-clause-alone c word t law = (sends_so word t law.rows law.left law.layer
 
 pub returns-clause-few : goal.returns-clause-few
 returns-clause-few c word t law = (counted t law.rows).1.few
+
+pub returns-clause-ids : goal.returns-clause-ids
+returns-clause-ids c word t law = ids_counted word t law
+
+pub returns-clause-id_free : goal.returns-clause-id_free
+returns-clause-id_free c word t law = id_is_free word t law
+    (c.layer_law.ensures.held (usual word) (below_of word t) (layer_stands word t law))

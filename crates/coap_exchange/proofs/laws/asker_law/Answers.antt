@@ -12,6 +12,10 @@ use Rattle.coap_exchange.proofs.Telling.ResetsAreOfRequest.{rejected}
 use Rattle.coap_exchange.proofs.Telling.KindsAreTold.{told_as}
 use Rattle.coap_exchange.proofs.Telling.EmptyReplies.{are_replied}
 use Rattle.coap_exchange.proofs.Telling.ResponsesMatch.{matched}
+use Rattle.coap_exchange.proofs.Ids.ClientIds.{ids_counted}
+use Rattle.coap_exchange.proofs.Ids.ClientIsFree.{id_is_free, requests_are_sent}
+use Rattle.coap_layer.specs.Machine.State.{usual}
+use Rattle.coap_exchange.specs.AskerLaw.{below_of}
 use Rattle.coap_exchange.proofs.laws.asker_law.Goals as goal
 
 pub returns-clause-start : goal.returns-clause-start
@@ -67,3 +71,15 @@ returns-clause-replied c server word t law = are_replied server word t law.rows
 
 pub returns-clause-rejected : goal.returns-clause-rejected
 returns-clause-rejected c server word t law = rejected server word t law.rows law.left law.layer
+
+pub returns-clause-ids : goal.returns-clause-ids
+returns-clause-ids c = ids_counted
+
+pub returns-clause-id_free : goal.returns-clause-id_free
+returns-clause-id_free c server word t law = id_is_free server word t law
+    (c.layer_law.ensures.held (usual word) (below_of server word t) (layer_stands server word t law))
+
+pub returns-clause-sent : goal.returns-clause-sent
+returns-clause-sent c server word t law = requests_are_sent server word
+    (λ past stands. c.layer_law.ensures.held (usual word) (below_of server word past)
+    (layer_stands server word past stands)) t law

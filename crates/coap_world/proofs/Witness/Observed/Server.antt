@@ -81,7 +81,17 @@ content version body = record {
 }
 
 abbrev pub observer : Observer
-observer = record { to = client_end; token = token; path = t; szx = 6; marked = true }
+observer =
+    record {
+      to = client_end;
+      token = token;
+      path = t;
+      szx = 6;
+      marked = true;
+      con = 1;
+      changed = 3;
+      noted = None;
+    }
 
 -- the calls of each turn, the newest first
 

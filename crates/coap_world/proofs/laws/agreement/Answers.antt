@@ -1,6 +1,32 @@
 use Rattle.coap_world.proofs.Progress.EachPosition.{no_fault}
 use Rattle.coap_world.proofs.Reports.Promised.{agrees, exchanges_bounded}
+use Rattle.coap_world.specs.Record.{entries_of}
+use Rattle.coap_world.specs.SmoothAnswers.{AllAnswer, AreYoung, EndByAnswers}
 use Rattle.coap_world.proofs.laws.agreement.Goals as goal
 
-pub returns : goal.returns
-returns c = record { agrees = agrees; bounded = exchanges_bounded; no_fault = no_fault }
+pub returns-clause-agrees : goal.returns-clause-agrees
+returns-clause-agrees c = agrees
+
+pub returns-clause-bounded : goal.returns-clause-bounded
+returns-clause-bounded c = exchanges_bounded
+
+pub returns-clause-no_fault : goal.returns-clause-no_fault
+returns-clause-no_fault c = no_fault
+
+-- each exchange is young, so each ends by an answer, so each request is sent, so calls come to what they should
+pub returns-clause-smooth : goal.returns-clause-smooth
+returns-clause-smooth c config events turns run legal smooth none =
+    let young : AreYoung config turns = c.open_law.ensures.young config events turns run legal smooth none in
+    let ends : EndByAnswers config (entries_of turns) =
+    c.open_law.ensures.by_answers config events turns run legal smooth young in
+    let all : AllAnswer config turns = record {
+      none = none;
+      by_answers = ends;
+      all_sent = c.sent_law.ensures.all config events turns run legal smooth none ends;
+    } in
+    record {
+      young = young;
+      by_answers = ends;
+      gets = c.answered_law.ensures.gets config events turns run legal all;
+      changes = c.answered_law.ensures.changes config events turns run legal all;
+    }

@@ -8,11 +8,13 @@ use Rattle.coap_world.proofs.Smoothly.ArrivesInTime.{all_in_time}
 use Rattle.coap_world.proofs.Smoothly.AtOnce.{old_wait}
 use Rattle.coap_world.proofs.Smoothly.ByAnswers.{by_answers}
 use Rattle.coap_world.proofs.Smoothly.FewArrive.{few_arrive}
+use Rattle.coap_world.proofs.Smoothly.IdsFree.{has_ids}
 use Rattle.coap_world.proofs.Smoothly.SeparateEnds.{separate_ends}
 use Rattle.coap_world.proofs.Smoothly.Standing.{stands, record_of}
 use Rattle.coap_world.proofs.Smoothly.TicksAnswer.{ticks_answer}
 use Rattle.coap_world.proofs.Smoothly.TicksInTime.{ticks_in_time}
 use Rattle.coap_world.proofs.Smoothly.TicksLeave.{ticks_leave}
+use Rattle.coap_world.proofs.Smoothly.Young.{are_young}
 use Rattle.coap_world.proofs.smooth.open_law.Goals as goal
 
 pub returns-clause-arrive : goal.returns-clause-arrive
@@ -105,3 +107,62 @@ returns-clause-leaves c config events turns run legal = ticks_leave config turns
 
 pub returns-clause-often : goal.returns-clause-often
 returns-clause-often c config events turns run legal smooth = ticks_in_time turns legal.events smooth.goes
+
+pub returns-clause-ids : goal.returns-clause-ids
+returns-clause-ids c config events turns run legal smooth none =
+    has_ids config
+    (λ t. c.server_law.ensures.observers config.limits config.server_szx t)
+    (λ t law. c.answerer_law.ensures.id_free config.server_word t law)
+    turns
+    (record {
+      stands = stands config events turns run legal smooth;
+      few_client = smooth.few_to_client;
+      few_server = smooth.few_to_server;
+    })
+    (c.client_values_law.ensures.of_observations server_end config.client_sizes config.client_word
+    (client_of (entries_of turns)) run.client)
+    none
+
+pub returns-clause-young : goal.returns-clause-young
+returns-clause-young c config events turns run legal smooth none =
+    are_young config legal.range
+    (record {
+      laws = record {
+        beneath = record {
+          within = c.channel_law.ensures.within;
+          ended = c.channel_law.ensures.ended;
+          replies = c.client_exchanges_law.ensures.replies_to_con;
+        };
+        acks = c.layer_law.ensures.acks;
+        acks_replied = c.channel_law.ensures.replied;
+        replied_once = c.channel_law.ensures.replied_once;
+        heard = c.client_exchanges_law.ensures.answers_heard;
+        own = c.client_follows_law.ensures.own_tokens;
+        observed = c.client_values_law.ensures.of_observations;
+        handed_on = c.server_law.ensures.handed_on;
+      };
+      in_time = c.client_exchanges_law.ensures.ends_in_time;
+      resets = c.channel_law.ensures.resets;
+      hears = c.client_exchanges_law.ensures.hears_of_open;
+      observers = c.server_law.ensures.observers;
+    })
+    smooth.delays
+    turns
+    (record {
+      stands = stands config events turns run legal smooth;
+      few_client = smooth.few_to_client;
+      few_server = smooth.few_to_server;
+    })
+    (has_ids config
+    (λ t. c.server_law.ensures.observers config.limits config.server_szx t)
+    (λ t law. c.answerer_law.ensures.id_free config.server_word t law)
+    turns
+    (record {
+      stands = stands config events turns run legal smooth;
+      few_client = smooth.few_to_client;
+      few_server = smooth.few_to_server;
+    })
+    (c.client_values_law.ensures.of_observations server_end config.client_sizes config.client_word
+    (client_of (entries_of turns)) run.client)
+    none)
+    none

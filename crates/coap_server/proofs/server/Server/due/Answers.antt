@@ -11,7 +11,7 @@ pub returns : goal.returns
 returns g c =
     let s : State = state_of g.S.Store.content c.args.self.now in
     let view = ap (state_of g.S.Store.content) c.self.view_is in
-    let was : WasLed s = subst WasLed view c.self.invariant in
+    let was : WasLed s = subst WasLed view c.self.invariant.0 in
     let r = c.due_parts.result in
     let first : IsFirstMoment (has_work s) (latest s) r =
     subst (λ (x : State). IsFirstMoment (has_work x) (latest x) r) view c.due_parts.ensures.first in

@@ -1,13 +1,17 @@
 use Rattle.coap_server.proofs.Calls.FeedIsACall.{on_ok, seen_step}
-use Rattle.coap_server.proofs.Calls.WorkFalls.{closes, led_on, on_err, same_led}
+use Rattle.coap_server.proofs.Calls.WorkFalls.{closes, led_on, on_err, same_led, same_timed}
 use Rattle.coap_server.proofs.Exact.Leads.{led_further}
 use Rattle.coap_server.proofs.server.Server.feed.Goals as goal
 
 pub invariant_of-self : goal.invariant_of-self
 invariant_of-self g c =
-    closes c.feed_parts.result (on_ok c.feed_parts.result
-    (λ f. let s = f c.args.word in led_on _ _ _ c.self.invariant s.4) c.feed_parts.ensures.step)
-    (on_err c.feed_parts.result (λ e. same_led g.S.Store.content _ _ c.self.invariant e) c.feed_parts.ensures.err)
+    let kept = c.self.invariant in (
+      closes c.feed_parts.result (on_ok c.feed_parts.result
+          (λ f. let s = f c.args.word in led_on _ _ _ kept.0 s.4) c.feed_parts.ensures.step)
+          (on_err c.feed_parts.result (λ e. same_led g.S.Store.content _ _ kept.0 e) c.feed_parts.ensures.err),
+      closes c.feed_parts.result c.feed_parts.ensures.timed
+          (on_err c.feed_parts.result (λ e. same_timed _ _ kept.1 e) c.feed_parts.ensures.err),
+    )
 
 pub returns-clause-step : goal.returns-clause-step
 returns-clause-step g c =

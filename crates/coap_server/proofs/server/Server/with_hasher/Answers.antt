@@ -8,11 +8,14 @@ returns-clause-start g c = search rules
 
 pub invariant_of-result : goal.invariant_of-result
 invariant_of-result g c = (
-  c.requires.fresh.0,
-  c.args.szx,
-  c.args.word,
-  [],
-  subst (λ s. Led c.requires.fresh.0 c.args.szx c.args.word [] s)
-      (sym (returns-clause-start g c c.requires.fresh.0 c.requires.fresh.1))
-      (led_empty c.requires.fresh.0 c.args.szx c.args.word),
+  (
+    c.requires.fresh.0,
+    c.args.szx,
+    c.args.word,
+    [],
+    subst (λ s. Led c.requires.fresh.0 c.args.szx c.args.word [] s)
+        (sym (returns-clause-start g c c.requires.fresh.0 c.requires.fresh.1))
+        (led_empty c.requires.fresh.0 c.args.szx c.args.word),
+  ),
+  search rules,
 )

@@ -8,10 +8,10 @@ use Rattle.coap_server.proofs.server.due.can_notify.Given as goal
 
 abbrev pub invariant-observers : goal.invariant-observers
 invariant-observers g l = record {
-  left : list_any (λ (o : Observer). takes_con l.exchanges.state l.at.0 o.to) (drop l.passed (marked l.observers))
-      ≡ takes_notice l.exchanges.state l.at.0 l.observers;
-  within : l.passed ≤ length (marked l.observers);
+  left : list_any (λ (o : Observer). takes_con l.exchanges.state l.at.0 o.to) (drop l.passed (marked l.observers.list))
+      ≡ takes_notice l.exchanges.state l.at.0 l.observers.list;
+  within : l.passed ≤ length (marked l.observers.list);
 }
 
 abbrev pub decreases-observers : goal.decreases-observers
-decreases-observers g l = length (marked l.observers) - l.passed
+decreases-observers g l = length (marked l.observers.list) - l.passed

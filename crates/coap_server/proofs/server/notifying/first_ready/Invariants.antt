@@ -8,12 +8,12 @@ use Rattle.coap_server.proofs.server.notifying.first_ready.Given as goal
 
 abbrev pub invariant-observers : goal.invariant-observers
 invariant-observers g l = record {
-  asked : Exchanged l.initial.exchanges.state (passing l.at.0 l.passed (marked l.observers)) l.exchanges.state;
+  asked : Exchanged l.initial.exchanges.state (passing l.at.0 l.passed (marked l.observers.list)) l.exchanges.state;
   same : (there : Endpoint) → takes_con l.exchanges.state l.at.0 there
       ≡ takes_con l.initial.exchanges.state l.at.0 there;
   before : l.exchanges.before ≡ l.initial.exchanges.before;
-  within : l.passed ≤ length (marked l.observers);
+  within : l.passed ≤ length (marked l.observers.list);
 }
 
 abbrev pub decreases-observers : goal.decreases-observers
-decreases-observers g l = length (marked l.observers) - l.passed
+decreases-observers g l = length (marked l.observers.list) - l.passed

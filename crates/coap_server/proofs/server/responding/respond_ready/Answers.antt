@@ -14,7 +14,7 @@ returns-clause-turned g c =
     let asks = rw c.deref.ensures.value at c.in-Some.ensures.question szx c.index.result.now in
     let left = rw c.deref.ensures.value at c.in-Some.ensures.left szx in
     responded _ _ c.args.asked.now c.args.word (waiting_as szx c.index.result.now).question
-    c.in_ok-served.served.response (applied_list c.in_ok-served.served.applied) _ c.serve_waiting.new.observers
+    c.in_ok-served.served.response (applied_list c.in_ok-served.served.applied) _ c.serve_waiting.new.observers.list
     (map (waiting_as szx) c.remove-done.new.self.items) c.respond-id.result.0
     (asks ∙ ap (λ w. Some (waiting_as szx w).question) (sym c.index.ensures)) c.in_ok-served.ensures.served
     c.respond-id.ensures.step (ap (map (waiting_as szx)) c.remove-done.ensures.items ∙ left) refl

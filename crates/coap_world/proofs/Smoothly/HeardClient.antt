@@ -1,0 +1,162 @@
+-- In a smooth run the server hears from the client alone, since there is no stranger, and it sends to the client alone.
+use Rattle.std.proofs.Common.{◌≡◌, ◌⊎◌, inl, inr, ⊎_elim, ℕ, false, Some, None, List, [], ◌∷◌, ◌++◌, map, ap, sym, subst, ◌∙◌}
+use Rattle.std.proofs.Common.{append_assoc, refl}
+use Rattle.coap_types.specs.Past.{Ever, Always, all_of}
+use Rattle.coap_types.proofs.Facts.Traces.{Ever_of_Sometime}
+use Rattle.coap_types.specs.declared.endpoint.Endpoint.{Endpoint}
+use Rattle.coap_layer.specs.Channel.{OnFar}
+use Rattle.coap_layer.specs.Trace as L
+use Rattle.coap_layer.proofs.Facts.Hops.{far_ever}
+use Rattle.coap_server.specs.Follows.Observes.{AreObservers}
+use Rattle.coap_server.specs.Trace as S
+use Rattle.coap_world.specs.Events.{client_end, server_end, Config, What, Calls, Observes, Cancels, Forgets, Sets, Removes}
+use Rattle.coap_world.specs.Events.{TickClient, TickServer, Deliver, StrangerToClient, StrangerToServer}
+use Rattle.coap_world.specs.Hops.{server_adds, SendsAt, SentIn, hops_of}
+use Rattle.coap_client.specs.Trace as C
+use Rattle.coap_world.specs.Record.{Given, Entry, Turn, IsNumber, OnClient, OnServer, ServerTick, Makes, begun_with}
+use Rattle.coap_world.specs.Record.{given_in}
+use Rattle.coap_world.specs.Record.{entries_of, server_of, server_trace}
+use Rattle.coap_world.specs.Smooth.{IsOfAnEnd}
+use Rattle.coap_world.proofs.Delivery.EntriesInTime.{Every, every_join, every_map, Timely}
+use Rattle.coap_world.proofs.Delivery.HopsAreEntries.{server_layer, server_next, far_is}
+use Rattle.coap_world.proofs.Delivery.HopsAreFair.{apart}
+use Rattle.coap_world.proofs.Delivery.OneEndATurn.{each_one, each_tick, server_client}
+use Rattle.coap_world.proofs.Delivery.OneEndATurn.{server_server}
+use Rattle.coap_world.proofs.Delivery.ServerInTime as server
+use Rattle.coap_world.proofs.Smoothly.FewArrive.{server_at}
+use Rattle.coap_world.proofs.Smoothly.Standing.{Stands, before, ran, turned}
+use Rattle.coap_world.proofs.Smoothly.ToClient.{IsFromClient, GoesToClient, HeardClient, all_to_client}
+
+abbrev FeedsFromClient : S.Call → Type 0
+FeedsFromClient c = (from : Endpoint) (bytes : List ℕ) → server.Fed c from bytes → from ≡ client_end
+
+-- a turn of the server in which it hears from the client alone
+record HearsTurn (t : ℕ) (entries : List Entry) : Type 0 where
+  calls : List S.Call
+  on : OnServer calls entries
+  at : Every (server.IsAt t) calls
+  from : Every FeedsFromClient calls
+
+of_feed : (c : S.Call) (now word : ℕ) (source : Endpoint) (bytes : List ℕ) (up : _) (came : _) (h : _) (below : _)
+    → c ≡ S.Feeds now source bytes word up came h below → source ≡ client_end → FeedsFromClient c
+of_feed c now word source bytes up came h below is client from other f =
+    let same : S.Feeds now source bytes word up came h below ≡ S.Feeds f.0 from other f.1 f.2 f.3 f.4 f.5 = sym is ∙ f.6 in
+    let whose : source ≡ from = cc same in
+    sym whose ∙ client
+
+module _ (past : List Turn) (t word : ℕ) (refused : _) (entries : List Entry)
+    (given : (number : ℕ) (g : Given) → IsNumber number g past → g.packet.to ≡ server_end → g.from ≡ client_end) where
+  of_one : (what : What) → Makes past t word what refused entries → IsOfAnEnd what
+      → ((calls : List C.Call) × OnClient calls entries) ⊎ HearsTurn t entries
+  of_one (Sets path format body) m smooth = inr (record {
+    calls = m.0;
+    on = m.2;
+    at = each_one _ (server.IsAt t) (λ c h. subst (server.IsAt t) (sym h.2) refl) refused m.0 m.1;
+    from = each_one _ FeedsFromClient (λ c h from bytes f. absurd (cc (sym h.2 ∙ f.6))) refused m.0 m.1;
+  })
+  of_one (Removes path) m smooth = inr (record {
+    calls = m.0;
+    on = m.2;
+    at = each_one _ (server.IsAt t) (λ c h. subst (server.IsAt t) (sym h.2) refl) false m.0 m.1.0;
+    from = each_one _ FeedsFromClient (λ c h from bytes f. absurd (cc (sym h.2 ∙ f.6))) false m.0 m.1.0;
+  })
+  of_one TickServer m smooth = inr (record {
+    calls = m.0;
+    on = m.2;
+    at = each_tick (ServerTick t word) (server.IsAt t)
+        (λ b c h. subst (server.IsAt t) (sym h.6) refl) refused m.0 m.1;
+    from = each_tick (ServerTick t word) FeedsFromClient
+        (λ b c h from bytes f. absurd (cc (sym h.6 ∙ f.6))) refused m.0 m.1;
+  })
+  of_one (StrangerToServer from bytes) m smooth = absurd smooth
+  of_one (StrangerToClient from bytes) m smooth = absurd smooth
+  of_one (Deliver number) m smooth = elim m.2 [
+    | inl d ↦ inr (record {
+      calls = d.1;
+      on = d.3;
+      at = each_one _ (server.IsAt t) (λ c h. subst (server.IsAt t) (sym h.4) refl) refused d.1 d.2;
+      from = each_one _ FeedsFromClient
+          (λ c h. of_feed c t word m.0.from m.0.packet.bytes h.0 h.1 h.2 h.3 h.4 (given number m.0 m.1 d.0)) refused d.1
+          d.2;
+    })
+    | inr d ↦ inl (d.1, d.3)
+  ]
+  of_one (Calls r) m smooth = inl (m.0, m.2)
+  of_one (Observes path) m smooth = inl (m.0, m.2)
+  of_one (Cancels number) m smooth = inl (m.0, m.2)
+  of_one (Forgets number) m smooth = inl (m.0, m.2)
+  of_one TickClient m smooth = inl (m.0, m.2)
+
+module _ (config : Config) (observers : (t : List S.Call) → AreObservers config.limits config.server_szx t) where
+  abbrev Heard : List Turn → Type 0
+  Heard turns = HeardClient config observers (server_trace config (entries_of turns))
+
+  -- what it gives out is addressed to the client, so what is addressed to it was given out by the client
+  given_by_client : (past : List Turn) → Stands config past → Heard past → (number : ℕ) (g : Given)
+      → IsNumber number g past → g.packet.to ≡ server_end → g.from ≡ client_end
+  given_by_client past s heard number g is to =
+      by ((ran config past s).sent g (Ever_of_Sometime _ (λ h. h ≡ g) (λ older h k. inl k.0) (all_of given_in past) is))
+    where
+      found : (es : List L.Entry) → Every GoesToClient es → Ever (SendsAt g.at g.packet) es → g.packet.to ≡ client_end
+      found [] all h = absurd h
+      found (e ∷ es) all (inl h) = all.0 g.packet h.out
+      found (e ∷ es) all (inr h) = found es all.1 h
+
+      by : SentIn (hops_of config past) g → g.from ≡ client_end
+      by (inl k) = k.0
+      by (inr k) =
+          let sent = subst (Ever (SendsAt g.at g.packet)) (far_is config (entries_of past))
+          (far_ever (SendsAt g.at g.packet) (hops_of config past) k.1) in
+          let there = found (server_layer config (server_trace config (entries_of past)))
+          (all_to_client config observers (server_trace config (entries_of past)) s.server heard) sent in
+          absurd (apart (sym there ∙ to))
+
+  -- the entries of calls that hear from the client
+  adds_heard : (t : ℕ) (cs past : List S.Call) → Every (server.IsAt t) cs → Every FeedsFromClient cs
+      → server.IsBy config t past → HeardClient config observers past → HeardClient config observers (cs ++ past)
+  adds_heard t [] past at_t from by heard = heard
+  adds_heard t (c ∷ cs) past at_t from by heard =
+      subst (Every IsFromClient) (sym (server_next config (cs ++ past) c))
+      (every_join IsFromClient (server_adds config (cs ++ past) c) (server_layer config (cs ++ past))
+      (every_map (Timely t (server.Fed c)) IsFromClient
+      (λ e k source bytes is. from.0 source bytes (k.fed source bytes is).0) (server_adds config (cs ++ past) c)
+      (server.adds_timely config t (cs ++ past) c (by_calls cs at_t.1) at_t.0))
+      (adds_heard t cs past at_t.1 from.1 by heard))
+    where
+      by_calls : (ds : List S.Call) → Every (server.IsAt t) ds → server.IsBy config t (ds ++ past)
+      by_calls [] at_t = by
+      by_calls (d ∷ ds) at_t = server.next_by config t (ds ++ past) d (by_calls ds at_t.1) at_t.0
+
+  outs_from : (outs : List L.Packet) (calls : List S.Call) → Every FeedsFromClient calls
+      → Every FeedsFromClient (S.NextOut None ∷ (map (λ p. S.NextOut (Some p)) outs ++ calls))
+  outs_from outs calls h = (λ from bytes f. absurd (cc f.6), taken outs)
+    where
+      taken : (ps : List L.Packet) → Every FeedsFromClient (map (λ p. S.NextOut (Some p)) ps ++ calls)
+      taken [] = h
+      taken (p ∷ ps) = (λ from bytes f. absurd (cc f.6), taken ps)
+
+  one_more : (turn : Turn) (past : List Turn) → Stands config (turn ∷ past) → Heard past → Heard (turn ∷ past)
+  one_more turn past s older =
+      by (of_one past turn.event.at turn.event.word turn.refused turn.entries
+      (given_by_client past (before config turn past s) older) turn.event.what s.made.0 s.goes.0.of_an_end)
+    where
+      by : ((calls : List C.Call) × OnClient calls turn.entries) ⊎ HearsTurn turn.event.at turn.entries
+          → Heard (turn ∷ past)
+      by (inl on) =
+          let cs : List C.Call = C.NextReport None ∷ (map (λ r. C.NextReport (Some r)) on.1.reports
+          ++ C.NextOut None ∷ (map (λ p. C.NextOut (Some p)) on.1.outs ++ on.0)) in
+          subst (λ z. HeardClient config observers (z ++ begun_with config))
+          (sym (ap (λ z. server_of (z ++ entries_of past)) on.1.is ∙ server_client cs (entries_of past))) older
+      by (inr on) =
+          let cs : List S.Call = S.NextOut None ∷ (map (λ p. S.NextOut (Some p)) on.on.outs ++ on.calls) in
+          let is : server_trace config (turn.entries ++ entries_of past) ≡ cs ++ server_trace config (entries_of past) =
+          ap (λ l. l ++ begun_with config) (ap (λ z. server_of (z ++ entries_of past)) on.on.is
+          ∙ server_server cs (entries_of past)) ∙ append_assoc cs (server_of (entries_of past)) (begun_with config) in
+          subst (HeardClient config observers) (sym is)
+          (adds_heard turn.event.at cs (server_trace config (entries_of past))
+          (server_at turn.event.at on.on.outs on.calls on.at) (outs_from on.on.outs on.calls on.from)
+          (turned config turn past s).still.server older)
+
+  pub heard_client : (turns : List Turn) → Stands config turns → Heard turns
+  heard_client [] s = subst (Every IsFromClient) (far_is config []) tt
+  heard_client (turn ∷ past) s = one_more turn past s (heard_client past (before config turn past s))

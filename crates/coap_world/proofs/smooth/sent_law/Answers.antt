@@ -1,0 +1,14 @@
+use Rattle.coap_world.specs.Events.{server_end}
+use Rattle.coap_world.specs.Record.{client_of, entries_of}
+use Rattle.coap_world.proofs.Smoothly.AllSent.{all_sent}
+use Rattle.coap_world.proofs.smooth.sent_law.Goals as goal
+
+pub returns : goal.returns
+returns c = record {
+  all = λ config events turns run legal smooth none.
+      all_sent config events turns run legal smooth none
+      (c.client_follows_law.ensures.own_tokens server_end config.client_sizes config.client_word)
+      (c.client_follows_law.ensures.calls_alone server_end config.client_sizes config.client_word)
+      (c.client_exchanges_law.ensures.sent_where_answered server_end config.client_sizes config.client_word
+      (client_of (entries_of turns)) run.client);
+}

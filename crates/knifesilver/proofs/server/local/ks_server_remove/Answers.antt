@@ -1,0 +1,18 @@
+use Rattle.std.proofs.Common.{w32, subst, Some}
+use Rattle.std.proofs.Math.Facts.{to_z-of_z}
+use Rattle.knifesilver.specs.Answers.{IsAnswered}
+use Rattle.knifesilver.specs.PathTexts.{spelled}
+use Rattle.knifesilver.specs.ServerCalls.{IsRemove}
+use Rattle.knifesilver.specs.ServerHeld.{Made}
+use Rattle.knifesilver.proofs.Carried.{carried}
+use Rattle.knifesilver.proofs.server.local.ks_server_remove.Goals as goal
+
+pub returns-clause-led : goal.returns-clause-led
+returns-clause-led c =
+    let given = c.args in
+    let remove = c.remove-answer in
+    carried (λ answer old new. IsAnswered answer → Made (IsRemove given.now (spelled given.path.now) answer) old new)
+    (to_z-of_z {w = w32} {z = remove.result} (record { sfits = remove.type_inv }))
+    c.in-Some.ensures.taken c.as_mut.ensures.value c.put.ensures
+    (subst (λ path. IsAnswered remove.result → Made (IsRemove given.now path remove.result)
+    (Some c.as_mut.result.now) (Some remove.new.held)) c.in-Ok.ensures.spelled remove.ensures.led)

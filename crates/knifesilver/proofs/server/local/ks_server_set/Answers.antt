@@ -1,0 +1,25 @@
+use Rattle.std.proofs.Common.{◌∙◌, ap, w32, subst, pos, Some}
+use Rattle.std.proofs.Math.Facts.{to_z-of_z}
+use Rattle.knifesilver.specs.Answers.{IsAnswered}
+use Rattle.knifesilver.specs.Formats.{format_in}
+use Rattle.knifesilver.specs.PathTexts.{spelled}
+use Rattle.knifesilver.specs.ServerCalls.{IsSet}
+use Rattle.knifesilver.specs.ServerHeld.{Made}
+use Rattle.knifesilver.proofs.Carried.{carried}
+use Rattle.knifesilver.proofs.server.local.ks_server_set.Goals as goal
+
+pub returns-clause-led : goal.returns-clause-led
+returns-clause-led c =
+    let given = c.args in
+    let set = c.set-answer in
+    carried (λ answer old new. IsAnswered answer
+    → Made (IsSet given.now (spelled given.path.now) (format_in given.format) given.body.now (pos 0) answer set.new.version)
+    old new)
+    (to_z-of_z {w = w32} {z = set.result} (record { sfits = set.type_inv }))
+    c.in-Some.ensures.taken c.as_mut.ensures.value c.put.ensures
+    (subst (λ path. IsAnswered set.result
+    → Made (IsSet given.now path (format_in given.format) given.body.now (pos 0) set.result set.new.version)
+    (Some c.as_mut.result.now) (Some set.new.held)) c.in-Ok.ensures.spelled
+    (subst (λ format. IsAnswered set.result
+    → Made (IsSet given.now c.in-Ok.path format given.body.now (pos 0) set.result set.new.version)
+    (Some c.as_mut.result.now) (Some set.new.held)) (c.format_of.ensures ∙ ap format_in (to_z-of_z {w = w32} {z = given.format} c.ranges.format)) set.ensures.led))

@@ -1,0 +1,22 @@
+use Rattle.std.proofs.Common.{◌∙◌, pos, refl, sym, ap, subst, w32}
+use Rattle.std.proofs.Math.Facts.{to_z-of_z}
+use Rattle.coap_server.specs.Led.{Led}
+use Rattle.knifesilver.specs.Answers.{told}
+use Rattle.knifesilver.specs.ServerHeld.{IsServerIn}
+use Rattle.knifesilver.proofs.server.local.remove.Goals as goal
+
+pub returns-in-Ok-true-clause-led : goal.returns-in-Ok-true-clause-led
+returns-in-Ok-true-clause-led c = λ _ limits szx word t led.
+    let w = c.in-Ok-true.ensures.led limits szx word t (subst (IsServerIn (Led limits szx word t)) c.in-Server.is led) in
+    (_, (_, _, ap told (sym c.in-Ok-true.field-0-test), refl), w)
+
+pub returns-in-Ok-false-clause-led : goal.returns-in-Ok-false-clause-led
+returns-in-Ok-false-clause-led c = λ _ limits szx word t led.
+    let w = c.in-Ok-false.ensures.led limits szx word t (subst (IsServerIn (Led limits szx word t)) c.in-Server.is led) in
+    (_, (_, _, ap told (sym c.in-Ok-false.field-0-test), refl), w)
+
+pub returns-in-Err-clause-led : goal.returns-in-Err-clause-led
+returns-in-Err-clause-led c = λ _ limits szx word t led.
+    let w = c.in-Err.ensures.led limits szx word t (subst (IsServerIn (Led limits szx word t)) c.in-Server.is led) in
+    let same = to_z-of_z {w = w32} {z = c.from.result} (record { sfits = c.from.type_inv }) in
+    (_, (_, _, same ∙ c.from.ensures ∙ ap pos c.number.ensures, refl), w)
