@@ -1,3 +1,5 @@
 pub mod PathWords
 pub mod ScriptWords
 pub mod Statuses
+pub mod TurnCalls
+pub mod WhatBecomes

@@ -1,3 +1,5 @@
+pub mod Asked
+pub mod Asks
 pub mod Bearing
 pub mod Ends
 pub mod Script

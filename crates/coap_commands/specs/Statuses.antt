@@ -2,14 +2,15 @@
 use Rattle.std.specs.Prelude.{◌≡◌, ◌⊎◌, ⊤, ℕ, List, Result, Ok, Err, IfOk}
 use Rattle.clap.specs.Words.{Text}
 use Rattle.coap_words.specs.Words.{AsksFor, IsWrong}
+use Rattle.coap_commands.specs.Asked.{IsAsked}
 use Rattle.coap_commands.specs.declared.status.Status.{Status}
 use Rattle.coap_commands.specs.declared.status.Status.TheVariants as status
 use Rattle.coap_commands.specs.declared.status.Stop.{Stop}
 use Rattle.coap_commands.specs.declared.status.Stop.TheVariants as stop
 use Rattle.coap_words.specs.declared.orders.Order.{Order}
-use Rattle.coap_words.specs.declared.orders.Order.TheVariants.{Sim}
+use Rattle.coap_words.specs.declared.orders.Order.TheVariants.{Ask, Sim}
 use Rattle.coap_words.specs.declared.orders.Wrong.{Wrong}
-use Rattle.coap_words.specs.declared.orders.Wrong.TheVariants.{Words, Path, Number, Store, Hex, Memory}
+use Rattle.coap_words.specs.declared.orders.Wrong.TheVariants.{Words, Path, Number, Word, Tags, Body, Store, Hex, Memory}
 
 abbrev pub status_number : Status → ℕ
 status_number status.Done = 0
@@ -40,6 +41,7 @@ RunsScript _ = ⊥
 -- what this order comes to, carried out to its end
 abbrev pub CarriesOut : Order → Status → Type 0
 CarriesOut (Sim file store) s = IsOfScript s
+CarriesOut (Ask port path what options) s = IsAsked port path what options s
 CarriesOut _ s = IsCarriedOut s
 
 -- what telling of a wrong comes to: bad hex is told on standard output, which may fail
@@ -47,6 +49,9 @@ abbrev pub IsTold : Wrong → Result Status Stop → Type 0
 IsTold (Words error) ended = ended ≡ Ok status.Words
 IsTold (Path refusal) ended = ended ≡ Ok status.Words
 IsTold (Number refusal) ended = ended ≡ Ok status.Words
+IsTold Word ended = ended ≡ Ok status.Words
+IsTold (Tags refusal) ended = ended ≡ Ok status.Words
+IsTold Body ended = ended ≡ Ok status.Words
 IsTold Store ended = ended ≡ Ok status.Words
 IsTold Hex ended = (ended ≡ Ok status.Words) ⊎ (ended ≡ Err stop.Failed)
 IsTold Memory ended = ended ≡ Err stop.Memory
@@ -57,9 +62,16 @@ abbrev pub IsAnswered : Wrong → ℕ → Type 0
 IsAnswered (Words error) n = (n ≡ 2) ⊎ (n ≡ 4)
 IsAnswered (Path refusal) n = (n ≡ 2) ⊎ (n ≡ 4)
 IsAnswered (Number refusal) n = (n ≡ 2) ⊎ (n ≡ 4)
+IsAnswered Word n = (n ≡ 2) ⊎ (n ≡ 4)
+IsAnswered (Tags refusal) n = (n ≡ 2) ⊎ (n ≡ 4)
+IsAnswered Body n = (n ≡ 2) ⊎ (n ≡ 4)
 IsAnswered Store n = (n ≡ 2) ⊎ (n ≡ 4)
 IsAnswered Hex n = (n ≡ 2) ⊎ ((n ≡ 3) ⊎ (n ≡ 4))
 IsAnswered Memory n = ⊤
+
+-- an order is carried out, and this is the number of its status
+abbrev pub IsCarriedTo : Order → ℕ → Type 0
+IsCarriedTo order n = (s : Status) × (n ≡ status_number s) × CarriesOut order s
 
 -- a run: the words ask for an order, or something is wrong with them, and it ends so
 abbrev pub Ends : List Text → Result Status Stop → Type 0

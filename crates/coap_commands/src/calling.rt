@@ -1,13 +1,18 @@
 //! A request of a client: how it is made, and what becomes of it.
-ghost use Rattle.std.specs.Prelude.{◌≡◌, [], IfOk};
+ghost use Rattle.std.specs.Prelude.{◌≡◌, ℕ, List, [], ◌∷◌, IfOk};
+ghost use Rattle.coap_types.specs.declared.endpoint.Endpoint.{Endpoint};
 ghost use Rattle.coap_types.specs.declared.request.Method.TheVariants.{Get, Put};
+ghost use Rattle.coap_block.specs.Sizes.{Sizes};
+ghost use Rattle.coap_client.specs.Led.{Led};
 ghost use Rattle.coap_client.specs.Object.CallShown.{shown_request};
+ghost use Rattle.coap_client.specs.Object.Shown.{number_of};
+ghost use Rattle.coap_client.specs.Trace.{Call, Calls};
 ghost use Rattle.coap_commands.specs.Script.{plain_request};
 
 use crate::status::Stop;
 use crate::text::report_text;
 use bytes::Bytes;
-use coap_ends::{CallRefusal, Client, Report};
+use coap_ends::{CallId, CallRefusal, Client, Report};
 use coap_types::{Method, Moment, Path, Request, Tags};
 use std::alloc::{AllocError, Allocator, Global};
 use std::hash::BuildHasher;
@@ -54,16 +59,21 @@ pub fn get_request(path: &Path) -> Result<Request, AllocError>
     Ok(plain(Method::Get, path.clone()?, Bytes::new()))
 }
 
-/// Hands a request to a client; the refusal where it does not take it.
+/// Hands a request to a client: its number, or the refusal where the client does not take it.
 pub fn call<H: BuildHasher>(
     client: &mut Client<Global, H>,
     now: Moment,
     request: Request,
-) -> Result<Option<CallRefusal>, Stop> {
+) -> Result<Result<CallId, CallRefusal>, Stop>
+    // What leads to the client before the call leads, with the call and its answer, to the client after it.
+    ensures led { IfOk result (λ answer. (server : Endpoint) (sizes : Sizes) (w : ℕ) (t : List Call)
+        → Led server sizes w t client.old
+        → Led server sizes w (Calls now.0 (shown_request request) (number_of answer) ∷ t) client.new) }
+{
     match client.call(now, request) {
-        Ok(_) => Ok(None),
+        Ok(id) => Ok(Ok(id)),
         Err(CallRefusal::Memory) => Err(Stop::Memory),
-        Err(refusal) => Ok(Some(refusal)),
+        Err(refusal) => Ok(Err(refusal)),
     }
 }
 

@@ -1,6 +1,7 @@
 //! One run of the program, over the writers that it is handed.
 ghost use Rattle.std.specs.Prelude.{◌≡◌, ◌≢◌, ◌≤◌, ◌⊎◌, IfOk, map, string_bytes};
-ghost use Rattle.coap_commands.specs.Statuses.{CarriesOut, Ends, IsAnswered, IsTold, RunsScript, status_number};
+ghost use Rattle.coap_commands.specs.Statuses.{CarriesOut, Ends, IsAnswered, IsCarriedTo, IsTold, RunsScript};
+ghost use Rattle.coap_commands.specs.Statuses.{status_number};
 ghost use Rattle.coap_commands.specs.Statuses.{status_of};
 ghost use Rattle.coap_words.specs.Words.{AsksFor, IsWrong};
 ghost use Rattle.coap_words.specs.declared.orders.Order.{Order};
@@ -8,7 +9,7 @@ ghost use Rattle.coap_words.specs.declared.orders.Wrong.{Wrong};
 ghost use Rattle.coap_words.specs.declared.orders.Wrong.TheVariants as wrongs;
 
 use crate::answer::answer;
-use crate::get::get;
+use crate::ask::ask;
 use crate::pair::pair;
 use crate::put_away::put_away;
 use crate::serve::serve;
@@ -50,12 +51,12 @@ fn perform<R: AllocGlobal + Files + Net + Clock + RandomSource, W: Write>(
             word,
             limit,
         } => serve(rt, *port, *count, *word, *limit, out),
-        Order::Get {
+        Order::Ask {
             port,
             path,
-            word,
-            limit,
-        } => get(rt, *port, path, *word, *limit, out),
+            what,
+            options,
+        } => ask(rt, *port, path, *what, options, out),
         Order::Sim { file, store } => sim(rt, file, *store, out),
     }
 }
@@ -71,7 +72,13 @@ pub fn refuse<O: Write, E: Write>(wrong: Wrong, out: &mut O, err: &mut E) -> Res
             writeln!(out, "{wrong}")?;
             Ok(Status::Words)
         }
-        Wrong::Words(_) | Wrong::Path(_) | Wrong::Number(_) | Wrong::Store => {
+        Wrong::Words(_)
+        | Wrong::Path(_)
+        | Wrong::Number(_)
+        | Wrong::Word
+        | Wrong::Tags(_)
+        | Wrong::Body
+        | Wrong::Store => {
             let _ = writeln!(err, "{wrong}");
             Ok(Status::Words)
         }
@@ -130,8 +137,9 @@ pub fn command<R: AllocGlobal + Files + Net + Clock + RandomSource, O: Write, E:
     // .. and nothing else is, but for a script that can't be read.
     ensures words { result ≡ 2 → ((wrong : Wrong) × IsWrong (map string_bytes words.now) wrong
         × (wrong ≢ wrongs.Memory)) ⊎ ((order : Order) × AsksFor (map string_bytes words.now) order × RunsScript order) }
-    // An order is carried out only where the words ask for it.
-    ensures done { result ≤ 1 → (order : Order) × AsksFor (map string_bytes words.now) order }
+    // An order is carried out only where the words ask for it, and to that end.
+    ensures done { result ≤ 1 → (order : Order) × AsksFor (map string_bytes words.now) order
+        × IsCarriedTo order result }
 {
     let ended = run(rt, words, out, err);
     close(ended, err).number()

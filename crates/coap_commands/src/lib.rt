@@ -2,17 +2,18 @@
 //! writer that it is handed.
 //!
 //! [`command`] runs the words of one run and answers the exit status. [`pair_over`], [`serve_over`],
-//! [`get_over`] and [`sim_to`] are the subcommands without their sockets and files.
+//! [`ask_over`] and [`sim_to`] are the subcommands without their sockets and files.
 #![tactic(auto)]
 
 mod answer;
+mod ask;
 mod bearing;
 mod calling;
 mod driver;
 mod ends;
-mod get;
 mod pair;
 mod put_away;
+mod request;
 mod script;
 mod serve;
 mod show;
@@ -22,12 +23,14 @@ mod status;
 mod telling;
 mod text;
 mod timekeeper;
+mod word;
 
+pub use ask::ask_over;
 pub use calling::{Outcome, call, get_request, put_request};
 pub use driver::{close, command, refuse, without_words};
 pub use ends::{fresh_client, fresh_server, hold, largest_szx};
-pub use get::get_over;
 pub use pair::pair_over;
+pub use request::{body_of, request_of};
 pub use script::{ScriptRefusal, events_of};
 pub use serve::{hold_resource, serve_over};
 pub use sim::{sim_to, sim_with};

@@ -7,9 +7,11 @@ use crate::put_away::put_away;
 use crate::side::Side;
 use crate::status::{Status, Stop};
 use crate::timekeeper::{ProgramTime, Timekeeper};
+use crate::word::word_of;
 use coap_ends::{Client, End, Report};
 use coap_links::{ANY_PORT, Link, UdpLink};
 use coap_types::{BodyLimit, Code, Path, Request};
+use coap_words::WordChoice;
 use std::alloc::Global;
 use std::hash::{BuildHasher, RandomState};
 use std::io::Write;
@@ -49,8 +51,8 @@ impl<'a, H: BuildHasher, C: Link, E: End<Global>, S: Link> BothEnds<'a, H, C, E,
     // What becomes of a request of the client.
     fn ask<T: Timekeeper>(&mut self, request: Request, time: &mut T) -> Result<Outcome, Stop> {
         match call(self.client.end, time.now()?, request)? {
-            Some(refusal) => Ok(Outcome::Refused(refusal)),
-            None => Ok(Outcome::Reported(self.reported(time)?)),
+            Ok(_) => Ok(Outcome::Reported(self.reported(time)?)),
+            Err(refusal) => Ok(Outcome::Refused(refusal)),
         }
     }
 
@@ -174,12 +176,13 @@ pub fn pair<R: AllocGlobal + Net + Clock + RandomSource, W: Write>(
     rt: &R,
     path: &Path,
     body: &str,
-    word: u64,
+    word: WordChoice,
     limit: BodyLimit,
     out: &mut W,
 ) -> Result<Status, Stop>
     ensures { IfOk result IsCarriedOut }
 {
+    let word = word_of(rt, word)?;
     let mut time = ProgramTime::begin(rt)?;
     let mut client_link = UdpLink::bind(rt, ANY_PORT)?;
     let mut server_link = UdpLink::bind(rt, ANY_PORT)?;

@@ -6,11 +6,12 @@ use crate::ends::{fresh_server, hold, tell_refusal};
 use crate::put_away::put_away;
 use crate::status::{Status, Stop};
 use crate::timekeeper::{ProgramTime, Timekeeper};
+use crate::word::word_of;
 use coap_ends::{End, Server};
 use coap_links::{Link, UdpLink, fresh_tally, send_all, serve_turn};
 use coap_resource::{MapStore, StoreRefusal};
 use coap_types::BodyLimit;
-use coap_words::path_of_text;
+use coap_words::{WordChoice, path_of_text};
 use std::alloc::{Allocator, Global};
 use std::hash::{BuildHasher, RandomState};
 use std::io::Write;
@@ -67,12 +68,13 @@ pub fn serve<R: AllocGlobal + Net + Clock + RandomSource, W: Write>(
     rt: &R,
     port: u16,
     count: u64,
-    word: u64,
+    word: WordChoice,
     limit: BodyLimit,
     out: &mut W,
 ) -> Result<Status, Stop>
     ensures { IfOk result IsCarriedOut }
 {
+    let word = word_of(rt, word)?;
     let mut time = ProgramTime::begin(rt)?;
     let mut link = UdpLink::bind(rt, port)?;
     let mut server = fresh_server(rt.alloc(), word, limit, RandomState::new(rt)?);

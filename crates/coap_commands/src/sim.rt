@@ -3,15 +3,15 @@ ghost use Rattle.coap_commands.specs.Statuses.{IsOfScript};
 
 use crate::ends::largest_szx;
 use crate::script::{ScriptRefusal, events_of};
-use crate::status::{Status, Stop};
+use crate::status::{Status, Stop, stop_of};
 use crate::telling::tell;
 use coap_resource::{ListStore, MAX_CHANGES_PER_WINDOW, MapStore};
 use coap_words::StoreKind;
 use coap_world::{Event, RunRefusal, WorldConfig, run_with};
 use std::alloc::Allocator;
-use std::io::{ErrorKind, Read, Write};
+use std::fs;
+use std::io::{Read, Write};
 use std::rt::Files;
-use std::{fs, io};
 
 // The word that each end begins with.
 const WORD: u64 = 0;
@@ -52,14 +52,6 @@ pub fn sim_with<A: Allocator + Copy, R: Read, W: Write>(
             Ok(Status::Words)
         }
         Err(ScriptRefusal::Memory) => Err(Stop::Memory),
-    }
-}
-
-// Why a run stops whose script can't be had.
-fn stop_of(error: &io::Error) -> Stop {
-    match error.kind() {
-        ErrorKind::OutOfMemory => Stop::Memory,
-        _ => Stop::Failed,
     }
 }
 

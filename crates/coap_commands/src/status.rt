@@ -5,6 +5,7 @@ ghost use Rattle.coap_commands.specs.declared.status.Stop.TheVariants.{Failed, M
 
 use std::alloc::AllocError;
 use std::io;
+use std::io::ErrorKind;
 
 /// How a run ends: the exit status of the program.
 #[derive(Clone, Copy, Debug, PartialEq, Eq)]
@@ -59,5 +60,13 @@ impl From<AllocError> for Stop {
 
     fn from(_error: AllocError) -> Stop {
         Stop::Memory
+    }
+}
+
+/// Why a run stops whose file can't be read.
+pub(crate) fn stop_of(error: &io::Error) -> Stop {
+    match error.kind() {
+        ErrorKind::OutOfMemory => Stop::Memory,
+        _ => Stop::Failed,
     }
 }

@@ -4,6 +4,8 @@
 #[cfg(test)]
 mod answer;
 #[cfg(test)]
+mod asking;
+#[cfg(test)]
 mod bodies;
 #[cfg(test)]
 mod buffers;

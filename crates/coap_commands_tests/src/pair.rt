@@ -200,7 +200,7 @@ fn ask_in_turns<C: Link, S: Link>(
     begin: u64,
     request: Request,
 ) -> Result<Option<Report>, Stop> {
-    let _refusal = call(client, Moment(begin), request)?;
+    let _answer = call(client, Moment(begin), request)?;
     let (mut client_tally, mut server_tally) = (fresh_tally(0), fresh_tally(0));
     for turn in 0..1_000 {
         let now = Moment(begin.saturating_add(turn));

@@ -1,7 +1,9 @@
 use crate::pair::Clock;
 use crate::refusing_end::RefusingEnd;
 use crate::rows::{Row, check_row, repeated, words_of};
-use coap_commands::{Stop, close, command, fresh_server, get_over, hold_resource, serve_over};
+use coap_commands::{
+    Stop, ask_over, close, command, fresh_server, get_request, hold_resource, serve_over,
+};
 use coap_links::{ANY_PORT, Link, MemoryLink, UdpLink};
 use coap_types::{BodyLimit, Endpoint, Path};
 use coap_words::path_of_text;
@@ -149,8 +151,9 @@ fn get_in_memory(
     }
     let hasher = BuildHasherDefault::<FoldHasher>::new();
     let mut time = Clock { now: 0 };
-    let ended = get_over(
-        alloc, &mut link, FAR, &mut time, hasher, path, 0, limit, told,
+    let request = get_request(path)?;
+    let ended = ask_over(
+        alloc, &mut link, FAR, &mut time, hasher, request, 0, limit, told,
     );
     drop(link);
     Ok(close(ended, told).number())

@@ -1,22 +1,34 @@
 -- What clap's clauses say of the words of this program.
 use Rattle.std.proofs.Common.{◌≡◌, ◌∙◌, ◌⊎◌, ap, ap₂, sym, refl, subst, Bool, true, false, ◌||◌, List, [], Option}
-use Rattle.std.proofs.Common.{Some, None, option_map, unwrap_or, codes, inl, inr, Result, Ok, Err}
+use Rattle.std.proofs.Common.{arith, Some, None, option_map, unwrap_or, codes, inl, inr, Result, Ok, Err}
+use Rattle.std.specs.List.{find, list_all}
+use Rattle.std.specs.Prelude.{option_and_then, slice_get}
 use Rattle.std.specs.Str.{bytes_eq}
 use Rattle.std.specs.Result.{IfErr, IfOk, IsErrAnd, MatchResult}
 use Rattle.std.proofs.lemmas.Slice.Eq.{bytes_eq-Decides}
 use Rattle.clap.proofs.OnLiterals.{clap_on_literals}
-use Rattle.clap.specs.Words.{App, HasKind, HasMatchesOf, IsAmong, Kinds, Row, Text, fault_of, is_simple}
+use Rattle.clap.specs.Simple.{built}
+use Rattle.clap.specs.Words.{App, HasKind, HasMatchesOf, IsAmong, Kinds, Row, Text, all_of, fault_of, is_simple}
 use Rattle.clap.specs.Words.{is_simple_and_free, kind_of, subcommand_name_of, subcommand_of, subcommand_rows_of}
 use Rattle.clap.specs.declared.error.Error.{Error}
 use Rattle.clap.specs.declared.parser.matches.ArgMatches.{ArgMatches}
 use Rattle.coap_words.specs.CommandLine.{coap_app}
-use Rattle.coap_words.specs.Words.{Enters, IsGiven, IsWrong, IsWrongIn, AsksFor, AsksForIn}
+use Rattle.coap_words.specs.Asking.{AreNoTags, AsksChange, HasNoTags, IsAsk, SendsBody, texts_of, tags_argument_of}
+use Rattle.coap_words.specs.Numbers.{argument_of}
+use Rattle.coap_words.specs.Taking.{IsWrongOption, MakesEnd, TakesItsOwn, TakesNumber, TakesTags}
+use Rattle.coap_words.specs.Values.{Enters, HasNoNumber, HasNoWord, IsGiven, IsValue}
+use Rattle.coap_words.specs.Words.{AsksFor, AsksForIn, IsWrong, IsWrongIn}
 use Rattle.coap_words.specs.Wrongs.{IsWrongOfClap}
+use Rattle.coap_words.specs.declared.orders.NumberRefusal.{NumberRefusal}
+use Rattle.coap_words.specs.declared.orders.NumberRefusal.TheVariants.{Port, Count, Limit, Format}
 use Rattle.coap_words.specs.declared.orders.Order.{Order}
+use Rattle.coap_words.specs.declared.orders.TagsRefusal.{TagsRefusal}
+use Rattle.coap_words.specs.declared.orders.TagsRefusal.TheVariants.{IfMatch}
 use Rattle.coap_words.specs.declared.orders.Wrong.{Wrong}
-use Rattle.coap_words.specs.declared.orders.Wrong.TheVariants.{Words, Path, Number, Store, Hex, Memory}
+use Rattle.coap_words.specs.declared.orders.Wrong.TheVariants.{Words, Path, Number, Word, Tags, Body, Store, Hex, Memory}
 use Rattle.coap_words.proofs.Entered.{enters}
-use Rattle.coap_words.proofs.GivenWords.{required_word}
+use Rattle.coap_words.proofs.GivenWords.{asks, required_word}
+use Rattle.coap_words.proofs.OwnRows.{lacks, taken_or_not}
 
 -- ---- a name and its rows, where each is known by itself
 
@@ -45,13 +57,29 @@ is_free_coap = refl
 abbrev pub IsOurs : Text → Type 0
 IsOurs name =
     (name ≡ codes "show") ⊎ ((name ≡ codes "answer")
-    ⊎ ((name ≡ codes "pair") ⊎ ((name ≡ codes "serve") ⊎ ((name ≡ codes "get") ⊎ (name ≡ codes "sim")))))
+    ⊎ ((name ≡ codes "pair") ⊎ ((name ≡ codes "serve") ⊎ ((name ≡ codes "sim") ⊎ IsAsk name))))
+
+-- the same as tests
+abbrev sends_body : Text → Bool
+sends_body name = bytes_eq name (codes "put") || bytes_eq name (codes "post")
+
+abbrev asks_change : Text → Bool
+asks_change name = bytes_eq name (codes "delete") || sends_body name
+
+abbrev is_ask : Text → Bool
+is_ask name = bytes_eq name (codes "get") || asks_change name
 
 abbrev is_ours : Text → Bool
 is_ours name =
     bytes_eq name (codes "show")
     || (bytes_eq name (codes "answer") || (bytes_eq name (codes "pair")
-    || (bytes_eq name (codes "serve") || (bytes_eq name (codes "get") || bytes_eq name (codes "sim")))))
+    || (bytes_eq name (codes "serve") || (bytes_eq name (codes "sim") || is_ask name))))
+
+abbrev serves_or_asks : Text → Bool
+serves_or_asks name = bytes_eq name (codes "serve") || is_ask name
+
+abbrev makes_end : Text → Bool
+makes_end name = bytes_eq name (codes "pair") || serves_or_asks name
 
 -- the name is this one, or the other test holds
 first_or : (P : Type 0) (name known : Text) (rest : Bool) → (rest ≡ true → P) → (bytes_eq name known || rest) ≡ true
@@ -62,13 +90,31 @@ first_or P name known rest other is = go (bytes_eq name known) refl is
     go true same h = inl ((bytes_eq-Decides name known).0 same)
     go false same h = inr (other h)
 
+is_name : (name known : Text) → bytes_eq name known ≡ true → name ≡ known
+is_name name known is = (bytes_eq-Decides name known).0 is
+
+one_sends : (name : Text) → sends_body name ≡ true → SendsBody name
+one_sends name is = first_or _ name (codes "put") _ (is_name name (codes "post")) is
+
+one_changes : (name : Text) → asks_change name ≡ true → AsksChange name
+one_changes name is = first_or _ name (codes "delete") _ (one_sends name) is
+
+one_asks : (name : Text) → is_ask name ≡ true → IsAsk name
+one_asks name is = first_or _ name (codes "get") _ (one_changes name) is
+
+one_serves_or_asks : (name : Text) → serves_or_asks name ≡ true → (name ≡ codes "serve") ⊎ IsAsk name
+one_serves_or_asks name is = first_or _ name (codes "serve") _ (one_asks name) is
+
+one_makes_end : (name : Text) → makes_end name ≡ true → MakesEnd name
+one_makes_end name is = first_or _ name (codes "pair") _ (one_serves_or_asks name) is
+
 one_of_ours : (name : Text) → is_ours name ≡ true → IsOurs name
 one_of_ours name is =
     first_or _ name (codes "show") _
     (first_or _ name (codes "answer") _
     (first_or _ name (codes "pair") _
     (first_or _ name (codes "serve") _
-    (first_or _ name (codes "get") _ (λ h. (bytes_eq-Decides name (codes "sim")).0 h))))) is
+    (first_or _ name (codes "sim") _ (one_asks name))))) is
 
 -- words that clap takes enter one of them
 enters_ours : (words : List Text) → fault_of coap_app words ≡ []
@@ -112,17 +158,123 @@ pub serve_count : (words : List Text) (rows : List Row) → Enters words (codes 
 unfolding clap_on_literals
 serve_count words rows e = required_word coap_app words (codes "serve") (codes "COUNT") rows refl e.taken e.entered
 
-pub get_port : (words : List Text) (rows : List Row) → Enters words (codes "get") rows → IsGiven (codes "PORT") rows
-unfolding clap_on_literals
-get_port words rows e = required_word coap_app words (codes "get") (codes "PORT") rows refl e.taken e.entered
+-- the subcommands that ask something of a server require this argument
+abbrev AskRequires : Text → Type 0
+AskRequires id = (name : Text) → IsAsk name → list_all (asks name id) (built coap_app).subs ≡ true
 
-pub get_path : (words : List Text) (rows : List Row) → Enters words (codes "get") rows → IsGiven (codes "PATH") rows
+by_name : (id name known : Text) → list_all (asks known id) (built coap_app).subs ≡ true → name ≡ known
+    → list_all (asks name id) (built coap_app).subs ≡ true
+by_name id name known is same = subst (λ n. list_all (asks n id) (built coap_app).subs ≡ true) (sym same) is
+
+requires_port : AskRequires (codes "PORT")
 unfolding clap_on_literals
-get_path words rows e = required_word coap_app words (codes "get") (codes "PATH") rows refl e.taken e.entered
+requires_port name (inl is) = by_name (codes "PORT") name _ refl is
+requires_port name (inr (inl is)) = by_name (codes "PORT") name _ refl is
+requires_port name (inr (inr (inl is))) = by_name (codes "PORT") name _ refl is
+requires_port name (inr (inr (inr is))) = by_name (codes "PORT") name _ refl is
+
+requires_path : AskRequires (codes "PATH")
+unfolding clap_on_literals
+requires_path name (inl is) = by_name (codes "PATH") name _ refl is
+requires_path name (inr (inl is)) = by_name (codes "PATH") name _ refl is
+requires_path name (inr (inr (inl is))) = by_name (codes "PATH") name _ refl is
+requires_path name (inr (inr (inr is))) = by_name (codes "PATH") name _ refl is
+
+pub ask_port : (words : List Text) (name : Text) (rows : List Row) → IsAsk name → Enters words name rows
+    → IsGiven (codes "PORT") rows
+ask_port words name rows is e =
+    required_word coap_app words name (codes "PORT") rows (requires_port name is) e.taken e.entered
+
+pub ask_path : (words : List Text) (name : Text) (rows : List Row) → IsAsk name → Enters words name rows
+    → IsGiven (codes "PATH") rows
+ask_path words name rows is e =
+    required_word coap_app words name (codes "PATH") rows (requires_path name is) e.taken e.entered
 
 pub sim_file : (words : List Text) (rows : List Row) → Enters words (codes "sim") rows → IsGiven (codes "FILE") rows
 unfolding clap_on_literals
 sim_file words rows e = required_word coap_app words (codes "sim") (codes "FILE") rows refl e.taken e.entered
+
+-- ---- and what is given is an argument of the subcommand
+
+-- an argument that only these subcommands take is given in one of them, or not at all
+taken_by : (p : Text → Bool) (P : Text → Type 0) (id : Text) (words : List Text) (name : Text) (rows : List Row)
+    → ((n : Text) → p n ≡ true → P n)
+    → list_all (lacks p id) (built coap_app).subs ≡ true → Enters words name rows
+    → (all_of id rows ≡ None) ⊎ P name
+taken_by p P id words name rows means all e =
+    elim (taken_or_not p id coap_app words name rows all e.entered) [ inl none ↦ inl none | inr is ↦ inr (means name is) ]
+
+takes_number : (words : List Text) (name : Text) (rows : List Row) → Enters words name rows → (why : NumberRefusal)
+    → (all_of (argument_of why) rows ≡ None) ⊎ TakesNumber why name
+unfolding clap_on_literals
+takes_number words name rows e Port =
+    taken_by serves_or_asks (TakesNumber Port) (codes "PORT") words name rows one_serves_or_asks refl e
+takes_number words name rows e Count = taken_by
+    (λ n. bytes_eq n (codes "serve")) (TakesNumber Count) (codes "COUNT") words name rows
+    (λ n is. is_name n (codes "serve") is) refl e
+takes_number words name rows e Limit =
+    taken_by makes_end (TakesNumber Limit) (codes "limit") words name rows one_makes_end refl e
+takes_number words name rows e Format =
+    taken_by sends_body (TakesNumber Format) (codes "format") words name rows one_sends refl e
+
+takes_word : (words : List Text) (name : Text) (rows : List Row) → Enters words name rows
+    → (all_of (codes "word") rows ≡ None) ⊎ MakesEnd name
+unfolding clap_on_literals
+takes_word words name rows e = taken_by makes_end MakesEnd (codes "word") words name rows one_makes_end refl e
+
+takes_tags : (words : List Text) (name : Text) (rows : List Row) → Enters words name rows → (why : TagsRefusal)
+    → (all_of (tags_argument_of why) rows ≡ None) ⊎ TakesTags why name
+unfolding clap_on_literals
+takes_tags words name rows e IfMatch =
+    taken_by asks_change (TakesTags IfMatch) (codes "if-match") words name rows one_changes refl e
+
+pub takes_its_own : (words : List Text) (name : Text) (rows : List Row) → Enters words name rows
+    → TakesItsOwn name rows
+takes_its_own words name rows e =
+    record {
+      numbers = takes_number words name rows e;
+      word = takes_word words name rows e;
+      tags = takes_tags words name rows e;
+    }
+
+-- what has a value was given
+is_there : (id : Text) (rows : List Row) (text : Text) → IsValue id rows text → all_of id rows ≡ None → ⊥
+is_there id rows text is none = go (find (λ r. bytes_eq r.id id) rows) is none
+  where
+    go : (o : Option Row) → option_and_then (λ r. slice_get r.values 0) o ≡ Some text
+        → option_map (λ (r : Row). r.values) o ≡ None → ⊥
+    go None is none = cc
+    go (Some r) is none = cc
+
+no_tags_there : (why : TagsRefusal) (rows : List Row) → HasNoTags why rows → all_of (tags_argument_of why) rows ≡ None → ⊥
+no_tags_there why rows h none =
+    let texts : texts_of (tags_argument_of why) rows ≡ [] = ap (λ (o : Option (List Text)). unwrap_or o []) none in
+    elim (subst AreNoTags texts h) [
+      | inl more ↦ absurd (omega (arith, more))
+      | inr some ↦ absurd (omega (arith, some.2))
+    ]
+
+-- what is wrong in the value of an option is wrong in the subcommand, which takes it
+pub value_wrong : (name : Text) (rows : List Row) (w : Wrong) → TakesItsOwn name rows → IsWrongOption rows w
+    → IsWrongIn name rows w
+value_wrong name rows (Words error) own h = absurd h
+value_wrong name rows (Path refusal) own h = absurd h
+value_wrong name rows (Number refusal) own h = elim (own.numbers refusal) [
+  | inl none ↦ absurd (is_there (argument_of refusal) rows h.0 h.1 none)
+  | inr takes ↦ (takes, h)
+]
+value_wrong name rows Word own h = elim own.word [
+  | inl none ↦ absurd (is_there (codes "word") rows h.0 h.1 none)
+  | inr takes ↦ (takes, h)
+]
+value_wrong name rows (Tags refusal) own h = elim (own.tags refusal) [
+  | inl none ↦ absurd (no_tags_there refusal rows h none)
+  | inr takes ↦ (takes, h)
+]
+value_wrong name rows Body own h = absurd h
+value_wrong name rows Store own h = absurd h
+value_wrong name rows Hex own h = absurd h
+value_wrong name rows Memory own h = tt
 
 -- ---- a parse that succeeds
 
@@ -160,10 +312,13 @@ said_by words name rows (Err w) e h = tt
 wrong_in : (words : List Text) (name : Text) (rows : List Row) (w : Wrong) → Enters words name rows
     → IsWrongIn name rows w → IsWrong words w
 wrong_in words name rows (Words error) e h = absurd h
-wrong_in words name rows (Path refusal) e h = (name, rows, e, h.0, h.1)
-wrong_in words name rows (Number refusal) e h = (name, rows, e, h.0, h.1)
-wrong_in words name rows Store e h = (name, rows, e, h.0, h.1)
-wrong_in words name rows Hex e h = (name, rows, e, h.0, h.1)
+wrong_in words name rows (Path refusal) e h = (name, rows, e, h)
+wrong_in words name rows (Number refusal) e h = (name, rows, e, h)
+wrong_in words name rows Word e h = (name, rows, e, h)
+wrong_in words name rows (Tags refusal) e h = (name, rows, e, h)
+wrong_in words name rows Body e h = (name, rows, e, h)
+wrong_in words name rows Store e h = (name, rows, e, h)
+wrong_in words name rows Hex e h = (name, rows, e, h)
 wrong_in words name rows Memory e h = tt
 
 pub wrong_by : (words : List Text) (name : Text) (rows : List Row) (r : Result Order Wrong) → Enters words name rows
@@ -180,6 +335,9 @@ wrong_of_clap words faults e (Words own) same h kind =
     (subst (λ x. IsAmong (kind_of x) faults) (sym h.0) (elim kind [ inl none ↦ absurd (h.1 none) | inr among ↦ among ]))
 wrong_of_clap words faults e (Path refusal) same h kind = absurd h
 wrong_of_clap words faults e (Number refusal) same h kind = absurd h
+wrong_of_clap words faults e Word same h kind = absurd h
+wrong_of_clap words faults e (Tags refusal) same h kind = absurd h
+wrong_of_clap words faults e Body same h kind = absurd h
 wrong_of_clap words faults e Store same h kind = absurd h
 wrong_of_clap words faults e Hex same h kind = absurd h
 wrong_of_clap words faults e Memory same h kind = tt

@@ -25,22 +25,24 @@ use Rattle.clap.specs.declared.builder.action.ArgAction.TheVariants.{Set, Append
 use Rattle.clap.specs.declared.builder.action.ArgAction.TheVariants.{HelpShort, HelpLong, Version}
 use Rattle.clap.specs.declared.error.kind.ErrorKind.TheVariants as kind
 
--- each use of an argument with this action, of at least so many values, leaves a value or fails
-abbrev pub feeds_by : ArgAction → ℕ → Bool
-feeds_by Set least = nat_lt 0 least
-feeds_by Append least = nat_lt 0 least
-feeds_by Help least = true
-feeds_by HelpShort least = true
-feeds_by HelpLong least = true
-feeds_by Version least = true
-feeds_by _ least = false
-
-abbrev pub feeds : Rule → Bool
-feeds a = feeds_by (action_of a) (unwrap_or_range a.range).start_inclusive
-
+-- each use of an argument with this action, of at least so many values, leaves a value or fails; a flag leaves those
+-- that stand for a use with none
 abbrev pub has_some : List Text → Bool
 has_some [] = false
 has_some (v ∷ vs) = true
+
+abbrev pub feeds_by : ArgAction → ℕ → List Text → Bool
+feeds_by Set least missing = nat_lt 0 least
+feeds_by Append least missing = nat_lt 0 least
+feeds_by SetTrue least missing = has_some missing
+feeds_by Help least missing = true
+feeds_by HelpShort least missing = true
+feeds_by HelpLong least missing = true
+feeds_by Version least missing = true
+feeds_by _ least missing = false
+
+abbrev pub feeds : Rule → Bool
+feeds a = feeds_by (action_of a) (unwrap_or_range a.range).start_inclusive a.missing
 
 abbrev pub has_value : Row → Bool
 has_value r = has_some r.values
@@ -73,7 +75,7 @@ some_append : (xs ys : List Text) → has_some xs ≡ true → has_some (xs ++ y
 some_append [] ys h = cc
 some_append (x ∷ xs) ys h = refl
 
-all_at_row : (p : Row → Bool) (id : Text) (change : Row → List Row) (missing rows : List Row)
+pub all_at_row : (p : Row → Bool) (id : Text) (change : Row → List Row) (missing rows : List Row)
     → ((r : Row) → p r ≡ true → list_all p (change r) ≡ true)
     → list_all p missing ≡ true → list_all p rows ≡ true → list_all p (at_row id change missing rows) ≡ true
 all_at_row p id change missing [] f m h = m
@@ -106,8 +108,13 @@ own_values : (a : Rule) (values : List Text) → has_some values ≡ true → ha
 own_values a [] some = cc
 own_values a (v ∷ vs) some = refl
 
+missing_values : (a : Rule) (values : List Text) → has_some a.missing ≡ true
+    → has_some (values_or_missing a values) ≡ true
+missing_values a [] some = some
+missing_values a (v ∷ vs) some = refl
+
 filled_used_as : (x : ArgAction) (least most : ℕ) (again : Bool) (a : Rule) (values : List Text) (now rows : List Row)
-    → feeds_by x least ≡ true
+    → feeds_by x least a.missing ≡ true
     → range_kinds least most (length values) ≡ [] → action_fault x again a (values_or_missing a values) now ≡ []
     → Filled rows
     → Filled (used_as x a.id (reading_by a) (values_or_missing a values) rows)
@@ -116,7 +123,8 @@ filled_used_as Set least most again a values now rows feed range none h =
     (filled_without a.id rows h)
 filled_used_as Append least most again a values now rows feed range none h =
     filled_with a.id (reading_by a) _ _ _ (own_values a values (some_values least most values feed range)) h
-filled_used_as SetTrue least most again a values now rows feed range none h = cc
+filled_used_as SetTrue least most again a values now rows feed range none h =
+    filled_with a.id (reading_by a) _ _ _ (missing_values a values feed) (filled_without a.id rows h)
 filled_used_as SetFalse least most again a values now rows feed range none h = cc
 filled_used_as Count least most again a values now rows feed range none h = cc
 filled_used_as Help least most again a values now rows feed range none h = h

@@ -3,3 +3,5 @@ pub mod Entered
 pub mod Facts
 pub mod FilledRows
 pub mod GivenWords
+pub mod OwnRows
+pub mod Tags

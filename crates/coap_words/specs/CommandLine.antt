@@ -1,30 +1,45 @@
--- The command line of the program, as a value: `coap show HEX`, `coap answer PATH BODY HEX`, `coap pair PATH BODY`,
--- `coap serve PORT COUNT` and `coap get PORT PATH`, where these three take `--word N` and `--limit N`, and `coap sim FILE`,
--- which takes `--store list|map`. The program builds it of a table of its own.
+-- The command line of the program, as a value: the arguments of each subcommand. The program builds it of a table of its
+-- own.
 use Rattle.std.specs.Prelude.{List, [], ◌∷◌, Some, true, false, codes}
 use Rattle.clap.specs.Simple.{new_shape}
 use Rattle.clap.specs.Words.{App, Rule, Text, new_app, new_rule}
-use Rattle.clap.specs.declared.builder.ArgAction.TheVariants.{Set}
+use Rattle.clap.specs.declared.builder.ArgAction.TheVariants.{Append, Set, SetTrue}
 
 -- a word that has to be there
 abbrev pub required_word : Text → Rule
 required_word name = record (new_rule name) { action = Some Set; required = true }
 
+-- a word that may be left out
+abbrev pub optional_word : Text → Rule
+optional_word name = record (new_rule name) { action = Some Set }
+
 -- `--NAME` and a value of it, which may be left out
 abbrev pub option_of : Text → Rule
 option_of name = record (new_rule name) { long = Some name; action = Some Set; value_names = 1 }
 
--- `--word N`
-abbrev pub word_option : Rule
-word_option = option_of (codes "word")
+-- `--NAME` and a value of it, any number of times
+abbrev pub repeated_of : Text → Rule
+repeated_of name = record (new_rule name) { long = Some name; action = Some Append; value_names = 1 }
 
--- `--limit N`
-abbrev pub limit_option : Rule
-limit_option = option_of (codes "limit")
+-- `--NAME`, which may be left out
+abbrev pub flag_of : Text → Rule
+flag_of name = record (new_rule name) { long = Some name; action = Some SetTrue }
 
--- `--store list|map`
-abbrev pub store_option : Rule
-store_option = option_of (codes "store")
+-- what each subcommand takes that makes an end: `--word N` and `--limit N`
+abbrev pub of_an_end : List Rule
+of_an_end = option_of (codes "word") ∷ option_of (codes "limit") ∷ []
+
+-- on what a change is made: `--if-match HEX`, again and again, and `--if-none-match`
+abbrev pub conditions : List Rule → List Rule
+conditions rest = repeated_of (codes "if-match") ∷ flag_of (codes "if-none-match") ∷ rest
+
+-- a body, as a word or in a file, and its format
+abbrev pub with_body : List Rule → List Rule
+with_body rest = optional_word (codes "BODY") ∷ option_of (codes "file") ∷ option_of (codes "format") ∷ rest
+
+-- what each subcommand takes first that asks something of a server
+abbrev pub asking : List Rule → List Rule
+asking rest = required_word (codes "PORT") ∷ required_word (codes "PATH") ∷ rest
 
 -- a command with these arguments and no subcommand
 abbrev pub leaf : Text → List Rule → App
@@ -38,19 +53,26 @@ answer_app = leaf (codes "answer")
     (required_word (codes "PATH") ∷ required_word (codes "BODY") ∷ required_word (codes "HEX") ∷ [])
 
 abbrev pub pair_app : App
-pair_app = leaf (codes "pair")
-    (required_word (codes "PATH") ∷ required_word (codes "BODY") ∷ word_option ∷ limit_option ∷ [])
+pair_app = leaf (codes "pair") (required_word (codes "PATH") ∷ required_word (codes "BODY") ∷ of_an_end)
 
 abbrev pub serve_app : App
-serve_app = leaf (codes "serve")
-    (required_word (codes "PORT") ∷ required_word (codes "COUNT") ∷ word_option ∷ limit_option ∷ [])
+serve_app = leaf (codes "serve") (required_word (codes "PORT") ∷ required_word (codes "COUNT") ∷ of_an_end)
 
 abbrev pub get_app : App
-get_app = leaf (codes "get")
-    (required_word (codes "PORT") ∷ required_word (codes "PATH") ∷ word_option ∷ limit_option ∷ [])
+get_app = leaf (codes "get") (asking of_an_end)
 
+abbrev pub put_app : App
+put_app = leaf (codes "put") (asking (with_body (conditions of_an_end)))
+
+abbrev pub post_app : App
+post_app = leaf (codes "post") (asking (with_body (conditions of_an_end)))
+
+abbrev pub delete_app : App
+delete_app = leaf (codes "delete") (asking (conditions of_an_end))
+
+-- `coap sim FILE --store list|map`
 abbrev pub sim_app : App
-sim_app = leaf (codes "sim") (required_word (codes "FILE") ∷ store_option ∷ [])
+sim_app = leaf (codes "sim") (required_word (codes "FILE") ∷ option_of (codes "store") ∷ [])
 
 -- the program, without its subcommands
 abbrev pub base_app : App
@@ -60,5 +82,6 @@ base_app = record (new_app (codes "coap")) { top = record (new_app (codes "coap"
 abbrev pub coap_app : App
 coap_app = record {
   top = record base_app.top { is_leaf = false };
-  subs = show_app.top ∷ answer_app.top ∷ pair_app.top ∷ serve_app.top ∷ get_app.top ∷ sim_app.top ∷ [];
+  subs = show_app.top ∷ answer_app.top ∷ pair_app.top ∷ serve_app.top ∷ get_app.top ∷ put_app.top ∷ post_app.top
+      ∷ delete_app.top ∷ sim_app.top ∷ [];
 }

@@ -8,13 +8,16 @@ use Rattle.coap_types.specs.declared.path.PathRefusal.TheVariants as refusal
 use Rattle.hex.specs.declared.FromHexError.{FromHexError}
 use Rattle.hex.specs.declared.FromHexError.TheVariants as hex
 use Rattle.coap_words.specs.declared.orders.Wrong.{Wrong}
-use Rattle.coap_words.specs.declared.orders.Wrong.TheVariants.{Words, Path, Number, Store, Hex, Memory}
+use Rattle.coap_words.specs.declared.orders.Wrong.TheVariants.{Words, Path, Number, Word, Tags, Body, Store, Hex, Memory}
 
 -- the number of a refusal: that of the words has a text for each cause
 abbrev pub wrong_number : Wrong → ℕ
 wrong_number (Words error) = 1
 wrong_number (Path refusal) = 1
 wrong_number (Number refusal) = 1
+wrong_number Word = 1
+wrong_number (Tags refusal) = 1
+wrong_number Body = 1
 wrong_number Store = 1
 wrong_number Hex = 2
 wrong_number Memory = 3
@@ -25,6 +28,9 @@ IsWrongOfClap error (Words own) = (own ≡ error) × (kind_of error ≢ kind.Out
 IsWrongOfClap error Memory = kind_of error ≡ kind.OutOfMemory
 IsWrongOfClap error (Path refusal) = ⊥
 IsWrongOfClap error (Number refusal) = ⊥
+IsWrongOfClap error Word = ⊥
+IsWrongOfClap error (Tags refusal) = ⊥
+IsWrongOfClap error Body = ⊥
 IsWrongOfClap error Store = ⊥
 IsWrongOfClap error Hex = ⊥
 

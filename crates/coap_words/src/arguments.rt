@@ -4,11 +4,20 @@
 pub(crate) enum Form {
     /// A word that has to be there.
     Required,
+    /// A word that may be left out.
+    Optional,
     /// `--NAME VALUE`, which may be left out.
     Single {
         /// How help names the value.
         value_name: &'static str,
     },
+    /// `--NAME VALUE`, any number of times.
+    Repeated {
+        /// How help names the value.
+        value_name: &'static str,
+    },
+    /// `--NAME`, which may be left out.
+    Flag,
 }
 
 /// An argument of a subcommand.

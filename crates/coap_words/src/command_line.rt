@@ -2,7 +2,8 @@
 ghost use Rattle.std.specs.Prelude.{◌≡◌, IfOk, false};
 ghost use Rattle.clap.specs.Words.{app_of, rule_of, with_rule, with_subcommand};
 ghost use Rattle.clap.specs.declared.builder.command.Command.TheViews.{out-Command};
-ghost use Rattle.coap_words.specs.CommandLine.{coap_app, option_of, required_word};
+ghost use Rattle.coap_words.specs.CommandLine.{coap_app, flag_of, option_of, optional_word, repeated_of};
+ghost use Rattle.coap_words.specs.CommandLine.{required_word};
 ghost use Rattle.coap_words.specs.Tables.{app_in, rule_in};
 
 use crate::arguments::{Argument, Form, Subcommand};
@@ -11,6 +12,7 @@ use crate::tables::SUBCOMMANDS;
 use clap::{Arg, ArgAction, Command};
 use std::alloc::{AllocError, Global};
 
+// A word that has to be there: its name, and what help says of it.
 fn positional<'a>(alloc: Global, name: &'a str, help: &'a str) -> Arg<'a>
     ensures rule { rule_of result ≡ required_word name.entry.now }
     ensures own { result.global ≡ false }
@@ -21,7 +23,15 @@ fn positional<'a>(alloc: Global, name: &'a str, help: &'a str) -> Arg<'a>
         .action(ArgAction::Set)
 }
 
-// An argument that may be left out: its name, how help names its value, and what help says of it.
+// A word that may be left out.
+fn optional<'a>(alloc: Global, name: &'a str, help: &'a str) -> Arg<'a>
+    ensures rule { rule_of result ≡ optional_word name.entry.now }
+    ensures own { result.global ≡ false }
+{
+    Arg::new(alloc, name).help(help).action(ArgAction::Set)
+}
+
+// An option that may be left out: its name, how help names its value, and what help says of it.
 fn option<'a>(alloc: Global, name: &'a str, value_name: &'a str, help: &'a str) -> Arg<'a>
     ensures rule { rule_of result ≡ option_of name.entry.now }
     ensures own { result.global ≡ false }
@@ -33,14 +43,41 @@ fn option<'a>(alloc: Global, name: &'a str, value_name: &'a str, help: &'a str) 
         .action(ArgAction::Set)
 }
 
+// An option that may be given any number of times.
+fn repeated<'a>(alloc: Global, name: &'a str, value_name: &'a str, help: &'a str) -> Arg<'a>
+    ensures rule { rule_of result ≡ repeated_of name.entry.now }
+    ensures own { result.global ≡ false }
+{
+    Arg::new(alloc, name)
+        .long(name)
+        .value_name(value_name)
+        .help(help)
+        .action(ArgAction::Append)
+}
+
+// An option without a value.
+fn flag<'a>(alloc: Global, name: &'a str, help: &'a str) -> Arg<'a>
+    ensures rule { rule_of result ≡ flag_of name.entry.now }
+    ensures own { result.global ≡ false }
+{
+    Arg::new(alloc, name)
+        .long(name)
+        .help(help)
+        .action(ArgAction::SetTrue)
+}
+
 // What an argument of the table is to clap.
 fn argument_of<'a>(alloc: Global, argument: &Argument) -> Arg<'a>
     ensures rule { rule_of result ≡ rule_in argument.now }
     ensures own { result.global ≡ false }
 {
+    let (name, help) = (argument.name, argument.help);
     match argument.form {
-        Form::Required => positional(alloc, argument.name, argument.help),
-        Form::Single { value_name } => option(alloc, argument.name, value_name, argument.help),
+        Form::Required => positional(alloc, name, help),
+        Form::Optional => optional(alloc, name, help),
+        Form::Single { value_name } => option(alloc, name, value_name, help),
+        Form::Repeated { value_name } => repeated(alloc, name, value_name, help),
+        Form::Flag => flag(alloc, name, help),
     }
 }
 

@@ -3,6 +3,7 @@
 #![tactic(auto)]
 
 mod arguments;
+mod asking;
 mod command_line;
 mod orders;
 mod path_text;
@@ -11,6 +12,9 @@ mod tables;
 mod words;
 
 pub use command_line::coap_command;
-pub use orders::{DEFAULT_WORD, NumberRefusal, Order, StoreKind, Wrong};
+pub use orders::{
+    AskOptions, Content, DEFAULT_WORD, NumberRefusal, Order, StoreKind, TagsRefusal, What,
+    WordChoice, Wrong,
+};
 pub use path_text::path_of_text;
 pub use words::order;

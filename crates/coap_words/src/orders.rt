@@ -1,9 +1,11 @@
 //! What the words of the program can ask for, and what can be wrong with them.
 ghost use Rattle.std.specs.Prelude.{◌≡◌};
+ghost use Rattle.coap_words.specs.Numbers.{argument_of};
+ghost use Rattle.coap_words.specs.Asking.{tags_argument_of, usual_word};
 ghost use Rattle.coap_words.specs.Wrongs.{wrong_number};
 
 use clap::error::ErrorKind;
-use coap_types::{BodyLimit, Path, PathRefusal};
+use coap_types::{BodyLimit, Path, PathRefusal, Tags};
 use hex::FromHexError;
 use std::alloc::AllocError;
 use thiserror::Error;
@@ -32,7 +34,7 @@ pub enum Order<'a> {
         /// The body: the bytes of this text.
         body: &'a str,
         /// The word that each end begins with.
-        word: u64,
+        word: WordChoice,
         /// The longest body that each end takes.
         limit: BodyLimit,
     },
@@ -43,20 +45,20 @@ pub enum Order<'a> {
         /// How many datagrams.
         count: u64,
         /// The word that the server begins with.
-        word: u64,
+        word: WordChoice,
         /// The longest body that the server takes.
         limit: BodyLimit,
     },
-    /// Get what a server holds at a path.
-    Get {
+    /// Ask something of a server.
+    Ask {
         /// The server's UDP port.
         port: u16,
         /// Where the resource is.
         path: Path,
-        /// The word that the client begins with.
-        word: u64,
-        /// The longest body that the client takes.
-        limit: BodyLimit,
+        /// What is asked for.
+        what: What<'a>,
+        /// How it is asked for.
+        options: AskOptions,
     },
     /// Run a script.
     Sim {
@@ -65,6 +67,66 @@ pub enum Order<'a> {
         /// What its server keeps its resources in.
         store: StoreKind,
     },
+}
+
+/// What is asked of a server (RFC 7252, section 5.8).
+#[derive(Clone, Copy, Debug)]
+pub enum What<'a> {
+    /// What it holds at the path.
+    Get,
+    /// That it hold this there.
+    Put(Content<'a>),
+    /// That it process this there.
+    Post(Content<'a>),
+    /// That it hold nothing there.
+    Delete,
+}
+
+impl<'a> What<'a> {
+    // The word that the client begins with where none is given. What may change something begins with a
+    // random one, since with the same word two runs have the same Message IDs and tokens (RFC 7252,
+    // sections 4.4 and 5.3.1).
+    pub(crate) fn usual_word(&self) -> WordChoice
+        ensures { result ≡ usual_word self.now }
+    {
+        match self {
+            What::Get => WordChoice::Given(DEFAULT_WORD),
+            What::Put(_) | What::Post(_) | What::Delete => WordChoice::Random,
+        }
+    }
+}
+
+/// Where a body is taken from.
+#[derive(Clone, Copy, Debug)]
+pub enum Content<'a> {
+    /// The bytes of this text.
+    Text(&'a str),
+    /// The bytes of the file of this name.
+    File(&'a str),
+}
+
+/// How something is asked for. What a subcommand does not take is left out.
+#[derive(Drop)]
+pub struct AskOptions {
+    /// The format of the body.
+    pub format: Option<u16>,
+    /// The representations of which one has to be there; none: no condition.
+    pub if_match: Tags,
+    /// Whether nothing may be there yet.
+    pub if_none_match: bool,
+    /// The word that the client begins with.
+    pub word: WordChoice,
+    /// The longest body that the client takes.
+    pub limit: BodyLimit,
+}
+
+/// The word that an end begins with.
+#[derive(Clone, Copy, Debug, PartialEq, Eq)]
+pub enum WordChoice {
+    /// This one.
+    Given(u64),
+    /// A random one, which the program draws.
+    Random,
 }
 
 /// Which store the server of a script keeps its resources in. Both keep the same law, and where memory
@@ -91,16 +153,50 @@ pub enum NumberRefusal {
     /// A number of datagrams.
     #[error("COUNT is no number from 0 to 18446744073709551615")]
     Count,
-    /// A word.
-    #[error("--word is no number from 0 to 18446744073709551615")]
-    Word,
     /// The longest body.
     #[error("--limit is no number from 1 to 1048576")]
     Limit,
+    /// The format of a body.
+    #[error("--format is no number from 0 to 65535")]
+    Format,
 }
 
-/// Why the words give no order. `Words`, `Path`, `Number` and `Store` are one refusal, that of wrong
-/// words, with a text of its own for each. The refusals are tested in the order of their numbers.
+impl NumberRefusal {
+    // The argument, by its name in clap.
+    pub(crate) fn name(self) -> &'static str
+        ensures { result.now ≡ argument_of self }
+    {
+        match self {
+            NumberRefusal::Port => "PORT",
+            NumberRefusal::Count => "COUNT",
+            NumberRefusal::Limit => "limit",
+            NumberRefusal::Format => "format",
+        }
+    }
+}
+
+/// Which argument has a value that is no entity-tag, or more than four of them.
+#[derive(Clone, Copy, Debug, PartialEq, Eq, Error)]
+pub enum TagsRefusal {
+    /// The representations of which one has to be there.
+    #[error("--if-match is not the hex of 1 to 8 bytes, or is given more than 4 times")]
+    IfMatch,
+}
+
+impl TagsRefusal {
+    // The argument, by its name in clap.
+    pub(crate) fn name(self) -> &'static str
+        ensures { result.now ≡ tags_argument_of self }
+    {
+        match self {
+            TagsRefusal::IfMatch => "if-match",
+        }
+    }
+}
+
+/// Why the words give no order. `Words`, `Path`, `Number`, `Word`, `Tags`, `Body` and `Store` are one
+/// refusal, that of wrong words, with a text of its own for each. The refusals are tested in the order
+/// of their numbers.
 #[derive(Debug, Drop, Error)]
 pub enum Wrong {
     /// The words are no command line of the program, or ask for help.
@@ -112,6 +208,15 @@ pub enum Wrong {
     /// A number is out of its range.
     #[error("{0}")]
     Number(NumberRefusal),
+    /// `--word` is no choice of a word.
+    #[error("--word is neither random nor a number from 0 to 18446744073709551615")]
+    Word,
+    /// Entity-tags are none, or too many.
+    #[error("{0}")]
+    Tags(TagsRefusal),
+    /// Both of BODY and `--file` are there, or neither.
+    #[error("give either BODY or --file")]
+    Body,
     /// `--store` names no store.
     #[error("--store is neither list nor map")]
     Store,
@@ -130,7 +235,13 @@ impl Wrong {
         ensures { result ≡ wrong_number self.now }
     {
         match self {
-            Wrong::Words(_) | Wrong::Path(_) | Wrong::Number(_) | Wrong::Store => 1,
+            Wrong::Words(_)
+            | Wrong::Path(_)
+            | Wrong::Number(_)
+            | Wrong::Word
+            | Wrong::Tags(_)
+            | Wrong::Body
+            | Wrong::Store => 1,
             Wrong::Hex => 2,
             Wrong::Memory => 3,
         }

@@ -21,10 +21,17 @@ const HELD_BODY: Argument = Argument {
 };
 
 // BODY of `pair`.
-const PUT_BODY: Argument = Argument {
+const PAIR_BODY: Argument = Argument {
     form: Form::Required,
     name: "BODY",
     help: "what is put there, as text",
+};
+
+// BODY of a request.
+const SENT_BODY: Argument = Argument {
+    form: Form::Optional,
+    name: "BODY",
+    help: "the body, as text; behind -- where it begins with -, as in: coap put 5683 t -- -5.2",
 };
 
 // PORT of a server that is run.
@@ -53,10 +60,46 @@ const FILE: Argument = Argument {
     help: "the file of the script, as examples/get.sim",
 };
 
-const WORD: Argument = Argument {
+const BODY_FILE: Argument = Argument {
+    form: Form::Single { value_name: "FILE" },
+    name: "file",
+    help: "the body is what is in this file, in place of BODY; - is standard input, to its end",
+};
+
+const FORMAT: Argument = Argument {
     form: Form::Single { value_name: "N" },
+    name: "format",
+    help: "the format of the body, as 0 for text/plain or 50 for application/json",
+};
+
+const IF_MATCH: Argument = Argument {
+    form: Form::Repeated { value_name: "HEX" },
+    name: "if-match",
+    help: "only where PATH holds what this entity-tag names, or another one that is given so; at most 4",
+};
+
+const IF_NONE_MATCH: Argument = Argument {
+    form: Form::Flag,
+    name: "if-none-match",
+    help: "only where PATH holds nothing",
+};
+
+// --word, which is 1 where it is left out.
+const WORD: Argument = Argument {
+    form: Form::Single {
+        value_name: "N|random",
+    },
     name: "word",
     help: "the word that an end begins with, 1 where it is left out",
+};
+
+// --word, which is drawn where it is left out.
+const CHANGE_WORD: Argument = Argument {
+    form: Form::Single {
+        value_name: "N|random",
+    },
+    name: "word",
+    help: "the word that the client begins with, a random one where it is left out",
 };
 
 const LIMIT: Argument = Argument {
@@ -74,7 +117,7 @@ const STORE: Argument = Argument {
 };
 
 /// The subcommands, in the order in which help lists them.
-pub(crate) static SUBCOMMANDS: [Subcommand; 6] = [
+pub(crate) static SUBCOMMANDS: [Subcommand; 9] = [
     Subcommand {
         name: "show",
         about: "Prints the message in a datagram, or its first fault",
@@ -88,7 +131,7 @@ pub(crate) static SUBCOMMANDS: [Subcommand; 6] = [
     Subcommand {
         name: "pair",
         about: "Puts BODY at PATH and gets it back, between a client and a server of this program over UDP",
-        arguments: &[PATH, PUT_BODY, WORD, LIMIT],
+        arguments: &[PATH, PAIR_BODY, WORD, LIMIT],
     },
     Subcommand {
         name: "serve",
@@ -99,6 +142,48 @@ pub(crate) static SUBCOMMANDS: [Subcommand; 6] = [
         name: "get",
         about: "Prints what the server at a port of 127.0.0.1 holds at PATH",
         arguments: &[SERVER_PORT, PATH, WORD, LIMIT],
+    },
+    Subcommand {
+        name: "put",
+        about: "Puts BODY at PATH, at the server at a port of 127.0.0.1, and prints what came of it",
+        arguments: &[
+            SERVER_PORT,
+            PATH,
+            SENT_BODY,
+            BODY_FILE,
+            FORMAT,
+            IF_MATCH,
+            IF_NONE_MATCH,
+            CHANGE_WORD,
+            LIMIT,
+        ],
+    },
+    Subcommand {
+        name: "post",
+        about: "Has the server at a port of 127.0.0.1 process BODY at PATH, and prints what came of it",
+        arguments: &[
+            SERVER_PORT,
+            PATH,
+            SENT_BODY,
+            BODY_FILE,
+            FORMAT,
+            IF_MATCH,
+            IF_NONE_MATCH,
+            CHANGE_WORD,
+            LIMIT,
+        ],
+    },
+    Subcommand {
+        name: "delete",
+        about: "Deletes what the server at a port of 127.0.0.1 holds at PATH, and prints what came of it",
+        arguments: &[
+            SERVER_PORT,
+            PATH,
+            IF_MATCH,
+            IF_NONE_MATCH,
+            CHANGE_WORD,
+            LIMIT,
+        ],
     },
     Subcommand {
         name: "sim",

@@ -1,14 +1,19 @@
 //! The words of the program, read.
-ghost use Rattle.std.specs.Prelude.{◌≡◌, ◌<◌, ◌-◌, ◌^◌, ℕ, IfOk, IfErr, None, MatchOption, MatchResult, map, codes};
+ghost use Rattle.std.specs.Prelude.{◌≡◌, ◌<◌, ◌≤◌, ◌-◌, ◌^◌, ℕ, IfOk, IfErr, None, MatchOption, MatchResult, map, codes};
 ghost use Rattle.std.specs.Prelude.{string_bytes};
 ghost use Rattle.clap.specs.Words.{first_of, found_of, rows_of};
-ghost use Rattle.coap_words.specs.Words.{AsksFor, AsksForIn, HasLimit, HasNoNumber, HasNoStore, HasNumber};
-ghost use Rattle.coap_words.specs.Words.{HasStore, HasWord, IsGiven, IsValue, IsWrong, IsWrongIn};
+ghost use Rattle.coap_words.specs.Asking.{IsAsk, IsWhat};
 ghost use Rattle.coap_words.specs.Numbers.{IsInRange, IsNumber, IsOutOfRange};
-ghost use Rattle.coap_words.specs.declared.orders.NumberRefusal.TheVariants.{Count, Limit, Port, Word};
+ghost use Rattle.coap_words.specs.Taking.{TakesItsOwn};
+ghost use Rattle.coap_words.specs.Values.{HasLimit, HasNoNumber, HasNoStore, HasNoWord, HasNumber, HasStore, HasWord};
+ghost use Rattle.coap_words.specs.Values.{IsChoice, IsGiven, IsValue};
+ghost use Rattle.coap_words.specs.Words.{AsksFor, AsksForIn, IsWrong, IsWrongIn};
+ghost use Rattle.coap_words.specs.declared.orders.NumberRefusal.TheVariants.{Count, Limit, Port};
+ghost use Rattle.coap_words.specs.declared.orders.WordChoice.{WordChoice as WordChoiceSpec};
 
+use crate::asking::{content_of, options_of};
 use crate::command_line::coap_command;
-use crate::orders::{DEFAULT_WORD, NumberRefusal, Order, StoreKind, Wrong};
+use crate::orders::{DEFAULT_WORD, NumberRefusal, Order, StoreKind, What, WordChoice, Wrong};
 use crate::path_text::path_of_text;
 use clap::ArgMatches;
 use coap_types::BodyLimit;
@@ -23,6 +28,9 @@ pub fn order<'a>(alloc: Global, words: &'a [String]) -> Result<Order<'a>, Wrong>
     // What is called wrong is wrong. `Words`: clap refuses the words, with an error of a kind that
     // they call for. `Path`: clap takes them, and PATH is no path, for the reason that is given.
     // `Number`: clap takes them, and an argument is no number in its range.
+    // `Word`: clap takes them, and `--word` is no choice of a word.
+    // `Tags`: clap takes them, and an argument is no entity-tag, or given more than four times.
+    // `Body`: clap takes them, and both of BODY and `--file` are there, or neither.
     // `Store`: clap takes them, and `--store` names no store.
     // `Hex`: clap takes them, PATH is a path where there is one, and HEX is the hex of no bytes.
     // `Memory` says nothing of the words.
@@ -37,9 +45,8 @@ pub fn order<'a>(alloc: Global, words: &'a [String]) -> Result<Order<'a>, Wrong>
         "answer" => answer_order(alloc, given),
         "pair" => pair_order(alloc, given),
         "serve" => serve_order(given),
-        "get" => get_order(alloc, given),
         "sim" => sim_order(given),
-        _ => unreachable!(),
+        _ => ask_order(alloc, subcommand, given),
     }
 }
 
@@ -79,8 +86,8 @@ fn pair_order<'a>(alloc: Global, given: &ArgMatches<'a>) -> Result<Order<'a>, Wr
 {
     let text = value(given, "PATH");
     let path = path_of_text(alloc, text)?;
-    let Some(word) = word(given) else {
-        return Err(Wrong::Number(NumberRefusal::Word));
+    let Some(word) = word(given, WordChoice::Given(DEFAULT_WORD)) else {
+        return Err(Wrong::Word);
     };
     let Some(limit) = limit(given) else {
         return Err(Wrong::Number(NumberRefusal::Limit));
@@ -107,8 +114,8 @@ fn serve_order<'a>(given: &ArgMatches<'a>) -> Result<Order<'a>, Wrong>
     let Some(count) = count(given) else {
         return Err(Wrong::Number(NumberRefusal::Count));
     };
-    let Some(word) = word(given) else {
-        return Err(Wrong::Number(NumberRefusal::Word));
+    let Some(word) = word(given, WordChoice::Given(DEFAULT_WORD)) else {
+        return Err(Wrong::Word);
     };
     let Some(limit) = limit(given) else {
         return Err(Wrong::Number(NumberRefusal::Limit));
@@ -121,30 +128,54 @@ fn serve_order<'a>(given: &ArgMatches<'a>) -> Result<Order<'a>, Wrong>
     })
 }
 
-// `coap get PORT PATH`
-fn get_order<'a>(alloc: Global, given: &ArgMatches<'a>) -> Result<Order<'a>, Wrong>
+// `coap get PORT PATH`, and `put`, `post` and `delete`
+#[tactic(auto, using(crate::proofs::CoapWords::value_wrong))]
+fn ask_order<'a>(
+    alloc: Global,
+    subcommand: &str,
+    given: &ArgMatches<'a>,
+) -> Result<Order<'a>, Wrong>
+    requires name { IsAsk subcommand.now }
     requires port { IsGiven (codes "PORT") (rows_of (found_of given.now)) }
     requires path { IsGiven (codes "PATH") (rows_of (found_of given.now)) }
-    ensures { MatchResult result (AsksForIn (codes "get") (rows_of (found_of given.now)))
-        (IsWrongIn (codes "get") (rows_of (found_of given.now))) }
+    requires own { TakesItsOwn subcommand.now (rows_of (found_of given.now)) }
+    ensures { MatchResult result (AsksForIn subcommand.now (rows_of (found_of given.now)))
+        (IsWrongIn subcommand.now (rows_of (found_of given.now))) }
 {
     let Some(port) = port(given) else {
         return Err(Wrong::Number(NumberRefusal::Port));
     };
     let text = value(given, "PATH");
     let path = path_of_text(alloc, text)?;
-    let Some(word) = word(given) else {
-        return Err(Wrong::Number(NumberRefusal::Word));
-    };
-    let Some(limit) = limit(given) else {
-        return Err(Wrong::Number(NumberRefusal::Limit));
-    };
-    Ok(Order::Get {
+    let what = what_of(subcommand, given)?;
+    let options = options_of(alloc, given, what.usual_word())?;
+    Ok(Order::Ask {
         port,
         path,
-        word,
-        limit,
+        what,
+        options,
     })
+}
+
+// What is asked for.
+fn what_of<'a>(subcommand: &str, given: &ArgMatches<'a>) -> Result<What<'a>, Wrong>
+    requires name { IsAsk subcommand.now }
+    ensures { MatchResult result (IsWhat subcommand.now (rows_of (found_of given.now)))
+        (IsWrongIn subcommand.now (rows_of (found_of given.now))) }
+{
+    match subcommand {
+        "get" => Ok(What::Get),
+        "put" => match content_of(given) {
+            Some(content) => Ok(What::Put(content)),
+            None => Err(Wrong::Body),
+        },
+        "post" => match content_of(given) {
+            Some(content) => Ok(What::Post(content)),
+            None => Err(Wrong::Body),
+        },
+        "delete" => Ok(What::Delete),
+        _ => unreachable!(),
+    }
 }
 
 // `coap sim FILE`
@@ -161,7 +192,7 @@ fn sim_order<'a>(given: &ArgMatches<'a>) -> Result<Order<'a>, Wrong>
 }
 
 // A number of 64 bits.
-fn number(text: &str) -> Option<u64>
+pub(crate) fn number(text: &str) -> Option<u64>
     ensures { MatchOption result ((n : ℕ) → IsNumber text.now n → 2 ^ 64 - 1 < n) (IsNumber text.now) }
 {
     text.parse::<u64>().ok()
@@ -173,8 +204,7 @@ fn port(given: &ArgMatches<'_>) -> Option<u16>
     ensures { MatchOption result (HasNoNumber Port (rows_of (found_of given.now)))
         (HasNumber Port (rows_of (found_of given.now))) }
 {
-    let number = number(value(given, "PORT"))?;
-    u16::try_from(number).ok()
+    small_number(value(given, "PORT"))
 }
 
 // COUNT, where it is in range.
@@ -186,19 +216,38 @@ fn count(given: &ArgMatches<'_>) -> Option<u64>
     number(value(given, "COUNT"))
 }
 
-// The word that an end begins with, where it is in range.
-fn word(given: &ArgMatches<'_>) -> Option<u64>
-    ensures { MatchOption result (HasNoNumber Word (rows_of (found_of given.now)))
-        (HasWord (rows_of (found_of given.now))) }
+// The word that an end begins with, where it is one; this where it is left out.
+pub(crate) fn word(given: &ArgMatches<'_>, usual: WordChoice) -> Option<WordChoice>
+    ensures { MatchOption result (HasNoWord (rows_of (found_of given.now)))
+        (HasWord usual (rows_of (found_of given.now))) }
 {
     match optional(given, "word") {
-        Some(text) => number(text),
-        None => Some(DEFAULT_WORD),
+        Some(text) => choice_of(text),
+        None => Some(usual),
     }
 }
 
+// The choice of a word that a text says.
+fn choice_of(text: &str) -> Option<WordChoice>
+    ensures { MatchOption result ((choice : WordChoiceSpec) → IsChoice text.now choice → ⊥) (IsChoice text.now) }
+{
+    if text == "random" {
+        return Some(WordChoice::Random);
+    }
+    Some(WordChoice::Given(number(text)?))
+}
+
+// A number of 16 bits.
+pub(crate) fn small_number(text: &str) -> Option<u16>
+    ensures { MatchOption result ((n : ℕ) → IsNumber text.now n → 2 ^ 16 - 1 < n)
+        (λ n. IsNumber text.now n × (n ≤ 2 ^ 16 - 1)) }
+{
+    let number = number(text)?;
+    u16::try_from(number).ok()
+}
+
 // The longest body that an end takes, where it is in range.
-fn limit(given: &ArgMatches<'_>) -> Option<BodyLimit>
+pub(crate) fn limit(given: &ArgMatches<'_>) -> Option<BodyLimit>
     ensures { MatchOption result (HasNoNumber Limit (rows_of (found_of given.now)))
         (HasLimit (rows_of (found_of given.now))) }
 {
@@ -232,7 +281,7 @@ fn store(given: &ArgMatches<'_>) -> Option<StoreKind>
 }
 
 // The value of an argument that may be left out.
-fn optional<'a>(given: &ArgMatches<'a>, name: &str) -> Option<&'a str>
+pub(crate) fn optional<'a>(given: &ArgMatches<'a>, name: &str) -> Option<&'a str>
     ensures { MatchOption result (first_of name.now (rows_of (found_of given.now)) ≡ None)
         (λ text. IsValue name.now (rows_of (found_of given.now)) text.now) }
 {

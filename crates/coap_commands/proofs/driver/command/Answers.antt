@@ -1,5 +1,5 @@
 use Rattle.std.proofs.Common.{◌≡◌, ◌∙◌, ◌≤◌, ap, sym, subst}
-use Rattle.coap_commands.specs.Statuses.{IsAnswered, status_number, status_of}
+use Rattle.coap_commands.specs.Statuses.{IsAnswered, IsCarriedTo, status_number, status_of}
 use Rattle.coap_commands.proofs.Statuses.{answered, asked, wrong_words}
 use Rattle.coap_commands.proofs.driver.command.Goals as goal
 
@@ -19,4 +19,5 @@ pub returns-clause-done : goal.returns-clause-done
 returns-clause-done g c = λ h.
     let n : c.number.result ≡ status_number (status_of c.run-ended.result) = c.number.ensures
     ∙ ap status_number c.close.ensures in
-    asked _ _ c.run-ended.ensures (subst (λ k. k ≤ 1) n h)
+    let is = asked _ _ c.run-ended.ensures (subst (λ k. k ≤ 1) n h) in
+    (is.0, is.1, subst (IsCarriedTo is.0) (sym n) is.2)

@@ -1,7 +1,8 @@
-use Rattle.std.proofs.Common.{refl, inl, inr}
+use Rattle.std.proofs.Common.{refl, inl, inr, ◌≡◌, ℕ, List, codes}
 use Rattle.coap_words.proofs.CoapWords.{enters_met, ours, said_by, wrong_by, show_hex, answer_hex, answer_path}
-use Rattle.coap_words.proofs.CoapWords.{answer_body, pair_body, pair_path, serve_count, serve_port, get_path}
-use Rattle.coap_words.proofs.CoapWords.{get_port, refused_by_clap, sim_file}
+use Rattle.coap_words.proofs.CoapWords.{answer_body, ask_path, ask_port, pair_body, pair_path, serve_count, serve_port}
+use Rattle.coap_words.proofs.CoapWords.{IsOurs, refused_by_clap, sim_file, takes_its_own}
+use Rattle.coap_words.specs.Asking.{IsAsk}
 use Rattle.coap_words.proofs.words.order.Goals as goal
 
 pub show_order-requires : goal.show_order-requires
@@ -64,21 +65,6 @@ returns-in-serve c =
       wrong = wrong_by _ _ _ c.serve_order.result enters c.serve_order.ensures;
     }
 
-pub get_order-requires : goal.get_order-requires
-get_order-requires c =
-    let enters = enters_met _ c.in_ok-coap_command.ensures _ _ c.in_ok-matches.ensures.matches
-    c.in_ok-matches.ensures.kinds _ _ _ c.in-get.is c.in-Some.ensures.name c.in-Some.ensures.rows in
-    record { port = get_port _ _ enters; path = get_path _ _ enters }
-
-pub returns-in-get : goal.returns-in-get
-returns-in-get c =
-    let enters = enters_met _ c.in_ok-coap_command.ensures _ _ c.in_ok-matches.ensures.matches
-    c.in_ok-matches.ensures.kinds _ _ _ c.in-get.is c.in-Some.ensures.name c.in-Some.ensures.rows in
-    record {
-      ok = said_by _ _ _ c.get_order.result enters c.get_order.ensures;
-      wrong = wrong_by _ _ _ c.get_order.result enters c.get_order.ensures;
-    }
-
 pub sim_order-requires : goal.sim_order-requires
 sim_order-requires c =
     let enters = enters_met _ c.in_ok-coap_command.ensures _ _ c.in_ok-matches.ensures.matches
@@ -99,15 +85,33 @@ returns-in_err-matches-clause-wrong c =
     refused_by_clap _ c.in_ok-coap_command.ensures _ _ _ c.from_residual-in_err-matches.ensures.1
     c.in_err-matches.ensures.kinds
 
-pub unreachable-requires-in_default-subcommand : goal.unreachable-requires-in_default-subcommand
-unreachable-requires-in_default-subcommand c =
+is_ask : (name : List ℕ) → IsOurs name → (name ≡ codes "show" → ⊥) → (name ≡ codes "answer" → ⊥)
+    → (name ≡ codes "pair" → ⊥) → (name ≡ codes "serve" → ⊥) → (name ≡ codes "sim" → ⊥) → IsAsk name
+is_ask name (inl is) a b c d e = absurd (a is)
+is_ask name (inr (inl is)) a b c d e = absurd (b is)
+is_ask name (inr (inr (inl is))) a b c d e = absurd (c is)
+is_ask name (inr (inr (inr (inl is)))) a b c d e = absurd (d is)
+is_ask name (inr (inr (inr (inr (inl is))))) a b c d e = absurd (e is)
+is_ask name (inr (inr (inr (inr (inr is))))) a b c d e = is
+
+pub ask_order-requires : goal.ask_order-requires
+ask_order-requires c =
     let enters = enters_met _ c.in_ok-coap_command.ensures _ _ c.in_ok-matches.ensures.matches
     c.in_ok-matches.ensures.kinds _ _ _ refl c.in-Some.ensures.name c.in-Some.ensures.rows in
-    elim (ours _ _ _ enters) [
-      | inl is ↦ c.in_default-subcommand.not-show is
-      | inr (inl is) ↦ c.in_default-subcommand.not-answer is
-      | inr (inr (inl is)) ↦ c.in_default-subcommand.not-pair is
-      | inr (inr (inr (inl is))) ↦ c.in_default-subcommand.not-serve is
-      | inr (inr (inr (inr (inl is)))) ↦ c.in_default-subcommand.not-get is
-      | inr (inr (inr (inr (inr is)))) ↦ c.in_default-subcommand.not-sim is
-    ]
+    let d = c.in_default-subcommand in
+    let ask = is_ask _ (ours _ _ _ enters) d.not-show d.not-answer d.not-pair d.not-serve d.not-sim in
+    record {
+      name = ask;
+      port = ask_port _ _ _ ask enters;
+      path = ask_path _ _ _ ask enters;
+      own = takes_its_own _ _ _ enters;
+    }
+
+pub returns : goal.returns
+returns c =
+    let enters = enters_met _ c.in_ok-coap_command.ensures _ _ c.in_ok-matches.ensures.matches
+    c.in_ok-matches.ensures.kinds _ _ _ refl c.in-Some.ensures.name c.in-Some.ensures.rows in
+    record {
+      ok = said_by _ _ _ c.ask_order.result enters c.ask_order.ensures;
+      wrong = wrong_by _ _ _ c.ask_order.result enters c.ask_order.ensures;
+    }

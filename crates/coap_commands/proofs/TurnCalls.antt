@@ -1,0 +1,118 @@
+-- A turn of a client over a link is made of calls of these kinds alone: what is out is taken, datagrams are fed, and time
+-- passes.
+use Rattle.std.proofs.Common.{◌≡◌, ℕ, Bool, true, List, [], ◌∷◌, ◌++◌, Option, Some, None, Result, Ok, Err, refl, sym, subst}
+use Rattle.std.proofs.Common.{inl, inr, false}
+use Rattle.std.specs.declared.alloc.AllocError.{AllocError}
+use Rattle.coap_types.specs.declared.endpoint.Endpoint.{Endpoint}
+use Rattle.coap_layer.specs.Trace as layer
+use Rattle.coap_client.specs.Led.{State, Step}
+use Rattle.coap_layer.specs.Trace.{Answer}
+use Rattle.coap_exchange.specs.declared.asker.AskRefusal.{AskRefusal}
+use Rattle.coap_exchange.specs.declared.asker.Event.{Event}
+use Rattle.coap_exchange.specs.declared.asker.Turn.{Turn}
+use Rattle.coap_client.specs.Trace.{Call, Feeds, NextOut, Ticks}
+use Rattle.coap_links.specs.Carried.{Packet}
+use Rattle.coap_links.specs.Pumping.{IsFedOrLost, SendsAll}
+use Rattle.coap_links.specs.Turning.{Rests, Steps, Turns, further, next_word, none, pumped}
+use Rattle.coap_links.specs.declared.driver.Pumped.{Pumped}
+use Rattle.coap_links.specs.declared.tally.Tally.{Tally}
+use Rattle.coap_commands.specs.Asks.{AsksNothing, Chain, Each, Turned}
+
+chain_join : (old mid new : State) (later earlier : List Call) → Chain old earlier mid → Chain mid later new
+    → Chain old (later ++ earlier) new
+chain_join old mid new [] earlier h k = subst (Chain old earlier) (sym k) h
+chain_join old mid new (c ∷ later) earlier h k = (k.0, chain_join old mid k.0 later earlier h k.1, k.2)
+
+each_join : (like : Call → Type 0) (later earlier : List Call) → Each like later → Each like earlier
+    → Each like (later ++ earlier)
+each_join like [] earlier a b = b
+each_join like (c ∷ later) earlier a b = (a.0, each_join like later earlier a.1 b)
+
+pub turned_on : (like : Call → Type 0) (old mid new : State) → Turned like old mid → Turned like mid new
+    → Turned like old new
+turned_on like old mid new a b =
+    (b.0 ++ a.0, each_join like b.0 a.0 b.1 a.1, chain_join old mid new b.0 a.0 a.2 b.2)
+
+pub turned_here : (like : Call → Type 0) (old new : State) → new ≡ old → Turned like old new
+turned_here like old new is = ([], tt, is)
+
+pub turned_by : (like : Call → Type 0) (old new : State) (c : Call) → like c → Step old c new → Turned like old new
+turned_by like old new c is step = (c ∷ [], (is, tt), (old, refl, step))
+
+module _ {L : Type 0} (like : Call → Type 0) (waiting : State → List layer.Packet) (gives : State → layer.Packet → State → Type 0)
+    (sends : L → Endpoint → List ℕ → L → Type 0) (receives : L → Option Packet → L → Type 0)
+    (quiet_feed : State → ℕ → Endpoint → List ℕ → Type 0)
+    (feeds : State → ℕ → Endpoint → List ℕ → ℕ → State → Type 0)
+    (quiet_tick : State → ℕ → Type 0) (ticks : State → ℕ → ℕ → Bool → State → Type 0)
+    (given : (old : State) (p : layer.Packet) (new : State) → gives old p new → Turned like old new)
+    (fed : (old : State) (now : ℕ) (from : Endpoint) (bytes : List ℕ) (word : ℕ) (new : State)
+    → feeds old now from bytes word new → Turned like old new)
+    (ticked : (old : State) (now word : ℕ) (did : Bool) (new : State) → ticks old now word did new → Turned like old new)
+  where
+    sent_turned : (e : State) (l : L) (ps : List layer.Packet) (f : State) (m : L) → SendsAll gives sends e l ps f m
+        → Turned like e f
+    sent_turned e l [] f m h = turned_here like e f h.0
+    sent_turned e l (p ∷ ps) f m h =
+        turned_on like e h.0 f (given e p h.0 h.2) (sent_turned h.0 h.1 ps f m h.4)
+
+    fed_turned : {X : Type 0} (e : State) (now : ℕ) (came : Option Packet) (word : ℕ) (f : State) (r : Result Pumped X)
+        → IsFedOrLost quiet_feed feeds e now came word f r → Turned like e f
+    fed_turned e now None word f (Ok p) h = turned_here like e f h.0
+    fed_turned e now (Some q) word f (Ok p) h = fed e now q.0 q.1 word f h.0
+    fed_turned e now None word f (Err x) h = absurd h
+    fed_turned e now (Some q) word f (Err x) h = turned_here like e f h.1
+
+    stepped : (e : State) (now : ℕ) (t : Tally) {g : State} {v : Tally} → Steps ticks e now t g v → Turned like e g
+    stepped e now t none = turned_here like e e refl
+    stepped e now t (further g v f steps tick) =
+        turned_on like e g f (stepped e now t steps) (ticked g now (next_word v) true f tick)
+
+    rested : (e : State) (now : ℕ) (t : Tally) (f : State) (u : Tally) → Rests quiet_tick ticks e now t f u → Turned like e f
+    rested e now t f u h = elim h [
+      | inl last ↦ ticked e now (next_word t) false f last.0
+      | inr lost ↦ turned_here like e f lost.1
+    ]
+
+    -- a whole turn
+    pub turn_turned : (e : State) (l : L) (now : ℕ) (t : Tally) (f : State) (m : L) (u : Tally)
+        → Turns waiting gives sends receives quiet_feed feeds quiet_tick ticks e l now t f m u → Turned like e f
+    unfolding Turns
+    turn_turned e l now t f m u h =
+        let g = h.0 in
+        let pump = h.2 in
+        let ticks_out = h.3 in
+        let sent : Turned like e pump.0 = sent_turned e l (waiting e) pump.0 pump.1 pump.3 in
+        let came : Turned like pump.0 g = fed_turned pump.0 now pump.2 (next_word t) g h.1 pump.6 in
+        let ticked : Turned like g ticks_out.0 = stepped g now (pumped h.1 t) ticks_out.2 in
+        turned_on like e g f (turned_on like e pump.0 g sent came)
+        (turned_on like g ticks_out.0 f ticked (rested ticks_out.0 now ticks_out.1 f u ticks_out.3))
+
+-- ---- a turn of a client: the relations that it has as an end
+
+abbrev client_gives : State → layer.Packet → State → Type 0
+client_gives s packet n = Step s (NextOut (Some packet)) n
+
+abbrev client_feeds : State → ℕ → Endpoint → List ℕ → ℕ → State → Type 0
+client_feeds s now from bytes word n =
+    (up : Answer) × (settled : Bool) × (event : Option Event) × (sent : Answer) × (token : Result (List ℕ) AskRefusal)
+    × (kept : Bool) × Step s (Feeds now from bytes word up settled event sent token kept) n
+
+abbrev client_ticks : State → ℕ → ℕ → Bool → State → Type 0
+client_ticks s now word did n =
+    (below : Answer) × (due : Turn) × (sent : Answer) × (token : Result (List ℕ) AskRefusal) × (kept : Bool)
+    × Step s (Ticks now word below due sent token kept did) n
+
+pub client_turned : {L : Type 0} (like : Call → Type 0) (nothing : (c : Call) → AsksNothing c → like c)
+    (waiting : State → List layer.Packet) (sends : L → Endpoint → List ℕ → L → Type 0)
+    (receives : L → Option Packet → L → Type 0) (quiet_feed : State → ℕ → Endpoint → List ℕ → Type 0)
+    (quiet_tick : State → ℕ → Type 0) (e : State) (l : L) (now : ℕ) (t : Tally) (f : State) (m : L) (u : Tally)
+    → Turns waiting client_gives sends receives quiet_feed client_feeds quiet_tick client_ticks e l now t f m u
+    → Turned like e f
+client_turned like nothing waiting sends receives quiet_feed quiet_tick e l now t f m u h =
+    turn_turned like waiting client_gives sends receives quiet_feed client_feeds quiet_tick client_ticks
+    (λ old p new k. turned_by like old new (NextOut (Some p)) (nothing (NextOut (Some p)) tt) k)
+    (λ old at from bytes word new k. turned_by like old new (Feeds at from bytes word k.0 k.1 k.2 k.3 k.4 k.5)
+    (nothing (Feeds at from bytes word k.0 k.1 k.2 k.3 k.4 k.5) tt) k.6)
+    (λ old at word did new k. turned_by like old new (Ticks at word k.0 k.1 k.2 k.3 k.4 did)
+    (nothing (Ticks at word k.0 k.1 k.2 k.3 k.4 did) tt) k.5)
+    e l now t f m u h

@@ -1,0 +1,6 @@
+use Rattle.coap_commands.specs.Asks.{AsksNothing}
+use Rattle.coap_commands.proofs.TurnCalls.{turned_by}
+use Rattle.coap_commands.proofs.ask.next_report_of.Goals as goal
+
+pub returns-in_default-clause-none : goal.returns-in_default-clause-none
+returns-in_default-clause-none g c = turned_by AsksNothing _ _ _ tt c.next_report.ensures.step

@@ -1,0 +1,59 @@
+-- What the words of a subcommand have a client ask.
+use Rattle.std.specs.Prelude.{◌≡◌, ⊤, ℕ, List, [], None}
+use Rattle.coap_types.specs.declared.endpoint.Endpoint.{Endpoint}
+use Rattle.coap_types.specs.declared.request.Method.{Method}
+use Rattle.coap_types.specs.declared.request.Method.TheVariants as method
+use Rattle.coap_client.specs.Trace.{Request}
+use Rattle.coap_words.specs.declared.orders.AskOptions.{AskOptions}
+use Rattle.coap_words.specs.declared.orders.Content.{Content}
+use Rattle.coap_words.specs.declared.orders.Content.TheVariants as content
+use Rattle.coap_words.specs.declared.orders.What.{What}
+use Rattle.coap_words.specs.declared.orders.What.TheVariants.{Get, Put, Post, Delete}
+use Rattle.coap_words.specs.declared.orders.WordChoice.{WordChoice}
+use Rattle.coap_words.specs.declared.orders.WordChoice.TheVariants.{Given, Random}
+use Rattle.coap_commands.specs.Asks.{Asks}
+use Rattle.coap_commands.specs.Ends.{client_sizes}
+use Rattle.coap_commands.specs.declared.status.Status.{Status}
+
+-- the word that is chosen; a random one may be any
+abbrev pub IsWord : WordChoice → ℕ → Type 0
+IsWord (Given n) word = word ≡ n
+IsWord Random word = ⊤
+
+-- the bytes of a text; those of a file may be any
+abbrev pub IsContent : Content → List ℕ → Type 0
+IsContent (content.Text text) body = body ≡ text.now
+IsContent (content.File name) body = ⊤
+
+-- the body of what is asked for (RFC 7252, section 5.8)
+abbrev pub IsBody : What → List ℕ → Type 0
+IsBody Get body = body ≡ []
+IsBody (Put content) body = IsContent content body
+IsBody (Post content) body = IsContent content body
+IsBody Delete body = body ≡ []
+
+abbrev pub asked_method : What → Method
+asked_method Get = method.Get
+asked_method (Put content) = method.Put
+asked_method (Post content) = method.Post
+asked_method Delete = method.Delete
+
+-- the request, with this body
+abbrev pub asked_request : What → List (List ℕ) → AskOptions → List ℕ → Request
+asked_request what path options body =
+    record {
+      method = asked_method what;
+      path = path;
+      format = options.format;
+      body = body;
+      etags = [];
+      if_match = options.if_match;
+      if_none_match = options.if_none_match;
+      accept = None;
+    }
+
+-- a client asks the server at this port for it, with the word and the limit of the options
+abbrev pub IsAsked : ℕ → List (List ℕ) → What → AskOptions → Status → Type 0
+IsAsked port path what options status =
+    (server : Endpoint) × (server.port ≡ port) × (word : ℕ) × IsWord options.word word × (body : List ℕ) × IsBody what body
+    × Asks server (client_sizes options.limit) word (asked_request what path options body) status

@@ -1,0 +1,85 @@
+-- What becomes of a request that a client is handed, and with which status a program ends that asks it (RFC 7252, section
+-- 5.2).
+use Rattle.std.specs.Prelude.{◌≡◌, ⊤, ℕ, List, [], ◌∷◌, ◌++◌, Some, Ok, Err}
+use Rattle.std.specs.declared.alloc.Global.{Global}
+use Rattle.coap_types.specs.declared.endpoint.Endpoint.{Endpoint}
+use Rattle.coap_types.specs.declared.request.Method.{Method}
+use Rattle.coap_types.specs.declared.request.Method.TheVariants.{Get, Post, Put, Delete}
+use Rattle.coap_block.specs.Sizes.{Sizes}
+use Rattle.coap_client.specs.Led.{Led, State, Step}
+use Rattle.coap_client.specs.Object.Shown.{shown_report}
+use Rattle.coap_client.specs.Trace.{Call, Calls, Feeds, NextOut, NextReport, Report, Request, Ticks}
+use Rattle.coap_client.specs.declared.client.report.Report as R
+use Rattle.coap_client.specs.declared.client.report.Report.TheVariants as report
+use Rattle.coap_commands.specs.declared.calling.Outcome.{Outcome}
+use Rattle.coap_commands.specs.declared.calling.Outcome.TheVariants.{Refused, Reported}
+use Rattle.coap_commands.specs.declared.status.Status.{Status}
+use Rattle.coap_commands.specs.declared.status.Status.TheVariants as status
+
+-- the call asks the client for nothing: a datagram is fed, time passes, or what is out or reported is taken
+abbrev pub AsksNothing : Call → Type 0
+AsksNothing (Feeds now from bytes word up settled event sent token kept) = ⊤
+AsksNothing (Ticks now word below turn sent token kept answer) = ⊤
+AsksNothing (NextOut answer) = ⊤
+AsksNothing (NextReport answer) = ⊤
+AsksNothing call = ⊥
+
+abbrev pub Each : (Call → Type 0) → List Call → Type 0
+Each like [] = ⊤
+Each like (c ∷ earlier) = like c × Each like earlier
+
+-- these calls, the newest first, lead from one state to the other
+abbrev pub Chain : State → List Call → State → Type 0
+Chain old [] new = new ≡ old
+Chain old (c ∷ earlier) new = (between : State) × Chain old earlier between × Step between c new
+
+-- such calls alone lead from one state to the other
+abbrev pub Turned : (Call → Type 0) → State → State → Type 0
+Turned like old new = (calls : List Call) × Each like calls × Chain old calls new
+
+-- the report of this number is taken
+abbrev pub takes_report : ℕ → Report → Call
+takes_report number report = NextReport (Some (record { number = number; report = report }))
+
+-- such calls lead to a report of this number, which is taken
+abbrev pub Reports : (Call → Type 0) → State → ℕ → Report → Type 0
+Reports like old number report = (turned : State) × (taken : State) × Turned like old turned
+    × Step turned (takes_report number report) taken
+
+-- A client of this server began with this word and these sizes. It was handed the request, and nothing else: it refused
+-- it; or it took it under a number, and then this was reported of that number.
+abbrev pub Becomes : Endpoint → (sizes : Sizes) → ℕ → Request → Outcome → Type 0
+Becomes server sizes word request (Refused why) =
+    (now : ℕ) × (s : State) × Led server sizes word (Calls now request (Err why) ∷ []) s
+Becomes server sizes word request (Reported report) =
+    (now : ℕ) × (number : ℕ) × (calls : List Call) × (s : State) × Each AsksNothing calls
+    × Led server sizes word (takes_report number (shown_report report) ∷ calls ++ Calls now request (Ok number) ∷ []) s
+
+-- done is a GET of which a body is reported
+abbrev pub got_report : R.Report Global → Status
+got_report (report.Body fetched) = status.Done
+got_report other = status.Refused
+
+abbrev pub got_status : Outcome → Status
+got_status (Refused why) = status.Refused
+got_status (Reported report) = got_report report
+
+-- done is a change of which success is reported
+abbrev pub changed_report : R.Report Global → Status
+changed_report (report.Done code) = status.Done
+changed_report other = status.Refused
+
+abbrev pub changed_status : Outcome → Status
+changed_status (Refused why) = status.Refused
+changed_status (Reported report) = changed_report report
+
+abbrev pub status_after : Method → Outcome → Status
+status_after Get outcome = got_status outcome
+status_after Post outcome = changed_status outcome
+status_after Put outcome = changed_status outcome
+status_after Delete outcome = changed_status outcome
+
+-- a client is asked this, and the status is that of what becomes of it
+abbrev pub Asks : Endpoint → (sizes : Sizes) → ℕ → Request → Status → Type 0
+Asks server sizes word request status =
+    (outcome : Outcome) × Becomes server sizes word request outcome × (status ≡ status_after request.method outcome)

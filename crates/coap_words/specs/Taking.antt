@@ -1,0 +1,49 @@
+-- Which arguments a subcommand takes, and what is wrong in the values of options.
+use Rattle.std.specs.Prelude.{List, ◌≡◌, ◌⊎◌, ⊤, None, codes}
+use Rattle.clap.specs.Words.{Row, Text, all_of}
+use Rattle.coap_words.specs.Asking.{AsksChange, HasNoTags, IsAsk, SendsBody, tags_argument_of}
+use Rattle.coap_words.specs.Numbers.{argument_of}
+use Rattle.coap_words.specs.Values.{HasNoNumber, HasNoWord}
+use Rattle.coap_words.specs.declared.orders.NumberRefusal.{NumberRefusal}
+use Rattle.coap_words.specs.declared.orders.NumberRefusal.TheVariants.{Port, Count, Limit, Format}
+use Rattle.coap_words.specs.declared.orders.TagsRefusal.{TagsRefusal}
+use Rattle.coap_words.specs.declared.orders.TagsRefusal.TheVariants.{IfMatch}
+use Rattle.coap_words.specs.declared.orders.Wrong.{Wrong}
+use Rattle.coap_words.specs.declared.orders.Wrong.TheVariants.{Words, Path, Number, Word, Tags, Body, Store, Hex, Memory}
+
+-- the subcommand takes a PATH
+abbrev pub TakesPath : Text → Type 0
+TakesPath subcommand = (subcommand ≡ codes "answer") ⊎ ((subcommand ≡ codes "pair") ⊎ IsAsk subcommand)
+
+-- the subcommand makes an end, and so takes the options of one
+abbrev pub MakesEnd : Text → Type 0
+MakesEnd subcommand = (subcommand ≡ codes "pair") ⊎ ((subcommand ≡ codes "serve") ⊎ IsAsk subcommand)
+
+-- the subcommand takes this argument, a number
+abbrev pub TakesNumber : NumberRefusal → Text → Type 0
+TakesNumber Port subcommand = (subcommand ≡ codes "serve") ⊎ IsAsk subcommand
+TakesNumber Count subcommand = subcommand ≡ codes "serve"
+TakesNumber Limit subcommand = MakesEnd subcommand
+TakesNumber Format subcommand = SendsBody subcommand
+
+-- the subcommand takes this argument, entity-tags
+abbrev pub TakesTags : TagsRefusal → Text → Type 0
+TakesTags IfMatch subcommand = AsksChange subcommand
+
+-- what has values the subcommand takes
+pub record TakesItsOwn (subcommand : Text) (values : List Row) : Type 0 where
+  pub numbers : (refusal : NumberRefusal) → (all_of (argument_of refusal) values ≡ None) ⊎ TakesNumber refusal subcommand
+  pub word : (all_of (codes "word") values ≡ None) ⊎ MakesEnd subcommand
+  pub tags : (refusal : TagsRefusal) → (all_of (tags_argument_of refusal) values ≡ None) ⊎ TakesTags refusal subcommand
+
+-- this is wrong in the values of options, whatever subcommand takes them
+abbrev pub IsWrongOption : List Row → Wrong → Type 0
+IsWrongOption values (Words error) = ⊥
+IsWrongOption values (Path refusal) = ⊥
+IsWrongOption values (Number refusal) = HasNoNumber refusal values
+IsWrongOption values Word = HasNoWord values
+IsWrongOption values (Tags refusal) = HasNoTags refusal values
+IsWrongOption values Body = ⊥
+IsWrongOption values Store = ⊥
+IsWrongOption values Hex = ⊥
+IsWrongOption values Memory = ⊤

@@ -1,0 +1,112 @@
+//! What is asked of a server, and how, read from the words.
+ghost use Rattle.std.specs.Prelude.{◌≡◌, ◌-◌, ◌^◌, ◌↔◌, ℕ, List, IsTrue, IfOk, MatchOption, MatchResult, codes};
+ghost use Rattle.clap.specs.Words.{found_of, rows_of};
+ghost use Rattle.coap_words.specs.Asking.{HasContent, HasFlag, HasNoContent, HasOptionalNumber, HasOptions, HasTags};
+ghost use Rattle.coap_words.specs.Asking.{IsTagText};
+ghost use Rattle.coap_words.specs.Numbers.{least_of, most_of};
+ghost use Rattle.coap_words.specs.Taking.{IsWrongOption};
+
+use crate::orders::{AskOptions, Content, NumberRefusal, TagsRefusal, WordChoice, Wrong};
+use crate::words::{limit, optional, small_number, word};
+use clap::ArgMatches;
+use coap_types::{Tag, Tags};
+use hex::FromHexError;
+use std::alloc::{AllocError, Global};
+
+/// The body that is sent, where there is just one.
+pub(crate) fn content_of<'a>(given: &ArgMatches<'a>) -> Option<Content<'a>>
+    ensures { MatchOption result (HasNoContent (rows_of (found_of given.now)))
+        (HasContent (rows_of (found_of given.now))) }
+{
+    let body = optional(given, "BODY");
+    let file = optional(given, "file");
+    match (body, file) {
+        (Some(text), None) => Some(Content::Text(text)),
+        (None, Some(name)) => Some(Content::File(name)),
+        _ => None,
+    }
+}
+
+/// How it is asked for; with this word where none is given.
+pub(crate) fn options_of(
+    alloc: Global,
+    given: &ArgMatches<'_>,
+    usual: WordChoice,
+) -> Result<AskOptions, Wrong>
+    ensures { MatchResult result (HasOptions usual (rows_of (found_of given.now)))
+        (IsWrongOption (rows_of (found_of given.now))) }
+{
+    let format = small_of(given, NumberRefusal::Format)?;
+    let if_match = tags_of(alloc, given, TagsRefusal::IfMatch)?;
+    let if_none_match = is_set(given, "if-none-match");
+    let Some(word) = word(given, usual) else {
+        return Err(Wrong::Word);
+    };
+    let Some(limit) = limit(given) else {
+        return Err(Wrong::Number(NumberRefusal::Limit));
+    };
+    Ok(AskOptions {
+        format,
+        if_match,
+        if_none_match,
+        word,
+        limit,
+    })
+}
+
+// A number of 16 bits, where it is there.
+fn small_of(given: &ArgMatches<'_>, argument: NumberRefusal) -> Result<Option<u16>, Wrong>
+    requires least { least_of argument ≡ 0 }
+    requires most { most_of argument ≡ 2 ^ 16 - 1 }
+    ensures { MatchResult result (HasOptionalNumber argument (rows_of (found_of given.now)))
+        (IsWrongOption (rows_of (found_of given.now))) }
+{
+    let Some(text) = optional(given, argument.name()) else {
+        return Ok(None);
+    };
+    match small_number(text) {
+        Some(n) => Ok(Some(n)),
+        None => Err(Wrong::Number(argument)),
+    }
+}
+
+// Whether a flag is given.
+fn is_set(given: &ArgMatches<'_>, name: &str) -> bool
+    ensures { HasFlag name.now (rows_of (found_of given.now)) result }
+{
+    match optional(given, name) {
+        Some("true") => true,
+        _ => false,
+    }
+}
+
+// Entity-tags, each given by itself.
+fn tags_of(alloc: Global, given: &ArgMatches<'_>, argument: TagsRefusal) -> Result<Tags, Wrong>
+    ensures { MatchResult result (HasTags argument (rows_of (found_of given.now)))
+        (IsWrongOption (rows_of (found_of given.now))) }
+{
+    let Some(texts) = given.get_strs(argument.name()) else {
+        return Ok(Tags::new());
+    };
+    let mut tags = Tags::new();
+    for text in texts {
+        let Some(tag) = tag_of(alloc, text)? else {
+            return Err(Wrong::Tags(argument));
+        };
+        if tags.push(tag).is_err() {
+            return Err(Wrong::Tags(argument));
+        }
+    }
+    Ok(tags)
+}
+
+// The entity-tag that a text is the hex of.
+fn tag_of(alloc: Global, text: &str) -> Result<Option<Tag>, AllocError>
+    ensures { IfOk result (λ tag. MatchOption tag ((t : List ℕ) → IsTagText text.now t → ⊥) (IsTagText text.now)) }
+{
+    match hex::decode(alloc, text) {
+        Ok(bytes) => Ok(Tag::new(bytes.as_slice())),
+        Err(FromHexError::OutOfMemory) => Err(AllocError),
+        Err(_) => Ok(None),
+    }
+}
