@@ -179,10 +179,13 @@ fn words_of_another_subcommand(rt: HostRuntime) -> Result<(), Fail> {
 // The word that the words choose.
 fn word_in(alloc: Global, words: &[&str]) -> Result<Option<WordChoice>, AllocError> {
     let list = words_of(alloc, words)?;
-    match order(alloc, list.as_slice()) {
-        Ok(Order::Ask { options, .. }) => Ok(Some(options.word)),
-        Ok(Order::Pair { word, .. }) => Ok(Some(word)),
-        Ok(Order::Serve { word, .. }) => Ok(Some(word)),
+    let Ok(asked) = order(alloc, list.as_slice()) else {
+        return Ok(None);
+    };
+    match &asked {
+        Order::Ask { options, .. } => Ok(Some(options.word)),
+        Order::Pair { word, .. } => Ok(Some(*word)),
+        Order::Serve { word, .. } => Ok(Some(*word)),
         _ => Ok(None),
     }
 }
