@@ -1,4 +1,5 @@
 pub mod AreOutstanding
 pub mod SaidOnce
+pub mod Unmatched
 pub mod SaidWhereItEnds
 pub mod HandsOrEnds

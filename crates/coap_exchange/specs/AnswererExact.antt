@@ -6,7 +6,7 @@ use Rattle.coap_layer.specs.Trace as L
 use Rattle.coap_exchange.specs.declared.answerer.Asked.{Asked}
 use Rattle.coap_exchange.specs.declared.answerer.Due.{Due}
 use Rattle.coap_exchange.specs.AnswererTrace.{Response, Call, Incoming, Answers, Defers, Ticks, Responds, Ready}
-use Rattle.coap_exchange.specs.AnswererTrace.{Notifies, Take}
+use Rattle.coap_exchange.specs.AnswererTrace.{Notifies, NotifiesPlain, Take}
 use Rattle.coap_exchange.specs.AnswererLaw.{ResponseLaw}
 
 pub record IsExact (word : ℕ) (past : List Call) : Type 0 where
@@ -33,5 +33,9 @@ pub record IsExact (word : ℕ) (past : List Call) : Type 0 where
       (now : ℕ) (to : Endpoint) (token : List ℕ) (r : Response) (w id another : ℕ)
       → ResponseLaw word (Notifies now to token r w id ∷ past)
       → ResponseLaw word (Notifies now to token r w another ∷ past) → id ≡ another
+  pub notifies_plain :
+      (now : ℕ) (to : Endpoint) (token : List ℕ) (r : Response) (id another : ℕ)
+      → ResponseLaw word (NotifiesPlain now to token r id ∷ past)
+      → ResponseLaw word (NotifiesPlain now to token r another ∷ past) → id ≡ another
   pub take : (answer another : Option L.Packet) → ResponseLaw word (Take answer ∷ past)
       → ResponseLaw word (Take another ∷ past) → answer ≡ another

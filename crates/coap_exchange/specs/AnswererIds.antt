@@ -5,13 +5,14 @@ use Rattle.coap_types.specs.declared.message.TheConstants.{MESSAGE_IDS as messag
 use Rattle.coap_layer.specs.Ids.{Withholds}
 use Rattle.coap_layer.specs.Taking.{issued_since, came_since, FewCome}
 use Rattle.coap_layer.specs.Words.{clock, numbers}
-use Rattle.coap_exchange.specs.AnswererTrace.{Call, Notifies}
+use Rattle.coap_exchange.specs.AnswererTrace.{Call, Notifies, NotifiesPlain}
 use Rattle.coap_exchange.specs.AnswererSteps.{max_deferred}
 use Rattle.coap_exchange.specs.AnswererLaw.{own_of, below_of}
 use Rattle.coap_exchange.specs.Counts.{count_since}
 
 abbrev pub notifies : Call → Bool
 notifies (Notifies now to token r word id) = true
+notifies (NotifiesPlain now to token r id) = true
 notifies _ = false
 
 -- how many notifications were sent from this moment on

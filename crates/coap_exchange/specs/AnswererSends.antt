@@ -1,6 +1,6 @@
 -- What the server's side sends: a response goes to where its request came from, with its token, and a CON begins only
 -- where none is outstanding (RFC 7252, sections 4.7, 5.2 and 5.3.2; RFC 7641, section 4.2).
-use Rattle.std.specs.Prelude.{◌≡◌, ◌≢◌, ℕ, Option, Some, None, List, [], ◌∷◌, IfSome}
+use Rattle.std.specs.Prelude.{◌≡◌, ◌≢◌, ℕ, true, Option, Some, None, List, [], ◌∷◌, IfSome}
 use Rattle.coap_types.specs.Past.{Always}
 use Rattle.coap_types.specs.declared.endpoint.Endpoint.{Endpoint}
 use Rattle.coap_types.specs.declared.message.Kind.{Kind}
@@ -8,7 +8,7 @@ use Rattle.coap_types.specs.declared.message.Kind.TheVariants.{Con, Non, Ack}
 use Rattle.coap_codec.specs.Message.{Message, Spells}
 use Rattle.coap_layer.specs.Rows.{Busy}
 use Rattle.coap_layer.specs.Trace.{Entry}
-use Rattle.coap_exchange.specs.AnswererTrace.{Response, Call, Answers, Responds, Notifies}
+use Rattle.coap_exchange.specs.AnswererTrace.{Response, Call, Answers, Responds, Ready, Notifies, NotifiesPlain}
 use Rattle.coap_exchange.specs.AnswererLaw.{below_of}
 
 -- the message that carries a response or a notification
@@ -30,7 +30,7 @@ pub record SendsOne (word : ℕ) (past : List Call) (c : Call) (to : Endpoint) (
 
 -- A response goes to the endpoint of its request and carries its token: in the acknowledgement of a CON, whose
 -- Message ID it has (section 5.2.1); to a NON in a NON (5.2.3); later in a CON (5.2.2). A notification goes in a CON
--- to its observer, with the token of the registration (RFC 7641, section 4.2).
+-- or a NON to its observer, with the token of the registration (RFC 7641, sections 4.2 and 4.5).
 abbrev pub GoesBack : ℕ → List Call → Call → Type 0
 GoesBack word past (Answers a r below) =
     (a.kind ≡ Con → SendsOne word past (Answers a r below) a.from (carrying Ack a.id.0 a.token r))
@@ -39,6 +39,8 @@ GoesBack word past (Responds now a r w id) =
     SendsOne word past (Responds now a r w id) a.from (carrying Con id a.token r)
 GoesBack word past (Notifies now to token r w id) =
     SendsOne word past (Notifies now to token r w id) to (carrying Con id token r)
+GoesBack word past (NotifiesPlain now to token r id) =
+    SendsOne word past (NotifiesPlain now to token r id) to (carrying Non id token r)
 GoesBack word past _ = Unit {0}
 
 abbrev pub AllGoBack : ℕ → List Call → Type 0
@@ -54,3 +56,9 @@ begins _ = None
 -- section 4.7).
 abbrev pub BeginAlone : ℕ → List Call → Type 0
 BeginAlone word trace = Always (λ past c. IfSome (begins c) (λ to. Busy (below_of word past) to → ⊥)) trace
+
+-- An endpoint is said to be ready only where no CON to it is outstanding. What is sent to it behind that, as a
+-- notification in a NON, goes out alone too.
+abbrev pub ReadyAlone : ℕ → List Call → Type 0
+ReadyAlone word trace =
+    Always (λ past c. (now : ℕ) (to : Endpoint) → c ≡ Ready now to true → Busy (below_of word past) to → ⊥) trace

@@ -26,7 +26,7 @@ use Rattle.coap_exchange.specs.declared.deferrals.TheConstants.{MAX_DEFERRED as 
 use Rattle.coap_exchange.specs.declared.separate.Deferred.{Deferred}
 use Rattle.coap_exchange.specs.declared.separate.Separate.{Separate}
 use Rattle.coap_exchange.specs.AnswererTrace.{Response, Own, Call, Incoming, Answers, Defers, Ticks, Responds, Ready}
-use Rattle.coap_exchange.specs.AnswererTrace.{Notifies, Take}
+use Rattle.coap_exchange.specs.AnswererTrace.{Notifies, NotifiesPlain, Take, Sending}
 use Rattle.coap_exchange.specs.AskerRequests.{asked}
 use Rattle.coap_exchange.specs.AskerArrivals.{observe, id_in, replying}
 use Rattle.coap_exchange.specs.EmptyMessages.{ack_bytes, reset_bytes}
@@ -84,6 +84,11 @@ reset_by from _ xs = None
 abbrev pub failed_by : L.Answer → List Separate → Option Ended
 failed_by (L.Expired to id) xs = option_map ended_as (found to id xs)
 failed_by _ xs = None
+
+-- the Reset of what isn't outstanding, as of a NON
+abbrev pub unmatched_by : Endpoint → L.Answer → Option Sending
+unmatched_by from (L.Becomes (L.Unmatched id)) = Some (record { to = from; id = id })
+unmatched_by from _ = None
 
 -- a response: its own type and Message ID aside, what goes out (sections 5.2.1 to 5.2.3)
 
@@ -186,6 +191,7 @@ lower s (Ticks now below room answer) =
 lower s (Responds now a r word id) = asked now (L.Confirm a.from (content_of a r) word) (L.Sent id) ∷ []
 lower s (Ready now to answer) = asked now (L.Room to) (L.Is answer) ∷ []
 lower s (Notifies now to token r word id) = asked now (L.Confirm to (content_with token r) word) (L.Sent id) ∷ []
+lower s (NotifiesPlain now to token r id) = asked now (L.Plain to (content_with token r)) (L.Sent id) ∷ []
 lower s (Take answer) = asked 0 L.Take (L.Gives answer) ∷ []
 
 -- what is answered; of an answer, a deferral and a response also the caller's condition: it is to the request that
@@ -200,6 +206,7 @@ IsRight s (Responds now a r word id) =
     (option_map (λ (d : Deferred). d.asked) (ready_at s now) ≡ Some a) × IsResponse a r
 IsRight s (Ready now to answer) = Unit {0}
 IsRight s (Notifies now to token r word id) = IsResponseWith token r
+IsRight s (NotifiesPlain now to token r id) = IsResponseWith token r
 IsRight s (Take answer) = Unit {0}
 
 abbrev pub after : Own → Call → Own
@@ -209,6 +216,7 @@ after s (Incoming now from bytes up answer) =
       pending = asked_in answer;
       separate = separate_after from up s.separate;
       ended = reset_by from up s.separate;
+      unmatched = unmatched_by from up;
     }
 after s (Answers a r below) = record s { pending = None }
 after s (Defers now a delay answer) =
@@ -235,4 +243,5 @@ after s (Responds now a r word id) =
 after s (Ready now to answer) = record s { clock = max s.clock now }
 after s (Notifies now to token r word id) =
     record s { clock = max s.clock now; pending = None; separate = s.separate ++ separate_of to id token r ∷ [] }
+after s (NotifiesPlain now to token r id) = record s { clock = max s.clock now; pending = None }
 after s (Take answer) = s

@@ -1,19 +1,15 @@
 -- A separate response or a notification that a Reset rejects, or that is given up, is said to have ended
 -- (RFC 7252, sections 4.2 and 5.2.2; RFC 7641, sections 3.6 and 4.5).
-use Rattle.std.specs.Prelude.{◌≡◌, ◌≢◌, ℕ, Option, Some, None, List, ◌∷◌, IfSome}
+use Rattle.std.specs.Prelude.{◌≡◌, ◌≢◌, ℕ, Option, Some, None, List, [], ◌∷◌, IfSome}
 use Rattle.coap_types.specs.Past.{Since, Always}
 use Rattle.coap_types.specs.declared.endpoint.Endpoint.{Endpoint}
 use Rattle.coap_layer.specs.Trace as L
 use Rattle.coap_exchange.specs.declared.answerer.Ended.{Ended}
-use Rattle.coap_exchange.specs.AnswererTrace.{Call, Incoming, Ticks, Responds, Notifies}
+use Rattle.coap_exchange.specs.AnswererTrace.{Call, Sending, Incoming, Ticks, Responds, Notifies}
+use Rattle.coap_exchange.specs.AnswererSteps.{unmatched_by}
 use Rattle.coap_exchange.specs.AnswererFollows.{hands, sends, end_told}
 use Rattle.coap_exchange.specs.AnswererLaw.{own_of}
 use Rattle.coap_exchange.specs.AnswererSends.{begins}
-
--- where a CON went, and its Message ID
-pub record Sending : Type 0 where
-  pub to : Endpoint
-  pub id : ℕ
 
 abbrev pub reset_from : Endpoint → L.Answer → Option Sending
 reset_from from (L.Becomes (L.Reset id)) = Some (record { to = from; id = id })
@@ -57,3 +53,13 @@ HandsOrEnds trace =
 
 abbrev pub EndsTold : List Call → Type 0
 EndsTold trace = Always (λ past c. TellsIf past c (fails c)) trace
+
+-- the Reset that the last datagram was, of what isn't outstanding
+abbrev pub rejected_last : List Call → Option Sending
+rejected_last [] = None
+rejected_last (Incoming now from bytes up answer ∷ past) = unmatched_by from up
+rejected_last (c ∷ past) = rejected_last past
+
+-- That is what is told of.
+abbrev pub UnmatchedTold : List Call → Type 0
+UnmatchedTold trace = (own_of trace).unmatched ≡ rejected_last trace

@@ -17,21 +17,28 @@ pub record Response : Type 0 where
   pub options : List CoapOption
   pub payload : List ℕ
 
+-- where a message went, and its Message ID
+pub record Sending : Type 0 where
+  pub to : Endpoint
+  pub id : ℕ
+
 -- the latest moment, the request that may be answered or deferred now, those that are deferred and the separate
--- responses and notifications that are outstanding, in order, and that of them which the last input ended
+-- responses and notifications that are outstanding, in order, and that of them which the last input ended; what the last
+-- datagram rejected of what isn't outstanding, as a NON
 pub record Own : Type 0 where
   pub clock : ℕ
   pub pending : Option Asked
   pub deferred : List Deferred
   pub separate : List Separate
   pub ended : Option Ended
+  pub unmatched : Option Sending
 
 abbrev pub start : Own
-start = record { clock = 0; pending = None; deferred = []; separate = []; ended = None }
+start = record { clock = 0; pending = None; deferred = []; separate = []; ended = None; unmatched = None }
 
 -- Each call has its arguments, what the message layer answered beneath it, and its answer. A datagram that arrives; the
 -- response to the request that came with it, and its deferral; time passes; the response to a deferred request; could a
--- notification be sent there; a notification; a datagram is taken to be sent.
+-- notification be sent there; a notification, in a CON and in a NON; a datagram is taken to be sent.
 pub data Call : Type 0 where
   Incoming : (now : ℕ) (from : Endpoint) (bytes : List ℕ) (up : L.Answer) (answer : Option (Asked × Message)) → Call
   Answers : (asked : Asked) (response : Response) (below : L.Answer) → Call
@@ -40,4 +47,5 @@ pub data Call : Type 0 where
   Responds : (now : ℕ) (asked : Asked) (response : Response) (word : ℕ) (answer : ℕ) → Call
   Ready : (now : ℕ) (to : Endpoint) (answer : Bool) → Call
   Notifies : (now : ℕ) (to : Endpoint) (token : List ℕ) (response : Response) (word : ℕ) (answer : ℕ) → Call
+  NotifiesPlain : (now : ℕ) (to : Endpoint) (token : List ℕ) (response : Response) (answer : ℕ) → Call
   Take : (answer : Option L.Packet) → Call

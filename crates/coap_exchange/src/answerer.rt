@@ -15,17 +15,20 @@ ghost use Rattle.coap_exchange.specs.AnswererSteps.{asked_in};
 ghost use Rattle.coap_exchange.specs.AnswererLaw.{Led, Step, fresh_state};
 ghost use Rattle.coap_exchange.specs.Machine.WhatIsDue.{takes_con, takes_response};
 ghost use Rattle.coap_exchange.specs.Machine.AnswererShown.{Leads, MayAnswer, MayNotify, MayRespond, IsAnswer};
-ghost use Rattle.coap_exchange.specs.Machine.AnswererShown.{IsAnswerWith};
+ghost use Rattle.coap_exchange.specs.Machine.AnswererShown.{IsAnswerWith, sending_as};
 ghost use Rattle.coap_exchange.specs.AnswererTrace.{Call, Incoming, Answers, Defers, Ticks, Responds, Ready, Notifies, Take};
+ghost use Rattle.coap_exchange.specs.AnswererTrace.{NotifiesPlain};
 
 use crate::deferrals::Deferrals;
 use crate::listed::{Listed, enlist, put_back, settle_down};
 use crate::replies::{
     after_arrival, asked_in, copied, copied_end, handed_up, keeps_room, reject, reset_by, send,
+    unmatched_by,
 };
 use crate::separate::{Deferred, Separate};
 use crate::waiting::{
-    confirm, due_of, failed_by, is_sendable, make_room, separate_of, unless_due, unless_failed,
+    confirm, due_of, failed_by, is_sendable, make_room, plain, separate_of, unless_due,
+    unless_failed,
 };
 use coap_codec::View;
 use coap_layer::{Datagram, Layer, ack};
@@ -121,6 +124,7 @@ pub struct Answerer<A: Allocator + Copy, S: BuildHasher = BuildHasherDefault<Fol
     deferred: Deferrals,
     separate: Vec<Listed<Separate>, A>,
     ended: Option<Ended>,
+    unmatched: Option<(Endpoint, Id)>,
     // The pending request may be answered.
     answerable: bool,
     // There is room for a separate response or a notification.
@@ -129,19 +133,21 @@ pub struct Answerer<A: Allocator + Copy, S: BuildHasher = BuildHasherDefault<Fol
     pending_before: Option<Asked>,
     deferred_before: Deferrals,
     ended_before: Option<Ended>,
+    unmatched_before: Option<(Endpoint, Id)>,
 }
 
 impl<A: Allocator + Copy, S: BuildHasher> Model for Answerer<A, S> {
     ghost use Rattle.std.specs.Vec.{vec_len, vec_capacity};
-    ghost use Rattle.coap_exchange.specs.Machine.AnswererShown.{Shown, state_of, before_of, IsAnswerable, HasPlace};
+    ghost use Rattle.coap_exchange.specs.Machine.AnswererShown.{Shown, state_of, before_of, sending_as, IsAnswerable};
+    ghost use Rattle.coap_exchange.specs.Machine.AnswererShown.{HasPlace};
     ghost use Rattle.coap_exchange.specs.Machine.Listed.{listed, listed_before};
 
     ghost Value = { Shown };
 
     ghost view = { λ a. record {
-      state = state_of a.layer.state a.pending a.deferred (listed a.separate.items) a.ended;
+      state = state_of a.layer.state a.pending a.deferred (listed a.separate.items) a.ended (sending_as a.unmatched);
       before = before_of a.layer.before a.pending_before a.deferred_before
-          (listed_before a.separate.items) a.ended_before;
+          (listed_before a.separate.items) a.ended_before (sending_as a.unmatched_before);
       answerable = a.answerable;
       room = a.room;
     } };
@@ -180,11 +186,13 @@ impl<A: Allocator + Copy, S: BuildHasher> Answerer<A, S> {
             deferred: Deferrals::new(),
             separate: Vec::new(alloc),
             ended: None,
+            unmatched: None,
             answerable: false,
             room: false,
             pending_before: None,
             deferred_before: Deferrals::new(),
             ended_before: None,
+            unmatched_before: None,
         }
     }
 
@@ -207,6 +215,15 @@ impl<A: Allocator + Copy, S: BuildHasher> Answerer<A, S> {
         ensures few { IfSome result (λ ended. length ended.token ≤ max_token_len) }
     {
         copied_end(&self.ended)
+    }
+
+    /// The Reset that the last `incoming` found of no message that is outstanding, as of one that
+    /// was Non-confirmable: where it came from, and its Message ID (RFC 7641, section 3.6). It takes
+    /// no memory.
+    pub fn unmatched(&self) -> Option<(Endpoint, Id)>
+        ensures { sending_as result ≡ self.now.state.own.unmatched }
+    {
+        self.unmatched
     }
 
     /// Takes a datagram that arrived. A request is handed up, but for a Non-confirmable one for
@@ -247,7 +264,9 @@ impl<A: Allocator + Copy, S: BuildHasher> Answerer<A, S> {
         self.pending_before = self.pending.take();
         self.deferred_before = self.deferred.copy();
         self.ended_before = self.ended.take();
+        self.unmatched_before = self.unmatched;
         self.ended = reset_by(from, &up, &self.separate);
+        self.unmatched = unmatched_by(from, &up);
         after_arrival(from, &up, &mut self.separate);
         let asked = asked_in(from, &up);
         self.pending = copied(&asked);
@@ -355,6 +374,7 @@ impl<A: Allocator + Copy, S: BuildHasher> Answerer<A, S> {
         self.pending_before = self.pending.take();
         self.deferred_before = self.deferred.copy();
         self.ended_before = self.ended.take();
+        self.unmatched_before = self.unmatched;
         self.ended = failed_by(tick, &self.separate);
         unless_failed(tick, &mut self.separate);
         self.answerable = false;
@@ -496,6 +516,30 @@ impl<A: Allocator + Copy, S: BuildHasher> Answerer<A, S> {
         id
     }
 
+    /// Sends a notification to an observer in a Non-confirmable message, where `ready` answered true
+    /// at this moment, and since then nothing was sent and no input taken back; answers its Message
+    /// ID (RFC 7641, section 4.5). Nothing waits for an acknowledgement then, and a Reset of it is
+    /// `unmatched`. A request that was handed up before can't be answered any more. It takes no
+    /// memory.
+    pub fn notify_plain(
+        &mut self,
+        now: Moment,
+        to: Endpoint,
+        token: &Token,
+        response: &Response<'_>,
+    ) -> Id
+        requires may { MayNotify self.old now.0 to }
+        requires response { IsAnswerWith token.now response.now }
+        ensures step { Step self.old.state (NotifiesPlain now.0 to token.now response.now result.0) self.new.state }
+        ensures led { Leads self.old (NotifiesPlain now.0 to token.now response.now result.0) self.new }
+        ensures before { self.new.before ≡ self.old.before }
+    {
+        let id = plain(&mut self.layer, now, to, token, response);
+        self.pending = None;
+        self.room = false;
+        id
+    }
+
     /// The datagram that is to be sent next. After it, nothing can be taken back. It takes no
     /// memory.
     pub fn next_out(&mut self) -> Option<Datagram<A>>
@@ -529,6 +573,7 @@ impl<A: Allocator + Copy, S: BuildHasher> Answerer<A, S> {
         self.pending = copied(&self.pending_before);
         self.deferred = self.deferred_before.copy();
         self.ended = copied_end(&self.ended_before);
+        self.unmatched = self.unmatched_before;
         self.answerable = false;
         self.room = false;
     }

@@ -20,9 +20,9 @@ ghost use Rattle.coap_exchange.specs.AnswererTrace as trace;
 ghost use Rattle.coap_exchange.specs.AnswererLaw as answerer;
 ghost use Rattle.coap_exchange.specs.AnswererLaw.{ResponseLaw};
 ghost use Rattle.coap_exchange.specs.AnswererExact as exactly;
-ghost use Rattle.coap_exchange.specs.AnswererSends.{AllGoBack, BeginAlone};
+ghost use Rattle.coap_exchange.specs.AnswererSends.{AllGoBack, BeginAlone, ReadyAlone};
 ghost use Rattle.coap_exchange.specs.AnswererEmpties as rejections;
-ghost use Rattle.coap_exchange.specs.AnswererTells.{EndsTold, HandsOrEnds};
+ghost use Rattle.coap_exchange.specs.AnswererTells.{EndsTold, HandsOrEnds, UnmatchedTold};
 ghost use Rattle.coap_exchange.specs.AnswererDeferrals.{DeferredLongEnough, ReadyWhenDue, EarliestReady};
 ghost use Rattle.coap_exchange.specs.AnswererFollows.{AreResponses, AreRequests, EndsOnce, WaitsForOutstanding};
 ghost use Rattle.coap_exchange.specs.AnswererFollows.{FewDeferred};
@@ -138,6 +138,10 @@ pub fn answerer_law()
     ensures replied { (word : ℕ) (t : List trace.Call) → ResponseLaw word t → rejections.AreReplied t }
     // A CON begins only where none to its endpoint is outstanding (RFC 7252, section 4.7).
     ensures alone { (word : ℕ) (t : List trace.Call) → ResponseLaw word t → BeginAlone word t }
+    // .. and so where an endpoint is said to be ready for a notification.
+    ensures ready_alone { (word : ℕ) (t : List trace.Call) → ResponseLaw word t → ReadyAlone word t }
+    // The Reset of what isn't outstanding is that of the last datagram (RFC 7641, section 3.6).
+    ensures unmatched { (word : ℕ) (t : List trace.Call) → ResponseLaw word t → UnmatchedTold t }
     // At most 16 requests are deferred (profile).
     ensures few { (word : ℕ) (t : List trace.Call) → ResponseLaw word t → FewDeferred t }
     // Each Message ID is given to the response to a request that came, or to a notification (RFC 7252, section 4.4) ..

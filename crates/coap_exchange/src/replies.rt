@@ -14,10 +14,10 @@ ghost use Rattle.coap_layer.specs.Trace as below;
 ghost use Rattle.coap_layer.specs.Trace.{with_head};
 ghost use Rattle.coap_layer.specs.Machine.Ups.{answer_as};
 ghost use Rattle.coap_layer.specs.Words.{handed_by};
-ghost use Rattle.coap_exchange.specs.Machine.AnswererShown.{Takes};
+ghost use Rattle.coap_exchange.specs.Machine.AnswererShown.{Takes, sending_as};
 ghost use Rattle.coap_types.specs.declared.endpoint.Endpoint.{Endpoint};
 ghost use Rattle.coap_exchange.specs.AnswererSteps.{answering, asked_in, asked_of, content_of, handed_up, reject_by};
-ghost use Rattle.coap_exchange.specs.AnswererSteps.{reset_by, separate_after, IsSentAs};
+ghost use Rattle.coap_exchange.specs.AnswererSteps.{reset_by, separate_after, unmatched_by, IsSentAs};
 ghost use Rattle.coap_exchange.specs.AnswererTrace.{Own};
 ghost use Rattle.coap_exchange.specs.AskerArrivals.{id_in, replying};
 ghost use Rattle.coap_exchange.specs.Machine.Listed.{listed, listed_before};
@@ -29,7 +29,7 @@ use crate::separate::{Separate, found, take_off};
 use coap_codec::{Head, View, encode, one_spelling};
 use coap_layer::{Content, Layer, Up, reset};
 use coap_types::limits::MAX_MESSAGE_LEN;
-use coap_types::{Endpoint, Kind, Token};
+use coap_types::{Endpoint, Id, Kind, Token};
 use std::alloc::Allocator;
 use std::hash::BuildHasher;
 
@@ -151,6 +151,16 @@ pub(crate) fn reset_by(from: Endpoint, up: &Up<'_>, separate: &[Listed<Separate>
 {
     match up {
         Up::Reset(id) => found(separate, from, *id),
+        _ => None,
+    }
+}
+
+/// The Reset of what isn't outstanding, as of a Non-confirmable message.
+pub(crate) fn unmatched_by(from: Endpoint, up: &Up<'_>) -> Option<(Endpoint, Id)>
+    ensures { sending_as result ≡ unmatched_by from (answer_as up.now) }
+{
+    match up {
+        Up::Unmatched(id) => Some((from, *id)),
         _ => None,
     }
 }

@@ -212,3 +212,32 @@ pub(crate) fn confirm<A: Allocator + Copy, S: BuildHasher>(
         Err(_) => unreachable!("there is room, no other is outstanding and a Message ID is free"),
     }
 }
+
+/// Sends the notification in a Non-confirmable message, for which there is room, and answers its
+/// Message ID (RFC 7641, section 4.5).
+pub(crate) fn plain<A: Allocator + Copy, S: BuildHasher>(
+    layer: &mut Layer<A, S>,
+    now: Moment,
+    to: Endpoint,
+    token: &Token,
+    response: &Response<'_>,
+) -> Id
+    requires room { layer.old.has_room ≡ true }
+    requires free { is_free (max layer.old.state.clock now.0) layer.old.state.upcoming layer.old.state.last_used
+        ≡ true }
+    requires sendable { IsSendable (content_with token.now response.now) }
+    ensures step { layer_state.Step layer.old.state now.0 (below.Plain to (content_with token.now response.now))
+        (below.Sent result.0) layer.new.state }
+    ensures before { layer.new.before ≡ layer.old.before }
+{
+    let content = Content {
+        code: response.code,
+        token,
+        options: response.options,
+        payload: response.payload,
+    };
+    match layer.plain(now, to, &content) {
+        Ok(id) => id,
+        Err(_) => unreachable!("there is room and a Message ID is free"),
+    }
+}

@@ -22,6 +22,8 @@
 //! | `respond 2.05 hi` | to the deferred request that the last tick said to be ready: a Message ID |
 //! | `ready 0 C` | `true` or `false` |
 //! | `notify 00 4.04` | a notification with this token where the last `ready` was true: a Message ID |
+//! | `plain 00 4.04` | the same in a Non-confirmable message |
+//! | `unmatched` | where the Reset of what isn't outstanding came from and its Message ID, or `nothing` |
 //! | `ended` | where it went, its token and whether it carried Observe, or `nothing` |
 //!
 //! A response is `2.05 hi`, `2.05 observe hi` (with Observe 0) or `4.04`. These are of both:

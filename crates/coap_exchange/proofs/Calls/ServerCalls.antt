@@ -33,8 +33,8 @@ use Rattle.coap_exchange.specs.declared.separate.Separate.{Separate}
 use Rattle.coap_exchange.specs.AnswererLaw.{State, Step}
 use Rattle.coap_exchange.specs.Machine.AnswererShown.{state_of, own_with, IsAnswer}
 use Rattle.coap_exchange.specs.AnswererSteps.{asked_in, handed_up, reset_by, reject_by, answering, content_of, IsSentAs}
-use Rattle.coap_exchange.specs.AnswererSteps.{separate_after}
-use Rattle.coap_exchange.specs.AnswererTrace.{Own, Response, Answers, Incoming}
+use Rattle.coap_exchange.specs.AnswererSteps.{separate_after, unmatched_by}
+use Rattle.coap_exchange.specs.AnswererTrace.{Own, Response, Answers, Incoming, Sending}
 use Rattle.coap_exchange.specs.AskerArrivals.{id_in, replying}
 use Rattle.coap_exchange.specs.AskerRequests.{asked}
 use Rattle.coap_exchange.specs.Machine.Listed.{listed}
@@ -140,21 +140,21 @@ answering_clock l s Ack a r = max_self l.clock
 answering_clock l s Rst a r = max_self l.clock
 
 pub answered : (l h : L.State) (pending : Option Asked) (deferred : List Deferred) (separate : List Separate)
-    (ended : Option Ended) (old : State) (a : Asked) (r : Response) (sent : T.Answer)
-    → state_of l pending deferred separate ended ≡ old → old.own.pending ≡ Some a → IsAnswer a r → IsSentAs a.kind sent
+    (ended : Option Ended) (unmatched : Option Sending) (old : State) (a : Asked) (r : Response) (sent : T.Answer)
+    → state_of l pending deferred separate ended unmatched ≡ old → old.own.pending ≡ Some a → IsAnswer a r → IsSentAs a.kind sent
     → ((s : Own) → L.Step l l.clock (answering s a.kind a r) sent h)
-    → Step old (Answers a r sent) (state_of h None deferred separate ended)
-answered l h pending deferred separate ended old a r sent is pending_is answer told steps =
-    let s = own_with l.clock pending deferred separate ended in
+    → Step old (Answers a r sent) (state_of h None deferred separate ended unmatched)
+answered l h pending deferred separate ended unmatched old a r sent is pending_is answer told steps =
+    let s = own_with l.clock pending deferred separate ended unmatched in
     let clock : h.clock ≡ l.clock = step_clock l h l.clock (answering s a.kind a r) sent (steps s)
     ∙ answering_clock l s a.kind a r in
-    subst (λ o. Step o (Answers a r sent) (state_of h None deferred separate ended)) is (record {
+    subst (λ o. Step o (Answers a r sent) (state_of h None deferred separate ended unmatched)) is (record {
       right = (
         ap (λ (o : State). o.own.pending) is ∙ pending_is,
         record { code = answer.code; spelled = answer.sendable.spelled },
         told,
       );
-      own_is = ap (λ c. own_with c None deferred separate ended) clock;
+      own_is = ap (λ c. own_with c None deferred separate ended unmatched) clock;
       under = (l, refl, steps s);
     })
 
@@ -171,27 +171,28 @@ replied_clock from id None mid h k = ap (λ (s : L.State). s.clock) k
 replied_clock from id (Some bytes) mid h k = step_clock k.0 h 0 (T.Reply from id bytes) T.Nothing k.2
     ∙ ap (λ (s : L.State). s.clock) k.1
 
-own_same : (a b : ℕ) (p q : Option Asked) (ds : List Deferred) (xs ys : List Separate) (x y : Option Ended) → a ≡ b
-    → p ≡ q → xs ≡ ys → x ≡ y → own_with a p ds xs x ≡ own_with b q ds ys y
-own_same a b p q ds xs ys x y e f g h = cc (e, f, g, h)
+own_same : (a b : ℕ) (p q : Option Asked) (ds : List Deferred) (xs ys : List Separate) (x y : Option Ended)
+    (u v : Option Sending) → a ≡ b → p ≡ q → xs ≡ ys → x ≡ y → u ≡ v
+    → own_with a p ds xs x u ≡ own_with b q ds ys y v
+own_same a b p q ds xs ys x y u v e f g h k = cc (e, f, g, h, k)
 
 pub received : (l mid h : L.State) (pending asked_now : Option Asked) (deferred : List Deferred)
-    (separate xs : List Separate) (ended end : Option Ended) (old : State) (now : ℕ) (from : Endpoint) (bytes : List ℕ)
-    (up : T.Answer) (answer : Option (Asked × Message))
-    → state_of l pending deferred separate ended ≡ old → L.Step l now (T.Receive from bytes) up mid
+    (separate xs : List Separate) (ended end : Option Ended) (unmatched found : Option Sending) (old : State) (now : ℕ)
+    (from : Endpoint) (bytes : List ℕ) (up : T.Answer) (answer : Option (Asked × Message))
+    → state_of l pending deferred separate ended unmatched ≡ old → L.Step l now (T.Receive from bytes) up mid
     → Steps mid (replying from (id_in up) (reject_by up)) h → answer ≡ handed_up from up
     → asked_now ≡ asked_in (handed_up from up)
-    → xs ≡ separate_after from up separate → end ≡ reset_by from up separate
-    → Step old (Incoming now from bytes up answer) (state_of h asked_now deferred xs end)
-received l mid h pending asked_now deferred separate xs ended end old now from bytes up answer is step replies answer_is
-    asked_is xs_is end_is =
+    → xs ≡ separate_after from up separate → end ≡ reset_by from up separate → found ≡ unmatched_by from up
+    → Step old (Incoming now from bytes up answer) (state_of h asked_now deferred xs end found)
+received l mid h pending asked_now deferred separate xs ended end unmatched found old now from bytes up answer is step
+    replies answer_is asked_is xs_is end_is found_is =
     let clock : h.clock ≡ max l.clock now = replied_clock from (id_in up) (reject_by up) mid h replies
     ∙ step_clock l mid now (T.Receive from bytes) up step in
-    subst (λ o. Step o (Incoming now from bytes up answer) (state_of h asked_now deferred xs end)) is (record {
+    subst (λ o. Step o (Incoming now from bytes up answer) (state_of h asked_now deferred xs end found)) is (record {
       right = answer_is;
       own_is = own_same h.clock (max l.clock now) asked_now (asked_in answer) deferred xs
-          (separate_after from up separate) end (reset_by from up separate) clock
-          (asked_is ∙ ap asked_in (sym answer_is)) xs_is end_is;
+          (separate_after from up separate) end (reset_by from up separate) found (unmatched_by from up) clock
+          (asked_is ∙ ap asked_in (sym answer_is)) xs_is end_is found_is;
       under = steps_join l mid h (replying from (id_in up) (reject_by up)) (asked now (T.Receive from bytes) up ∷ [])
           (l, refl, step) replies;
     })

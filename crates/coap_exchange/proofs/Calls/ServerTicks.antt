@@ -24,7 +24,7 @@ use Rattle.coap_exchange.specs.AnswererLaw.{State, Step}
 use Rattle.coap_exchange.specs.Machine.AnswererShown.{Shown, state_of, own_with, AsksFreely, MayRespond}
 use Rattle.coap_exchange.specs.AnswererSteps.{asking_room, ready_if, ready_at, first_ready, due_of, due_if, failed_by}
 use Rattle.coap_exchange.specs.AnswererSteps.{separate_unless}
-use Rattle.coap_exchange.specs.AnswererTrace.{Own, Ticks}
+use Rattle.coap_exchange.specs.AnswererTrace.{Own, Ticks, Sending}
 use Rattle.coap_exchange.specs.AskerRequests.{asked}
 use Rattle.coap_exchange.specs.Machine.Listed.{listed}
 use Rattle.coap_exchange.specs.Machine.Outstanding.{over}
@@ -195,25 +195,25 @@ due_ready T.NoIds d room a h = absurd (cc h)
 due_ready (T.Gives packet) d room a h = absurd (cc h)
 
 module _ (l : L.State) (pending : Option Asked) (deferred : List Deferred) (separate : List Separate)
-    (ended : Option Ended) where
+    (ended : Option Ended) (unmatched : Option Sending) where
   abbrev s : Own
-  s = own_with l.clock pending deferred separate ended
+  s = own_with l.clock pending deferred separate ended unmatched
 
   own_same : (a b : ℕ) (xs ys : List Separate) (x y : Option Ended) → a ≡ b → xs ≡ ys → x ≡ y
-      → own_with a None deferred xs x ≡ own_with b None deferred ys y
-  own_same a b xs ys x y e f k = ap (λ c. own_with c None deferred xs x) e
-      ∙ (ap (λ zs. own_with b None deferred zs x) f ∙ ap (λ z. own_with b None deferred ys z) k)
+      → own_with a None deferred xs x unmatched ≡ own_with b None deferred ys y unmatched
+  own_same a b xs ys x y e f k = ap (λ c. own_with c None deferred xs x unmatched) e
+      ∙ (ap (λ zs. own_with b None deferred zs x unmatched) f ∙ ap (λ z. own_with b None deferred ys z unmatched) k)
 
-  with_none : (old : State) → state_of l pending deferred separate ended ≡ old
+  with_none : (old : State) → state_of l pending deferred separate ended unmatched ≡ old
       → (mid h : L.State) (now : ℕ) (done : T.Answer) (room : Bool) (turn : Due) (xs : List Separate)
       (end : Option Ended) → L.Step l now T.Ticks done mid
       → Steps mid (asking_room now (ready_if done (ready_at s now)) room) h → turn ≡ due_of done (ready_at s now) room
       → xs ≡ separate_unless done separate → end ≡ failed_by done separate
-      → Step old (Ticks now done room turn) (state_of h None deferred xs end)
+      → Step old (Ticks now done room turn) (state_of h None deferred xs end unmatched)
   with_none old is mid h now done room turn xs end step asks turn_is xs_is end_is =
       let clock : h.clock ≡ max l.clock now = asking_clock now (ready_if done (ready_at s now)) room mid h l.clock
       (step_clock l mid now T.Ticks done step) asks in
-      subst (λ o. Step o (Ticks now done room turn) (state_of h None deferred xs end)) is (record {
+      subst (λ o. Step o (Ticks now done room turn) (state_of h None deferred xs end unmatched)) is (record {
         right = turn_is;
         own_is = own_same h.clock (max l.clock now) xs (separate_unless done separate) end
             (failed_by done separate) clock xs_is end_is;
@@ -221,21 +221,21 @@ module _ (l : L.State) (pending : Option Asked) (deferred : List Deferred) (sepa
             (l, refl, step) asks;
       })
 
-  pub ticked : (old : State) → state_of l pending deferred separate ended ≡ old
+  pub ticked : (old : State) → state_of l pending deferred separate ended unmatched ≡ old
       → (from mid h : L.State) (now : ℕ) (done : T.Answer) (room : Bool) (turn : Due) (unasked : Option Asked)
       (xs : List Separate) (end : Option Ended) → from ≡ l → L.Step from now T.Ticks done mid
       → Steps mid (asking_room now (ready_if done (ready_at s now)) room) h → turn ≡ due_of done (ready_at s now) room
       → unasked ≡ None → xs ≡ separate_unless done separate → end ≡ failed_by done separate
-      → Step old (Ticks now done room turn) (state_of h unasked deferred xs end)
+      → Step old (Ticks now done room turn) (state_of h unasked deferred xs end unmatched)
   ticked old is from mid h now done room turn unasked xs end same first asks turn_is none_is xs_is end_is =
       let step : L.Step l now T.Ticks done mid = subst (λ x. L.Step x now T.Ticks done mid) same first in
-      subst (λ x. Step old (Ticks now done room turn) (state_of h x deferred xs end)) (sym none_is)
+      subst (λ x. Step old (Ticks now done room turn) (state_of h x deferred xs end unmatched)) (sym none_is)
       (with_none old is mid h now done room turn xs end step asks turn_is xs_is end_is)
 
   -- what is ready may be responded to
   pub may_respond : (h : L.State) (now : ℕ) (done : T.Answer) (room : Bool) (turn : Due) (unasked : Option Asked)
       (xs : List Separate) (end : Option Ended) (shown : Shown) (a : Asked)
-      → shown.state ≡ state_of h unasked deferred xs end → (room ≡ true → shown.room ≡ true)
+      → shown.state ≡ state_of h unasked deferred xs end unmatched → (room ≡ true → shown.room ≡ true)
       → h.clock ≡ max l.clock now → turn ≡ due_of done (ready_at s now) room → xs ≡ separate_unless done separate
       → (room ≡ true → (x : Asked) → option_map (λ (d : Deferred). d.asked) (ready_if done (ready_at s now)) ≡ Some x
       → is_busy x.from h.open_cons ≡ false)
@@ -245,7 +245,7 @@ module _ (l : L.State) (pending : Option Asked) (deferred : List Deferred) (sepa
       let k = due_ready done (ready_at s now) room a (sym turn_is ∙ h_is) in
       let at : max h.clock now ≡ max l.clock now = ap (λ c. max c now) clock ∙ clock_then l.clock now in
       let same : xs ≡ separate = xs_is ∙ ap (λ d. separate_unless d separate) k.2 in
-      let ready : ready_at (own_with h.clock unasked deferred xs end) now
+      let ready : ready_at (own_with h.clock unasked deferred xs end unmatched) now
       ≡ ready_at s now = ap (λ n. first_ready n xs deferred) at
       ∙ ap (λ ys. first_ready (max l.clock now) ys deferred) same in
       let asks : option_map (λ (d : Deferred). d.asked) (ready_if done (ready_at s now))

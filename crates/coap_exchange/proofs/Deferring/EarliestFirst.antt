@@ -9,6 +9,7 @@ use Rattle.coap_exchange.specs.declared.answerer.Due.TheVariants as due
 use Rattle.coap_exchange.specs.declared.separate.Deferred.{Deferred}
 use Rattle.coap_exchange.specs.declared.separate.Separate.{Separate}
 use Rattle.coap_exchange.specs.AnswererTrace.{Call, Incoming, Answers, Defers, Ticks, Responds, Ready, Notifies, Take}
+use Rattle.coap_exchange.specs.AnswererTrace.{NotifiesPlain}
 use Rattle.coap_exchange.specs.AnswererSteps.{IsRight, is_waited_for, is_ready, first_ready, without_ready, ready_at}
 use Rattle.coap_exchange.specs.AnswererLaw.{own_of, AnswererLaw}
 use Rattle.coap_exchange.specs.AnswererDeferrals.{moment, DefersUntil, IsDueFrom, IsEarliest, EarliestReady}
@@ -130,6 +131,9 @@ module _ (n : ℕ) (a : Asked) (at : ℕ) where
       (λ n k e. cc e) (is_kept t law.1) h
   is_kept (Notifies now to token r word id ∷ t) law h =
       quiet_due (Notifies now to token r word id) t (later_clock (own_of t).clock now) (λ n k e. cc e)
+      (is_kept t law.1) h
+  is_kept (NotifiesPlain now to token r id ∷ t) law h =
+      quiet_due (NotifiesPlain now to token r id) t (later_clock (own_of t).clock now) (λ n k e. cc e)
       (is_kept t law.1) h
   is_kept (Take answer ∷ t) law h = quiet_due (Take answer) t (omega arith) (λ n k e. cc e) (is_kept t law.1) h
 

@@ -12,6 +12,7 @@ use Rattle.coap_exchange.specs.declared.answerer.Due.TheVariants as due
 use Rattle.coap_exchange.specs.declared.separate.Deferred.{Deferred}
 use Rattle.coap_exchange.specs.declared.separate.Separate.{Separate}
 use Rattle.coap_exchange.specs.AnswererTrace.{Call, Incoming, Answers, Defers, Ticks, Responds, Ready, Notifies, Take}
+use Rattle.coap_exchange.specs.AnswererTrace.{NotifiesPlain}
 use Rattle.coap_exchange.specs.AnswererSteps.{IsRight, is_waited_for, is_ready, first_ready, without_ready, due_of}
 use Rattle.coap_exchange.specs.AnswererSteps.{ready_at}
 use Rattle.coap_exchange.specs.AnswererLaw.{own_of, AnswererLaw}
@@ -160,6 +161,8 @@ module _ (a : Asked) (at : ℕ) where
   is_kept (Ready now to answer ∷ t) law h = quiet_due (Ready now to answer) t (λ n k e. cc e) (is_kept t law.1) h
   is_kept (Notifies now to token r word id ∷ t) law h =
       quiet_due (Notifies now to token r word id) t (λ n k e. cc e) (is_kept t law.1) h
+  is_kept (NotifiesPlain now to token r id ∷ t) law h =
+      quiet_due (NotifiesPlain now to token r id) t (λ n k e. cc e) (is_kept t law.1) h
   is_kept (Take answer ∷ t) law h = quiet_due (Take answer) t (λ n k e. cc e) (is_kept t law.1) h
 
   -- .. and one is ready
@@ -263,6 +266,10 @@ module _ (t : List Call) (stand : AllStand t (own_of t).deferred) where
   on (Notifies now to token r word id) right = (
     no_ready t _ (λ n b r a e. cc e) (λ n a r w i e. cc e),
     timed (Notifies now to token r word id) (later_clock (own_of t).clock now),
+  )
+  on (NotifiesPlain now to token r id) right = (
+    no_ready t _ (λ n b r a e. cc e) (λ n a r w i e. cc e),
+    timed (NotifiesPlain now to token r id) (later_clock (own_of t).clock now),
   )
   on (Take answer) right = (no_ready t _ (λ n b r a e. cc e) (λ n a r w i e. cc e), timed (Take answer) (omega arith))
 

@@ -17,6 +17,7 @@ use Rattle.coap_exchange.specs.declared.separate.Deferred.{Deferred}
 use Rattle.coap_exchange.specs.declared.separate.Separate.{Separate}
 use Rattle.coap_exchange.specs.AnswererTrace.{Response, Own, Call, Incoming, Answers, Defers, Ticks, Responds, Ready}
 use Rattle.coap_exchange.specs.AnswererTrace.{Notifies, Take}
+use Rattle.coap_exchange.specs.AnswererTrace.{NotifiesPlain}
 use Rattle.coap_exchange.specs.AnswererSteps.{lower, after, goes_to, without_separate, separate_after, separate_unless}
 use Rattle.coap_exchange.specs.AnswererSteps.{is_waited_for, content_of, content_with, answering, deferring, may_defer}
 use Rattle.coap_exchange.specs.AnswererSteps.{asking_room, ready_if, ready_at, reject_by}
@@ -253,6 +254,9 @@ mirrors word (Notifies now to token r w id ∷ t) h steps =
     ∙ ap (λ z. z ++ option_to_list (begun_in at call (T.Sent id)))
     (left_same (entry_of at call (T.Sent id) (out_of mid at call)) (λ c. refl) mid.open_cons)))
     (with_mirrors s.separate mid.open_cons _ _ refl refl (mirrors word t mid steps.1))
+mirrors word (NotifiesPlain now to token r id ∷ t) h steps =
+    still steps.0 h now (T.Plain to (content_with token r)) (T.Sent id) (own_of t).separate steps.2 (λ at out c. refl)
+    (λ at. refl) (mirrors word t steps.0 steps.1)
 mirrors word (Take answer ∷ t) h steps = still steps.0 h 0 T.Take (T.Gives answer) (own_of t).separate steps.2
     (λ at out c. refl) (λ at. refl) (mirrors word t steps.0 steps.1)
 

@@ -6,6 +6,7 @@ use Rattle.coap_layer.specs.Trace as T
 use Rattle.coap_exchange.specs.declared.answerer.Asked.{Asked}
 use Rattle.coap_exchange.specs.declared.separate.Separate.{Separate}
 use Rattle.coap_exchange.specs.AnswererTrace.{Call, Incoming, Answers, Defers, Ticks, Responds, Ready, Notifies, Take}
+use Rattle.coap_exchange.specs.AnswererTrace.{NotifiesPlain}
 use Rattle.coap_exchange.specs.AnswererSteps.{handed_up, reset_by}
 use Rattle.coap_exchange.specs.AnswererLaw.{own_of, AnswererLaw}
 use Rattle.coap_exchange.specs.AnswererFollows.{hands, end_told}
@@ -48,4 +49,5 @@ hands_or_ends (Ticks now below room answer ∷ t) law = (tt, hands_or_ends t law
 hands_or_ends (Responds now a r word id ∷ t) law = (tt, hands_or_ends t law.1)
 hands_or_ends (Ready now to answer ∷ t) law = (tt, hands_or_ends t law.1)
 hands_or_ends (Notifies now to token r word id ∷ t) law = (tt, hands_or_ends t law.1)
+hands_or_ends (NotifiesPlain now to token r id ∷ t) law = (tt, hands_or_ends t law.1)
 hands_or_ends (Take answer ∷ t) law = (tt, hands_or_ends t law.1)

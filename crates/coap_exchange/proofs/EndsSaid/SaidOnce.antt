@@ -9,6 +9,7 @@ use Rattle.coap_layer.specs.Trace as L
 use Rattle.coap_exchange.specs.declared.answerer.Ended.{Ended}
 use Rattle.coap_exchange.specs.declared.separate.Separate.{Separate}
 use Rattle.coap_exchange.specs.AnswererTrace.{Call, Incoming, Answers, Defers, Ticks, Responds, Ready, Notifies, Take}
+use Rattle.coap_exchange.specs.AnswererTrace.{NotifiesPlain}
 use Rattle.coap_exchange.specs.AnswererSteps.{goes_to, found, ended_as, separate_of, without_separate, separate_after}
 use Rattle.coap_exchange.specs.AnswererSteps.{separate_unless, reset_by, failed_by}
 use Rattle.coap_exchange.specs.AnswererLaw.{own_of}
@@ -142,6 +143,7 @@ module _ (t : List Call) (sent : Sent t) where
     quiet _ refl,
     λ x. let k = sent x in let l = hits_with x (own_of t).separate (separate_of to id token r) in omega (arith, k, l),
   )
+  on (NotifiesPlain now to token r id) = (quiet _ refl, λ x. let k = sent x in omega (arith, k))
   on (Take answer) = (quiet _ refl, λ x. let k = sent x in omega (arith, k))
 
 said : (t : List Call) → EndsOnce t × Sent t

@@ -25,13 +25,14 @@ use Rattle.coap_layer.specs.Words.{Open, is_con, is_to}
 use Rattle.coap_exchange.specs.declared.answerer.Ended.{Ended}
 use Rattle.coap_exchange.specs.declared.separate.Separate.{Separate}
 use Rattle.coap_exchange.specs.AnswererTrace.{Own, Call, Incoming, Answers, Defers, Ticks, Responds, Ready, Notifies}
+use Rattle.coap_exchange.specs.AnswererTrace.{NotifiesPlain, Sending}
 use Rattle.coap_exchange.specs.AnswererTrace.{Take}
 use Rattle.coap_exchange.specs.AnswererSteps.{lower, goes_to, found, ended_as, separate_of, without_separate}
 use Rattle.coap_exchange.specs.AnswererSteps.{separate_after, separate_unless, is_waited_for, asking_room, ready_if}
 use Rattle.coap_exchange.specs.AnswererSteps.{ready_at, reject_by}
 use Rattle.coap_exchange.specs.AnswererLaw.{own_of, lower_of, AnswererLaw, ResponseLaw}
 use Rattle.coap_exchange.specs.AnswererSends.{begins}
-use Rattle.coap_exchange.specs.AnswererTells.{Sending, SentIn, TellsIf, EndsTold, fails}
+use Rattle.coap_exchange.specs.AnswererTells.{SentIn, TellsIf, EndsTold, fails}
 use Rattle.coap_exchange.specs.AskerRequests.{asked}
 use Rattle.coap_exchange.specs.AskerArrivals.{id_in, replying}
 use Rattle.coap_layer.proofs.Facts.StepsOfLayer.{steps_split}
@@ -298,6 +299,7 @@ module _ (word : ℕ) (t : List Call) (rows : AnswererLaw t) (last : AllLast t (
   on (Answers a r below) h steps = (refl, still_last (Answers a r below) refl t xs last)
   on (Defers now a delay answer) h steps = (refl, still_last (Defers now a delay answer) refl t xs last)
   on (Ready now to answer) h steps = (refl, still_last (Ready now to answer) refl t xs last)
+  on (NotifiesPlain now to token r id) h steps = (refl, still_last (NotifiesPlain now to token r id) refl t xs last)
   on (Take answer) h steps = (refl, still_last (Take answer) refl t xs last)
 
 told_so : (word : ℕ) (t : List Call) → AnswererLaw t → (h : L.State) → Steps (L.start (L.usual word)) (lower_of t) h

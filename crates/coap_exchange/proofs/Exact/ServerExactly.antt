@@ -109,6 +109,9 @@ module _ (word : ℕ) (past : List Call) where
     notifies = λ now to token r w id another p q. let e =
         single now (T.Confirm to (content_with token r) w) (T.Sent id)
         (T.Sent another) p.left q.left p.layer q.layer in cc e;
+    notifies_plain = λ now to token r id another p q. let e =
+        single now (T.Plain to (content_with token r)) (T.Sent id)
+        (T.Sent another) p.left q.left p.layer q.layer in cc e;
     take = λ answer another p q. let e = single 0 T.Take (T.Gives answer)
         (T.Gives another) p.left q.left p.layer q.layer in cc e;
   }

@@ -20,7 +20,7 @@ use Rattle.coap_exchange.specs.declared.answerer.Asked.{Asked}
 use Rattle.coap_exchange.specs.declared.separate.Deferred.{Deferred}
 use Rattle.coap_exchange.specs.declared.separate.Separate.{Separate}
 use Rattle.coap_exchange.specs.AnswererTrace.{Response, Own, Call, Incoming, Answers, Defers, Ticks, Responds, Ready}
-use Rattle.coap_exchange.specs.AnswererTrace.{Notifies, Take}
+use Rattle.coap_exchange.specs.AnswererTrace.{Notifies, NotifiesPlain, Take}
 use Rattle.coap_exchange.specs.AnswererSteps.{lower, IsRight, after, answering, deferring, may_defer, asking_room}
 use Rattle.coap_exchange.specs.AnswererSteps.{ready_if, ready_at, reject_by, handed_up, first_ready, without_ready}
 use Rattle.coap_exchange.specs.AnswererSteps.{is_ready, content_of, content_with}
@@ -141,6 +141,7 @@ module _ (word : ℕ) where
     clock_next (Responds now a r w id) = later now
     clock_next (Ready now to answer) = later now
     clock_next (Notifies now to token r w id) = later now
+    clock_next (NotifiesPlain now to token r id) = later now
     clock_next (Take answer) = before
 
   pub clock_is : (t : List Call) → clock (below_of word t) ≡ (own_of t).clock
@@ -284,6 +285,14 @@ module _ (word : ℕ) where
         let n = since_one (λ past. (own_of past).clock) notifies u (Notifies now to token r w id) t refl late in
         omega (arith, old, one, n)
 
+    plain_on : (now : ℕ) (to : Endpoint) (token : List ℕ) (r : Response) (id : ℕ)
+        → u ≤ max s.clock now → Potential u (NotifiesPlain now to token r id ∷ t)
+    plain_on now to token r id late =
+        let e : Entry = made (reached t) now (T.Plain to (content_with token r)) in
+        let one = at_most_one u e (below_of word t) in
+        let n = since_one (λ past. (own_of past).clock) notifies u (NotifiesPlain now to token r id) t refl late in
+        omega (arith, old, one, n)
+
     -- a call at that moment or later
     on : (c : Call) → IsRight s c → (h : L.State) → Steps begin (lower_of (c ∷ t)) h
         → u ≤ clock (below_of word (c ∷ t)) → Potential u (c ∷ t)
@@ -308,6 +317,8 @@ module _ (word : ℕ) where
     on (Notifies now to token r w id) right h steps late =
         notifies_on now to token r w id
         (subst (λ n. u ≤ n) (clock_is (Notifies now to token r w id ∷ t)) late)
+    on (NotifiesPlain now to token r id) right h steps late =
+        plain_on now to token r id (subst (λ n. u ≤ n) (clock_is (NotifiesPlain now to token r id ∷ t)) late)
     on (Take answer) right h steps late = old
 
   pending_few : (o : Option Asked) → pending_in o ≤ 1

@@ -11,6 +11,7 @@ use Rattle.coap_exchange.specs.declared.answerer.Asked.{Asked}
 use Rattle.coap_exchange.specs.declared.separate.Deferred.{Deferred}
 use Rattle.coap_exchange.specs.AnswererTrace.{Response, Own, Call, Incoming, Answers, Defers, Ticks, Responds, Ready}
 use Rattle.coap_exchange.specs.AnswererTrace.{Notifies, Take}
+use Rattle.coap_exchange.specs.AnswererTrace.{NotifiesPlain}
 use Rattle.coap_exchange.specs.AnswererSteps.{reject_by, answering, IsRight, may_defer, deferring, asking_room}
 use Rattle.coap_exchange.specs.AnswererSteps.{ready_if, ready_at}
 use Rattle.coap_exchange.specs.AnswererLaw.{own_of, AnswererLaw}
@@ -102,6 +103,7 @@ rightly t (Ticks now below room answer) right = none_asked now below (ready_if b
 rightly t (Responds now a r word id) right = refl
 rightly t (Ready now to answer) right = refl
 rightly t (Notifies now to token r word id) right = refl
+rightly t (NotifiesPlain now to token r id) right = refl
 rightly t (Take answer) right = refl
 
 pub are_replied : (t : List Call) → AnswererLaw t → AreReplied t

@@ -1,12 +1,12 @@
 -- What the server's side sends, by the rows of the message layer's law.
-use Rattle.std.proofs.Common.{◌≡◌, ◌≢◌, inl, inr, ℕ, ◌<◌, Some, List, [], ◌∷◌, None, IfSome, refl, ap, sym, subst, ◌∙◌}
+use Rattle.std.proofs.Common.{◌≡◌, ◌≢◌, ◌⊎◌, inl, inr, ℕ, ◌<◌, true, false, Some, List, [], ◌∷◌, None, IfSome, refl, ap, sym, subst, ◌∙◌}
 use Rattle.std.proofs.Common.{arith}
 use Rattle.coap_types.specs.Past.{Ever}
 use Rattle.coap_types.specs.declared.endpoint.Endpoint.{Endpoint}
 use Rattle.coap_types.specs.declared.message.Kind.{Kind}
 use Rattle.coap_types.specs.declared.message.Kind.TheVariants.{Con, Non, Ack, Rst}
 use Rattle.coap_codec.specs.Spelling.{message_bytes}
-use Rattle.coap_layer.specs.Rows.{Busy, Row, Stands, LayerLaw, Plains, Confirms, IsSpelled}
+use Rattle.coap_layer.specs.Rows.{Busy, Row, Stands, LayerLaw, Plains, Confirms, IsSpelled, MayGive, Withholds}
 use Rattle.coap_layer.specs.Machine.State as L
 use Rattle.coap_layer.specs.Machine.State.{made}
 use Rattle.coap_layer.specs.Machine.Steps.{Asked as Below, Steps, left_after}
@@ -19,10 +19,12 @@ use Rattle.coap_layer.proofs.Facts.Calls.{steps_left}
 use Rattle.coap_exchange.specs.declared.answerer.Asked.{Asked}
 use Rattle.coap_exchange.specs.AnswererTrace.{Response, Own, Call, Incoming, Answers, Defers, Ticks, Responds, Ready}
 use Rattle.coap_exchange.specs.AnswererTrace.{Notifies, Take}
+use Rattle.coap_exchange.specs.AnswererTrace.{NotifiesPlain}
 use Rattle.coap_exchange.specs.AnswererSteps.{lower, IsRight, IsResponse, IsSentAs, answering, content_of, content_with}
 use Rattle.coap_exchange.specs.AnswererLaw.{own_of, lower_of, below_of, AnswererLaw}
 use Rattle.coap_exchange.specs.AnswererFollows.{hands, AreRequests}
 use Rattle.coap_exchange.specs.AnswererSends.{carrying, SendsThere, GoesBack, AllGoBack, begins, BeginAlone}
+use Rattle.coap_exchange.specs.AnswererSends.{ReadyAlone}
 use Rattle.coap_exchange.proofs.Responding.RequestsCame.{came_in}
 use Rattle.coap_exchange.proofs.Leading.ServerLeads.{layer_stands}
 use Rattle.coap_exchange.proofs.Responding.OneResponse.{counted}
@@ -97,6 +99,7 @@ small_id a (Ticks now below room answer ∷ t) (inl h) came = absurd (cc h)
 small_id a (Responds now b r setup id ∷ t) (inl h) came = absurd (cc h)
 small_id a (Ready now to answer ∷ t) (inl h) came = absurd (cc h)
 small_id a (Notifies now to token r setup id ∷ t) (inl h) came = absurd (cc h)
+small_id a (NotifiesPlain now to token r id ∷ t) (inl h) came = absurd (cc h)
 small_id a (Take answer ∷ t) (inl h) came = absurd (cc h)
 small_id a (c ∷ t) (inr h) came = small_id a t h came.1
 
@@ -166,7 +169,54 @@ module _ (word : ℕ) (t : List Call) (law : AnswererLaw t) (came : AreRequests 
       let k = confirmed (L.usual word) past (entered now call) to (content_with token r) id stands.0
       (told_by (L.start (L.usual word)) steps.0 h (lower_of t) now call (T.Sent id) steps.1 steps.2) w refl in
       (record { entry = entered now call; makes = refl; sends = k.0 }, k.1)
+  here (NotifiesPlain now to token r id) right steps stands =
+      let call : T.Call = T.Plain to (content_with token r) in
+      let k = plained (L.usual word) past (entered now call) to (content_with token r) id stands.0
+      (told_by (L.start (L.usual word)) steps.0 h (lower_of t) now call (T.Sent id) steps.1 steps.2) refl in
+      (record { entry = entered now call; makes = refl; sends = k }, tt)
   here (Take answer) right steps stands = (tt, tt)
+
+-- where there is room for a CON, none is outstanding
+has_room : (setup : Setup) (past : List Entry) (e : Entry) (to : Endpoint) → Stands setup past e → e.call ≡ T.Room to
+    → e.answer ≡ T.Is true → Busy past to → ⊥
+has_room setup past e to here is told = go (subst (Row setup past e) is here.row).0
+  where
+    go : ((Busy past to → ⊥) × MayGive setup past e.at × (e.answer ≡ T.Is true))
+        ⊎ ((Busy past to ⊎ Withholds setup past e.at) × (e.answer ≡ T.Is false)) → Busy past to → ⊥
+    go (inl k) = k.0
+    go (inr k) = let other = k.1 in absurd (cc (other, told))
+
+module _ (word : ℕ) (t : List Call) (law : AnswererLaw t) (h : L.State) where
+  alone_here : (c : Call) → Steps (L.start (L.usual word)) (lower_of (c ∷ t)) h
+      → LayerLaw (L.usual word) (below_of word (c ∷ t))
+      → (now : ℕ) (to : Endpoint) → c ≡ Ready now to true → Busy (below_of word t) to → ⊥
+  alone_here (Ready at there answer) steps stands now to e =
+      let there_is : there ≡ to = cc e in
+      let answer_is : answer ≡ true = cc e in
+      let call : T.Call = T.Room there in
+      let entry : Entry = made (left_after (L.start (L.usual word)) (lower_of t)) at call in
+      subst (λ x. Busy (below_of word t) x → ⊥) there_is
+      (has_room (L.usual word) (below_of word t) entry there stands.0 refl
+      (told_by (L.start (L.usual word)) steps.0 h (lower_of t) at call (T.Is answer) steps.1 steps.2
+      ∙ ap T.Is answer_is))
+  alone_here (Incoming at from bytes up answer) steps stands now to e = absurd (cc e)
+  alone_here (Answers a r below) steps stands now to e = absurd (cc e)
+  alone_here (Defers at a delay answer) steps stands now to e = absurd (cc e)
+  alone_here (Ticks at below room answer) steps stands now to e = absurd (cc e)
+  alone_here (Responds at a r w id) steps stands now to e = absurd (cc e)
+  alone_here (Notifies at there token r w id) steps stands now to e = absurd (cc e)
+  alone_here (NotifiesPlain at there token r id) steps stands now to e = absurd (cc e)
+  alone_here (Take answer) steps stands now to e = absurd (cc e)
+
+pub ready_alone : (word : ℕ) (t : List Call) → AnswererLaw t → (h : L.State)
+    → Steps (L.start (L.usual word)) (lower_of t) h → ReadyAlone word t
+ready_alone word [] law h steps = tt
+ready_alone word (c ∷ t) law h steps =
+    let parts = steps_split (L.start (L.usual word)) h (lower (own_of t) c) (lower_of t) steps in (
+      alone_here word t law.1 h c steps
+          (layer_stands word (c ∷ t) (record { rows = law; left = h; layer = steps })),
+      ready_alone word t law.1 parts.0 parts.1,
+    )
 
 pub sends_so : (word : ℕ) (t : List Call) → AnswererLaw t → (h : L.State) → Steps (L.start (L.usual word)) (lower_of t) h
     → AllGoBack word t × BeginAlone word t

@@ -12,6 +12,7 @@ use Rattle.coap_exchange.specs.declared.answerer.Asked.{Asked}
 use Rattle.coap_exchange.specs.declared.separate.Deferred.{Deferred}
 use Rattle.coap_exchange.specs.declared.separate.Separate.{Separate}
 use Rattle.coap_exchange.specs.AnswererTrace.{Own, Call, Incoming, Answers, Defers, Ticks, Responds, Ready, Notifies}
+use Rattle.coap_exchange.specs.AnswererTrace.{NotifiesPlain}
 use Rattle.coap_exchange.specs.AnswererTrace.{Take}
 use Rattle.coap_exchange.specs.AnswererSteps.{IsRight, after, may_defer, is_ready, first_ready, without_ready}
 use Rattle.coap_exchange.specs.AnswererSteps.{max_deferred}
@@ -230,6 +231,15 @@ module _ (t : List Call) (s : Own) (known : Counted t s) where
     few = known.few;
   }
 
+  plain_on : (now : ℕ) (to : Endpoint) (token : List ℕ) (r : _) (id : ℕ)
+      → Counted (NotifiesPlain now to token r id ∷ t) (after s (NotifiesPlain now to token r id))
+  plain_on now to token r id = record {
+    count = λ a. let k = known.count a in omega (arith, k);
+    pending = λ a h. absurd (cc h);
+    deferred = all_later (NotifiesPlain now to token r id) t s.deferred known.deferred;
+    few = known.few;
+  }
+
   take_on : (answer : _) → Counted (Take answer ∷ t) s
   take_on answer = record {
     count = λ a. let k = known.count a in omega (arith, k);
@@ -246,6 +256,7 @@ module _ (t : List Call) (s : Own) (known : Counted t s) where
   on (Responds now b r word id) right = responds_on now b r word id right.0
   on (Ready now to answer) right = (quiet _ refl, ready_on now to answer)
   on (Notifies now to token r word id) right = (quiet _ refl, notifies_on now to token r word id)
+  on (NotifiesPlain now to token r id) right = (quiet _ refl, plain_on now to token r id)
   on (Take answer) right = (quiet _ refl, take_on answer)
 
 pub counted : (t : List Call) → AnswererLaw t → AreResponses t × Counted t (own_of t)

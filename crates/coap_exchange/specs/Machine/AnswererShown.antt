@@ -3,6 +3,7 @@ use Rattle.std.specs.Prelude.{◌≡◌, ◌≢◌, ◌<◌, ◌⊎◌, ℕ, max
 use Rattle.std.specs.Option.{option_map}
 use Rattle.coap_types.specs.Roles.{role_of}
 use Rattle.coap_types.specs.declared.endpoint.Endpoint.{Endpoint}
+use Rattle.coap_types.specs.declared.message.Id.{Id}
 use Rattle.coap_types.specs.declared.message.Kind.TheVariants.{Con}
 use Rattle.coap_types.specs.declared.role.Role.TheVariants as role
 use Rattle.coap_layer.specs.Sendable.{IsSendable}
@@ -15,7 +16,7 @@ use Rattle.coap_exchange.specs.declared.answerer.Asked.{Asked}
 use Rattle.coap_exchange.specs.declared.answerer.Ended.{Ended}
 use Rattle.coap_exchange.specs.declared.separate.Deferred.{Deferred}
 use Rattle.coap_exchange.specs.declared.separate.Separate.{Separate}
-use Rattle.coap_exchange.specs.AnswererTrace.{Response, Own, Call}
+use Rattle.coap_exchange.specs.AnswererTrace.{Response, Own, Call, Sending}
 use Rattle.coap_exchange.specs.AnswererSteps.{content_with, ready_at}
 use Rattle.coap_exchange.specs.AnswererLaw.{State, Led}
 
@@ -31,17 +32,31 @@ pub record Shown : Type 0 where
 abbrev pub Leads : Shown → Call → Shown → Type 0
 Leads old c new = (word : ℕ) (t : List Call) → Led word t old.state → Led word (c ∷ t) new.state
 
-abbrev pub own_with : ℕ → Option Asked → List Deferred → List Separate → Option Ended → Own
-own_with clock pending deferred separate ended =
-    record { clock = clock; pending = pending; deferred = deferred; separate = separate; ended = ended }
+abbrev pub own_with : ℕ → Option Asked → List Deferred → List Separate → Option Ended → Option Sending → Own
+own_with clock pending deferred separate ended unmatched =
+    record {
+      clock = clock;
+      pending = pending;
+      deferred = deferred;
+      separate = separate;
+      ended = ended;
+      unmatched = unmatched;
+    }
 
-abbrev pub state_of : L.State → Option Asked → List Deferred → List Separate → Option Ended → State
-state_of l pending deferred separate ended =
-    record { own = own_with l.clock pending deferred separate ended; layer = l }
+abbrev pub state_of : L.State → Option Asked → List Deferred → List Separate → Option Ended → Option Sending → State
+state_of l pending deferred separate ended unmatched =
+    record { own = own_with l.clock pending deferred separate ended unmatched; layer = l }
 
-abbrev pub before_of : Option L.State → Option Asked → List Deferred → List Separate → Option Ended → Option State
-before_of None pending deferred separate ended = None
-before_of (Some l) pending deferred separate ended = Some (state_of l pending deferred separate ended)
+abbrev pub before_of : Option L.State → Option Asked → List Deferred → List Separate → Option Ended → Option Sending
+    → Option State
+before_of None pending deferred separate ended unmatched = None
+before_of (Some l) pending deferred separate ended unmatched =
+    Some (state_of l pending deferred separate ended unmatched)
+
+-- a Reset's endpoint and Message ID
+abbrev pub sending_as : Option (Endpoint × Id) → Option Sending
+sending_as None = None
+sending_as (Some p) = Some (record { to = p.0; id = p.1.0 })
 
 -- The request is the one that the last input handed up, and nothing was sent or taken back since: what answers or
 -- defers it takes no memory.

@@ -156,6 +156,7 @@ module _ (to : Endpoint) (id : ℕ) (token : List ℕ) where
         is = found_before s.separate (P.separate_of there n bytes r ∷ []) f.one f.is;
         ends = f.ends;
       }
+  one_later s (E.NotifiesPlain at there bytes r n) l f = f
   one_later s (E.Take answer) l f = f
 
   pub later : (s : E.Own) (cs : List E.Call) → Each IsLater cs → Flying s.separate

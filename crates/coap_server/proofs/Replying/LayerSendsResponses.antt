@@ -39,6 +39,7 @@ module _ (p : L.Packet) where
   CarriesIn (E.Answers a r below) = Carries p a.from a.token r
   CarriesIn (E.Responds now a r word id) = Carries p a.from a.token r
   CarriesIn (E.Notifies now to token r word id) = Carries p to token r
+  CarriesIn (E.NotifiesPlain now to token r id) = Carries p to token r
   CarriesIn _ = ⊥
 
   abbrev From : List G.Asked → Type 0
@@ -67,10 +68,11 @@ module _ (p : L.Packet) where
         spells = subst (λ c. Spells p.bytes (with_head g.kind g.id c)) content g.spells;
       }
 
-  in_non : (a : Asked) (r : E.Response) → Source p (L.Plain a.from (P.content_of a r)) → Carries p a.from a.token r
-  in_non a r (inl g) = let k = g.call_is in absurd (cc k)
-  in_non a r (inr g) = elim g.call_is [
-    | inl k ↦ carried (L.Plain a.from (P.content_of a r)) g a.from a.token r (cc k)
+  in_non : (to : Endpoint) (token : List ℕ) (r : E.Response) → Source p (L.Plain to (P.content_with token r))
+      → Carries p to token r
+  in_non to token r (inl g) = let k = g.call_is in absurd (cc k)
+  in_non to token r (inr g) = elim g.call_is [
+    | inl k ↦ carried (L.Plain to (P.content_with token r)) g to token r (cc k)
         (cc k)
     | inr k ↦ let l = k.1 in absurd (cc l)
   ]
@@ -103,9 +105,9 @@ module _ (p : L.Packet) where
   answer_of : (s : E.Own) (a : Asked) (r : E.Response) → P.IsResponse a r → (kind : Kind)
       → Source p (P.answering s kind a r) → Carries p a.from a.token r
   answer_of s a r is Con h = in_ack a r is h
-  answer_of s a r is Non h = in_non a r h
-  answer_of s a r is Ack h = in_non a r h
-  answer_of s a r is Rst h = in_non a r h
+  answer_of s a r is Non h = in_non a.from a.token r h
+  answer_of s a r is Ack h = in_non a.from a.token r h
+  answer_of s a r is Rst h = in_non a.from a.token r h
 
   -- Empty messages
 
@@ -203,6 +205,8 @@ module _ (p : L.Packet) where
   makes s (E.Ready at to answer) right (inr h) = absurd h
   makes s (E.Notifies at to token r word id) right (inl h) = inr (in_con to token r word h)
   makes s (E.Notifies at to token r word id) right (inr h) = absurd h
+  makes s (E.NotifiesPlain at to token r id) right (inl h) = inr (in_non to token r h)
+  makes s (E.NotifiesPlain at to token r id) right (inr h) = absurd h
   makes s (E.Take answer) right (inl h) = absurd (of_take h)
   makes s (E.Take answer) right (inr h) = absurd h
 

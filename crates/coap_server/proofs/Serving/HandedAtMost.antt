@@ -60,5 +60,7 @@ handed_at_most a (E.Ready now to answer ∷ t) law = let k = handed_at_most a t 
     ups_append a (P.lower (W.own_of t) (E.Ready now to answer)) (W.lower_of t) in omega (arith, k, e)
 handed_at_most a (E.Notifies now to token r word id ∷ t) law = let k = handed_at_most a t law.1 in let e =
     ups_append a (P.lower (W.own_of t) (E.Notifies now to token r word id)) (W.lower_of t) in omega (arith, k, e)
+handed_at_most a (E.NotifiesPlain now to token r id ∷ t) law = let k = handed_at_most a t law.1 in let e =
+    ups_append a (P.lower (W.own_of t) (E.NotifiesPlain now to token r id)) (W.lower_of t) in omega (arith, k, e)
 handed_at_most a (E.Take answer ∷ t) law = let k = handed_at_most a t law.1 in let e =
     ups_append a (P.lower (W.own_of t) (E.Take answer)) (W.lower_of t) in omega (arith, k, e)

@@ -40,7 +40,7 @@ asked_for K old new (a ∷ earlier) h (inl e) =
     inl (subst (K a.call) (sym right) e)
 
 module _ (K : L.Call → L.Answer → Type 0) where
-  -- an Empty message; the answer to a request; a separate response; a notification
+  -- an Empty message; the answer to a request; a separate response; a notification in a CON and in a NON
   pub data Origin (s : E.Own) (c : E.Call) : Type 0 where
     empties : (to : Endpoint) (id : ℕ) → K (L.Reply to id (ack_bytes id)) L.Nothing
         ⊎ K (L.Reply to id (reset_bytes id)) L.Nothing → Origin s c
@@ -51,6 +51,8 @@ module _ (K : L.Call → L.Answer → Type 0) where
     notifies : (now : ℕ) (to : Endpoint) (token : List ℕ) (r : E.Response) (word id : ℕ)
         → c ≡ E.Notifies now to token r word id → K (L.Confirm to (P.content_with token r) word) (L.Sent id)
         → Origin s c
+    plains : (now : ℕ) (to : Endpoint) (token : List ℕ) (r : E.Response) (id : ℕ)
+        → c ≡ E.NotifiesPlain now to token r id → K (L.Plain to (P.content_with token r)) (L.Sent id) → Origin s c
 
   -- what sends nothing of the kind
   pub record IsOfSending : Type 0 where
@@ -115,6 +117,8 @@ module _ (K : L.Call → L.Answer → Type 0) where
   origin q s (E.Ready at to answer) (inr h) = absurd h
   origin q s (E.Notifies at to token r word id) (inl h) = notifies at to token r word id refl h
   origin q s (E.Notifies at to token r word id) (inr h) = absurd h
+  origin q s (E.NotifiesPlain at to token r id) (inl h) = plains at to token r id refl h
+  origin q s (E.NotifiesPlain at to token r id) (inr h) = absurd h
   origin q s (E.Take answer) (inl h) = absurd (q.take _ h)
   origin q s (E.Take answer) (inr h) = absurd h
 

@@ -131,6 +131,7 @@ weighs s (E.Ticks at below room d) =
 weighs s (E.Responds at a r word id) = refl
 weighs s (E.Ready at to answer) = refl
 weighs s (E.Notifies at to token r word id) = refl
+weighs s (E.NotifiesPlain at to token r id) = refl
 weighs s (E.Take answer) = refl
 
 all_weigh : (past later : List E.Call) → cons (asked_by_server past later) ≡ total later

@@ -99,6 +99,7 @@ module _ (a : Asked) (r : E.Response) where
   response_out s (E.Ticks now below room d) right h = absurd (cc h)
   response_out s (E.Ready now to answer) right h = absurd (cc h)
   response_out s (E.Notifies now to token r w id) right h = absurd (cc h)
+  response_out s (E.NotifiesPlain now to token r id) right h = absurd (cc h)
   response_out s (E.Take answer) right h = absurd (cc h)
 
 -- a notification

@@ -48,6 +48,7 @@ response_in a (E.Defers now x delay answer) h = absurd (cc h)
 response_in a (E.Ticks now below room d) h = absurd (cc h)
 response_in a (E.Ready now to answer) h = absurd (cc h)
 response_in a (E.Notifies now to token r w id) h = absurd (cc h)
+response_in a (E.NotifiesPlain now to token r id) h = absurd (cc h)
 response_in a (E.Take answer) h = absurd (cc h)
 
 pub answer_sent : (a : Asked) (cs : List E.Call) → Ever (λ b. responds b ≡ Some a) cs

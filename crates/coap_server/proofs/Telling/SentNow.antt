@@ -236,6 +236,7 @@ module _ (limits : Limits) (szx : ℕ) (t : List Call) (c : Call) where
   Means (E.Answers a r below) = Notes r → Says limits szx t c InReply a.from a.token r × Serving_of a
   Means (E.Responds now a r word id) = Notes r → Says limits szx t c (InCon id) a.from a.token r
   Means (E.Notifies now to token r word id) = Notes r → Says limits szx t c (InCon id) to token r
+  Means (E.NotifiesPlain now to token r id) = ⊥
   Means _ = Unit {0}
 
   join : (xs ys : List E.Call) → Each Means xs → Each Means ys → Each Means (xs ++ ys)

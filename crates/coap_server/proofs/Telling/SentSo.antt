@@ -167,6 +167,7 @@ module _ (a : Asked) (r : E.Response) where
   asks_now con s (E.Ticks now below room d) right h = let k = h.0 in absurd (cc k)
   asks_now con s (E.Ready now to answer) right h = let k = h.0 in absurd (cc k)
   asks_now con s (E.Notifies now to token y w id) right h = let k = h.0 in absurd (cc k)
+  asks_now con s (E.NotifiesPlain now to token y id) right h = let k = h.0 in absurd (cc k)
   asks_now con s (E.Take answer) right h = let k = h.0 in absurd (cc k)
 
   asks_later : (s : E.Own) (d : E.Call) → P.IsRight s d → RespondsLater d
@@ -186,6 +187,7 @@ module _ (a : Asked) (r : E.Response) where
   asks_later s (E.Ticks now below room d) right h = let k = h.0 in absurd (cc k)
   asks_later s (E.Ready now to answer) right h = let k = h.0 in absurd (cc k)
   asks_later s (E.Notifies now to token y w id) right h = let k = h.0 in absurd (cc k)
+  asks_later s (E.NotifiesPlain now to token y id) right h = let k = h.0 in absurd (cc k)
   asks_later s (E.Take answer) right h = let k = h.0 in absurd (cc k)
 
 module _ (limits : Limits) (szx word : ℕ) (t : List Call) where

@@ -173,6 +173,7 @@ module _ (limits : Limits) (szx word : ℕ) (past : List Call) (c : Call)
         means (Confirms con) g (E.Responds now a r w id) is in con_says id a.from a.token r w k z.1.1.spelled z.0
     begun_so g (notifies now to token r w id is k) = let z =
         means (Confirms con) g (E.Notifies now to token r w id) is in con_says id to token r w k z.1.spelled z.0
+    begun_so g (plains now to token r id is k) = let z = k.2 in absurd (cc z)
 
     begun_tells : TellsIn limits szx (InCon con.id) con.to m past c
     begun_tells =
@@ -237,6 +238,7 @@ module _ (limits : Limits) (szx word : ℕ) (past : List Call) (c : Call)
         (λ n. (z.0 n).0)
     replied_so g (responds now a r w id is k) = absurd (cc k)
     replied_so g (notifies now there token r w id is k) = absurd (cc k)
+    replied_so g (plains now there token r id is k) = absurd (cc k)
 
     replied_tells : Ever (λ (b : L.Entry). b.call ≡ L.Reply to m.id bytes) adds → TellsIn limits szx InReply to m past c
     replied_tells h = let g = given_here limits szx word Replies replying_so past c law h in replied_so g g.from
@@ -297,6 +299,7 @@ module _ (limits : Limits) (szx word : ℕ) (past : List Call) (c : Call)
         (means Plainly g (E.Answers a r below) is).0
     plain_so g (responds now a r w id is k) = let z = k.2 in absurd (cc z)
     plain_so g (notifies now there token r w id is k) = let z = k.2 in absurd (cc z)
+    plain_so g (plains now there token r id is k) = absurd (means Plainly g (E.NotifiesPlain now there token r id) is).0
 
     plain_tells : Ever (λ (b : L.Entry). PlainOut b (record { to = to; bytes = bytes })) adds → TellsPlainly
     plain_tells h =

@@ -83,7 +83,9 @@ impl<S: BuildHasher> Side for Server<'_, S> {
             "respond" => self.respond(words),
             "ready" => self.ready(words),
             "notify" => self.notify(words),
+            "plain" => self.notify_plain(words),
             "ended" => self.ended(),
+            "unmatched" => self.unmatched(),
             "out" => self.out(),
             "undo" => self.undo(),
             "clock" => self.clock(),
@@ -222,6 +224,31 @@ impl<S: BuildHasher> Server<'_, S> {
         self.due = None;
         self.there = None;
         Ok(format!(in self.alloc; "{id}")?)
+    }
+
+    fn notify_plain(&mut self, words: &str) -> Result<String, Fail> {
+        let (token, response) = first(words);
+        let token = token_of(self.alloc, token)?;
+        let Some(to) = self.there else {
+            return Err(Fail::new("no notification can be sent"));
+        };
+        notifiable_law();
+        let _few = token.as_slice();
+        let Id(id) = self
+            .answerer
+            .notify_plain(self.at, to, &token, &response_of(response));
+        self.asked = None;
+        self.due = None;
+        self.there = None;
+        Ok(format!(in self.alloc; "{id}")?)
+    }
+
+    fn unmatched(&self) -> Result<String, Fail> {
+        let Some((from, Id(id))) = self.answerer.unmatched() else {
+            return said(self.alloc, "nothing");
+        };
+        let from = name_of(from);
+        Ok(format!(in self.alloc; "{from} {id}")?)
     }
 
     fn ended(&self) -> Result<String, Fail> {

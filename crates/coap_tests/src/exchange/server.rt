@@ -229,6 +229,68 @@ ready 1 D -> true
 answer 2.05 hi
 out -> C 68450000_0000000000000000_ff6869
 
+== a_notification_goes_in_a_non
+ready 0 C -> true
+plain 0000000000000000 2.05 observe hi -> 0
+out -> C 58450000_0000000000000000_60_ff6869
+# Nothing is outstanding: no copy goes out, and the next one may be sent at once.
+ready 0 C -> true
+tick 2000 -> idle
+tick 62000 -> idle
+ended -> nothing
+out -> nothing
+ready 62000 C -> true
+plain 0000000000000000 2.05 observe hi -> 1
+out -> C 58450001_0000000000000000_60_ff6869
+
+== a_non_waits_for_the_con_before
+ready 0 C -> true
+notify 0000000000000000 2.05 observe hi -> 0
+out -> C 48450000_0000000000000000_60_ff6869
+ready 1 C -> false
+incoming 2 C 60000000 -> nothing
+ready 2 C -> true
+plain 0000000000000000 2.05 observe hi -> 1
+out -> C 58450001_0000000000000000_60_ff6869
+
+== a_reset_of_a_non_is_told_of
+ready 0 C -> true
+plain 0000000000000000 2.05 observe hi -> 0
+out -> C 58450000_0000000000000000_60_ff6869
+unmatched -> nothing
+incoming 1 D 70000000 -> nothing
+unmatched -> D 0
+incoming 2 C 70000000 -> nothing
+unmatched -> C 0
+ended -> nothing
+out -> nothing
+# It is that of the last datagram.
+tick 3 -> idle
+unmatched -> C 0
+incoming 4 C 60000000 -> nothing
+unmatched -> nothing
+
+== a_reset_of_a_con_ends_it_and_is_matched
+ready 0 C -> true
+notify 0000000000000000 2.05 observe hi -> 0
+out -> C 48450000_0000000000000000_60_ff6869
+incoming 1 C 70000000 -> nothing
+ended -> C 0000000000000000 true
+unmatched -> nothing
+incoming 2 C 70000000 -> nothing
+ended -> nothing
+unmatched -> C 0
+
+== a_reset_of_a_non_is_taken_back
+ready 0 C -> true
+plain 0000000000000000 2.05 observe hi -> 0
+out -> C 58450000_0000000000000000_60_ff6869
+incoming 1 C 70000000 -> nothing
+unmatched -> C 0
+undo
+unmatched -> nothing
+clock -> 0
+
 == a_notification_is_taken_back
 ready 0 C -> true
 notify 0000000000000000 2.05 observe hi -> 0

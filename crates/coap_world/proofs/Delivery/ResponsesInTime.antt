@@ -27,6 +27,7 @@ module _ (t : ℕ) (F : Endpoint → List ℕ → Type 0) where
   Asks (R.Responds now a r word id) = now ≤ t
   Asks (R.Ready now to answer) = now ≤ t
   Asks (R.Notifies now to token r word id) = now ≤ t
+  Asks (R.NotifiesPlain now to token r id) = now ≤ t
   Asks (R.Take answer) = Unit {0}
 
   own_by : (s : R.Own) (c : R.Call) → s.clock ≤ t → Asks c → (answerer_steps.after s c).clock ≤ t
@@ -37,6 +38,7 @@ module _ (t : ℕ) (F : Endpoint → List ℕ → Type 0) where
   own_by s (R.Responds now a r word id) h k = omega (arith, h, k)
   own_by s (R.Ready now to answer) h k = omega (arith, h, k)
   own_by s (R.Notifies now to token r word id) h k = omega (arith, h, k)
+  own_by s (R.NotifiesPlain now to token r id) h k = omega (arith, h, k)
   own_by s (R.Take answer) h k = h
 
   pub owns_by : (past later : List R.Call) → (answerer.own_of past).clock ≤ t → Every Asks later
@@ -78,6 +80,7 @@ module _ (t : ℕ) (F : Endpoint → List ℕ → Type 0) where
   lower_wish s (R.Responds now a r word id) h k = (other_wish now _ (L.Sent id) k (λ from bytes is. cc is), tt)
   lower_wish s (R.Ready now to answer) h k = (other_wish now _ (L.Is answer) k (λ from bytes is. cc is), tt)
   lower_wish s (R.Notifies now to token r word id) h k = (other_wish now _ (L.Sent id) k (λ from bytes is. cc is), tt)
+  lower_wish s (R.NotifiesPlain now to token r id) h k = (other_wish now _ (L.Sent id) k (λ from bytes is. cc is), tt)
   lower_wish s (R.Take answer) h k = (other_wish 0 L.Take (L.Gives answer) (omega arith) (λ from bytes is. cc is), tt)
 
   pub wishes : (past later : List R.Call) → (answerer.own_of past).clock ≤ t → Every Asks later
@@ -107,6 +110,7 @@ module _ (t : ℕ) (F : Endpoint → List ℕ → Type 0) where
   first_ends s (R.Responds now a r word id) k = absurd k
   first_ends s (R.Ready now to answer) k = absurd k
   first_ends s (R.Notifies now to token r word id) k = absurd k
+  first_ends s (R.NotifiesPlain now to token r id) k = absurd k
   first_ends s (R.Take answer) k = absurd k
 
   pub ends : (past later : List R.Call) (c : R.Call) → Begins c → Ends t F (asked_by_server past (later ++ c ∷ []))

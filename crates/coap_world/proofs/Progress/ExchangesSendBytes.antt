@@ -36,6 +36,7 @@ abbrev pub RespondAre : E.Call → Type 0
 RespondAre (E.Answers a r below) = AreBytes a.token × ResponseAre r
 RespondAre (E.Responds now a r word id) = AreBytes a.token × ResponseAre r
 RespondAre (E.Notifies now to token r word id) = AreBytes token × ResponseAre r
+RespondAre (E.NotifiesPlain now to token r id) = AreBytes token × ResponseAre r
 RespondAre c = Unit {0}
 
 answering_are : (s : E.Own) (kind : Kind) (a : Asked) (r : E.Response) → P.IsResponse a r → AreBytes a.token
@@ -90,6 +91,8 @@ lower_are s (E.Responds now a r word id) right h =
     (record { token = h.0; values = h.1.values; payload = h.1.payload }, tt)
 lower_are s (E.Ready now to answer) right h = (tt, tt)
 lower_are s (E.Notifies now to token r word id) right h =
+    (record { token = h.0; values = h.1.values; payload = h.1.payload }, tt)
+lower_are s (E.NotifiesPlain now to token r id) right h =
     (record { token = h.0; values = h.1.values; payload = h.1.payload }, tt)
 lower_are s (E.Take answer) right h = (tt, tt)
 
@@ -159,6 +162,7 @@ incoming_are s (E.Ticks now below room d) c h = tt
 incoming_are s (E.Responds now a r word id) c h = tt
 incoming_are s (E.Ready now to answer) c h = tt
 incoming_are s (E.Notifies now to token r word id) c h = tt
+incoming_are s (E.NotifiesPlain now to token r id) c h = tt
 incoming_are s (E.Take answer) c h = tt
 
 pub all_incoming : (t : List E.Call) → AreRequests t → Each (λ (a : Below). ReceivedAre a.call) (W.lower_of t)

@@ -35,6 +35,7 @@ module _ (Q N : Endpoint → L.Content → Type 0) where
   SendsSo (R.Answers a r below) = N a.from (P.content_of a r)
   SendsSo (R.Responds now a r word id) = Q a.from (P.content_of a r)
   SendsSo (R.Notifies now to token r word id) = Q to (P.content_with token r)
+  SendsSo (R.NotifiesPlain now to token r id) = N to (P.content_with token r)
   SendsSo c = Unit {0}
 
   other : (call : L.Call) → ((to : Endpoint) (content : L.Content) (word : ℕ) → call ≡ L.Confirm to content word → ⊥)
@@ -102,6 +103,7 @@ module _ (Q N : Endpoint → L.Content → Type 0) where
   sends_so s (R.Ready now to answer) q =
       (other (L.Room to) (λ x content word is. cc is) (λ x content is. cc is), tt)
   sends_so s (R.Notifies now to token r word id) q = (in_con to (P.content_with token r) word q, tt)
+  sends_so s (R.NotifiesPlain now to token r id) q = (in_non to (P.content_with token r) q, tt)
   sends_so s (R.Take answer) q = (other L.Take (λ to content word is. cc is) (λ to content is. cc is), tt)
 
   pub entries_so : (old : State) (asks : List Asked) → Every IsAskedSo asks → Every IsEntrySo (entries old asks)

@@ -41,6 +41,7 @@ confirms_to c = None
 
 abbrev pub plain_to : R.Call → Option Endpoint
 plain_to (R.Answers a r below) = Some a.from
+plain_to (R.NotifiesPlain now to token r id) = Some to
 plain_to c = None
 
 abbrev pub Confirms : List R.Call → Endpoint → L.Content → Type 0
@@ -57,6 +58,7 @@ itself (R.Answers a r below) later = inl refl
 itself (R.Defers now a delay answer) later = tt
 itself (R.Ticks now below room answer) later = tt
 itself (R.Ready now to answer) later = tt
+itself (R.NotifiesPlain now to token r id) later = inl refl
 itself (R.Take answer) later = tt
 
 all_send : (past later : List R.Call) → Every (IsAskedSo (Confirms later) (Plain later)) (asked_by_server past later)

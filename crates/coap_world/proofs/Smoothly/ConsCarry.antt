@@ -132,6 +132,7 @@ responds_so s (R.Answers a r below) right = tt
 responds_so s (R.Defers now a delay answer) right = tt
 responds_so s (R.Ticks now below room answer) right = tt
 responds_so s (R.Ready now to answer) right = tt
+responds_so s (R.NotifiesPlain now to token r id) right = tt
 responds_so s (R.Take answer) right = tt
 
 all_respond : (t : List R.Call) → answerer.AnswererLaw t → Every (IsAskedSo IsResponse Any) (answerer.lower_of t)

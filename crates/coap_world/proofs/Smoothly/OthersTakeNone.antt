@@ -199,6 +199,7 @@ IsWork (R.Ticks now below room answer) = Unit {0}
 IsWork (R.Responds now a r word id) = Unit {0}
 IsWork (R.Ready now to answer) = Unit {0}
 IsWork (R.Notifies now to token r word id) = Unit {0}
+IsWork (R.NotifiesPlain now to token r id) = Unit {0}
 IsWork (R.Take answer) = ⊥
 
 quiet_answering : (s : R.Own) (kind : Kind) (a : request.Asked) (r : R.Response) (now : ℕ) (below : L.Answer)
@@ -228,6 +229,7 @@ quiet_work s (R.Ticks now below room answer) h =
 quiet_work s (R.Responds now a r word id) h = (record { takes = refl; hands = λ answer. refl }, tt)
 quiet_work s (R.Ready now to answer) h = (record { takes = refl; hands = λ x. refl }, tt)
 quiet_work s (R.Notifies now to token r word id) h = (record { takes = refl; hands = λ answer. refl }, tt)
+quiet_work s (R.NotifiesPlain now to token r id) h = (record { takes = refl; hands = λ answer. refl }, tt)
 quiet_work s (R.Take answer) h = absurd h
 
 quiet_works : (past later : List R.Call) → Every IsWork later → Every IsQuiet (asked_by_server past later)

@@ -72,6 +72,7 @@ response_row s (R.Defers now x delay answer) a r right h = absurd (cc h)
 response_row s (R.Ticks now below room d) a r right h = absurd (cc h)
 response_row s (R.Ready now to answer) a r right h = absurd (cc h)
 response_row s (R.Notifies now to token y w id) a r right h = absurd (cc h)
+response_row s (R.NotifiesPlain now to token y id) a r right h = absurd (cc h)
 response_row s (R.Take answer) a r right h = absurd (cc h)
 
 pub response_in : (later past : List R.Call) (a : Asked) (r : R.Response) → answerer.AnswererLaw (later ++ past)

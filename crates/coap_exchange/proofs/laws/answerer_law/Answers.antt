@@ -8,12 +8,13 @@ use Rattle.coap_exchange.proofs.Deferring.LongEnough.{long_enough, ready_when_du
 use Rattle.coap_exchange.proofs.Deferring.EarliestFirst.{earliest}
 use Rattle.coap_exchange.proofs.EndsSaid.HandsOrEnds.{hands_or_ends}
 use Rattle.coap_exchange.proofs.EndsSaid.AreOutstanding.{waits}
+use Rattle.coap_exchange.proofs.EndsSaid.Unmatched.{unmatched_told}
 use Rattle.coap_exchange.proofs.Responding.EmptyReplies.{are_replied}
-use Rattle.coap_exchange.proofs.Responding.GoesBack.{sends_so}
 use Rattle.coap_exchange.proofs.Ids.ServerIds.{ids_counted}
 use Rattle.coap_exchange.proofs.Ids.ServerIsFree.{id_is_free}
 use Rattle.coap_layer.specs.Machine.State.{usual}
 use Rattle.coap_exchange.specs.AnswererLaw.{below_of}
+use Rattle.coap_exchange.proofs.Responding.GoesBack.{ready_alone, sends_so}
 use Rattle.coap_exchange.proofs.laws.answerer_law.Goals as goal
 
 pub returns-clause-start : goal.returns-clause-start
@@ -69,6 +70,12 @@ returns-clause-replied c word t law = are_replied t law.rows
 
 pub returns-clause-alone : goal.returns-clause-alone
 returns-clause-alone c word t law = (sends_so word t law.rows law.left law.layer).1
+
+pub returns-clause-ready_alone : goal.returns-clause-ready_alone
+returns-clause-ready_alone c word t law = ready_alone word t law.rows law.left law.layer
+
+pub returns-clause-unmatched : goal.returns-clause-unmatched
+returns-clause-unmatched c word t law = unmatched_told t
 
 pub returns-clause-few : goal.returns-clause-few
 returns-clause-few c word t law = (counted t law.rows).1.few

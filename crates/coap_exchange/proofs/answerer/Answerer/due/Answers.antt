@@ -4,7 +4,7 @@ use Rattle.coap_layer.specs.Machine.State.{is_free}
 use Rattle.coap_layer.specs.Machine.Waits.{any_has_step}
 use Rattle.coap_layer.proofs.Facts.FirstMoments.{free_on}
 use Rattle.coap_exchange.specs.AnswererLaw.{State}
-use Rattle.coap_exchange.specs.Machine.AnswererShown.{state_of}
+use Rattle.coap_exchange.specs.Machine.AnswererShown.{sending_as, state_of}
 use Rattle.coap_exchange.specs.Machine.Listed.{listed}
 use Rattle.coap_exchange.specs.Machine.Rests.{has_due, has_ready}
 use Rattle.coap_exchange.proofs.Resting.ServerRests.{none_of, some_of, does_of, from_of, ready_on}
@@ -14,7 +14,8 @@ pub returns : goal.returns
 returns g c =
     let i = c.self.inside in
     let l = i.layer.state in
-    let s0 : State = state_of l i.pending i.deferred (listed i.separate.items) i.ended in
+    let s0 : State = state_of l i.pending i.deferred (listed i.separate.items) i.ended
+    (sending_as i.unmatched) in
     let s : State = c.args.self.now.state in
     let view : s0 ≡ s = ap (λ x. x.state) c.self.view_is in
     let now = c.args.now.0 in

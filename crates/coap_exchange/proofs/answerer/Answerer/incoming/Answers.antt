@@ -3,6 +3,7 @@ use Rattle.coap_layer.specs.Machine.Ups.{answer_as}
 use Rattle.coap_exchange.proofs.Leading.ServerLeads.{led_call}
 use Rattle.coap_exchange.proofs.Calls.ServerCalls.{has_room, keeps, may_take, received}
 use Rattle.std.proofs.lemmas.Bool.{and_parts}
+use Rattle.coap_exchange.specs.Machine.AnswererShown.{sending_as}
 use Rattle.coap_exchange.specs.Machine.Listed.{listed}
 use Rattle.coap_exchange.specs.AnswererSteps.{reject_by, separate_after}
 use Rattle.coap_exchange.specs.AskerArrivals.{id_in}
@@ -41,12 +42,14 @@ returns-clause-step g c =
       up,
       received i.layer.state c.receive.new.self.state c.reject-rejected.new.layer.state i.pending
           c.copied-self-inside.result i.deferred (listed i.separate.items)
-          (listed c.after_arrival.new.separate.items) i.ended c.reset_by-self-inside.result c.args.self.now.state
+          (listed c.after_arrival.new.separate.items) i.ended c.reset_by-self-inside.result
+          (sending_as i.unmatched) (sending_as c.unmatched_by-self-inside.result) c.args.self.now.state
           c.args.now.0 c.args.from c.args.bytes.now up c.handed_up.result
           (ap (λ s. s.state) c.self.view_is) c.in_ok-up.ensures.step c.reject-rejected.ensures.steps
           (c.handed_up.ensures c.args.from c.asked_in-asked.ensures.asked)
           (c.copied-self-inside.ensures ∙ c.asked_in-asked.ensures.asked)
-          (c.after_arrival.ensures.now ∙ ap (separate_after c.args.from up) c.settle_down.ensures.now) (search rules),
+          (c.after_arrival.ensures.now ∙ ap (separate_after c.args.from up) c.settle_down.ensures.now) (search rules)
+          c.unmatched_by-self-inside.ensures,
     )
 
 pub returns-clause-led : goal.returns-clause-led

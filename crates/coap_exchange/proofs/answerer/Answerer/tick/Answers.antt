@@ -5,7 +5,7 @@ use Rattle.coap_layer.specs.Machine.State as L
 use Rattle.coap_layer.specs.Machine.State.{answer_of, copies}
 use Rattle.coap_layer.specs.Trace as T
 use Rattle.coap_exchange.specs.declared.separate.Deferred.{Deferred}
-use Rattle.coap_exchange.specs.Machine.AnswererShown.{Shown, own_with}
+use Rattle.coap_exchange.specs.Machine.AnswererShown.{Shown, own_with, sending_as}
 use Rattle.coap_exchange.specs.Machine.WhatIsDue.{takes_con, takes_response}
 use Rattle.coap_exchange.specs.AnswererSteps.{failed_by, ready_at, ready_if, separate_unless}
 use Rattle.coap_exchange.specs.Machine.Listed.{listed}
@@ -49,7 +49,8 @@ returns-clause-step g c =
     let i = c.self.inside in
     let step = c.in_ok-tick.ensures.step in
     let now = c.args.now.0 in
-    let d = ready_at (own_with i.layer.state.clock i.pending i.deferred (listed i.separate.items) i.ended) now in
+    let d = ready_at (own_with i.layer.state.clock i.pending i.deferred (listed i.separate.items) i.ended
+    (sending_as i.unmatched)) now in
     let found : c.ready.result ≡ option_map (λ (x : Deferred). x.asked) d =
     search (rules, c.ready.ensures.first, c.max.ensures, c.clock.ensures, c.deref.ensures.value) in
     let ready = readied i.layer.state c.make_room.new.layer.state c.tick.new.self.state now c.in_ok-tick.tick step.0
@@ -58,7 +59,7 @@ returns-clause-step g c =
     let list = c.settle_down.ensures.now ∙ ap listed c.in_ok-make_room.ensures.items in (
       step.0,
       c.is_sendable-room.result,
-      ticked i.layer.state i.pending i.deferred (listed i.separate.items) i.ended c.args.self.now.state
+      ticked i.layer.state i.pending i.deferred (listed i.separate.items) i.ended (sending_as i.unmatched) c.args.self.now.state
           (ap (λ s. s.state) c.self.view_is) c.make_room.new.layer.state c.tick.new.self.state
           c.is_sendable-room.new.layer.state now step.0
           c.is_sendable-room.result c.due_of.result c.take-self-inside.new.self
@@ -79,7 +80,8 @@ returns-clause-ready g c a h =
     let i = c.self.inside in
     let step = c.in_ok-tick.ensures.step in
     let now = c.args.now.0 in
-    let d = ready_at (own_with i.layer.state.clock i.pending i.deferred (listed i.separate.items) i.ended) now in
+    let d = ready_at (own_with i.layer.state.clock i.pending i.deferred (listed i.separate.items) i.ended
+    (sending_as i.unmatched)) now in
     let found : c.ready.result ≡ option_map (λ (x : Deferred). x.asked) d =
     search (rules, c.ready.ensures.first, c.max.ensures, c.clock.ensures, c.deref.ensures.value) in
     let ready = readied i.layer.state c.make_room.new.layer.state c.tick.new.self.state now c.in_ok-tick.tick step.0
@@ -93,7 +95,7 @@ returns-clause-ready g c a h =
     (step_clock i.layer.state c.tick.new.self.state now T.Ticks step.0 first)
     (c.is_sendable-room.ensures.steps (ready_if step.0 d) ready) in
     may_respond i.layer.state i.pending i.deferred
-    (listed i.separate.items) i.ended c.is_sendable-room.new.layer.state now step.0 c.is_sendable-room.result
+    (listed i.separate.items) i.ended (sending_as i.unmatched) c.is_sendable-room.new.layer.state now step.0 c.is_sendable-room.result
     c.due_of.result c.take-self-inside.new.self
     (listed c.unless_failed.new.separate.items) c.failed_by-self-inside.result _ a refl (λ sends. search rules) clock
     (c.due_of.ensures.due step.0 d step.1 ready)
@@ -105,7 +107,8 @@ returns-clause-kept g c at there may =
     let i = c.self.inside in
     let step = c.in_ok-tick.ensures.step in
     let now = c.args.now.0 in
-    let d = ready_at (own_with i.layer.state.clock i.pending i.deferred (listed i.separate.items) i.ended) now in
+    let d = ready_at (own_with i.layer.state.clock i.pending i.deferred (listed i.separate.items) i.ended
+    (sending_as i.unmatched)) now in
     let found : c.ready.result ≡ option_map (λ (x : Deferred). x.asked) d =
     search (rules, c.ready.ensures.first, c.max.ensures, c.clock.ensures, c.deref.ensures.value) in
     let ready = readied i.layer.state c.make_room.new.layer.state c.tick.new.self.state now c.in_ok-tick.tick step.0
@@ -123,7 +126,8 @@ returns-clause-only g c a h =
     let i = c.self.inside in
     let step = c.in_ok-tick.ensures.step in
     let now = c.args.now.0 in
-    let d = ready_at (own_with i.layer.state.clock i.pending i.deferred (listed i.separate.items) i.ended) now in
+    let d = ready_at (own_with i.layer.state.clock i.pending i.deferred (listed i.separate.items) i.ended
+    (sending_as i.unmatched)) now in
     let found : c.ready.result ≡ option_map (λ (x : Deferred). x.asked) d =
     search (rules, c.ready.ensures.first, c.max.ensures, c.clock.ensures, c.deref.ensures.value) in
     let ready = readied i.layer.state c.make_room.new.layer.state c.tick.new.self.state now c.in_ok-tick.tick step.0
@@ -139,7 +143,8 @@ returns-clause-same g c h there =
     let i = c.self.inside in
     let step = c.in_ok-tick.ensures.step in
     let now = c.args.now.0 in
-    let d = ready_at (own_with i.layer.state.clock i.pending i.deferred (listed i.separate.items) i.ended) now in
+    let d = ready_at (own_with i.layer.state.clock i.pending i.deferred (listed i.separate.items) i.ended
+    (sending_as i.unmatched)) now in
     let found : c.ready.result ≡ option_map (λ (x : Deferred). x.asked) d =
     search (rules, c.ready.ensures.first, c.max.ensures, c.clock.ensures, c.deref.ensures.value) in
     let ready = readied i.layer.state c.make_room.new.layer.state c.tick.new.self.state now c.in_ok-tick.tick step.0
@@ -156,7 +161,8 @@ returns-clause-fails g c none due =
     let i = c.self.inside in
     let step = c.in_ok-tick.ensures.step in
     let now = c.args.now.0 in
-    let d = ready_at (own_with i.layer.state.clock i.pending i.deferred (listed i.separate.items) i.ended) now in
+    let d = ready_at (own_with i.layer.state.clock i.pending i.deferred (listed i.separate.items) i.ended
+    (sending_as i.unmatched)) now in
     let found : c.ready.result ≡ option_map (λ (x : Deferred). x.asked) d =
     search (rules, c.ready.ensures.first, c.max.ensures, c.clock.ensures, c.deref.ensures.value) in
     let ready = readied i.layer.state c.make_room.new.layer.state c.tick.new.self.state now c.in_ok-tick.tick step.0
