@@ -25,7 +25,7 @@ use Rattle.coap_server.specs.Follows.Holds.{changes, held_at, HoldsChanges, AllS
 use Rattle.coap_server.proofs.Observing.StoreChanges.{Effect, IsKept, IsChanged, served_effect, sets_effect}
 use Rattle.coap_server.proofs.Observing.StoreChanges.{removes_effect}
 use Rattle.coap_server.proofs.Observing.Outcomes.{serves_came, serves_waited}
-use Rattle.coap_server.proofs.Observing.VersionsRise.{next_serves}
+use Rattle.coap_server.proofs.Observing.StoreSteps.{next_serves}
 use Rattle.coap_server.proofs.Holding.AppliedWhole.{applied_whole, kept_or_applied}
 
 -- a call that serves does so by the store's table
@@ -33,8 +33,7 @@ pub serves_right : (s : Own) (c : Call) → IsRight s c → (x : Serving) → se
     → (at : ℕ) × (x.old ≡ s.store) × R.Serves x.old at x.question x.reply x.left
 serves_right s (Feeds now from bytes word up (Some p) (Serves q reply left) below) right x h =
     let w : Own = heard s now (incoming s now from bytes up (Some p)) in
-    let same : ◌≡◌ {A = Serving} (serving_of w p.0 q reply left) x = cc h in
-    (
+    let same : ◌≡◌ {A = Serving} (serving_of w p.0 q reply left) x = cc h in (
       w.clock,
       sym (ap (λ (y : Serving). y.old) same),
       subst (λ (y : Serving). R.Serves y.old w.clock y.question y.reply y.left) same
@@ -42,8 +41,7 @@ serves_right s (Feeds now from bytes word up (Some p) (Serves q reply left) belo
     )
 serves_right s (Ticks now word below room (due.Ready a) passed (Serves q reply left) id answer) right x h =
     let w : Own = heard s now (ticking s now below room (due.Ready a)) in
-    let same : ◌≡◌ {A = Serving} (serving_of w a q reply left) x = cc h in
-    (
+    let same : ◌≡◌ {A = Serving} (serving_of w a q reply left) x = cc h in (
       w.clock,
       sym (ap (λ (y : Serving). y.old) same),
       subst (λ (y : Serving). R.Serves y.old w.clock y.question y.reply y.left) same

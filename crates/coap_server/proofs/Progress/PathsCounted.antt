@@ -16,7 +16,7 @@ use Rattle.coap_server.specs.Law.{own_of, ServerRows}
 use Rattle.coap_server.proofs.Progress.StoreCountsPaths.{AreCounted, Moves, stays, moves, counted_by, served_moves}
 use Rattle.coap_server.proofs.Progress.StoreCountsPaths.{unchanged_moves}
 use Rattle.coap_server.proofs.Observing.Outcomes.{serves_came, serves_waited}
-use Rattle.coap_server.proofs.Observing.VersionsRise.{next_serves}
+use Rattle.coap_server.proofs.Observing.StoreSteps.{next_serves}
 
 sets_moves : (o : Option StoreRefusal) (old : Content) (at : ℕ) (path : List (List ℕ)) (format : Option ℕ)
     (body : List ℕ) (answer : Result ℕ StoreRefusal) (left : Content) → SetsBy o old at path format body answer left

@@ -49,7 +49,7 @@ use Rattle.coap_server.proofs.Serving.Brought.{server_back}
 use Rattle.coap_server.specs.Follows.Adds.{call_asks, call_adds}
 use Rattle.coap_server.specs.Follows.Told.{TakesAck, TellsIn, ServesNon, TellsSent, AllTellSent}
 use Rattle.coap_server.specs.Follows.Told.{AcksArrive}
-use Rattle.coap_server.proofs.Telling.LayerCalls.{Origin, empties, answers, responds, notifies, IsOfSending}
+use Rattle.coap_server.proofs.Telling.LayerCalls.{Origin, empties, answers, responds, notifies, plains, IsOfSending}
 use Rattle.coap_server.proofs.Telling.LayerCalls.{Given, given_here, layer_next}
 use Rattle.coap_server.proofs.Telling.LayerCalls.{steps_here}
 use Rattle.coap_server.proofs.Telling.OneConACall.{one_con}
