@@ -1,6 +1,7 @@
 pub mod ChangesMark
 pub mod ConsAreAcknowledged
 pub mod CurrentLists
+pub mod DatedMarks
 pub mod EndsObservation
 pub mod LastRegistered
 pub mod LatestRegistration
@@ -8,9 +9,12 @@ pub mod LivesOn
 pub mod MarksStay
 pub mod ObservationEnds
 pub mod ObservationStays
+pub mod ObserverLists
+pub mod ObserverSteps
 pub mod ObserversWereMade
 pub mod OneRegistration
 pub mod Outcomes
+pub mod RejectedNons
 pub mod ServedObservers
 pub mod StoreChanges
 pub mod StoreSteps
@@ -18,3 +22,4 @@ pub mod ToldAt
 pub mod ToldInOrder
 pub mod UnmarkedAreCurrent
 pub mod VersionsRise
+pub mod YoungNons

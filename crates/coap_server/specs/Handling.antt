@@ -13,12 +13,14 @@ use Rattle.coap_exchange.specs.declared.answerer.Asked.{Asked}
 use Rattle.coap_exchange.specs.declared.answerer.Due.{Due}
 use Rattle.coap_exchange.specs.declared.answerer.Due.TheVariants as due
 use Rattle.coap_exchange.specs.AnswererSteps as P
+use Rattle.coap_exchange.specs.AnswererSteps.{unmatched_by}
 use Rattle.coap_exchange.specs.AnswererTrace as E
+use Rattle.coap_exchange.specs.AnswererTrace.{Sending}
 use Rattle.coap_server.specs.Trace.{Own, Handling, Silent, Replies}
 use Rattle.coap_server.specs.Responses.{bare}
 use Rattle.coap_server.specs.Checks.{Verdict, Ignored, Refused, Asks, Uploads, verdict_on}
 use Rattle.coap_server.specs.Uploads.{ruling_of, whole, continuing}
-use Rattle.coap_server.specs.Observers.{unless_ended}
+use Rattle.coap_server.specs.Observers.{unless_ended, unless_rejected}
 use Rattle.coap_server.specs.Deferring.{HandlesWhole, AnswersWaiting, question_of}
 use Rattle.coap_server.specs.Notifying.{marked, behind, NotifiesNext}
 
@@ -29,14 +31,21 @@ incoming s now from bytes up came = E.Incoming (max s.clock now) from bytes up c
 abbrev pub ticking : Own → ℕ → L.Answer → Bool → Due → E.Call
 ticking s now below room d = E.Ticks (max s.clock now) below room d
 
--- The moment counts, and where what carried Observe is told to have ended, by a Reset or because it was given up, the
--- observer is removed.
+-- the Reset of what isn't outstanding that arrives
+abbrev pub rejected_in : E.Call → Option Sending
+rejected_in (E.Incoming now from bytes up answer) = unmatched_by from up
+rejected_in _ = None
+
+-- The moment counts, and where what carried Observe is told to have ended, by a Reset or because it was given up, or
+-- the last NON of an observer is rejected by a Reset, the observer is removed.
 abbrev pub heard : Own → ℕ → E.Call → Own
-heard s now c = record s {
-  clock = max s.clock now;
-  exchanges = P.after s.exchanges c;
-  observers = unless_ended (P.after s.exchanges c).ended s.observers;
-}
+heard s now c =
+    record s {
+      clock = max s.clock now;
+      exchanges = P.after s.exchanges c;
+      observers = unless_rejected (max s.clock now) (rejected_in c)
+          (unless_ended (P.after s.exchanges c).ended s.observers);
+    }
 
 -- a request: by the checks, and then by the block that it uploads
 

@@ -5,6 +5,7 @@ pub mod Uploads
 pub mod Observers
 pub mod Serving
 pub mod Deferring
+pub mod Plain
 pub mod Notifying
 pub mod Local
 pub mod Handling

@@ -4,7 +4,7 @@ use Rattle.std.specs.Prelude.{ℕ, ◌==◌, nat_lt, Bool, true, false, ◌&&◌
 use Rattle.std.specs.Option.{option_map}
 use Rattle.coap_types.specs.declared.request.Method.{Method}
 use Rattle.coap_types.specs.declared.request.Method.TheVariants.{Get}
-use Rattle.coap_observe.specs.Observers.{Observer, removed, registered, changed_at}
+use Rattle.coap_observe.specs.Observers.{Observer, removed, registered, changed_at, reset_at}
 use Rattle.coap_observe.specs.Versions.{sequence_number}
 use Rattle.coap_resource.specs.Content.{Content, Held}
 use Rattle.coap_types.specs.OptionValues.{uint_at}
@@ -12,6 +12,7 @@ use Rattle.coap_resource.specs.RequestOptions.{block_of, szx_by}
 use Rattle.coap_resource.specs.Serves.{Question, Reply}
 use Rattle.coap_exchange.specs.declared.answerer.Asked.{Asked}
 use Rattle.coap_exchange.specs.declared.answerer.Ended.{Ended}
+use Rattle.coap_exchange.specs.AnswererTrace.{Sending}
 use Rattle.coap_common.specs.SuccessCodes.{content}
 use Rattle.coap_types.specs.declared.option_number.TheConstants.{OBSERVE as observe}
 use Rattle.coap_observe.specs.declared.observers.TheConstants.{MAX_OBSERVERS as max_observers}
@@ -49,6 +50,11 @@ marked_if at path old left os = if left.tally.version == old.tally.version then 
 abbrev pub unless_ended : Option Ended → List Observer → List Observer
 unless_ended None os = os
 unless_ended (Some x) os = if x.observe then removed x.to x.token os else os
+
+-- a Reset of the last NON of an observer removes it (RFC 7641, section 3.6)
+abbrev pub unless_rejected : ℕ → Option Sending → List Observer → List Observer
+unless_rejected at None os = os
+unless_rejected at (Some x) os = reset_at at x.to x.id os
 
 -- the number that Observe says: of what the path holds, where it is told
 abbrev pub sequence : Option Held → Option ℕ

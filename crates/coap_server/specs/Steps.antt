@@ -14,13 +14,14 @@ use Rattle.coap_exchange.specs.AnswererSteps.{asked_in}
 use Rattle.coap_exchange.specs.AnswererSteps as P
 use Rattle.coap_exchange.specs.AnswererTrace as E
 use Rattle.coap_server.specs.Trace.{Waiting, Applied, Own, Handling, Serves, Notifies, Call, Sets}
-use Rattle.coap_server.specs.Trace.{Removes, Delays, Feeds, Ticks, NextOut, Gets, TellsApplied}
+use Rattle.coap_server.specs.Trace.{Removes, Delays, Plains, Feeds, Ticks, NextOut, Gets, TellsApplied}
 use Rattle.coap_server.specs.Checks.{verdict_on}
 use Rattle.coap_server.specs.Uploads.{uploads_after}
 use Rattle.coap_server.specs.Observers.{marked_if}
 use Rattle.coap_server.specs.Serving.{observers_served, applied_by}
 use Rattle.coap_server.specs.Deferring.{may_delay, delays_with, waiting_with, without_waiting}
 use Rattle.coap_server.specs.Notifying.{notified}
+use Rattle.coap_server.specs.Plain.{by_plain, may_be_plain, plains_with}
 use Rattle.coap_server.specs.Local.{SetsBy, RemovesBy}
 use Rattle.coap_server.specs.Handling.{incoming, ticking, heard, HandlesCame, HandlesDue, is_done}
 use Rattle.coap_server.specs.Asks.{answering, responding}
@@ -34,6 +35,7 @@ IsRight s (Removes now path answer left) =
     RemovesBy (s.store.holds path) (rate_refusal s.store.tally (max s.clock now)) s.store
     (max s.clock now) path answer left
 IsRight s (Delays path ms answer) = answer ≡ may_delay path s.delays
+IsRight s (Plains path answer) = answer ≡ may_be_plain path s.plains
 IsRight s (Feeds now from bytes word up came h below) =
     HandlesCame (heard s now (incoming s now from bytes up came)) came h
 IsRight s (Ticks now word below room d passed h id answer) =
@@ -50,7 +52,6 @@ store_after _ old = old
 
 abbrev pub observers_after : ℕ → Content → Option Asked → Handling → List Observer → List Observer
 observers_after at old (Some a) (Serves q reply left) os = observers_served at old a q reply left os
-observers_after at old a (Notifies o reply) os = notified at (old.holds o.path) o os
 observers_after at old a _ os = os
 
 abbrev pub applied_after : Content → Option Asked → Handling → List Applied
@@ -94,10 +95,16 @@ came_after s came h asks =
       waiting = waiting_came s.clock came h s.waiting;
     }
 
-abbrev pub due_after : Own → Due → Handling → List E.Call → Own
-due_after s d h asks =
+-- .. and by the notification, with this Message ID
+abbrev pub observers_due : Own → Due → Handling → ℕ → List Observer
+observers_due s d (Notifies o reply) id = notified (by_plain s o) s.clock id (s.store.holds o.path) o s.observers
+observers_due s d h id = observers_after s.clock s.store (ready_in d) h s.observers
+
+abbrev pub due_after : Own → Due → Handling → ℕ → List E.Call → Own
+due_after s d h id asks =
     record (handled s (ready_in d) h) {
       exchanges = exchanges_after s.exchanges asks;
+      observers = observers_due s d h id;
       waiting = waiting_due s.clock (ready_in d) s.waiting;
     }
 
@@ -107,11 +114,12 @@ after s (Sets now path format body answer left) =
 after s (Removes now path answer left) =
     record s { clock = max s.clock now; store = left; observers = marked_if (max s.clock now) path s.store left s.observers }
 after s (Delays path ms answer) = record s { delays = delays_with path ms answer s.delays }
+after s (Plains path answer) = record s { plains = plains_with path answer s.plains }
 after s (Feeds now from bytes word up came h below) =
     came_after (heard s now (incoming s now from bytes up came)) came h
     (answering (heard s now (incoming s now from bytes up came)) came h below)
 after s (Ticks now word below room d passed h id answer) =
-    due_after (heard s now (ticking s now below room d)) d h
+    due_after (heard s now (ticking s now below room d)) d h id
     (responding (heard s now (ticking s now below room d)) d passed h word id)
 after s (NextOut answer) = record s { exchanges = exchanges_after s.exchanges (E.Take answer ∷ []) }
 after s (Gets path answer) = s

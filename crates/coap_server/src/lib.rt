@@ -6,5 +6,5 @@ mod limits;
 mod server;
 
 pub use laws::{server_law, server_must_law, server_runs};
-pub use limits::MAX_DELAYS;
-pub use server::{Applied, Delay, DelayRefusal, Server, give_delay};
+pub use limits::{CON_NOTIFICATION_MS, MAX_DELAYS, MAX_PLAIN_AGE_MS, MAX_PLAINS};
+pub use server::{Applied, Delay, DelayRefusal, PlainRefusal, Server, give_delay, give_plain};

@@ -11,6 +11,7 @@ mod notifying;
 mod observing;
 mod option_list;
 mod parts;
+mod plain;
 mod request_checks;
 mod responding;
 mod serving;
@@ -33,19 +34,22 @@ ghost use Rattle.coap_exchange.specs.declared.answerer.Asked.{Asked as AskedSpec
 ghost use Rattle.coap_exchange.specs.declared.answerer.Due.{Due};
 ghost use Rattle.coap_server.specs.Deferring.{delay_of, may_delay};
 ghost use Rattle.coap_server.specs.declared.server.delaying.DelayRefusal.TheVariants as delay_refusals;
+ghost use Rattle.coap_server.specs.declared.server.plain.PlainRefusal.TheVariants as plain_refusals;
 ghost use Rattle.coap_server.specs.Led.{Led, Step, fresh_state};
+ghost use Rattle.coap_server.specs.Plain.{is_plain, may_be_plain};
 ghost use Rattle.coap_server.specs.Trace.{Call, Delays, Feeds, Gets, Handling, NextOut, Removes, Sets};
-ghost use Rattle.coap_server.specs.Trace.{TellsApplied, Ticks};
+ghost use Rattle.coap_server.specs.Trace.{Plains, TellsApplied, Ticks};
 ghost use Rattle.coap_server.specs.Object.Shown.{applied_list, kept_of, seen, state_of};
 ghost use Rattle.coap_server.specs.Turns.Idle.{IsIdle, moment};
 ghost use Rattle.coap_server.specs.Turns.WhenDue.{TicksDo, latest};
 ghost use Rattle.coap_server.specs.Turns.Work.{work};
 
 use crate::server::delaying::set_delay_parts;
+use crate::server::plain::set_plain_parts;
 use crate::server::due::due_parts;
 use crate::server::handling::handle;
 use crate::server::local::{remove_parts, set_parts};
-use crate::server::moments::{forget, later};
+use crate::server::moments::{forget, later, reject};
 use crate::server::parts::Parts;
 use crate::server::turning::tick_parts;
 use coap_block::Assembly;
@@ -55,6 +59,7 @@ use coap_observe::Observers;
 use coap_resource::{Representation, Store, StoreRefusal};
 use coap_types::{Endpoint, Moment, Path, Szx};
 pub use delaying::{DelayRefusal, give_delay};
+pub use plain::{PlainRefusal, give_plain};
 pub use parts::{Applied, Delay};
 use std::alloc::{AllocError, Allocator};
 use std::hash::{BuildHasher, BuildHasherDefault, FoldHasher};
@@ -120,6 +125,7 @@ impl<S: Store<A>, A: Allocator + Copy, H: BuildHasher> Server<S, A, H> {
                 store,
                 uploads,
                 observers: Observers::new(alloc),
+                plains: Vec::new(alloc),
                 delays: Vec::new(alloc),
                 waiting: Vec::new(alloc),
                 applied: None,
@@ -283,6 +289,30 @@ impl<S: Store<A>, A: Allocator + Copy, H: BuildHasher> Server<S, A, H> {
         set_delay_parts(&mut self.parts, path, ms)
     }
 
+    /// Has the observers of the path told in Non-confirmable messages, while its state is young, and in a
+    /// Confirmable one once a day (RFC 7641, section 4.5; a profile). It takes no memory where
+    /// `MAX_PLAINS` other paths are plain, or the path is.
+    pub fn set_plain(&mut self, path: &Path<A>) -> Result<(), PlainRefusal>
+        // Whether a path is made plain, and what that leaves, is a step of the server's machine.
+        ensures step { result ≢ Err plain_refusals.Memory → Step (state_of S.content self.old)
+            (Plains path.now (is_ok result)) (state_of S.content self.new) }
+        // Every history that led to the server leads on with this plain path, unless it was refused memory.
+        ensures led { (limits : Limits) (szx begin : ℕ) (t : List Call)
+            → Led limits szx begin t (state_of S.content self.old)
+            → result ≢ Err plain_refusals.Memory
+            → Led limits szx begin (Plains path.now (is_ok result) ∷ t) (state_of S.content self.new) }
+        // A path that can't be made plain for want of memory leaves the server as it was.
+        ensures memory { result ≡ Err plain_refusals.Memory → self.new ≡ self.old }
+        // Where 16 other paths are plain, a further one is refused as Full.
+        ensures full { may_be_plain path.now (state_of S.content self.old).own.plains ≡ false → result
+            ≡ Err plain_refusals.Full }
+        // A path that is plain stays so without memory.
+        ensures again { is_plain path.now (state_of S.content self.old).own.plains ≡ true
+            → result ≢ Err plain_refusals.Memory }
+    {
+        set_plain_parts(&mut self.parts, path)
+    }
+
     /// What the path holds: its version, its format and its body. It takes no memory.
     pub fn get(&self, path: &Path<A>) -> Option<&Representation<A>>
         // What a path holds is told as the server's machine has it.
@@ -355,6 +385,7 @@ fn feed_parts<S: Store<A>, A: Allocator + Copy, H: BuildHasher>(
     match came {
         None => {
             forget(&mut parts.observers, parts.exchanges.ended());
+            reject(&mut parts.observers, at, parts.exchanges.unmatched());
             parts.applied = None;
             Ok(())
         }

@@ -27,7 +27,7 @@ use Rattle.coap_exchange.specs.declared.answerer.Asked.{Asked}
 use Rattle.coap_exchange.specs.AnswererSteps.{may_defer}
 use Rattle.coap_server.specs.Trace.{Own, Handling, Silent, Replies, Serves, Waits, Notifies, Call}
 use Rattle.coap_server.specs.Trace.{Sets}
-use Rattle.coap_server.specs.Trace.{Removes, Delays, Feeds, Ticks, NextOut, Gets, TellsApplied}
+use Rattle.coap_server.specs.Trace.{Removes, Delays, Plains, Feeds, Ticks, NextOut, Gets, TellsApplied}
 use Rattle.coap_server.specs.Checks.{Verdict, Ignored, Refused, Asks, Uploads, verdict_on, bad_by}
 use Rattle.coap_server.specs.Checks.{asked_by, uploading, question, asks, is_reserved, bad_request}
 use Rattle.coap_server.specs.Checks.{proxying_not_supported}
@@ -150,6 +150,7 @@ module _ (limits : Limits) (szx word : ℕ) where
   here t (Sets now path format body answer left) law p is = absurd (cc is)
   here t (Removes now path answer left) law p is = absurd (cc is)
   here t (Delays path ms answer) law p is = absurd (cc is)
+  here t (Plains path answer) law p is = absurd (cc is)
   here t (NextOut answer) law p is = absurd (cc is)
   here t (Gets path answer) law p is = absurd (cc is)
   here t (TellsApplied answer) law p is = absurd (cc is)

@@ -17,7 +17,7 @@ use Rattle.coap_server.specs.Trace.{Own, Handling, Silent, Replies, Serves, Wait
 use Rattle.coap_server.specs.Asks.{responding}
 use Rattle.coap_server.specs.Deferring.{question_of}
 use Rattle.coap_server.specs.Handling.{heard, ticking}
-use Rattle.coap_server.specs.Notifying.{readies, marked, behind}
+use Rattle.coap_server.specs.Notifying.{notification, readies, marked, behind}
 use Rattle.coap_server.specs.Law.{ServerLaw, own_of}
 use Rattle.coap_server.specs.Follows.Attended.{CanAnswer, NoId}
 use Rattle.coap_server.specs.Follows.Begins.{IsFirst, CanNotify, NoneToAnswer, NoneToNotify, NoneLeft, BeginsNext}
@@ -28,6 +28,8 @@ use Rattle.coap_server.proofs.Answering.TickTurns.{ready_first}
 use Rattle.coap_server.proofs.Answering.WhatCanGo.{first_never, first_one}
 use Rattle.coap_server.proofs.Observing.Outcomes.{never_notifies_ready}
 use Rattle.coap_server.proofs.Serving.Brought.{server_back}
+use Rattle.coap_server.specs.Plain.{by_plain}
+use Rattle.coap_server.proofs.Calls.NotifiesBy.{in_either}
 
 -- which observers could be notified: no response
 pub none_responds : (a : Asked) (at passed : ℕ) (os : List Observer)
@@ -103,7 +105,10 @@ module _ (limits : Limits) (szx word : ℕ) (t : List Call) (now w : ℕ) where
   responds_next below room (due.Ready b) passed (Notifies o reply) id answer a law k = absurd k
   responds_next below room due.Copied passed h id answer a law k = absurd k
   responds_next below room due.Expired passed h id answer a law k = absurd k
-  responds_next below room due.Idle passed (Notifies o reply) id answer a law (inl e) = absurd (cc e)
+  responds_next below room due.Idle passed (Notifies o reply) id answer a law (inl e) =
+      let s : Own = heard own now (ticking own now below room due.Idle) in
+      let none = in_either (λ c. responds c ≡ None) (by_plain s o) s.clock o (notification s.store o reply) w id refl refl
+      in let z : None ≡ Some a = sym none ∙ e in absurd (cc z)
   responds_next below room due.Idle passed (Notifies o reply) id answer a law (inr k) =
       absurd (idle_responds below room passed a k)
   responds_next below room due.Idle passed Silent id answer a law k = absurd (idle_responds below room passed a k)

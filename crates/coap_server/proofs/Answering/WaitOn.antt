@@ -12,7 +12,7 @@ use Rattle.coap_server.specs.Deferring.{is_of, without_waiting}
 use Rattle.coap_server.specs.Law.{ServerLaw, own_of}
 use Rattle.coap_server.specs.Steps.{waiting_came}
 use Rattle.coap_server.specs.Trace.{Waiting, Handling, Silent, Replies, Serves, Waits, Notifies, Call}
-use Rattle.coap_server.specs.Trace.{Sets, Removes, Delays, Feeds, Ticks, NextOut, Gets, TellsApplied}
+use Rattle.coap_server.specs.Trace.{Sets, Removes, Delays, Plains, Feeds, Ticks, NextOut, Gets, TellsApplied}
 use Rattle.coap_server.specs.Follows.Attended.{AnswersIt}
 use Rattle.coap_server.specs.Follows.Waits.{WaitsStill, WaitOn}
 use Rattle.coap_server.proofs.Serving.ServedWasHandedUp.{same_asked_is}
@@ -73,6 +73,7 @@ module _ (limits : Limits) (szx word : ℕ) where
   here t (Sets now path format body answer left) law x k = inl k
   here t (Removes now path answer left) law x k = inl k
   here t (Delays path ms answer) law x k = inl k
+  here t (Plains path answer) law x k = inl k
   here t (NextOut answer) law x k = inl k
   here t (Gets path answer) law x k = inl k
   here t (TellsApplied answer) law x k = inl k

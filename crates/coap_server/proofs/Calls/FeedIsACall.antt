@@ -12,7 +12,9 @@ use Rattle.coap_exchange.specs.AnswererSteps as P
 use Rattle.coap_exchange.specs.AnswererTrace as E
 use Rattle.coap_exchange.proofs.Facts.ServerSide.{exchanged_join, none_ended}
 use Rattle.coap_server.specs.Trace.{Handling, Call, Feeds}
-use Rattle.coap_server.specs.Observers.{unless_ended}
+use Rattle.coap_server.specs.Observers.{unless_ended, unless_rejected}
+use Rattle.coap_exchange.specs.AnswererSteps.{unmatched_by}
+use Rattle.coap_server.proofs.Observing.RejectedNons.{none_rejected}
 use Rattle.coap_server.specs.Handling.{incoming, heard, HandlesCame}
 use Rattle.coap_server.specs.Asks.{answering}
 use Rattle.coap_server.specs.Steps.{came_after}
@@ -32,8 +34,11 @@ module _ (old mid new : State) (now : ℕ) (from : Endpoint) (bytes : List ℕ) 
       let c : E.Call = incoming old.own now from bytes up (Some (a, m)) in
       let ended : (P.after old.own.exchanges c).ended
       ≡ None = none_ended from up (a, m) old.own.exchanges.separate step.right in
-      let observers : unless_ended (P.after old.own.exchanges c).ended old.own.observers
-      ≡ old.own.observers = ap (λ e. unless_ended e old.own.observers) ended in
+      let at : ℕ = max old.own.clock now in
+      let observers : unless_rejected at (unmatched_by from up)
+      (unless_ended (P.after old.own.exchanges c).ended old.own.observers)
+      ≡ old.own.observers = ap (λ e. unless_rejected at (unmatched_by from up) (unless_ended e old.own.observers)) ended
+      ∙ ap (λ r. unless_rejected at r old.own.observers) (none_rejected from up (a, m) step.right) in
       let taken : P.after old.own.exchanges c ≡ mid.own.exchanges = sym step.own_is in
       let is : mid.own ≡ heard old.own now c =
       kept ∙ ap (λ (e : E.Own). record old.own { clock = max old.own.clock now; exchanges = e }) (sym taken)

@@ -31,6 +31,8 @@ use Rattle.coap_server.specs.Object.Handled.{ServesRequest}
 use Rattle.coap_server.specs.Turns.Turned.{IsTurned}
 use Rattle.coap_server.proofs.Calls.PassedOver.{whole_of}
 use Rattle.coap_server.proofs.Calls.WaitingLists.{all_stay}
+use Rattle.coap_server.specs.Asks.{notifies_by}
+use Rattle.coap_server.specs.Plain.{by_plain, goes_plain}
 
 -- the whole call
 
@@ -65,7 +67,7 @@ module _ (old mid new : State) (now at word : ℕ) (below : L.Answer) (room : Bo
         turned.id,
         record {
           right = (subst (λ s. HandlesDue s d turned.passed turned.handling) is turned.right, turned.answer_is);
-          own_is = turned.left ∙ ap (λ s. due_after s d turned.handling
+          own_is = turned.left ∙ ap (λ s. due_after s d turned.handling turned.id
               (responding s d turned.passed turned.handling word turned.id)) is;
           under = exchanged_join (exchanges_of old) (exchanges_of mid) (exchanges_of new)
               (responding (heard old.own now c) d turned.passed turned.handling word turned.id) (c ∷ [])
@@ -173,10 +175,23 @@ module _ (s new : State) (a : Asked) (word : ℕ) where
 
 -- a notification
 
-notified_as : (at : ℕ) (held : Option Held) (o : Observer) (os : List Observer)
-    → notified at held (but_noted o) os ≡ notified at held o os
-notified_as at None o os = refl
-notified_as at (Some held) o os = refl
+notified_as : (plain : Bool) (at id : ℕ) (held : Option Held) (o : Observer) (os : List Observer)
+    → notified plain at id held (but_noted o) os ≡ notified plain at id held o os
+notified_as plain at id None o os = refl
+notified_as true at id (Some held) o os = refl
+notified_as false at id (Some held) o os = refl
+
+plain_as : (s : T.Own) (o : Observer) → by_plain s (but_noted o) ≡ by_plain s o
+plain_as s o = by (s.store.holds o.path)
+  where
+    by : (held : Option Held) → goes_plain s.plains s.clock held (but_noted o) ≡ goes_plain s.plains s.clock held o
+    by None = refl
+    by (Some held) = refl
+
+notifies_as : (plain : Bool) (at : ℕ) (o : Observer) (r : E.Response) (word id : ℕ)
+    → notifies_by plain at (but_noted o) r word id ≡ notifies_by plain at o r word id
+notifies_as true at o r word id = refl
+notifies_as false at o r word id = refl
 
 module _ (s new : State) (word passed : ℕ) where
   abbrev asked : List E.Call
@@ -199,17 +214,17 @@ module _ (s new : State) (word passed : ℕ) where
 
   one_notified : (mid : X.State) (o : Observer) (id : ℕ) → behind passed (marked s.own.observers) ≡ Some o
       → X.Exchanged (exchanges_of s) asked mid
-      → X.Step mid (E.Notifies s.own.clock o.to o.token (notification s.own.store o (told s.own.store o)) word id)
-      (exchanges_of new)
+      → X.Step mid (notifies_by (by_plain s.own o) s.own.clock o (notification s.own.store o (told s.own.store o)) word
+      id) (exchanges_of new)
       → new.own ≡ record s.own {
         exchanges = new.own.exchanges;
-        observers = notified s.own.clock (s.own.store.holds o.path) o s.own.observers;
+        observers = notified (by_plain s.own o) s.own.clock id (s.own.store.holds o.path) o s.own.observers;
         applied = [];
       }
       → IsTurned s due.Idle word true new
   one_notified mid o id there asks step kept =
       let h : Handling = Notifies o (told s.own.store o) in
-      let calls : List E.Call = E.Notifies s.own.clock o.to o.token
+      let calls : List E.Call = notifies_by (by_plain s.own o) s.own.clock o
       (notification s.own.store o (told s.own.store o)) word id ∷ asked in
       let all : X.Exchanged (exchanges_of s) calls (exchanges_of new) = (mid, asks, step) in
       record {
@@ -222,50 +237,55 @@ module _ (s new : State) (word passed : ℕ) where
         left = kept
             ∙ ap (λ (e : E.Own). record s.own {
               exchanges = e;
-              observers = notified s.own.clock (s.own.store.holds o.path) o s.own.observers;
+              observers = notified (by_plain s.own o) s.own.clock id (s.own.store.holds o.path) o s.own.observers;
               applied = [];
             })
             (exchanged_own (exchanges_of s) (exchanges_of new) calls all);
       }
 
-  -- .. where the response, the store and the observers are said apart
-  one_whole : (mid : X.State) (o : Observer) (id : ℕ) (response : E.Response) (store : Content)
+  -- .. where the way, the response, the store and the observers are said apart
+  one_whole : (mid : X.State) (o : Observer) (id : ℕ) (plain : Bool) (response : E.Response) (store : Content)
       (observers : List Observer) → behind passed (marked s.own.observers) ≡ Some o
       → X.Exchanged (exchanges_of s) asked mid
-      → X.Step mid (E.Notifies s.own.clock o.to o.token response word id) (exchanges_of new)
+      → X.Step mid (notifies_by plain s.own.clock o response word id) (exchanges_of new) → plain ≡ by_plain s.own o
       → response ≡ notification s.own.store o (told s.own.store o) → store ≡ s.own.store
-      → observers ≡ notified s.own.clock (s.own.store.holds o.path) o s.own.observers
+      → observers ≡ notified plain s.own.clock id (s.own.store.holds o.path) o s.own.observers
       → new.own ≡ record s.own { exchanges = new.own.exchanges; store = store; observers = observers; applied = [] }
       → IsTurned s due.Idle word true new
-  one_whole mid o id response store observers there asks step said same left kept =
-      one_notified mid o id there asks (subst (λ r. X.Step mid (E.Notifies s.own.clock o.to o.token r word id)
-      (exchanges_of new)) said step)
+  one_whole mid o id plain response store observers there asks step way said same left kept =
+      one_notified mid o id there asks
+      (subst (λ b. X.Step mid (notifies_by b s.own.clock o (notification s.own.store o (told s.own.store o)) word id)
+      (exchanges_of new)) way
+      (subst (λ r. X.Step mid (notifies_by plain s.own.clock o r word id) (exchanges_of new)) said step))
       (kept ∙ (ap (λ (c : Content). record s.own {
         exchanges = new.own.exchanges;
         store = c;
         observers = observers;
         applied = [];
       }) same
-      ∙ ap (λ (os : List Observer). record s.own { exchanges = new.own.exchanges; observers = os; applied = [] }) left))
+      ∙ ap (λ (os : List Observer). record s.own { exchanges = new.own.exchanges; observers = os; applied = [] })
+      (left ∙ ap (λ b. notified b s.own.clock id (s.own.store.holds o.path) o s.own.observers) way)))
 
   -- .. and of whom all is told but the last NON
-  pub one_told : (mid : X.State) (x : Observer) (id : ℕ) (response : E.Response) (store : Content)
+  pub one_told : (mid : X.State) (x : Observer) (id : ℕ) (plain : Bool) (response : E.Response) (store : Content)
       (observers : List Observer) → Some x ≡ option_map but_noted (behind passed (marked s.own.observers))
       → X.Exchanged (exchanges_of s) asked mid
-      → X.Step mid (E.Notifies s.own.clock x.to x.token response word id) (exchanges_of new)
+      → X.Step mid (notifies_by plain s.own.clock x response word id) (exchanges_of new) → plain ≡ by_plain s.own x
       → response ≡ notification s.own.store x (told s.own.store x) → store ≡ s.own.store
-      → observers ≡ notified s.own.clock (s.own.store.holds x.path) x s.own.observers
+      → observers ≡ notified plain s.own.clock id (s.own.store.holds x.path) x s.own.observers
       → new.own ≡ record s.own { exchanges = new.own.exchanges; store = store; observers = observers; applied = [] }
       → IsTurned s due.Idle word true new
-  one_told mid x id response store observers there asks step said same left kept =
+  one_told mid x id plain response store observers there asks step way said same left kept =
       let w = whole_of (behind passed (marked s.own.observers)) x there in
       let o = w.observer in
-      one_whole mid o id response store observers w.is asks
-      (subst (λ (z : Observer). X.Step mid (E.Notifies s.own.clock z.to z.token response word id) (exchanges_of new))
-      w.told step)
+      one_whole mid o id plain response store observers w.is asks
+      (subst (λ z. X.Step mid z (exchanges_of new)) (notifies_as plain s.own.clock o response word id)
+      (subst (λ (z : Observer). X.Step mid (notifies_by plain s.own.clock z response word id) (exchanges_of new))
+      w.told step))
+      (way ∙ (ap (λ (z : Observer). by_plain s.own z) w.told ∙ plain_as s.own o))
       (said ∙ ap (λ (z : Observer). notification s.own.store z (told s.own.store z)) w.told) same
-      (left ∙ (ap (λ (z : Observer). notified s.own.clock (s.own.store.holds z.path) z s.own.observers) w.told
-      ∙ notified_as s.own.clock (s.own.store.holds o.path) o s.own.observers)) kept
+      (left ∙ (ap (λ (z : Observer). notified plain s.own.clock id (s.own.store.holds z.path) z s.own.observers) w.told
+      ∙ notified_as plain s.own.clock id (s.own.store.holds o.path) o s.own.observers)) kept
 
 -- what a GET without options is answered
 unconditional : (held : Option Held) → precondition_fails held [] ≡ false

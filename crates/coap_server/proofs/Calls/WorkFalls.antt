@@ -13,6 +13,8 @@ use Rattle.coap_server.proofs.Exact.Leads.{led_further, led_lawful, led_state}
 use Rattle.coap_server.proofs.Rest.Ending.{size, less, size_is}
 use Rattle.coap_server.specs.declared.server.delaying.DelayRefusal.{DelayRefusal}
 use Rattle.coap_server.specs.declared.server.delaying.DelayRefusal.TheVariants as delay_refusals
+use Rattle.coap_server.specs.declared.server.plain.PlainRefusal.{PlainRefusal}
+use Rattle.coap_server.specs.declared.server.plain.PlainRefusal.TheVariants as plain_refusals
 use Rattle.coap_server.specs.Object.Shown.{IsTimed, Kept, state_of}
 use Rattle.coap_server.specs.Turns.Work.{work, WasLed}
 
@@ -66,6 +68,12 @@ pub closes_delay : {X W : Type 0} (r : Result X DelayRefusal) → (r ≢ Err del
 closes_delay (Ok x) other memory = other (λ e. cc e)
 closes_delay (Err delay_refusals.Memory) other memory = memory refl
 closes_delay (Err delay_refusals.Full) other memory = other (λ e. cc e)
+
+pub closes_plain : {X W : Type 0} (r : Result X PlainRefusal) → (r ≢ Err plain_refusals.Memory → W)
+    → (r ≡ Err plain_refusals.Memory → W) → W
+closes_plain (Ok x) other memory = other (λ e. cc e)
+closes_plain (Err plain_refusals.Memory) other memory = memory refl
+closes_plain (Err plain_refusals.Full) other memory = other (λ e. cc e)
 
 -- what callers see is led as what is inside
 pub seen_led : {S : Type 0} (content : S → Content) (inside outside : Kept S) → inside ≡ outside

@@ -1,5 +1,5 @@
 -- The law leaves each call of a server one answer.
-use Rattle.std.proofs.Common.{◌≡◌, ℕ, max, Bool, Option, Some, None, List, [], ◌∷◌, ◌++◌, length, refl, ap, sym, subst}
+use Rattle.std.proofs.Common.{◌≡◌, ℕ, max, Bool, true, false, Option, Some, None, List, [], ◌∷◌, ◌++◌, length, refl, ap, sym, subst}
 use Rattle.std.proofs.Common.{◌∙◌}
 use Rattle.coap_types.specs.declared.endpoint.Endpoint.{Endpoint}
 use Rattle.coap_codec.specs.Message.{Message}
@@ -21,8 +21,13 @@ use Rattle.coap_server.specs.Serving.{response_to}
 use Rattle.coap_server.specs.Deferring.{deferral, question_of}
 use Rattle.coap_server.specs.Notifying.{marked, behind, readies, notification, NotifiesNext}
 use Rattle.coap_server.specs.Handling.{HandlesDue, is_done}
-use Rattle.coap_server.specs.Asks.{answering, responding}
-use Rattle.coap_server.specs.Steps.{came_after, due_after}
+use Rattle.coap_server.specs.Asks.{answering, notifies_by, responding}
+use Rattle.coap_server.specs.Plain.{by_plain}
+use Rattle.coap_server.specs.Notifying.{notified}
+use Rattle.coap_observe.specs.Observers.{Observer}
+use Rattle.coap_resource.specs.Content.{Held}
+use Rattle.coap_server.proofs.Observing.Outcomes.{never_notifies_ready}
+use Rattle.coap_server.specs.Steps.{came_after, due_after, exchanges_after, handled, observers_due, ready_in, waiting_due}
 use Rattle.coap_server.specs.Law.{own_of, lower_of, ServerLaw}
 use Rattle.coap_server.specs.Follows.Exact.{fed, turned, LeaveAlike, IsExact}
 use Rattle.coap_server.proofs.Exact.Asked.{joined, one_back, back, found, ticked, lower_same, moved}
@@ -63,8 +68,14 @@ module _ (word : ℕ) (s : Own) where
     asked_first passed (Serves u reply left) id room p = p
     asked_first passed (Waits u delay) id room p = p
     asked_first passed (Notifies o reply) id room p =
-        one_back word (E.Notifies s.clock o.to o.token (notification s.store o reply) w id)
+        one_back word (notifies_by (by_plain s o) s.clock o (notification s.store o reply) w id)
         (readies s.clock passed (marked s.observers) ++ Base due.Idle room) p
+
+    one_number : (plain : Bool) (o : Observer) (r : E.Response) (id number : ℕ) (past : List E.Call)
+        → ResponseLaw word (notifies_by plain s.clock o r w id ∷ past)
+        → ResponseLaw word (notifies_by plain s.clock o r w number ∷ past) → id ≡ number
+    one_number true o r id number past p q = (exact word past).notifies_plain s.clock o.to o.token r id number p q
+    one_number false o r id number past p q = (exact word past).notifies s.clock o.to o.token r w id number p q
 
     notifying_alike : (passed skipped : ℕ) (h : Handling) (id number : ℕ) (room : Bool)
         → readies s.clock passed (marked s.observers) ≡ readies s.clock skipped (marked s.observers)
@@ -77,12 +88,12 @@ module _ (word : ℕ) (s : Own) where
     notifying_alike passed skipped (Waits u delay) id number room e p q = e
     notifying_alike passed skipped (Notifies o reply) id number room e p q =
         let r : E.Response = notification s.store o reply in
-        let same : id ≡ number = (exact word (readies s.clock passed (marked s.observers)
-        ++ Base due.Idle room)).notifies s.clock o.to o.token r w id number p
-        (subst (λ z. ResponseLaw word (E.Notifies s.clock o.to o.token r w number ∷ z ++ Base due.Idle room)) (sym e) q)
-        in
-        ap (λ z. E.Notifies s.clock o.to o.token r w z ∷ readies s.clock passed (marked s.observers)) same
-        ∙ ap (λ z. E.Notifies s.clock o.to o.token r w number ∷ z) e
+        let same : id ≡ number = one_number (by_plain s o) o r id number
+        (readies s.clock passed (marked s.observers) ++ Base due.Idle room) p
+        (subst (λ z. ResponseLaw word (notifies_by (by_plain s o) s.clock o r w number ∷ z ++ Base due.Idle room))
+        (sym e) q) in
+        ap (λ z. notifies_by (by_plain s o) s.clock o r w z ∷ readies s.clock passed (marked s.observers)) same
+        ∙ ap (λ z. notifies_by (by_plain s o) s.clock o r w number ∷ z) e
 
     responding_alike : (a : Asked) (passed skipped : ℕ) (h : Handling) (id number : ℕ) (room : Bool)
         → ResponseLaw word (responding s (due.Ready a) passed h w id ++ Base (due.Ready a) room)
@@ -122,6 +133,55 @@ module _ (word : ℕ) (s : Own) where
         (same, r ∙ ap (λ z. responding s (due.Ready x) skipped z w number) same)
     turn_alike due.Copied passed skipped h k id number room a b p q = (a ∙ sym b, refl)
     turn_alike due.Expired passed skipped h k id number room a b p q = (a ∙ sym b, refl)
+
+-- what is left by equal turns: of a notification in a NON its Message ID is kept
+module _ (s : Own) (w : ℕ) where
+  number_of : (plain : Bool) (o : Observer) (r : E.Response) (id number : ℕ) (xs ys : List E.Call) (held : Option Held)
+      → notifies_by plain s.clock o r w id ∷ xs ≡ notifies_by plain s.clock o r w number ∷ ys
+      → notified plain s.clock id held o s.observers ≡ notified plain s.clock number held o s.observers
+  number_of plain o r id number xs ys None e = refl
+  number_of false o r id number xs ys (Some held) e = refl
+  number_of true o r id number xs ys (Some held) e =
+      let same : id ≡ number = cc e in ap (λ n. notified true s.clock n (Some held) o s.observers) same
+
+  observers_alike : (d : Due) (passed skipped : ℕ) (h : Handling) (id number : ℕ) → HandlesDue s d passed h
+      → responding s d passed h w id ≡ responding s d skipped h w number
+      → observers_due s d h id ≡ observers_due s d h number
+  observers_alike due.Idle passed skipped (Notifies o reply) id number right e =
+      number_of (by_plain s o) o (notification s.store o reply) id number (readies s.clock passed (marked s.observers))
+      (readies s.clock skipped (marked s.observers)) (s.store.holds o.path) e
+  observers_alike due.Copied passed skipped (Notifies o reply) id number right e = absurd (cc right)
+  observers_alike due.Expired passed skipped (Notifies o reply) id number right e = absurd (cc right)
+  observers_alike (due.Ready a) passed skipped (Notifies o reply) id number right e =
+      absurd (never_notifies_ready (question_of s.clock a s.waiting) s.store s.clock o reply right)
+  observers_alike d passed skipped Silent id number right e = refl
+  observers_alike d passed skipped (Replies r) id number right e = refl
+  observers_alike d passed skipped (Serves q reply left) id number right e = refl
+  observers_alike d passed skipped (Waits q delay) id number right e = refl
+
+  left_alike : (d : Due) (passed skipped : ℕ) (h k : Handling) (id number : ℕ) → HandlesDue s d passed h → h ≡ k
+      → responding s d passed h w id ≡ responding s d skipped k w number
+      → due_after s d h id (responding s d passed h w id) ≡ due_after s d k number (responding s d skipped k w number)
+  left_alike d passed skipped h k id number right same e =
+      let back : responding s d passed h w id ≡ responding s d skipped h w number =
+      e ∙ ap (λ z. responding s d skipped z w number) (sym same) in
+      let told : observers_due s d h id ≡ observers_due s d k number =
+      observers_alike d passed skipped h id number right back ∙ ap (λ z. observers_due s d z number) same in
+      ap (λ z. record (handled s (ready_in d) z) {
+        exchanges = exchanges_after s.exchanges (responding s d passed h w id);
+        observers = observers_due s d h id;
+        waiting = waiting_due s.clock (ready_in d) s.waiting;
+      }) same
+      ∙ (ap (λ xs. record (handled s (ready_in d) k) {
+        exchanges = exchanges_after s.exchanges xs;
+        observers = observers_due s d h id;
+        waiting = waiting_due s.clock (ready_in d) s.waiting;
+      }) e
+      ∙ ap (λ os. record (handled s (ready_in d) k) {
+        exchanges = exchanges_after s.exchanges (responding s d skipped k w number);
+        observers = os;
+        waiting = waiting_due s.clock (ready_in d) s.waiting;
+      }) told)
 
 module _ (limits : Limits) (szx word : ℕ) (past : List Call) where
   abbrev own : Own
@@ -212,7 +272,7 @@ module _ (limits : Limits) (szx word : ℕ) (past : List Call) where
           turn.1,
           p.rows.0.1 ∙ (ap (λ z. is_done d z) handled ∙ sym q.rows.0.1),
           record {
-            own = ap (λ z. due_after s d z xs) handled ∙ ap (λ z. due_after s d k z) turn.1;
+            own = left_alike s w d passed skipped h k id number p.rows.0.0 handled turn.1;
             beneath = ap W.lower_of (joined xs (E.Ticks s.clock below room d) calls)
                 ∙ (ap (λ z. W.lower_of (z ++ ticked word s.clock below d calls room)) turn.1
                 ∙ (lower_same word s.clock below d calls ys room space first second
@@ -252,6 +312,7 @@ module _ (limits : Limits) (szx word : ℕ) (past : List Call) where
         removed_alike (own.store.holds path) (rate_refusal own.store.tally (max own.clock now)) own.store
         (max own.clock now) path answer another left other p.rows.0 q.rows.0;
     delays = λ path ms answer another p q. p.rows.0 ∙ sym q.rows.0;
+    plains = λ path answer another p q. p.rows.0 ∙ sym q.rows.0;
     feeds = heard_alike;
     ticks = turns_alike;
     next_out = λ answer another p q. (exact word calls).take answer another p.exchanges q.exchanges;

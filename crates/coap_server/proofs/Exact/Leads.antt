@@ -9,7 +9,7 @@ use Rattle.coap_exchange.specs.AnswererTrace as E
 use Rattle.coap_exchange.specs.AnswererLaw as X
 use Rattle.coap_exchange.specs.AnswererSteps as P
 use Rattle.coap_exchange.proofs.Facts.ServerSide.{led_start, led_exchanged, led_law}
-use Rattle.coap_server.specs.Trace.{Own, Call, Sets, Removes, Delays, Feeds, Ticks, NextOut, Gets}
+use Rattle.coap_server.specs.Trace.{Own, Call, Sets, Removes, Delays, Plains, Feeds, Ticks, NextOut, Gets}
 use Rattle.coap_server.specs.Trace.{TellsApplied}
 use Rattle.coap_server.specs.Handling.{incoming, ticking, heard}
 use Rattle.coap_server.specs.Asks.{answering, responding, lower}
@@ -34,6 +34,7 @@ exchanges_kept limits szx [] = refl
 exchanges_kept limits szx (Sets now path format body answer left ∷ t) = exchanges_kept limits szx t
 exchanges_kept limits szx (Removes now path answer left ∷ t) = exchanges_kept limits szx t
 exchanges_kept limits szx (Delays path ms answer ∷ t) = exchanges_kept limits szx t
+exchanges_kept limits szx (Plains path answer ∷ t) = exchanges_kept limits szx t
 exchanges_kept limits szx (Gets path answer ∷ t) = exchanges_kept limits szx t
 exchanges_kept limits szx (TellsApplied answer ∷ t) = exchanges_kept limits szx t
 exchanges_kept limits szx (Feeds now from bytes word up came h below ∷ t) =

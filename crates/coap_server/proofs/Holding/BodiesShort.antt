@@ -19,7 +19,7 @@ use Rattle.coap_resource.specs.Serves as R
 use Rattle.coap_server.specs.Local.{SetsBy, RemovesBy}
 use Rattle.coap_server.specs.Law.{own_of, ServerRows}
 use Rattle.coap_server.specs.Steps.{IsRight}
-use Rattle.coap_server.specs.Trace.{Own, Call, Sets, Removes, Delays, Feeds, Ticks, NextOut, Gets, TellsApplied}
+use Rattle.coap_server.specs.Trace.{Own, Call, Sets, Removes, Delays, Plains, Feeds, Ticks, NextOut, Gets, TellsApplied}
 use Rattle.coap_server.specs.Follows.Holds.{Change, change_of, changed_by, change, held_then}
 use Rattle.coap_server.specs.Follows.Recognised.{BodiesShort}
 use Rattle.coap_server.specs.Follows.Serves.{Serving, serving}
@@ -158,6 +158,7 @@ module _ (limits : Limits) (s : Own) (is_limits : s.store.tally.limits ≡ limit
       (removes_short (s.store.holds path) (rate_refusal s.store.tally (max s.clock now))
       (max s.clock now) path answer left right)
   change_short (Delays path ms answer) right x h = absurd (cc h)
+  change_short (Plains path answer) right x h = absurd (cc h)
   change_short (Feeds now from bytes word up came w below) right x h =
       serving_short (Feeds now from bytes word up came w below) right x _ refl h
   change_short (Ticks now word below room d passed w id answer) right x h =

@@ -12,7 +12,7 @@ use Rattle.coap_resource.specs.Serves as R
 use Rattle.coap_resource.specs.Limits.{Limits}
 use Rattle.coap_exchange.specs.declared.answerer.Due.TheVariants as due
 use Rattle.coap_server.specs.Trace.{Own, Silent, Replies, Serves, Waits, Notifies, Call, Sets, Removes}
-use Rattle.coap_server.specs.Trace.{Delays, Feeds, Ticks, NextOut, Gets, TellsApplied}
+use Rattle.coap_server.specs.Trace.{Delays, Plains, Feeds, Ticks, NextOut, Gets, TellsApplied}
 use Rattle.coap_server.specs.Serving.{is_applied}
 use Rattle.coap_server.specs.Deferring.{question_of}
 use Rattle.coap_server.specs.Notifying.{marked, behind}
@@ -62,6 +62,7 @@ serves_right s (Ticks now word below room (due.Ready a) passed (Notifies o reply
 serves_right s (Sets now path format body answer left) right x e = absurd (cc e)
 serves_right s (Removes now path answer left) right x e = absurd (cc e)
 serves_right s (Delays path ms answer) right x e = absurd (cc e)
+serves_right s (Plains path answer) right x e = absurd (cc e)
 serves_right s (Gets path answer) right x e = absurd (cc e)
 serves_right s (TellsApplied answer) right x e = absurd (cc e)
 serves_right s (NextOut answer) right x e = absurd (cc e)
@@ -136,6 +137,7 @@ moves_by s (Removes now path answer left) right =
     moves path (max s.clock now) s.store left (removes_effect (s.store.holds path) (rate_refusal s.store.tally (max s.clock now)) s.store
     (max s.clock now) path answer left refl right)
 moves_by s (Delays path ms answer) right = stays s
+moves_by s (Plains path answer) right = stays s
 moves_by s (Gets path answer) right = stays s
 moves_by s (TellsApplied answer) right = stays s
 moves_by s (NextOut answer) right = stays s
@@ -210,6 +212,7 @@ served_changes : (s : Own) (c : Call) (x : Serving) (y : Change) → serving s c
 served_changes s (Sets now path format body answer left) x y h k = absurd (cc h)
 served_changes s (Removes now path answer left) x y h k = absurd (cc h)
 served_changes s (Delays path ms answer) x y h k = absurd (cc h)
+served_changes s (Plains path answer) x y h k = absurd (cc h)
 served_changes s (Gets path answer) x y h k = absurd (cc h)
 served_changes s (TellsApplied answer) x y h k = absurd (cc h)
 served_changes s (NextOut answer) x y h k = absurd (cc h)

@@ -12,7 +12,7 @@ use Rattle.coap_resource.specs.Limits.{Limits}
 use Rattle.coap_exchange.specs.declared.answerer.Due.TheVariants as due
 use Rattle.coap_common.specs.SuccessCodes.{content}
 use Rattle.coap_server.specs.Trace.{Own, Silent, Replies, Serves, Waits, Notifies, Call, Sets, Removes}
-use Rattle.coap_server.specs.Trace.{Delays, Feeds, Ticks, NextOut, Gets, TellsApplied}
+use Rattle.coap_server.specs.Trace.{Delays, Plains, Feeds, Ticks, NextOut, Gets, TellsApplied}
 use Rattle.coap_server.specs.Deferring.{question_of}
 use Rattle.coap_server.specs.Notifying.{marked, behind, told, asks_for}
 use Rattle.coap_server.specs.Handling.{incoming, ticking, heard}
@@ -73,6 +73,7 @@ left_is s (Ticks now word below room (due.Ready a) passed (Notifies o reply) id 
 left_is s (Sets now path format body answer left) x e = absurd (cc e)
 left_is s (Removes now path answer left) x e = absurd (cc e)
 left_is s (Delays path ms answer) x e = absurd (cc e)
+left_is s (Plains path answer) x e = absurd (cc e)
 left_is s (NextOut answer) x e = absurd (cc e)
 left_is s (Gets path answer) x e = absurd (cc e)
 left_is s (TellsApplied answer) x e = absurd (cc e)
@@ -162,6 +163,7 @@ module _ (limits : Limits) (szx : ℕ) where
   notice_here t (Sets now path format body answer left) rows p is = absurd (cc is)
   notice_here t (Removes now path answer left) rows p is = absurd (cc is)
   notice_here t (Delays path ms answer) rows p is = absurd (cc is)
+  notice_here t (Plains path answer) rows p is = absurd (cc is)
   notice_here t (NextOut answer) rows p is = absurd (cc is)
   notice_here t (Gets path answer) rows p is = absurd (cc is)
   notice_here t (TellsApplied answer) rows p is = absurd (cc is)

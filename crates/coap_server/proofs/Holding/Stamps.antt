@@ -15,7 +15,7 @@ use Rattle.coap_resource.specs.Serves.{Question, Reply, PutBy, JoinBy, PostBy, R
 use Rattle.coap_resource.specs.Serves.{ServesUnless}
 use Rattle.coap_resource.specs.Serves as R
 use Rattle.coap_resource.specs.Limits.{Limits}
-use Rattle.coap_server.specs.Trace.{Own, Call, Sets, Removes, Delays, Feeds, Ticks, NextOut, Gets}
+use Rattle.coap_server.specs.Trace.{Own, Call, Sets, Removes, Delays, Plains, Feeds, Ticks, NextOut, Gets}
 use Rattle.coap_server.specs.Trace.{TellsApplied}
 use Rattle.coap_server.specs.Local.{SetsBy, RemovesBy}
 use Rattle.coap_server.specs.Steps.{IsRight}
@@ -203,6 +203,7 @@ stamps s (Removes now path answer left) x right h =
     stamp_of s path (max s.clock now) s.store left x refl (removes_stamps (s.store.holds path)
     (rate_refusal s.store.tally (max s.clock now)) s.store (max s.clock now) path answer left refl right) h
 stamps s (Delays path ms answer) x right h = absurd (cc h)
+stamps s (Plains path answer) x right h = absurd (cc h)
 stamps s (Gets path answer) x right h = absurd (cc h)
 stamps s (TellsApplied answer) x right h = absurd (cc h)
 stamps s (NextOut answer) x right h = absurd (cc h)

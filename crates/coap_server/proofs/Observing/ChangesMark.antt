@@ -12,7 +12,7 @@ use Rattle.coap_resource.specs.Serves.{Question, Reply}
 use Rattle.coap_resource.specs.Limits.{Limits}
 use Rattle.coap_exchange.specs.declared.answerer.Asked.{Asked}
 use Rattle.coap_common.specs.SuccessCodes.{content}
-use Rattle.coap_server.specs.Trace.{Own, Call, Sets, Removes, Delays, Feeds, Ticks, NextOut, Gets, TellsApplied}
+use Rattle.coap_server.specs.Trace.{Own, Call, Sets, Removes, Delays, Plains, Feeds, Ticks, NextOut, Gets, TellsApplied}
 use Rattle.coap_server.specs.Observers.{is_get, is_number, observes, registers, observers_with, marked_if}
 use Rattle.coap_server.specs.Law.{ServerLaw, own_of}
 use Rattle.coap_server.specs.Follows.Holds.{Change, change, change_of, changed_by}
@@ -93,6 +93,7 @@ module _ (limits : Limits) (szx word : ℕ) where
   here t (Ticks now w below room d passed k id answer) law x h =
       served t (Ticks now w below room d passed k id answer) law x _ refl h
   here t (Delays path ms answer) law x h = absurd (cc h)
+  here t (Plains path answer) law x h = absurd (cc h)
   here t (Gets path answer) law x h = absurd (cc h)
   here t (TellsApplied answer) law x h = absurd (cc h)
   here t (NextOut answer) law x h = absurd (cc h)

@@ -26,12 +26,17 @@ sent_alone : (busy free : Bool) (n id : ℕ) → L.Sent id ≡ cond busy L.Busie
 sent_alone true free n id h = absurd (cc h)
 sent_alone false free n id h = refl
 
-pub alone : (word : ℕ) (now : ℕ) (to : Endpoint) (token : List ℕ) (r : E.Response) (w id : ℕ) (calls : List E.Call)
-    → ResponseLaw word (E.Notifies now to token r w id ∷ calls) → is_waited_for to (W.own_of calls).separate ≡ false
-alone word now to token r w id calls law =
+-- .. and where an endpoint is said to be ready, none is outstanding
+room_alone : (busy free : Bool) → L.Is true ≡ L.Is (not busy && free) → busy ≡ false
+room_alone true free h = absurd (cc h)
+room_alone false free h = refl
+
+pub ready_alone : (word : ℕ) (now : ℕ) (to : Endpoint) (calls : List E.Call)
+    → ResponseLaw word (E.Ready now to true ∷ calls) → is_waited_for to (W.own_of calls).separate ≡ false
+ready_alone word now to calls law =
     let steps = law.layer in
     waits word calls (record { rows = law.rows.1; left = steps.0; layer = steps.1 }) to
-    ∙ sent_alone (is_busy to steps.0.open_cons) _ _ id steps.2.right
+    ∙ room_alone (is_busy to steps.0.open_cons) _ steps.2.right
 
 pub alone_later : (word : ℕ) (now : ℕ) (a : Asked) (r : E.Response) (w id : ℕ) (calls : List E.Call)
     → ResponseLaw word (E.Responds now a r w id ∷ calls) → is_waited_for a.from (W.own_of calls).separate ≡ false

@@ -10,7 +10,7 @@ use Rattle.coap_types.proofs.Facts.Endpoints.{same_endpoint-decides}
 use Rattle.coap_types.proofs.Facts.Paths.{same_path-decides}
 use Rattle.coap_types.specs.SameEndpoint.{same_endpoint}
 use Rattle.coap_types.specs.declared.endpoint.Endpoint.{Endpoint}
-use Rattle.coap_observe.specs.Observers.{Observer, AreDistinct, registration, removed, registered, changed_at}
+use Rattle.coap_observe.specs.Observers.{Observer, registration, removed, registered, changed_at}
 use Rattle.coap_observe.specs.Observers.{begun, marked_by, sent_to}
 use Rattle.coap_observe.specs.Registrations.{IsOther, told_by}
 use Rattle.coap_observe.proofs.Facts.Registrations.{registration-changed_at, registration-registered}
@@ -25,6 +25,11 @@ use Rattle.coap_server.specs.Follows.Current.{told_then}
 use Rattle.coap_server.specs.Follows.Tells.{Telling, Way, telling_of, tells}
 use Rattle.coap_server.proofs.Observing.ObservationStays.{is_pair}
 use Rattle.coap_server.proofs.Observing.StoreChanges.{Effect}
+use Rattle.coap_observe.specs.Observers.{noted_to}
+use Rattle.coap_observe.proofs.Facts.Registrations.{registration-noted_to}
+use Rattle.coap_exchange.specs.AnswererTrace.{Sending}
+use Rattle.coap_server.specs.Observers.{unless_rejected}
+use Rattle.coap_server.proofs.Observing.ObserverLists.{rejected_left}
 
 abbrev pub Holdings : Type 0
 Holdings = List (List ℕ) → Option Held
@@ -73,6 +78,11 @@ module _ (to : Endpoint) (token : List ℕ) where
         none_or (sym gone ∙ h)))
     | inr other ↦ moved last holds os (removed by bytes os) (others_stay to token by bytes os other).removed_stay g
   ]
+
+  pub rejected_good : (last : Option Telling) (holds : Holdings) (at : ℕ) (r : Option Sending) (os : List Observer)
+      → Good last holds os → Good last holds (unless_rejected at r os)
+  rejected_good last holds at r os g =
+      rejected_left (Good last holds) at r os g (λ by bytes. removed_good last holds by bytes os g)
 
   pub ended_good : (last : Option Telling) (holds : Holdings) (e : Option Ended) (os : List Observer)
       → Good last holds os
@@ -161,37 +171,57 @@ module _ (to : Endpoint) (token : List ℕ) where
       → Good then holds os
   last_good last then holds os e g = subst (λ z. Good z holds os) (sym e) g
 
-  -- a notification
-  pub notified_good : (at : ℕ) (last : Option Telling) (store : Content) (o : Observer) (way : Way) (os : List Observer)
-      → AreDistinct os → registration o.to o.token os ≡ Some o → Good last store.holds os → (held : Option Held)
-      → store.holds o.path ≡ held
-      → Good (told_then to token (tells o.to o.token o.path way at false held) last) store.holds (notified at held o os)
-  notified_good at last store o way os distinct there g None is = removed_good last store.holds o.to o.token os g
-  notified_good at last store o way os distinct there g (Some held) is = elim (is_pair to token o.to o.token) [
+  -- a notification, in either way
+  sent_good : (at then : ℕ) (con : Bool) (f : Observer → Observer) (last : Option Telling) (store : Content)
+      (o : Observer) (way : Way) (os left : List Observer) → registration o.to o.token os ≡ Some o
+      → ((y : Observer) → (f y).path ≡ y.path)
+      → registration o.to o.token left ≡ option_map (told_by at con) (option_map f (registration o.to o.token os))
+      → (IsOther to token o.to o.token → registration to token left ≡ registration to token os)
+      → Good last store.holds os → (held : Held) → store.holds o.path ≡ Some held
+      → Good (told_then to token (Some (notice_of o way then held)) last) store.holds left
+  sent_good at then con f last store o way os left there path_kept mine others g held is = elim (is_pair to token o.to o.token) [
     | inl p ↦ (λ y h m. (
-        let swap : registration to token (sent_to at o.to o.token true os)
-        ≡ registration to token (sent_to at to token true os) =
-        ap (λ z. registration to token (sent_to at z o.token true os)) p.0
-        ∙ ap (λ z. registration to token (sent_to at to z true os)) p.1 in
-        let k = mapped (told_by at true) (registration to token os) y
-        (sym (registration-sent_to at to token true os) ∙ (sym swap ∙ h)) in
-        let mine : registration to token os ≡ Some o =
-        ap (λ z. registration z token os) (sym p.0) ∙ (ap (λ z. registration o.to z os) (sym p.1) ∙ there) in
-        let same : k.0 ≡ o = one_some k.0 o (sym k.1 ∙ mine) in
-        let path : y.path ≡ o.path = ap (λ (z : Observer). z.path) (sym k.2) ∙ ap (λ (z : Observer). z.path) same in
+        let here : registration o.to o.token left ≡ Some y =
+        ap (λ z. registration z o.token left) p.0 ∙ (ap (λ z. registration to z left) p.1 ∙ h) in
+        let same : told_by at con (f o) ≡ y =
+        one_some (told_by at con (f o)) y (sym (ap (λ z. option_map (told_by at con) (option_map f z)) there)
+        ∙ (sym mine ∙ here)) in
+        let path : y.path ≡ o.path = ap (λ (z : Observer). z.path) (sym same) ∙ path_kept o in
         record {
-          told = notice_of o way at held;
-          last_is = told_it (notice_of o way at held) last p;
+          told = notice_of o way then held;
+          last_is = told_it (notice_of o way then held) last p;
           path_is = sym path;
           held = held;
           is_held = ap store.holds path ∙ is;
           version = refl;
         }))
-    | inr other ↦ last_good last _ store.holds (sent_to at o.to o.token true os)
-        (told_other (notice_of o way at held) last other)
-        (moved last store.holds os (sent_to at o.to o.token true os)
-        ((others_stay to token o.to o.token os other).sent_stay at true) g)
+    | inr other ↦ last_good last _ store.holds left (told_other (notice_of o way then held) last other)
+        (moved last store.holds os left (others other) g)
   ]
+
+  pub notified_good : (plain : Bool) (at id then : ℕ) (last : Option Telling) (store : Content) (o : Observer) (way : Way)
+      (os : List Observer) → registration o.to o.token os ≡ Some o → Good last store.holds os → (held : Option Held)
+      → store.holds o.path ≡ held
+      → Good (told_then to token (tells o.to o.token o.path way then false held) last) store.holds
+      (notified plain at id held o os)
+  notified_good plain at id then last store o way os there g None is =
+      removed_good last store.holds o.to o.token os g
+  notified_good false at id then last store o way os there g (Some held) is =
+      sent_good at then true (λ y. y) last store o way os (sent_to at o.to o.token true os) there (λ y. refl)
+      (registration-sent_to at o.to o.token true os ∙ ap (option_map (told_by at true)) (same_map (registration o.to o.token os)))
+      (λ other. (others_stay to token o.to o.token os other).sent_stay at true) g held is
+    where
+      same_map : (r : Option Observer) → r ≡ option_map (λ y. y) r
+      same_map None = refl
+      same_map (Some y) = refl
+  notified_good true at id then last store o way os there g (Some held) is =
+      let noted : List Observer = noted_to at o.to o.token id os in
+      sent_good at then false (λ y. record y { noted = Some (record { id = id; at = at }) }) last store o way os
+      (sent_to at o.to o.token false noted) there (λ y. refl)
+      (registration-sent_to at o.to o.token false noted
+      ∙ ap (option_map (told_by at false)) (registration-noted_to at o.to o.token id os))
+      (λ other. (others_stay to token o.to o.token noted other).sent_stay at false
+      ∙ (others_stay to token o.to o.token os other).noted_stay at id) g held is
 
   -- a request that is served
 

@@ -16,11 +16,11 @@ use Rattle.coap_exchange.specs.declared.separate.Deferred.{Deferred}
 use Rattle.coap_exchange.specs.declared.separate.Separate.{Separate}
 use Rattle.coap_exchange.specs.AnswererTrace as E
 use Rattle.coap_exchange.specs.AnswererSteps as P
-use Rattle.coap_exchange.specs.AnswererSteps.{reset_by, failed_by}
+use Rattle.coap_exchange.specs.AnswererSteps.{reset_by, failed_by, unmatched_by}
 use Rattle.coap_exchange.specs.AnswererLaw as W
 use Rattle.coap_server.specs.Trace.{Own, Handling, Silent, Replies, Serves, Waits, Notifies, Call}
 use Rattle.coap_server.specs.Trace.{Sets}
-use Rattle.coap_server.specs.Trace.{Removes, Delays, Feeds, Ticks, NextOut, Gets, TellsApplied}
+use Rattle.coap_server.specs.Trace.{Removes, Delays, Plains, Feeds, Ticks, NextOut, Gets, TellsApplied}
 use Rattle.coap_server.specs.Checks.{asks}
 use Rattle.coap_server.specs.Observers.{unless_ended}
 use Rattle.coap_server.specs.Deferring.{question_of}
@@ -33,6 +33,7 @@ use Rattle.coap_server.specs.Follows.Observes.{ends_in, EndsObservation}
 use Rattle.coap_server.proofs.Exact.Asked.{joined, back}
 use Rattle.coap_server.proofs.Serving.Brought.{server_back}
 use Rattle.coap_server.proofs.Observing.Outcomes.{serves_came, serves_waited}
+use Rattle.coap_server.proofs.Observing.RejectedNons.{gone_stays}
 use Rattle.coap_server.proofs.Replying.NoneContinues.{never_continues}
 
 -- the row of the first call that a call makes of the exchanges
@@ -86,7 +87,9 @@ module _ (limits : Limits) (szx word : ℕ) where
       → reset_by from up (own t).exchanges.separate ≡ Some x → x.observe ≡ true
       → registration x.to x.token (own (Feeds now from bytes w up came h below ∷ t)).observers ≡ None
   silent_fed t now from bytes w up None Silent below e right x is o =
-      removes_it (reset_by from up (own t).exchanges.separate) x (own t).observers is o
+      gone_stays x.to x.token (max (own t).clock now) (unmatched_by from up)
+      (unless_ended (reset_by from up (own t).exchanges.separate) (own t).observers)
+      (removes_it (reset_by from up (own t).exchanges.separate) x (own t).observers is o)
   silent_fed t now from bytes w up None (Replies r) below e right x is o = absurd (cc right)
   silent_fed t now from bytes w up None (Serves q reply left) below e right x is o = absurd (cc right)
   silent_fed t now from bytes w up None (Waits q d) below e right x is o = absurd (cc right)
@@ -132,6 +135,7 @@ module _ (limits : Limits) (szx word : ℕ) where
   ends_here t (Sets now path format body answer left) law x is o = absurd (cc is)
   ends_here t (Removes now path answer left) law x is o = absurd (cc is)
   ends_here t (Delays path ms answer) law x is o = absurd (cc is)
+  ends_here t (Plains path answer) law x is o = absurd (cc is)
   ends_here t (Gets path answer) law x is o = absurd (cc is)
   ends_here t (TellsApplied answer) law x is o = absurd (cc is)
   ends_here t (NextOut answer) law x is o = absurd (cc is)
@@ -171,6 +175,7 @@ module _ (limits : Limits) (szx word : ℕ) where
   serves_right t (Sets now path format body answer left) law x e = absurd (cc e)
   serves_right t (Removes now path answer left) law x e = absurd (cc e)
   serves_right t (Delays path ms answer) law x e = absurd (cc e)
+  serves_right t (Plains path answer) law x e = absurd (cc e)
   serves_right t (Gets path answer) law x e = absurd (cc e)
   serves_right t (TellsApplied answer) law x e = absurd (cc e)
   serves_right t (NextOut answer) law x e = absurd (cc e)

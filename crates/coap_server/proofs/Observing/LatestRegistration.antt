@@ -1,6 +1,6 @@
 -- Each observer of a server is of the latest registration of its endpoint and token.
 use Rattle.std.proofs.Common.{◌≡◌, ℕ, ◌==◌, ◌&&◌, nat_lt, Bool, true, false, not, Option, Some, None, List, [], ◌∷◌}
-use Rattle.std.proofs.Common.{◌++◌, length, filter, map, max, refl, ap, sym, subst, ◌∙◌, cond}
+use Rattle.std.proofs.Common.{◌++◌, length, filter, map, max, refl, ap, sym, ◌∙◌, cond}
 use Rattle.std.proofs.lemmas.Bool.{and_parts}
 use Rattle.std.specs.Cmp.{unsigned_Decides}
 use Rattle.coap_types.specs.declared.endpoint.Endpoint.{Endpoint}
@@ -22,12 +22,17 @@ use Rattle.coap_exchange.specs.AnswererSteps as P
 use Rattle.coap_common.specs.SuccessCodes.{content}
 use Rattle.coap_server.specs.Trace.{Own, Handling, Silent, Replies, Serves, Waits, Notifies, Call}
 use Rattle.coap_server.specs.Trace.{Sets}
-use Rattle.coap_server.specs.Trace.{Removes, Delays, Feeds, Ticks, NextOut, Gets, TellsApplied}
+use Rattle.coap_server.specs.Trace.{Removes, Delays, Plains, Feeds, Ticks, NextOut, Gets, TellsApplied}
 use Rattle.coap_server.specs.Observers.{observes, registers, observers_with, marked_if, unless_ended}
 use Rattle.coap_server.specs.Notifying.{notified}
 use Rattle.coap_server.specs.Handling.{incoming, ticking, heard}
-use Rattle.coap_server.specs.Steps.{observers_after, ready_in}
 use Rattle.coap_server.specs.Law.{own_of}
+use Rattle.coap_server.specs.Observers.{unless_rejected}
+use Rattle.coap_server.specs.Plain.{by_plain}
+use Rattle.coap_observe.specs.Observers.{noted_by, noted_to}
+use Rattle.coap_exchange.specs.AnswererSteps.{unmatched_by}
+use Rattle.coap_exchange.specs.AnswererTrace.{Sending}
+use Rattle.coap_server.proofs.Observing.ObserverLists.{notified_left, rejected_left}
 use Rattle.coap_server.specs.Follows.Serves.{serving, serving_of}
 use Rattle.coap_server.specs.Follows.Tells.{Pair, registers_by, registering}
 use Rattle.coap_server.specs.Follows.Observes.{MadeBy}
@@ -69,6 +74,9 @@ module _ (Q : Observer → Type 0) where
       by : (b : Bool) → Each Q (cond b (removed x.to x.token os) os)
       by true = each_removed x.to x.token os h
       by false = h
+
+  each_rejected : (at : ℕ) (r : Option Sending) (os : List Observer) → Each Q os → Each Q (unless_rejected at r os)
+  each_rejected at r os h = rejected_left (Each Q) at r os h (λ to token. each_removed to token os h)
 
 module _ (limits : Limits) (szx : ℕ) where
   abbrev own : List Call → Own
@@ -116,11 +124,14 @@ module _ (limits : Limits) (szx : ℕ) where
         by true = h
         by false = each_map (IsLatest limits szx (c ∷ t)) (marked_by at path) (λ o k. k) os h
 
-    notified_now : (c : Call) (at : ℕ) (held : Option Held) (o : Observer) (os : List Observer) → Now c os
-        → Now c (notified at held o os)
-    notified_now c at None o os h = each_removed (IsLatest limits szx (c ∷ t)) o.to o.token os h
-    notified_now c at (Some held) o os h = each_map (IsLatest limits szx (c ∷ t)) (unmarked_by at o.to o.token true)
-        (λ x k. k) os h
+    notified_now : (c : Call) (plain : Bool) (at id : ℕ) (held : Option Held) (o : Observer) (os : List Observer)
+        → Now c os → Now c (notified plain at id held o os)
+    notified_now c plain at id held o os h =
+        notified_left (Now c) plain at id held o os (each_removed (IsLatest limits szx (c ∷ t)) o.to o.token os h)
+        (each_map (IsLatest limits szx (c ∷ t)) (unmarked_by at o.to o.token false) (λ x k. k)
+        (noted_to at o.to o.token id os)
+        (each_map (IsLatest limits szx (c ∷ t)) (noted_by at o.to o.token id) (λ x k. k) os h))
+        (each_map (IsLatest limits szx (c ∷ t)) (unmarked_by at o.to o.token true) (λ x k. k) os h)
 
     -- a request that is served may make one
     module _ (c : Call) (s : Own) (a : Asked) (q : Question) (reply : Reply) (left : Content) where
@@ -179,15 +190,11 @@ module _ (limits : Limits) (szx : ℕ) where
     fed now from bytes w up below None (Replies r) g = later _ refl _ g
     fed now from bytes w up below None (Serves q reply left) g = later _ refl _ g
     fed now from bytes w up below None (Waits q d) g = later _ refl _ g
-    fed now from bytes w up below None (Notifies o reply) g =
-        let s : Own = heard (own t) now (incoming (own t) now from bytes up None) in notified_now _ s.clock
-        (s.store.holds o.path) o s.observers (later _ refl s.observers g)
+    fed now from bytes w up below None (Notifies o reply) g = later _ refl _ g
     fed now from bytes w up below (Some p) Silent g = later _ refl _ g
     fed now from bytes w up below (Some p) (Replies r) g = later _ refl _ g
     fed now from bytes w up below (Some p) (Waits q d) g = later _ refl _ g
-    fed now from bytes w up below (Some p) (Notifies o reply) g =
-        let s : Own = heard (own t) now (incoming (own t) now from bytes up (Some p)) in notified_now _ s.clock
-        (s.store.holds o.path) o s.observers (later _ refl s.observers g)
+    fed now from bytes w up below (Some p) (Notifies o reply) g = later _ refl _ g
     fed now from bytes w up below (Some p) (Serves q reply left) g =
         let s : Own = heard (own t) now (incoming (own t) now from bytes up (Some p)) in
         let c : Call = Feeds now from bytes w up (Some p) (Serves q reply left) below in
@@ -201,34 +208,34 @@ module _ (limits : Limits) (szx : ℕ) where
       abbrev stage : Due → Own
       stage d = heard (own t) now (ticking (own t) now below room d)
 
-      -- no request that waits is ready
-      idle : (d : Due) (h : Handling) → registering (own t) (tick d h) ≡ None
-          → (own (tick d h ∷ t)).observers ≡ observers_after (stage d).clock (stage d).store None h (stage d).observers
-          → Before (stage d).observers → Now (tick d h) (own (tick d h ∷ t)).observers
-      idle d h none is g = subst (Now (tick d h)) (sym is) (by h)
-        where
-          by : (k : Handling) → Now (tick d h) (observers_after (stage d).clock (stage d).store None k (stage d).observers)
-          by Silent = later _ none _ g
-          by (Replies r) = later _ none _ g
-          by (Serves q reply left) = later _ none _ g
-          by (Waits q e) = later _ none _ g
-          by (Notifies o reply) = notified_now _ (stage d).clock ((stage d).store.holds o.path) o (stage d).observers (later _ none _ g)
-
-      silent : (d : Due) (h : Handling) → ready_in d ≡ None → registering (own t) (tick d h) ≡ None
-      silent due.Idle h is = refl
-      silent due.Copied h is = refl
-      silent due.Expired h is = refl
-      silent (due.Ready a) h is = absurd (cc is)
-
       ticked : (d : Due) (h : Handling) → Before (stage d).observers → Now (tick d h) (own (tick d h ∷ t)).observers
-      ticked due.Idle h g = idle due.Idle h (silent due.Idle h refl) refl g
-      ticked due.Copied h g = idle due.Copied h (silent due.Copied h refl) refl g
-      ticked due.Expired h g = idle due.Expired h (silent due.Expired h refl) refl g
+      ticked due.Idle (Notifies o reply) g =
+          let s : Own = stage due.Idle in notified_now _ (by_plain s o) s.clock id
+          (s.store.holds o.path) o s.observers (later _ refl s.observers g)
+      ticked due.Copied (Notifies o reply) g =
+          let s : Own = stage due.Copied in notified_now _ (by_plain s o) s.clock id
+          (s.store.holds o.path) o s.observers (later _ refl s.observers g)
+      ticked due.Expired (Notifies o reply) g =
+          let s : Own = stage due.Expired in notified_now _ (by_plain s o) s.clock id
+          (s.store.holds o.path) o s.observers (later _ refl s.observers g)
+      ticked (due.Ready a) (Notifies o reply) g =
+          let s : Own = stage (due.Ready a) in notified_now _ (by_plain s o) s.clock id
+          (s.store.holds o.path) o s.observers (later _ refl s.observers g)
+      ticked due.Idle Silent g = later _ refl _ g
+      ticked due.Idle (Replies r) g = later _ refl _ g
+      ticked due.Idle (Serves q reply left) g = later _ refl _ g
+      ticked due.Idle (Waits q e) g = later _ refl _ g
+      ticked due.Copied Silent g = later _ refl _ g
+      ticked due.Copied (Replies r) g = later _ refl _ g
+      ticked due.Copied (Serves q reply left) g = later _ refl _ g
+      ticked due.Copied (Waits q e) g = later _ refl _ g
+      ticked due.Expired Silent g = later _ refl _ g
+      ticked due.Expired (Replies r) g = later _ refl _ g
+      ticked due.Expired (Serves q reply left) g = later _ refl _ g
+      ticked due.Expired (Waits q e) g = later _ refl _ g
       ticked (due.Ready a) Silent g = later _ refl _ g
       ticked (due.Ready a) (Replies r) g = later _ refl _ g
       ticked (due.Ready a) (Waits q d) g = later _ refl _ g
-      ticked (due.Ready a) (Notifies o reply) g = let s : Own =
-          stage (due.Ready a) in notified_now _ s.clock (s.store.holds o.path) o s.observers (later _ refl s.observers g)
       ticked (due.Ready a) (Serves q reply left) g =
           let s : Own = stage (due.Ready a) in
           let c : Call = tick (due.Ready a) (Serves q reply left) in
@@ -247,12 +254,15 @@ module _ (limits : Limits) (szx : ℕ) where
       by (Removes now path answer left) g = marked_now t (Removes now path answer left) (max (own t).clock now) path (own t).store left
           (own t).observers (later t _ refl _ g)
       by (Delays path ms answer) g = later t _ refl _ g
+      by (Plains path answer) g = later t _ refl _ g
       by (Gets path answer) g = later t _ refl _ g
       by (TellsApplied answer) g = later t _ refl _ g
       by (NextOut answer) g = later t _ refl _ g
       by (Feeds now from bytes w up came h below) g =
-          fed t now from bytes w up below came h (each_ended (IsLatest limits szx t)
-          (P.after (own t).exchanges (incoming (own t) now from bytes up came)).ended (own t).observers g)
+          let e : Option Ended = (P.after (own t).exchanges (incoming (own t) now from bytes up came)).ended in
+          fed t now from bytes w up below came h
+          (each_rejected (IsLatest limits szx t) (max (own t).clock now) (unmatched_by from up)
+          (unless_ended e (own t).observers) (each_ended (IsLatest limits szx t) e (own t).observers g))
       by (Ticks now w below room d passed h id answer) g =
           ticked t now w below room passed id answer d h
           (each_ended (IsLatest limits szx t) (P.after (own t).exchanges (ticking (own t) now below room d)).ended

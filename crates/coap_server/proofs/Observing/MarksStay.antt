@@ -5,7 +5,8 @@ use Rattle.coap_types.specs.Path.{same_path}
 use Rattle.coap_types.specs.declared.endpoint.Endpoint.{Endpoint}
 use Rattle.coap_codec.specs.Message.{Message}
 use Rattle.coap_layer.specs.Trace as L
-use Rattle.coap_observe.specs.Observers.{Observer, registration, removed, registered, changed_at, marked_by, sent_to}
+use Rattle.coap_observe.specs.Observers.{Observer, registration, rejected, removed, registered, changed_at, marked_by, noted_to}
+use Rattle.coap_observe.specs.Observers.{sent_to, without}
 use Rattle.coap_observe.proofs.Facts.Registrations.{registration-changed_at, others_stay}
 use Rattle.coap_resource.specs.Content.{Content, Held}
 use Rattle.coap_resource.specs.RequestOptions.{block_of, szx_by}
@@ -15,9 +16,11 @@ use Rattle.coap_exchange.specs.declared.answerer.Asked.{Asked}
 use Rattle.coap_exchange.specs.declared.answerer.Due.{Due}
 use Rattle.coap_exchange.specs.declared.answerer.Due.TheVariants as due
 use Rattle.coap_exchange.specs.declared.answerer.Ended.{Ended}
+use Rattle.coap_exchange.specs.AnswererSteps.{unmatched_by}
+use Rattle.coap_exchange.specs.AnswererTrace.{Sending}
 use Rattle.coap_server.specs.Trace.{Own, Handling, Silent, Replies, Serves, Waits, Notifies, Call, Sets, Removes}
-use Rattle.coap_server.specs.Trace.{Delays, Feeds, Ticks, NextOut, Gets, TellsApplied}
-use Rattle.coap_server.specs.Observers.{observes, registers, observers_with, marked_if, unless_ended}
+use Rattle.coap_server.specs.Trace.{Delays, Plains, Feeds, Ticks, NextOut, Gets, TellsApplied}
+use Rattle.coap_server.specs.Observers.{observes, registers, observers_with, marked_if, unless_ended, unless_rejected}
 use Rattle.coap_server.specs.Notifying.{notified}
 use Rattle.coap_server.specs.Handling.{incoming, ticking, heard}
 use Rattle.coap_server.specs.Law.{ServerRows, own_of}
@@ -27,6 +30,9 @@ use Rattle.coap_server.specs.Follows.Serves.{serving_of}
 use Rattle.coap_server.specs.Follows.Tells.{Pair}
 use Rattle.coap_server.proofs.Observing.ObservationStays.{is_pair}
 use Rattle.coap_server.proofs.Observing.Outcomes.{never_notifies}
+use Rattle.coap_server.proofs.Observing.ObserverLists.{notified_left}
+use Rattle.coap_server.proofs.Observing.RejectedNons.{Rejects, rejects_over}
+use Rattle.coap_server.specs.Plain.{by_plain}
 
 module _ (to : Endpoint) (token : List ℕ) where
   -- a notification is due to it, in this list
@@ -63,14 +69,32 @@ module _ (to : Endpoint) (token : List ℕ) where
         marked = still d.observer.marked (same_path d.observer.path path) d.marked;
       }
 
-  notified_on : (at : ℕ) (held : Option Held) (o : Observer) (os : List Observer) → Due_in os
-      → Due_in (notified at held o os) ⊎ Same o.to o.token
-  notified_on at None o os d = removed_on o.to o.token os d
-  notified_on at (Some held) o os d = elim (is_pair to token o.to o.token) [
+  -- another's registration stays, whatever is sent to this one
+  notified_on : (plain : Bool) (at id : ℕ) (held : Option Held) (o : Observer) (os : List Observer) → Due_in os
+      → Due_in (notified plain at id held o os) ⊎ Same o.to o.token
+  notified_on plain at id held o os d = elim (is_pair to token o.to o.token) [
     | inl p ↦ inr p
-    | inr other ↦ inl (moved os (sent_to at o.to o.token true os)
-        ((others_stay to token o.to o.token os other).sent_stay at true) d)
+    | inr other ↦ (
+        let stay = others_stay to token o.to o.token os other in
+        let noted : List Observer = noted_to at o.to o.token id os in
+        inl (notified_left Due_in plain at id held o os (moved os (removed o.to o.token os) stay.removed_stay d)
+        (moved os (sent_to at o.to o.token false noted)
+        ((others_stay to token o.to o.token noted other).sent_stay at false ∙ stay.noted_stay at id) d)
+        (moved os (sent_to at o.to o.token true os) (stay.sent_stay at true) d)))
   ]
+
+  -- a Reset of the last NON
+  rejected_on : (at : ℕ) (r : Option Sending) (os : List Observer) → Due_in os
+      → Due_in (unless_rejected at r os) ⊎ Rejects to token at r os
+  rejected_on at None os d = inl d
+  rejected_on at (Some x) os d = by (rejected at x.to x.id os) refl
+    where
+      by : (o : Option Observer) → rejected at x.to x.id os ≡ o → Due_in (without o os) ⊎ Rejects to token at (Some x) os
+      by None is = inl d
+      by (Some o) is = elim (removed_on o.to o.token os d) [
+        | inl k ↦ inl k
+        | inr p ↦ inr (record { reset = x; observer = o; is = refl; whose = is; same = p })
+      ]
 
   -- by a request that is served: it registers this one anew, or cancels it
   served_on : (at : ℕ) (a : Asked) (q : Question) (reply : Reply) (os : List Observer) → Due_in os
@@ -152,9 +176,11 @@ module _ (to : Endpoint) (token : List ℕ) where
     notice_on : (t : List Call) (now w : ℕ) (below : L.Answer) (room : Bool) (d : Due) (passed : ℕ) (o : Observer)
         (reply : Reply) (id : ℕ) (answer : Bool) (os : List Observer) → Due_in os
         → On t (Ticks now w below room d passed (Notifies o reply) id answer)
-        (notified (max (own t).clock now) ((own t).store.holds o.path) o os)
+        (notified (by_plain (heard (own t) now (ticking (own t) now below room d)) o) (max (own t).clock now) id
+        ((own t).store.holds o.path) o os)
     notice_on t now w below room d passed o reply id answer os k =
-        elim (notified_on (max (own t).clock now) ((own t).store.holds o.path) o os k) [
+        elim (notified_on (by_plain (heard (own t) now (ticking (own t) now below room d)) o) (max (own t).clock now) id
+        ((own t).store.holds o.path) o os k) [
           | inl k ↦ inl k
           | inr p ↦ inr (notifies (record { observer = o; reply = reply }) refl p.0 p.1)
         ]
@@ -216,7 +242,10 @@ module _ (to : Endpoint) (token : List ℕ) where
         → On t c (own (c ∷ t)).observers
     on t (Feeds now from bytes w up came h below) rows d =
         elim (told_on t (Feeds now from bytes w up came h below) _ refl (own t).observers d) [
-          | inl k ↦ fed t now from bytes w up came h below rows k
+          | inl k ↦ elim (rejected_on (max (own t).clock now) (unmatched_by from up) _ k) [
+            | inl z ↦ fed t now from bytes w up came h below rows z
+            | inr r ↦ inr (ends (rejects_over limits szx t now from bytes w up came h below to token r))
+          ]
           | inr over ↦ inr over
         ]
     on t (Ticks now w below room d passed h id answer) rows k =
@@ -227,6 +256,7 @@ module _ (to : Endpoint) (token : List ℕ) where
     on t (Sets now path format body answer left) rows d = inl (marked_on (max (own t).clock now) path (own t).store left (own t).observers d)
     on t (Removes now path answer left) rows d = inl (marked_on (max (own t).clock now) path (own t).store left (own t).observers d)
     on t (Delays path ms answer) rows d = inl d
+    on t (Plains path answer) rows d = inl d
     on t (Gets path answer) rows d = inl d
     on t (TellsApplied answer) rows d = inl d
     on t (NextOut answer) rows d = inl d

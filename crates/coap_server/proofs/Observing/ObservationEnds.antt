@@ -18,10 +18,11 @@ use Rattle.coap_exchange.specs.declared.answerer.Due.{Due}
 use Rattle.coap_exchange.specs.declared.answerer.Due.TheVariants as due
 use Rattle.coap_common.specs.SuccessCodes.{content}
 use Rattle.coap_server.specs.Trace.{Own, Silent, Replies, Serves, Waits, Notifies, Call, Sets}
-use Rattle.coap_server.specs.Trace.{Removes, Delays, Feeds, Ticks, NextOut, Gets, TellsApplied}
+use Rattle.coap_server.specs.Trace.{Removes, Delays, Plains, Feeds, Ticks, NextOut, Gets, TellsApplied}
 use Rattle.coap_server.specs.Observers.{is_get, is_number, observes, registers, observers_with}
 use Rattle.coap_server.specs.Notifying.{marked, behind, asks_for, told, NotifiesNext, notified}
 use Rattle.coap_server.specs.Serving.{observers_served}
+use Rattle.coap_server.specs.Plain.{by_plain}
 use Rattle.coap_server.specs.Deferring.{question_of}
 use Rattle.coap_server.specs.Handling.{incoming, ticking, heard}
 use Rattle.coap_server.specs.Law.{ServerRows, own_of}
@@ -68,10 +69,10 @@ module _ (at : ℕ) (a : Asked) (q : Question) (reply : Reply) (os : List Observ
 gone_so : (o : Observer) (held : Option Held) → held ≡ None → (got held (asks_for o)).code ≡ not_found
 gone_so o held h = ap (λ z. (got z (asks_for o)).code) h
 
-held_so : (at : ℕ) (o : Observer) (os : List Observer) (held : Option Held) → (got held (asks_for o)).code ≢ content
-    → registration o.to o.token (notified at held o os) ≡ None
-held_so at o os None h = registration-removed o.to o.token os
-held_so at o os (Some held) h = absurd (h refl)
+held_so : (plain : Bool) (at id : ℕ) (o : Observer) (os : List Observer) (held : Option Held)
+    → (got held (asks_for o)).code ≢ content → registration o.to o.token (notified plain at id held o os) ≡ None
+held_so plain at id o os None h = registration-removed o.to o.token os
+held_so plain at id o os (Some held) h = absurd (h refl)
 
 record IsTold (o : Observer) (store : Content) (reply : Reply) : Type 0 where
   is : reply ≡ told store o
@@ -123,6 +124,7 @@ module _ (limits : Limits) (szx : ℕ) where
   ends_here t (Sets now path format body answer left) x e k = absurd (cc e)
   ends_here t (Removes now path answer left) x e k = absurd (cc e)
   ends_here t (Delays path ms answer) x e k = absurd (cc e)
+  ends_here t (Plains path answer) x e k = absurd (cc e)
   ends_here t (Gets path answer) x e k = absurd (cc e)
   ends_here t (TellsApplied answer) x e k = absurd (cc e)
   ends_here t (NextOut answer) x e k = absurd (cc e)
@@ -142,7 +144,7 @@ module _ (limits : Limits) (szx : ℕ) where
       let code : reply.code ≡ (got (s.store.holds o.path) (asks_for o)).code = ap (λ (r : Reply). r.code) k.is in
       record {
         gone = λ h. code ∙ gone_so o (s.store.holds o.path) h;
-        last = λ h. held_so s.clock o s.observers (s.store.holds o.path) (λ e. h (code ∙ e));
+        last = λ h. held_so (by_plain s o) s.clock id o s.observers (s.store.holds o.path) (λ e. h (code ∙ e));
       }
   told_here t now w below room due.Copied passed o reply id answer rows = let k = rows.0.0 in absurd (cc k)
   told_here t now w below room due.Expired passed o reply id answer rows = let k = rows.0.0 in absurd (cc k)
@@ -164,6 +166,7 @@ module _ (limits : Limits) (szx : ℕ) where
   notice_here t (Sets now path format body answer left) rows x e = absurd (cc e)
   notice_here t (Removes now path answer left) rows x e = absurd (cc e)
   notice_here t (Delays path ms answer) rows x e = absurd (cc e)
+  notice_here t (Plains path answer) rows x e = absurd (cc e)
   notice_here t (Gets path answer) rows x e = absurd (cc e)
   notice_here t (TellsApplied answer) rows x e = absurd (cc e)
   notice_here t (NextOut answer) rows x e = absurd (cc e)

@@ -19,7 +19,7 @@ use Rattle.coap_exchange.specs.declared.answerer.Due.TheVariants as due
 use Rattle.coap_exchange.specs.declared.answerer.Ended.{Ended}
 use Rattle.coap_server.specs.Trace.{Own, Handling, Silent, Replies, Serves, Waits, Notifies, Call}
 use Rattle.coap_server.specs.Trace.{Sets}
-use Rattle.coap_server.specs.Trace.{Removes, Delays, Feeds, Ticks, NextOut, Gets, TellsApplied}
+use Rattle.coap_server.specs.Trace.{Removes, Delays, Plains, Feeds, Ticks, NextOut, Gets, TellsApplied}
 use Rattle.coap_server.specs.Observers.{observes, registers, observers_with, marked_if, unless_ended}
 use Rattle.coap_server.specs.Notifying.{notified}
 use Rattle.coap_server.specs.Serving.{observers_served}
@@ -30,6 +30,13 @@ use Rattle.coap_server.specs.Follows.Observes.{ends_in, EndsSo}
 use Rattle.coap_server.specs.Follows.Serves.{serving_of}
 use Rattle.coap_server.proofs.Observing.ObservationEnds.{told_here}
 use Rattle.coap_server.proofs.Observing.Outcomes.{never_notifies}
+use Rattle.coap_server.proofs.Observing.RejectedNons.{Rejects, rejects_over}
+use Rattle.coap_server.specs.Plain.{by_plain}
+use Rattle.coap_exchange.specs.AnswererSteps.{unmatched_by}
+use Rattle.coap_exchange.specs.AnswererTrace.{Sending}
+use Rattle.coap_server.specs.Observers.{unless_rejected}
+use Rattle.coap_observe.specs.Observers.{noted_to, rejected, without}
+use Rattle.coap_observe.proofs.Facts.Registrations.{registration-noted_to}
 
 abbrev asked_of : Endpoint → List ℕ → Observer
 asked_of by bytes = begun 0 by bytes [] 0
@@ -81,18 +88,50 @@ module _ (to : Endpoint) (token : List ℕ) where
       by false k = mapped_none (marked_by at path) (registration to token os)
           (sym (registration-changed_at at path to token os) ∙ k)
 
-  notified_back : (at : ℕ) (held : Option Held) (o : Observer) (os : List Observer) → None_in (notified at held o os)
-      → None_in os ⊎ ((held ≡ None) × Pair o.to o.token)
-  notified_back at None o os h = elim (removed_back o.to o.token os h) [ inl k ↦ inl k | inr p ↦ inr (refl, p) ]
-  notified_back at (Some held) o os h = inl (elim (is_pair to token o.to o.token) [
+  sent_back : (at : ℕ) (by : Endpoint) (bytes : List ℕ) (con : Bool) (os : List Observer)
+      → None_in (sent_to at by bytes con os) → None_in os
+  sent_back at by bytes con os h = elim (is_pair to token by bytes) [
     | inl p ↦ (
-        let there : registration to token (sent_to at to token true os)
-        ≡ None = subst (λ x. None_in (sent_to at x token true os)) p.0
-        (subst (λ x. None_in (sent_to at o.to x true os)) p.1 h) in
-        mapped_none (told_by at true) (registration to token os)
-        (sym (registration-sent_to at to token true os) ∙ there))
-    | inr other ↦ sym ((others_stay to token o.to o.token os other).sent_stay at true) ∙ h
-  ])
+        let there : registration to token (sent_to at to token con os)
+        ≡ None = subst (λ x. None_in (sent_to at x token con os)) p.0
+        (subst (λ x. None_in (sent_to at by x con os)) p.1 h) in
+        mapped_none (told_by at con) (registration to token os)
+        (sym (registration-sent_to at to token con os) ∙ there))
+    | inr other ↦ sym ((others_stay to token by bytes os other).sent_stay at con) ∙ h
+  ]
+
+  noted_back : (at : ℕ) (by : Endpoint) (bytes : List ℕ) (id : ℕ) (os : List Observer)
+      → None_in (noted_to at by bytes id os) → None_in os
+  noted_back at by bytes id os h = elim (is_pair to token by bytes) [
+    | inl p ↦ (
+        let there : registration to token (noted_to at to token id os)
+        ≡ None = subst (λ x. None_in (noted_to at x token id os)) p.0
+        (subst (λ x. None_in (noted_to at by x id os)) p.1 h) in
+        mapped_none (λ (o : Observer). record o { noted = Some (record { id = id; at = at }) }) (registration to token os)
+        (sym (registration-noted_to at to token id os) ∙ there))
+    | inr other ↦ sym ((others_stay to token by bytes os other).noted_stay at id) ∙ h
+  ]
+
+  notified_back : (plain : Bool) (at id : ℕ) (held : Option Held) (o : Observer) (os : List Observer)
+      → None_in (notified plain at id held o os) → None_in os ⊎ ((held ≡ None) × Pair o.to o.token)
+  notified_back plain at id None o os h = elim (removed_back o.to o.token os h)
+      [ inl k ↦ inl k | inr p ↦ inr (refl, p) ]
+  notified_back true at id (Some held) o os h =
+      inl (noted_back at o.to o.token id os (sent_back at o.to o.token false (noted_to at o.to o.token id os) h))
+  notified_back false at id (Some held) o os h = inl (sent_back at o.to o.token true os h)
+
+  rejected_back : (at : ℕ) (r : Option Sending) (os : List Observer) → None_in (unless_rejected at r os)
+      → None_in os ⊎ Rejects to token at r os
+  rejected_back at None os h = inl h
+  rejected_back at (Some x) os h = by (rejected at x.to x.id os) refl h
+    where
+      by : (o : Option Observer) → rejected at x.to x.id os ≡ o → None_in (without o os)
+          → None_in os ⊎ Rejects to token at (Some x) os
+      by None is k = inl k
+      by (Some o) is k = elim (removed_back o.to o.token os k) [
+        | inl z ↦ inl z
+        | inr p ↦ inr (record { reset = x; observer = o; is = refl; whose = is; same = p })
+      ]
 
   served_back : (at : ℕ) (a : Asked) (q : Question) (reply : Reply) (os : List Observer) → None_in (observers_with at a q reply os)
       → None_in os ⊎ ((observes 1 q ≡ true) × Pair a.from a.token)
@@ -158,10 +197,12 @@ module _ (to : Endpoint) (token : List ℕ) where
     notice_over : (t : List Call) (now w : ℕ) (below : L.Answer) (room : Bool) (d : Due) (passed : ℕ) (o : Observer)
         (reply : Reply) (id : ℕ) (answer : Bool) (os : List Observer)
         → ServerRows limits szx (Ticks now w below room d passed (Notifies o reply) id answer ∷ t)
-        → None_in (notified (max (own t).clock now) ((own t).store.holds o.path) o os)
+        → None_in (notified (by_plain (heard (own t) now (ticking (own t) now below room d)) o)
+        (max (own t).clock now) id ((own t).store.holds o.path) o os)
         → Back t (Ticks now w below room d passed (Notifies o reply) id answer) os
     notice_over t now w below room d passed o reply id answer os rows h =
-        elim (notified_back (max (own t).clock now) ((own t).store.holds o.path) o os h) [
+        elim (notified_back (by_plain (heard (own t) now (ticking (own t) now below room d)) o)
+        (max (own t).clock now) id ((own t).store.holds o.path) o os h) [
           | inl k ↦ inl k
           | inr k ↦ (
               let code = (told_here limits szx t now w below room d passed o reply id answer rows).gone k.0 in
@@ -229,7 +270,10 @@ module _ (to : Endpoint) (token : List ℕ) where
         → Back t c (own t).observers
     back t (Feeds now from bytes w up came h below) rows none =
         elim (fed t now from bytes w up came h below rows none) [
-          | inl k ↦ told_over t (Feeds now from bytes w up came h below) _ refl (own t).observers k
+          | inl k ↦ elim (rejected_back (max (own t).clock now) (unmatched_by from up) _ k) [
+            | inl z ↦ told_over t (Feeds now from bytes w up came h below) _ refl (own t).observers z
+            | inr r ↦ inr (rejects_over limits szx t now from bytes w up came h below to token r)
+          ]
           | inr over ↦ inr over
         ]
     back t (Ticks now w below room d passed h id answer) rows none =
@@ -241,6 +285,7 @@ module _ (to : Endpoint) (token : List ℕ) where
         inl (marked_back (max (own t).clock now) path (own t).store left (own t).observers none)
     back t (Removes now path answer left) rows none = inl (marked_back (max (own t).clock now) path (own t).store left (own t).observers none)
     back t (Delays path ms answer) rows none = inl none
+    back t (Plains path answer) rows none = inl none
     back t (Gets path answer) rows none = inl none
     back t (TellsApplied answer) rows none = inl none
     back t (NextOut answer) rows none = inl none

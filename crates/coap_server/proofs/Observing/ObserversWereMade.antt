@@ -1,7 +1,7 @@
 -- The observers of a server are registrations, and each was made by a GET that was served.
 use Rattle.coap_observe.specs.declared.observers.TheConstants.{MAX_OBSERVERS as max_observers}
 use Rattle.std.proofs.Common.{◌≡◌, ◌<◌, inl, inr, ℕ, ◌==◌, ◌&&◌, nat_lt, Bool, true, false, not, Option, Some, None}
-use Rattle.std.proofs.Common.{List, [], ◌∷◌, ◌++◌, length, filter, map, max, refl, ap, sym, subst, cond, arith}
+use Rattle.std.proofs.Common.{List, [], ◌∷◌, ◌++◌, length, filter, map, max, refl, ap, cond, arith}
 use Rattle.std.proofs.lemmas.Bool.{ltb-true}
 use Rattle.std.specs.Cmp.{unsigned_Decides}
 use Rattle.coap_types.specs.Past.{Sometime}
@@ -10,9 +10,9 @@ use Rattle.coap_codec.specs.Message.{Message}
 use Rattle.coap_layer.specs.Trace as L
 use Rattle.coap_block.specs.Whole.{Each}
 use Rattle.coap_observe.specs.Observers.{Observer, AreRegistrations, is_of, removed, registered, changed_at, marked_by}
-use Rattle.coap_observe.specs.Observers.{unmarked_by}
+use Rattle.coap_observe.specs.Observers.{noted_by, noted_to, sent_to, unmarked_by}
 use Rattle.coap_observe.proofs.Facts.Registrations.{registrations-changed, registrations-registered}
-use Rattle.coap_observe.proofs.Facts.Registrations.{registrations-removed, registrations-sent}
+use Rattle.coap_observe.proofs.Facts.Registrations.{registrations-noted, registrations-removed, registrations-sent}
 use Rattle.coap_resource.specs.Content.{Content, Held}
 use Rattle.coap_resource.specs.RequestOptions.{block_of, szx_by}
 use Rattle.coap_resource.specs.Serves.{Question, Reply}
@@ -22,23 +22,26 @@ use Rattle.coap_exchange.specs.declared.answerer.Due.{Due}
 use Rattle.coap_exchange.specs.declared.answerer.Due.TheVariants as due
 use Rattle.coap_exchange.specs.declared.answerer.Ended.{Ended}
 use Rattle.coap_exchange.specs.AnswererSteps as P
+use Rattle.coap_exchange.specs.AnswererSteps.{unmatched_by}
+use Rattle.coap_exchange.specs.AnswererTrace.{Sending}
 use Rattle.std.proofs.lemmas.Bool.{and_parts}
 use Rattle.coap_common.specs.SuccessCodes.{content}
 use Rattle.coap_server.specs.Trace.{Own, Handling, Silent, Replies, Serves, Waits, Notifies, Call}
 use Rattle.coap_server.specs.Trace.{Sets}
-use Rattle.coap_server.specs.Trace.{Removes, Delays, Feeds, Ticks, NextOut, Gets, TellsApplied}
+use Rattle.coap_server.specs.Trace.{Removes, Delays, Plains, Feeds, Ticks, NextOut, Gets, TellsApplied}
 use Rattle.coap_server.specs.Serving.{observers_served}
-use Rattle.coap_server.specs.Observers.{observes, registers, observers_with, marked_if, unless_ended}
+use Rattle.coap_server.specs.Observers.{observes, registers, observers_with, marked_if, unless_ended, unless_rejected}
 use Rattle.coap_server.specs.Notifying.{notified}
 use Rattle.coap_server.specs.Handling.{incoming, ticking, heard}
-use Rattle.coap_server.specs.Steps.{observers_after, ready_in}
+use Rattle.coap_server.specs.Plain.{by_plain}
+use Rattle.coap_server.proofs.Observing.ObserverLists.{notified_left, rejected_left}
 use Rattle.coap_server.specs.Law.{own_of}
 use Rattle.coap_server.specs.Follows.Tells.{Pair}
 use Rattle.coap_server.specs.Follows.Serves.{serving_of}
 use Rattle.coap_server.specs.Follows.Observes.{MadeWith, WasMade, AreObservers}
 
 module _ (Q : Observer → Type 0) where
-  each_kept : (p : Observer → Bool) (os : List Observer) → Each Q os → Each Q (filter p os)
+  pub each_kept : (p : Observer → Bool) (os : List Observer) → Each Q os → Each Q (filter p os)
   each_kept p [] h = tt
   each_kept p (o ∷ os) h = by (p o) (each_kept p os h.1)
     where
@@ -46,11 +49,11 @@ module _ (Q : Observer → Type 0) where
       by true k = (h.0, k)
       by false k = k
 
-  each_with : (os : List Observer) (o : Observer) → Each Q os → Q o → Each Q (os ++ o ∷ [])
+  pub each_with : (os : List Observer) (o : Observer) → Each Q os → Q o → Each Q (os ++ o ∷ [])
   each_with [] o h k = (k, tt)
   each_with (x ∷ os) o h k = (h.0, each_with os o h.1 k)
 
-  each_map : (f : Observer → Observer) → ((o : Observer) → Q o → Q (f o)) → (os : List Observer) → Each Q os
+  pub each_map : (f : Observer → Observer) → ((o : Observer) → Q o → Q (f o)) → (os : List Observer) → Each Q os
       → Each Q (map f os)
   each_map f g [] h = tt
   each_map f g (o ∷ os) h = (g o h.0, each_map f g os h.1)
@@ -111,13 +114,29 @@ module _ (limits : Limits) (szx : ℕ) (t : List Call) where
         made = each_map (WasMade limits szx t) (marked_by at path) (λ o h. h) os g.made;
       }
 
-  good_notified : (at : ℕ) (held : Option Held) (o : Observer) (os : List Observer) → Good os → Good (notified at held o os)
-  good_notified at None o os g = good_removed o.to o.token os g
-  good_notified at (Some h) o os g =
-      record {
-        registrations = registrations-sent at o.to o.token true os g.registrations;
-        made = each_map (WasMade limits szx t) (unmarked_by at o.to o.token true) (λ x h. h) os g.made;
-      }
+  pub good_rejected : (at : ℕ) (r : Option Sending) (os : List Observer) → Good os → Good (unless_rejected at r os)
+  good_rejected at r os g = rejected_left Good at r os g (λ to token. good_removed to token os g)
+
+  good_sent : (at : ℕ) (to : Endpoint) (token : List ℕ) (con : Bool) (os : List Observer) → Good os
+      → Good (sent_to at to token con os)
+  good_sent at to token con os g = record {
+    registrations = registrations-sent at to token con os g.registrations;
+    made = each_map (WasMade limits szx t) (unmarked_by at to token con) (λ x h. h) os g.made;
+  }
+
+  good_noted : (at : ℕ) (to : Endpoint) (token : List ℕ) (id : ℕ) (os : List Observer) → Good os
+      → Good (noted_to at to token id os)
+  good_noted at to token id os g = record {
+    registrations = registrations-noted at to token id os g.registrations;
+    made = each_map (WasMade limits szx t) (noted_by at to token id) (λ x h. h) os g.made;
+  }
+
+  good_notified : (plain : Bool) (at id : ℕ) (held : Option Held) (o : Observer) (os : List Observer) → Good os
+      → Good (notified plain at id held o os)
+  good_notified plain at id held o os g =
+      notified_left Good plain at id held o os (good_removed o.to o.token os g)
+      (good_sent at o.to o.token false (noted_to at o.to o.token id os) (good_noted at o.to o.token id os g))
+      (good_sent at o.to o.token true os g)
 
   good_with : (at : ℕ) (a : Asked) (q : Question) (reply : Reply) (os : List Observer)
       → (Registers a q reply os → Sometime (MadeWith limits szx a.from a.token q.path
@@ -165,15 +184,11 @@ module _ (limits : Limits) (szx : ℕ) where
     fed None (Replies r) g = g
     fed None (Serves q reply left) g = g
     fed None (Waits q d) g = g
-    fed None (Notifies o reply) g =
-        let s : Own = heard (own t) now (incoming (own t) now from bytes up None) in good_notified limits szx
-        (Feeds now from bytes w up None (Notifies o reply) below ∷ t) s.clock (s.store.holds o.path) o s.observers g
+    fed None (Notifies o reply) g = g
     fed (Some p) Silent g = g
     fed (Some p) (Replies r) g = g
     fed (Some p) (Waits q d) g = g
-    fed (Some p) (Notifies o reply) g =
-        let s : Own = heard (own t) now (incoming (own t) now from bytes up (Some p)) in good_notified limits szx
-        (Feeds now from bytes w up (Some p) (Notifies o reply) below ∷ t) s.clock (s.store.holds o.path) o s.observers g
+    fed (Some p) (Notifies o reply) g = g
     fed (Some p) (Serves q reply left) g =
         let s : Own = heard (own t) now (incoming (own t) now from bytes up (Some p)) in
         good_served limits szx (Feeds now from bytes w up (Some p) (Serves q reply left) below ∷ t) s.clock s.store p.0 q reply
@@ -199,31 +214,26 @@ module _ (limits : Limits) (szx : ℕ) where
     abbrev stage : Due → Own
     stage d = heard (own t) now (ticking (own t) now below room d)
 
-    ended_ticks : (d : Due) (h : Handling) → ready_in d ≡ None → Good limits szx (call d h ∷ t) (stage d).observers
-        → Good limits szx (call d h ∷ t) (observers_after (stage d).clock (stage d).store (ready_in d) h (stage d).observers)
-    ended_ticks d h none g = subst (λ a. Good limits szx (call d h ∷ t)
-        (observers_after (stage d).clock (stage d).store a h (stage d).observers)) (sym none) (by h g)
-      where
-        by : (k : Handling) → Good limits szx (call d h ∷ t) (stage d).observers
-            → Good limits szx (call d h ∷ t) (observers_after (stage d).clock (stage d).store None k (stage d).observers)
-        by Silent g = g
-        by (Replies r) g = g
-        by (Serves q reply left) g = g
-        by (Waits q e) g = g
-        by (Notifies o reply) g = good_notified limits szx (call d h ∷ t) (stage d).clock ((stage d).store.holds o.path) o
-            (stage d).observers g
-
     ticked : (d : Due) (h : Handling) → Good limits szx (call d h ∷ t) (stage d).observers
         → Good limits szx (call d h ∷ t) (own (call d h ∷ t)).observers
-    ticked due.Idle h g = ended_ticks due.Idle h refl g
-    ticked due.Copied h g = ended_ticks due.Copied h refl g
-    ticked due.Expired h g = ended_ticks due.Expired h refl g
+    ticked d (Notifies o reply) g =
+        let s : Own = stage d in good_notified limits szx (call d (Notifies o reply) ∷ t)
+        (by_plain s o) s.clock id (s.store.holds o.path) o s.observers g
+    ticked due.Idle Silent g = g
+    ticked due.Idle (Replies r) g = g
+    ticked due.Idle (Serves q reply left) g = g
+    ticked due.Idle (Waits q e) g = g
+    ticked due.Copied Silent g = g
+    ticked due.Copied (Replies r) g = g
+    ticked due.Copied (Serves q reply left) g = g
+    ticked due.Copied (Waits q e) g = g
+    ticked due.Expired Silent g = g
+    ticked due.Expired (Replies r) g = g
+    ticked due.Expired (Serves q reply left) g = g
+    ticked due.Expired (Waits q e) g = g
     ticked (due.Ready a) Silent g = g
     ticked (due.Ready a) (Replies r) g = g
     ticked (due.Ready a) (Waits q d) g = g
-    ticked (due.Ready a) (Notifies o reply) g =
-        let s : Own = stage (due.Ready a) in good_notified limits szx (call (due.Ready a) (Notifies o reply) ∷ t)
-        s.clock (s.store.holds o.path) o s.observers g
     ticked (due.Ready a) (Serves q reply left) g =
         let s : Own = stage (due.Ready a) in
         good_served limits szx (call (due.Ready a) (Serves q reply left) ∷ t) s.clock s.store a q reply left s.observers
@@ -253,11 +263,15 @@ module _ (limits : Limits) (szx : ℕ) where
           (max (own t).clock now) path
           (own t).store left (own t).observers g
       by (Delays path ms answer) g = g
+      by (Plains path answer) g = g
       by (Gets path answer) g = g
       by (TellsApplied answer) g = g
       by (Feeds now from bytes w up came h below) g =
-          fed t now from bytes w up below came h (good_ended limits szx (Feeds now from bytes w up came h below ∷ t)
-          (P.after (own t).exchanges (incoming (own t) now from bytes up came)).ended (own t).observers g)
+          let c : Call = Feeds now from bytes w up came h below in
+          let e : Option Ended = (P.after (own t).exchanges (incoming (own t) now from bytes up came)).ended in
+          fed t now from bytes w up below came h (good_rejected limits szx (c ∷ t)
+          (max (own t).clock now) (unmatched_by from up) (unless_ended e (own t).observers)
+          (good_ended limits szx (c ∷ t) e (own t).observers g))
       by (Ticks now w below room d passed h id answer) g =
           ticked t now w below room passed id answer d h
           (good_ended limits szx (Ticks now w below room d passed h id answer ∷ t)

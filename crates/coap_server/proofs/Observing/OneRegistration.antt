@@ -1,13 +1,13 @@
 -- What each change of a server's observers and of its store makes of one registration.
-use Rattle.std.proofs.Common.{◌≡◌, ◌≤◌, inl, inr, ◌⊎◌, ℕ, ◌==◌, Bool, true, false, Option, None, List, [], refl, ap, sym}
+use Rattle.std.proofs.Common.{◌≡◌, inl, inr, ◌⊎◌, ℕ, ◌==◌, Bool, true, false, Option, Some, None, List, [], refl, ap, sym}
 use Rattle.std.proofs.Common.{◌∙◌, cond, arith, option_map}
 use Rattle.std.specs.Cmp.{unsigned_Decides}
 use Rattle.coap_types.specs.declared.endpoint.Endpoint.{Endpoint}
-use Rattle.coap_observe.specs.Observers.{Observer, is_of, removed, registered, sent_to, changed_at, marked_by}
-use Rattle.coap_observe.specs.Observers.{begun, registration}
+use Rattle.coap_observe.specs.Observers.{Noted, Observer, is_of, noted_to, removed, registered, sent_to, changed_at}
+use Rattle.coap_observe.specs.Observers.{begun, marked_by, registration}
 use Rattle.coap_observe.specs.Registrations.{IsOther, told_by}
 use Rattle.coap_observe.proofs.Facts.Registrations.{is_of-decides, others_stay, registration-removed}
-use Rattle.coap_observe.proofs.Facts.Registrations.{registration-changed_at, registration-sent_to}
+use Rattle.coap_observe.proofs.Facts.Registrations.{registration-changed_at, registration-noted_to, registration-sent_to}
 use Rattle.coap_resource.specs.Content.{Content}
 use Rattle.coap_server.specs.Observers.{marked_if}
 use Rattle.coap_server.proofs.Observing.StoreChanges.{IsKept, IsChanged, Effect, kept_by}
@@ -37,8 +37,10 @@ module _ (to : Endpoint) (token : List ℕ) where
     gone : reg ps ≡ None → Turn a b os ps
     kept : (at : ℕ) → reg ps ≡ reg os → IsKept at a b → Turn a b os ps
     sent : (at : ℕ) (con : Bool) → reg ps ≡ option_map (told_by at con) (reg os) → IsKept at a b → Turn a b os ps
+    noted : (at : ℕ) (n : Noted) → reg ps ≡ option_map (λ (o : Observer). record o { noted = Some n }) (reg os)
+        → IsKept at a b → Turn a b os ps
     changed : (at : ℕ) (path : List (List ℕ)) → reg ps ≡ option_map (marked_by at path) (reg os)
-        → IsChanged path at a b → a.tally.clock ≤ at → Turn a b os ps
+        → IsChanged path at a b → Turn a b os ps
 
   pub same_turn : (s : Content) (os : List Observer) → Turn s s os os
   same_turn s os = kept 0 refl (kept_by 0 s s refl)
@@ -63,22 +65,34 @@ module _ (to : Endpoint) (token : List ℕ) where
         | inr n ↦ kept at ((others_stay to token by bytes os n).sent_stay at con) (kept_by at s s refl)
       ]
 
+  pub noted_turn : (s : Content) (at : ℕ) (by : Endpoint) (bytes : List ℕ) (id : ℕ) (os : List Observer)
+      → Turn s s os (noted_to at by bytes id os)
+  noted_turn s at by bytes id os =
+      elim (pair_of to token by bytes) [
+        | inl e ↦ noted at (record { id = id; at = at })
+            (ap (λ p. registration to token (noted_to at p bytes id os)) (sym e.0)
+            ∙ (ap (λ n. registration to token (noted_to at to n id os)) (sym e.1)
+            ∙ registration-noted_to at to token id os))
+            (kept_by at s s refl)
+        | inr n ↦ kept at ((others_stay to token by bytes os n).noted_stay at id) (kept_by at s s refl)
+      ]
+
   pub registered_turn : (s : Content) (at : ℕ) (by : Endpoint) (bytes : List ℕ) (path : List (List ℕ)) (szx : ℕ)
       (os : List Observer) → IsOther to token by bytes → Turn s s os (registered at by bytes path szx os)
   registered_turn s at by bytes path szx os n = kept at ((others_stay to token by bytes os n).registered_stay at path szx)
       (kept_by at s s refl)
 
   pub marked_turn : (at : ℕ) (path : List (List ℕ)) (a b : Content) (os : List Observer) → Effect path at a b
-      → a.tally.clock ≤ at → Turn a b os (marked_if at path a b os)
-  marked_turn at path a b os (inl k) timed = by (b.tally.version == a.tally.version)
+      → Turn a b os (marked_if at path a b os)
+  marked_turn at path a b os (inl k) = by (b.tally.version == a.tally.version)
       ((unsigned_Decides b.tally.version a.tally.version).1 k.version)
     where
       by : (n : Bool) → n ≡ true → Turn a b os (cond n os (changed_at at path os))
       by true e = kept at refl k
       by false e = absurd (cc e)
-  marked_turn at path a b os (inr c) timed = by (b.tally.version == a.tally.version)
+  marked_turn at path a b os (inr c) = by (b.tally.version == a.tally.version)
       ((unsigned_Decides b.tally.version a.tally.version).0)
     where
       by : (n : Bool) → (n ≡ true → b.tally.version ≡ a.tally.version) → Turn a b os (cond n os (changed_at at path os))
       by true f = let e = f refl in let v = c.version in absurd (omega (arith, e, v))
-      by false f = changed at path (registration-changed_at at path to token os) c timed
+      by false f = changed at path (registration-changed_at at path to token os) c

@@ -1,6 +1,6 @@
 -- What a request that is served leaves of the observers.
 use Rattle.std.proofs.Common.{◌≡◌, ℕ, max, Bool, Option, Some, None, List, ◌∷◌, refl, ap, subst, ◌∙◌}
-use Rattle.std.proofs.Common.{true, false, cond}
+use Rattle.std.proofs.Common.{cond}
 use Rattle.coap_resource.specs.Content.{Content}
 use Rattle.coap_resource.specs.Serves.{Question, Reply}
 use Rattle.coap_resource.specs.Serves as R
@@ -12,16 +12,18 @@ use Rattle.coap_exchange.specs.AnswererSteps as P
 use Rattle.coap_exchange.specs.AnswererLaw as W
 use Rattle.coap_exchange.proofs.Facts.ServerSide.{none_ended}
 use Rattle.coap_server.specs.Trace.{Own, Silent, Replies, Serves, Waits, Notifies, Call, Sets, Removes}
-use Rattle.coap_server.specs.Trace.{Delays, Feeds, Ticks, NextOut, Gets, TellsApplied}
+use Rattle.coap_server.specs.Trace.{Delays, Plains, Feeds, Ticks, NextOut, Gets, TellsApplied}
 use Rattle.coap_server.specs.Asks.{answering, responding}
 use Rattle.coap_server.specs.Handling.{incoming, ticking, heard}
-use Rattle.coap_server.specs.Observers.{registers, sequence_if, unless_ended}
+use Rattle.coap_server.specs.Observers.{registers, sequence_if, unless_ended, unless_rejected}
 use Rattle.coap_server.specs.Serving.{observers_served}
 use Rattle.coap_server.specs.Law.{ServerLaw, own_of, lower_of}
 use Rattle.coap_server.specs.Follows.Serves.{Serving, serving, serving_of}
 use Rattle.coap_server.specs.Follows.Tells.{InCon, InReply, Pair, Way, registering, registers_by, telling}
 use Rattle.coap_server.specs.Follows.Tells.{tells_if}
 use Rattle.coap_server.proofs.Observing.EndsObservation.{first_row, serves_right}
+use Rattle.coap_server.proofs.Observing.RejectedNons.{none_rejected}
+use Rattle.coap_exchange.specs.AnswererSteps.{unmatched_by}
 use Rattle.coap_server.proofs.Serving.FoundReady.{found_ready}
 
 abbrev pub pair_if : Bool → Asked → Option Pair
@@ -84,7 +86,8 @@ module _ (limits : Limits) (szx word : ℕ) where
       let same : ◌≡◌ {A = Serving} (serving_of s p.0 q reply left) x = cc h in
       let c : Call = Feeds now from bytes w up (Some p) (Serves q reply left) below in
       subst (ServesAt t c) same
-      (staged t c s p.0 q reply left (ap (λ e. unless_ended e (own t).observers) none) refl refl refl
+      (staged t c s p.0 q reply left (ap (λ e. unless_rejected (max (own t).clock now) (unmatched_by from up) (unless_ended e (own t).observers)) none
+      ∙ ap (λ r. unless_rejected (max (own t).clock now) r (own t).observers) (none_rejected from up p row)) refl refl refl
       (InReply, refl)
       (serves_right limits szx word t c law (serving_of s p.0 q reply left) refl))
   served_at t (Ticks now w below room (due.Ready a) passed (Serves q reply left) id answer) law x h =
@@ -116,6 +119,7 @@ module _ (limits : Limits) (szx word : ℕ) where
   served_at t (Sets now path format body answer left) law x e = absurd (cc e)
   served_at t (Removes now path answer left) law x e = absurd (cc e)
   served_at t (Delays path ms answer) law x e = absurd (cc e)
+  served_at t (Plains path answer) law x e = absurd (cc e)
   served_at t (Gets path answer) law x e = absurd (cc e)
   served_at t (TellsApplied answer) law x e = absurd (cc e)
   served_at t (NextOut answer) law x e = absurd (cc e)

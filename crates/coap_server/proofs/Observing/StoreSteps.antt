@@ -3,7 +3,6 @@ use Rattle.std.proofs.Common.{◌≡◌, ◌≤◌, ◌⊎◌, inl, inr, ℕ, ma
 use Rattle.std.proofs.Common.{◌++◌, refl, ap, sym, subst, ◌∙◌, arith}
 use Rattle.coap_types.specs.Path.{same_path}
 use Rattle.coap_types.proofs.Facts.Paths.{same_path-decides}
-use Rattle.coap_codec.specs.Message.{Message}
 use Rattle.coap_observe.specs.Observers.{Observer}
 use Rattle.coap_resource.specs.Content.{Content, Held, put_refusal}
 use Rattle.coap_resource.specs.Limits.{Limits}
@@ -11,7 +10,7 @@ use Rattle.coap_resource.specs.Rate.{Tally, rate_refusal}
 use Rattle.coap_resource.specs.Serves.{Question, Reply}
 use Rattle.coap_exchange.specs.declared.answerer.Due.TheVariants as due
 use Rattle.coap_server.specs.Trace.{Own, Silent, Replies, Serves, Waits, Notifies, Call, Sets, Removes}
-use Rattle.coap_server.specs.Trace.{Delays, Feeds, Ticks, NextOut, Gets, TellsApplied}
+use Rattle.coap_server.specs.Trace.{Delays, Plains, Feeds, Ticks, NextOut, Gets, TellsApplied}
 use Rattle.coap_server.specs.Deferring.{question_of}
 use Rattle.coap_server.specs.Notifying.{NotifiesNext, marked, behind}
 use Rattle.coap_server.specs.Handling.{incoming, ticking, heard}
@@ -85,6 +84,7 @@ module _ (limits : Limits) (szx : ℕ) where
             law.rows.0;
       }
   is_stored word t (Delays path ms answer) law = same_store t _ refl
+  is_stored word t (Plains path answer) law = same_store t _ refl
   is_stored word t (Gets path answer) law = same_store t _ refl
   is_stored word t (TellsApplied answer) law = same_store t _ refl
   is_stored word t (NextOut answer) law = same_store t _ refl
@@ -132,6 +132,7 @@ module _ (limits : Limits) (szx : ℕ) where
   clock_rises t (Sets now path format body answer left) = omega arith
   clock_rises t (Removes now path answer left) = omega arith
   clock_rises t (Delays path ms answer) = omega arith
+  clock_rises t (Plains path answer) = omega arith
   clock_rises t (Feeds now from bytes w up came h below) = omega arith
   clock_rises t (Ticks now w below room d passed h id answer) = omega arith
   clock_rises t (NextOut answer) = omega arith

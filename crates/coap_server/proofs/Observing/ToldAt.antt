@@ -1,5 +1,5 @@
 -- What is told is told at the moment of the call.
-use Rattle.std.proofs.Common.{◌≡◌, ℕ, Bool, true, false, Option, Some, None, List, [], ◌∷◌, ap, sym}
+use Rattle.std.proofs.Common.{◌≡◌, ℕ, Bool, true, false, Option, Some, None, List, ◌∷◌, ap, sym}
 use Rattle.coap_types.specs.declared.endpoint.Endpoint.{Endpoint}
 use Rattle.coap_resource.specs.Content.{Content, Held}
 use Rattle.coap_resource.specs.Limits.{Limits}
@@ -7,11 +7,13 @@ use Rattle.coap_resource.specs.Serves.{Question}
 use Rattle.coap_exchange.specs.declared.answerer.Asked.{Asked}
 use Rattle.coap_exchange.specs.declared.answerer.Due.TheVariants as due
 use Rattle.coap_server.specs.Trace.{Own, Silent, Replies, Serves, Waits, Notifies, Call, Sets, Removes}
-use Rattle.coap_server.specs.Trace.{Delays, Feeds, Ticks, NextOut, Gets, TellsApplied}
+use Rattle.coap_server.specs.Trace.{Delays, Plains, Feeds, Ticks, NextOut, Gets, TellsApplied}
 use Rattle.coap_server.specs.Observers.{registers}
 use Rattle.coap_server.specs.Handling.{incoming, ticking, heard}
 use Rattle.coap_server.specs.Law.{own_of}
 use Rattle.coap_server.specs.Follows.Tells.{InCon, InReply, Telling, Way, telling, telling_of, tells, tells_if}
+use Rattle.coap_server.specs.Follows.Tells.{way_of}
+use Rattle.coap_server.specs.Plain.{by_plain}
 
 by_held : (to : Endpoint) (token : List ℕ) (path : List (List ℕ)) (way : Way) (at : ℕ) (first : Bool) (o : Option Held)
     (x : Telling) → tells to token path way at first o ≡ Some x → x.at ≡ at
@@ -37,7 +39,7 @@ module _ (limits : Limits) (szx : ℕ) (older : List Call) where
       by_answer (registers a q reply s.observers) s.clock s.store a q (InCon id) x h
   told_at (Ticks now w below room due.Idle passed (Notifies o reply) id answer) x h =
       let s : Own = heard own now (ticking own now below room due.Idle) in
-      by_held o.to o.token o.path (InCon id) s.clock false (s.store.holds o.path) x h
+      by_held o.to o.token o.path (way_of (by_plain s o) id) s.clock false (s.store.holds o.path) x h
   told_at (Feeds now from bytes w up None h below) x e = absurd (cc e)
   told_at (Feeds now from bytes w up (Some p) Silent below) x e = absurd (cc e)
   told_at (Feeds now from bytes w up (Some p) (Replies r) below) x e = absurd (cc e)
@@ -56,6 +58,7 @@ module _ (limits : Limits) (szx : ℕ) (older : List Call) where
   told_at (Sets now path format body answer left) x e = absurd (cc e)
   told_at (Removes now path answer left) x e = absurd (cc e)
   told_at (Delays path ms answer) x e = absurd (cc e)
+  told_at (Plains path answer) x e = absurd (cc e)
   told_at (Gets path answer) x e = absurd (cc e)
   told_at (TellsApplied answer) x e = absurd (cc e)
   told_at (NextOut answer) x e = absurd (cc e)

@@ -2,15 +2,15 @@
 use Rattle.coap_types.specs.declared.option_number.TheConstants.{OBSERVE as observe}
 use Rattle.coap_types.specs.OptionValues.{uint_at}
 use Rattle.coap_observe.specs.declared.observers.TheConstants.{MAX_OBSERVERS as max_observers}
-use Rattle.std.proofs.Common.{◌≡◌, ◌<◌, inl, inr, ℕ, ◌==◌, ◌&&◌, nat_lt, Bool, true, false, Option, Some, None, List}
+use Rattle.std.proofs.Common.{◌≡◌, inl, inr, ℕ, ◌==◌, ◌&&◌, nat_lt, Bool, true, false, Option, Some, None, List}
 use Rattle.std.proofs.Common.{[], ◌∷◌, ◌++◌, length, option_map, refl, ap, sym, subst, ◌∙◌, cond, ◌≤◌, ◌+◌, ◌*◌, arith}
 use Rattle.coap_types.specs.Past.{Ever}
 use Rattle.coap_types.specs.Recognised.{has_number}
 use Rattle.coap_types.specs.declared.endpoint.Endpoint.{Endpoint}
 use Rattle.coap_codec.specs.Message.{Message}
 use Rattle.coap_layer.specs.Trace as L
-use Rattle.coap_observe.specs.Observers.{Observer, begun, removed, registered, sent_to, registration}
-use Rattle.coap_observe.proofs.Facts.Registrations.{registration-registered, registration-sent_to}
+use Rattle.coap_observe.specs.Observers.{Observer, begun, noted_to, removed, registered, sent_to, registration}
+use Rattle.coap_observe.proofs.Facts.Registrations.{registration-noted_to, registration-registered, registration-sent_to}
 use Rattle.coap_observe.specs.Versions.{sequence_number}
 use Rattle.coap_resource.specs.Content.{Content, Held}
 use Rattle.coap_resource.specs.RequestOptions.{block_of, szx_by}
@@ -20,14 +20,13 @@ use Rattle.coap_resource.specs.Limits.{Limits}
 use Rattle.coap_exchange.specs.declared.answerer.Asked.{Asked}
 use Rattle.coap_exchange.specs.declared.answerer.Due.TheVariants as due
 use Rattle.coap_exchange.specs.declared.answerer.Ended.{Ended}
-use Rattle.coap_exchange.specs.declared.separate.Separate.{Separate}
 use Rattle.coap_exchange.specs.AnswererTrace as E
 use Rattle.coap_exchange.specs.AnswererSteps as P
 use Rattle.coap_exchange.specs.AnswererSteps.{is_waited_for, ended_as, separate_of}
 use Rattle.std.proofs.lemmas.Bool.{and_parts}
 use Rattle.coap_common.specs.SuccessCodes.{content}
 use Rattle.coap_server.specs.Trace.{Own, Silent, Replies, Serves, Waits, Notifies, Call, Sets, Removes}
-use Rattle.coap_server.specs.Trace.{Delays, Feeds, Ticks, NextOut, Gets, TellsApplied}
+use Rattle.coap_server.specs.Trace.{Delays, Plains, Feeds, Ticks, NextOut, Gets, TellsApplied}
 use Rattle.coap_server.specs.Responses.{response_with}
 use Rattle.coap_server.specs.Serving.{response_to, observers_served}
 use Rattle.coap_server.specs.Uploads.{last_block}
@@ -39,23 +38,32 @@ use Rattle.coap_server.specs.Handling.{incoming, ticking, heard}
 use Rattle.coap_server.specs.Steps.{exchanges_after}
 use Rattle.coap_server.specs.Law.{ServerLaw, own_of, lower_of}
 use Rattle.coap_server.specs.Follows.Tells.{FollowsOn, HearsAck, InCon, InNon, InReply, Telling, Way, telling}
-use Rattle.coap_server.specs.Follows.Tells.{Follows, telling_of, tells, tells_if}
+use Rattle.coap_server.specs.Follows.Tells.{Follows, telling_of, tells, tells_if, way_of}
 use Rattle.coap_server.proofs.Observing.StoreChanges.{kept_by, get_same}
 use Rattle.coap_server.proofs.Observing.OneRegistration.{marked_turn}
 use Rattle.coap_server.proofs.Observing.LivesOn.{Lives, LivesAt, turned}
 use Rattle.coap_server.proofs.Observing.StoreSteps.{AreLow, are_low, clocks_rise, store_timed}
 use Rattle.coap_server.proofs.Observing.ToldAt.{told_at}
+use Rattle.coap_server.proofs.Observing.DatedMarks.{IsDated, are_dated, ended_dated}
+use Rattle.coap_server.proofs.Observing.YoungNons.{young_by}
+use Rattle.coap_server.proofs.Replying.ResponsesHaveRequests.{each_there}
+use Rattle.coap_server.proofs.Exact.Asked.{back}
+use Rattle.coap_server.specs.Asks.{notifies_by}
+use Rattle.coap_server.specs.Plain.{by_plain, goes_plain}
+use Rattle.coap_exchange.specs.AnswererLaw as W
+use Rattle.coap_exchange.specs.AnswererLaw.{ResponseLaw}
+use Rattle.coap_resource.specs.Since.{IsSince}
 use Rattle.coap_server.proofs.Holding.Holds.{limits_are}
 use Rattle.coap_resource.proofs.Facts.Since.{rises_little}
 use Rattle.coap_observe.specs.Registrations.{told_by}
 use Rattle.coap_types.specs.declared.transmission.TheConstants.{MAX_LATENCY_MS as max_latency}
 use Rattle.coap_server.proofs.Observing.Outcomes.{serves_came, serves_waited}
-use Rattle.coap_server.proofs.Observing.ConsAreAcknowledged.{alone, alone_later, later, begins, not_flying}
+use Rattle.coap_server.proofs.Observing.ConsAreAcknowledged.{ready_alone, alone_later, later, begins, not_flying}
 use Rattle.coap_server.proofs.Exact.Leads.{exchanges_kept, kept_behind}
 use Rattle.coap_server.proofs.Observing.ObserversWereMade.{good_ended, good}
 use Rattle.coap_server.proofs.Serving.Brought.{server_back}
 use Rattle.coap_server.proofs.Observing.VersionsRise.{FlightOf, At, observe_there}
-use Rattle.coap_server.proofs.Observing.VersionsRise.{behind_there, marked_there, there_is, next_is}
+use Rattle.coap_server.proofs.Observing.VersionsRise.{IsThere, behind_there, marked_there, there_is, next_is, readies_head}
 use Rattle.coap_server.proofs.Observing.VersionsRise.{readies_later, heard_ticked, steps}
 
 one : (a b : Telling) → Some a ≡ Some b → a ≡ b
@@ -75,9 +83,9 @@ get_of a q reply os e =
 module _ (s : Own) (a : Asked) (q : Question) (reply : Reply) (left : Content) (held : Held) (way : Way)
     (F : Type 0) where
   registered_lives : registers a q reply s.observers ≡ true → s.store.holds q.path ≡ Some held
-      → R.Serves s.store s.clock q reply left → s.store.tally.clock ≤ s.clock → AreLow s.store
+      → R.Serves s.store s.clock q reply left → AreLow s.store
       → (way ≡ InNon → ⊥) → F → Lives (answer_of s a q held way) F left (observers_served s.clock s.store a q reply left s.observers)
-  registered_lives e is k timed low no_non f =
+  registered_lives e is k low no_non f =
       let y : Telling = answer_of s a q held way in
       let szx : ℕ = szx_by (block_of q.options) q.szx in
       let new : List Observer = registered s.clock a.from a.token q.path szx s.observers in
@@ -90,14 +98,12 @@ module _ (s : Own) (a : Asked) (q : Question) (reply : Reply) (left : Content) (
         path = refl;
         low = low q.path held is;
         fresh = λ m h z. absurd (cc m);
-        dated = λ m h z. absurd (cc m);
         young = λ w. absurd (no_non w);
         flies = f;
       } in
       turned y F s.store left os (marked_if s.clock q.path s.store left os)
       (marked_turn a.from a.token s.clock q.path s.store left os
-      (inl (kept_by s.clock s.store left (get_same s.store s.clock q reply left (get_of a q reply s.observers e) k)))
-      timed)
+      (inl (kept_by s.clock s.store left (get_same s.store s.clock q reply left (get_of a q reply s.observers e) k))))
       (subst (Lives y F s.store) (sym same) (inr first))
 
 -- the response has Observe then
@@ -125,6 +131,7 @@ module _ (limits : Limits) (szx word : ℕ) where
   -- the observer that is notified is there, and marked
   record Told (t : List Call) (s : Own) (o : Observer) : Type 0 where
     is : registration o.to o.token s.observers ≡ Some o
+    there : IsThere o s.observers
     marked_is : o.marked ≡ true
 
   module _ (t : List Call) (now w : ℕ) (below : L.Answer) (room : Bool) (passed id : ℕ) (answer : Bool) (o : Observer)
@@ -144,21 +151,42 @@ module _ (limits : Limits) (szx word : ℕ) where
         let k = marked_there stage.observers o (behind_there passed (marked stage.observers) o is) in
         let g = good_ended limits szx t (P.after (own t).exchanges (ticking (own t) now below room due.Idle)).ended
         (own t).observers (good limits szx t) in
-        record { is = there_is stage.observers o g.registrations.distinct k.0; marked_is = k.1 }
+        record {
+          is = there_is stage.observers o g.registrations.distinct k.0;
+          there = k.0;
+          marked_is = k.1;
+        }
+
+    abbrev plain : Bool
+    plain = by_plain stage o
+
+    abbrev response : E.Response
+    response = notification stage.store o reply
 
     -- none to its endpoint is outstanding
     free : ServerLaw limits szx word (call ∷ t) → is_waited_for o.to (exchanges_after stage.exchanges asks).separate
         ≡ false
     free law =
-        let first : E.Call = ticking (own t) now below room due.Idle in
-        let older : List E.Call = lower_of limits szx t in
-        let calls : List E.Call = (asks ++ first ∷ []) ++ older in
         ap (λ (z : E.Own). is_waited_for o.to z.separate)
         (kept_behind (own t).exchanges first asks older (exchanges_kept limits szx t))
-        ∙ alone word stage.clock o.to o.token (notification stage.store o reply) w id calls law.exchanges
+        ∙ subst Idle (sym head.1)
+        (ready_alone word stage.clock o.to ((head.0 ++ first ∷ []) ++ older)
+        (subst (λ xs. ResponseLaw word ((xs ++ first ∷ []) ++ older)) head.1
+        (back word (notifies_by plain stage.clock o response w id ∷ []) ((asks ++ first ∷ []) ++ older)
+        law.exchanges)))
+      where
+        first : E.Call
+        first = ticking (own t) now below room due.Idle
 
-    abbrev notice : Held → Telling
-    notice held = telling_of o.to o.token o.path (InCon id) stage.clock false held
+        older : List E.Call
+        older = lower_of limits szx t
+
+        Idle : List E.Call → Type 0
+        Idle xs = is_waited_for o.to (W.own_of ((xs ++ first ∷ []) ++ older)).separate ≡ false
+
+        head : (rest : List E.Call) × (asks ≡ E.Ready stage.clock o.to true ∷ rest)
+        head = readies_head stage.clock passed (marked stage.observers) o
+            (next_is (behind passed (marked stage.observers)) stage.store o reply law.rows.0.0)
 
   module _ (older : List Call) (x : Telling) where
     abbrev Begins : Call → Type 0
@@ -178,9 +206,6 @@ module _ (limits : Limits) (szx word : ℕ) where
         past_law : ServerLaw limits szx word older
         past_law = server_back limits szx word (Feeds now from bytes w up (Some p) (Serves q reply left) below) older law
 
-        timed : (own older).store.tally.clock ≤ (own older).clock
-        timed = store_timed limits szx word older past_law
-
         held_by : registers p.0 q reply s.observers ≡ true → (o : Option Held) → s.store.holds q.path ≡ o
             → tells p.0.from p.0.token q.path InReply s.clock true o ≡ Some x
             → Begins (Feeds now from bytes w up (Some p) (Serves q reply left) below)
@@ -190,7 +215,7 @@ module _ (limits : Limits) (szx word : ℕ) where
             subst (λ (y : Telling). At y limits szx word
             (Feeds now from bytes w up (Some p) (Serves q reply left) below ∷ older) []) same
             (registered_lives s p.0 q reply left held InReply (Unit {0}) e is (serves_came s p q reply left law.rows.0)
-            (omega (arith, timed)) (are_low limits szx word older past_law) (λ w. cc w) tt)
+            (are_low limits szx word older past_law) (λ w. cc w) tt)
 
         by : (b : Bool) → registers p.0 q reply s.observers ≡ b → tells_if b s.clock s.store p.0 q InReply ≡ Some x
             → Begins (Feeds now from bytes w up (Some p) (Serves q reply left) below)
@@ -212,9 +237,6 @@ module _ (limits : Limits) (szx word : ℕ) where
         past_law = server_back limits szx word
             (Ticks now w below room (due.Ready a) passed (Serves q reply left) id answer) older law
 
-        timed : (own older).store.tally.clock ≤ (own older).clock
-        timed = store_timed limits szx word older past_law
-
         r : E.Response
         r = response_to s.store s.observers a q reply
 
@@ -234,7 +256,7 @@ module _ (limits : Limits) (szx word : ℕ) where
             (Ticks now w below room (due.Ready a) passed (Serves q reply left) id answer ∷ older) []) same
             (registered_lives s a q reply left held (InCon id) _ e is
             (serves_waited (question_of s.clock a s.waiting) s.store s.clock q reply left law.rows.0.0)
-            (omega (arith, timed)) (are_low limits szx word older past_law) (λ w. cc w)
+            (are_low limits szx word older past_law) (λ w. cc w)
             (inl (begins a.from id a.token s.exchanges.separate r idle
             (ends_as a.from id a.token r (response_observes s a q reply held e is)))))
 
@@ -244,47 +266,98 @@ module _ (limits : Limits) (szx word : ℕ) where
         by false e k = absurd (cc k)
 
     -- a notification
-    notifies : (now w : ℕ) (below : L.Answer) (room : Bool) (passed id : ℕ) (answer : Bool) (o : Observer)
-        (reply : Reply)
-        → ServerLaw limits szx word (Ticks now w below room due.Idle passed (Notifies o reply) id answer ∷ older)
-        → telling (own older) (Ticks now w below room due.Idle passed (Notifies o reply) id answer) ≡ Some x
-        → Begins (Ticks now w below room due.Idle passed (Notifies o reply) id answer)
-    notifies now w below room passed id answer o reply law h = by (s.store.holds o.path) refl h
-      where
-        c : Call
-        c = Ticks now w below room due.Idle passed (Notifies o reply) id answer
+    module _ (now w : ℕ) (below : L.Answer) (room : Bool) (passed id : ℕ) (answer : Bool) (o : Observer) (reply : Reply)
+        (law : ServerLaw limits szx word (Ticks now w below room due.Idle passed (Notifies o reply) id answer ∷ older))
+        where
+      abbrev s : Own
+      s = stage older now w below room passed id answer o reply
 
-        s : Own
-        s = stage older now w below room passed id answer o reply
+      abbrev r : E.Response
+      r = notification s.store o reply
 
-        by : (held : Option Held) → s.store.holds o.path ≡ held
-            → tells o.to o.token o.path (InCon id) s.clock false held ≡ Some x → Begins c
-        by None is k = absurd (cc k)
-        by (Some held) is k =
-            let same : notice older now w below room passed id answer o reply held ≡ x = one _ x k in
-            let told = told_here older now w below room passed id answer o reply law in
-            let r : E.Response = notification s.store o reply in
-            let xs : List Separate = (exchanges_after s.exchanges
-            (asks older now w below room passed id answer o reply)).separate in
-            let y : Telling = notice older now w below room passed id answer o reply held in
-            let left : notified s.clock (s.store.holds o.path) o s.observers
-            ≡ sent_to s.clock o.to o.token true s.observers = ap (λ z. notified s.clock z o s.observers) is in
-            let first : LivesAt y (FlightOf y (InCon id) (xs ++ separate_of o.to id o.token r ∷ []) []) s.store
-            (sent_to s.clock o.to o.token true s.observers) = record {
-              entry = told_by s.clock true o;
-              is = registration-sent_to s.clock o.to o.token true s.observers
-                  ∙ ap (option_map (told_by s.clock true)) told.is;
-              path = refl;
-              low = are_low limits szx word older (server_back limits szx word _ older law) o.path held is;
-              fresh = λ m z e. absurd (cc m);
-              dated = λ m z e. absurd (cc m);
-              young = λ w. absurd (cc w);
-              flies = inl (begins o.to id o.token xs r (free older now w below room passed id answer o reply law)
-                  (ends_as o.to id o.token r (notification_observes s.store o reply held is)));
-            } in
-            subst (λ (z : Telling). At z limits szx word (c ∷ older) []) same
-            (subst (Lives y (FlightOf y (InCon id) (xs ++ separate_of o.to id o.token r ∷ []) []) s.store) (sym left)
-            (inr first))
+      past_law : ServerLaw limits szx word older
+      past_law = server_back limits szx word
+          (Ticks now w below room due.Idle passed (Notifies o reply) id answer) older law
+
+      told : Told older s o
+      told = told_here older now w below room passed id answer o reply law
+
+      -- what is asked before it
+      abbrev xs : E.Own
+      xs = exchanges_after s.exchanges (asks older now w below room passed id answer o reply)
+
+      -- what it leaves, as it goes
+      abbrev Left : Bool → Telling → Type 0
+      Left plain y = Lives y (FlightOf y y.way (P.after xs (notifies_by plain s.clock o r w id)).separate []) s.store
+          (notified plain s.clock id (s.store.holds o.path) o s.observers)
+
+      abbrev notice : Bool → Held → Telling
+      notice plain held = telling_of o.to o.token o.path (way_of plain id) s.clock false held
+
+      low : (held : Held) → s.store.holds o.path ≡ Some held → held.version ≤ s.store.tally.version
+      low held is = are_low limits szx word older past_law o.path held is
+
+      in_con : (held : Held) → s.store.holds o.path ≡ Some held → Left false (notice false held)
+      in_con held is =
+          let y : Telling = notice false held in
+          let F : Type 0 = FlightOf y y.way (xs.separate ++ separate_of o.to id o.token r ∷ []) [] in
+          let left : notified false s.clock id (s.store.holds o.path) o s.observers
+          ≡ sent_to s.clock o.to o.token true s.observers =
+          ap (λ z. notified false s.clock id z o s.observers) is in
+          let first : LivesAt y F s.store (sent_to s.clock o.to o.token true s.observers) = record {
+            entry = told_by s.clock true o;
+            is = registration-sent_to s.clock o.to o.token true s.observers
+                ∙ ap (option_map (told_by s.clock true)) told.is;
+            path = refl;
+            low = low held is;
+            fresh = λ m z e. absurd (cc m);
+            young = λ k. absurd (cc k);
+            flies = inl (begins o.to id o.token xs.separate r
+                (free older now w below room passed id answer o reply law)
+                (ends_as o.to id o.token r (notification_observes s.store o reply held is)));
+          } in
+          subst (Lives y F s.store) (sym left) (inr first)
+
+      -- its state was made when the entry says
+      dated : (held : Held) → s.store.holds o.path ≡ Some held → IsSince held.version o.changed s.store.tally
+      dated held is =
+          each_there (IsDated s.store) s.observers o
+          (ended_dated s.store (P.failed_by below (own older).exchanges.separate) (own older).observers
+          (are_dated limits szx word older past_law)) told.there told.marked_is held is
+
+      in_non : by_plain s o ≡ true → (held : Held) → s.store.holds o.path ≡ Some held → Left true (notice true held)
+      in_non goes held is =
+          let y : Telling = notice true held in
+          let noted : List Observer = noted_to s.clock o.to o.token id s.observers in
+          let left : notified true s.clock id (s.store.holds o.path) o s.observers
+          ≡ sent_to s.clock o.to o.token false noted = ap (λ z. notified true s.clock id z o s.observers) is in
+          let keep : Observer → Observer = λ z. record z { noted = Some (record { id = id; at = s.clock }) } in
+          let first : LivesAt y (Unit {0}) s.store (sent_to s.clock o.to o.token false noted) = record {
+            entry = told_by s.clock false (keep o);
+            is = registration-sent_to s.clock o.to o.token false noted
+                ∙ ap (option_map (told_by s.clock false))
+                (registration-noted_to s.clock o.to o.token id s.observers ∙ ap (option_map keep) told.is);
+            path = refl;
+            low = low held is;
+            fresh = λ m z e. absurd (cc m);
+            young = λ k. record {
+              made = o.changed;
+              young = young_by s.plains s.clock held o (ap (λ z. goes_plain s.plains s.clock z o) (sym is) ∙ goes);
+              since = dated held is;
+            };
+            flies = tt;
+          } in
+          subst (Lives y (Unit {0}) s.store) (sym left) (inr first)
+
+      by_way : (plain : Bool) → by_plain s o ≡ plain → (held : Option Held) → s.store.holds o.path ≡ held
+          → tells o.to o.token o.path (way_of plain id) s.clock false held ≡ Some x → Left plain x
+      by_way plain goes None is k = absurd (cc k)
+      by_way false goes (Some held) is k = subst (Left false) (one _ x k) (in_con held is)
+      by_way true goes (Some held) is k = subst (Left true) (one _ x k) (in_non goes held is)
+
+      notifies : telling (own older) (Ticks now w below room due.Idle passed (Notifies o reply) id answer) ≡ Some x
+          → Begins (Ticks now w below room due.Idle passed (Notifies o reply) id answer)
+      notifies h = by_way (by_plain s o) refl (s.store.holds o.path) refl h
 
     begins_at : (c : Call) → ServerLaw limits szx word (c ∷ older) → telling (own older) c ≡ Some x → Begins c
     begins_at (Feeds now from bytes w up (Some p) (Serves q reply left) below) law h =
@@ -311,6 +384,7 @@ module _ (limits : Limits) (szx word : ℕ) where
     begins_at (Sets now path format body answer left) law e = absurd (cc e)
     begins_at (Removes now path answer left) law e = absurd (cc e)
     begins_at (Delays path ms answer) law e = absurd (cc e)
+    begins_at (Plains path answer) law e = absurd (cc e)
     begins_at (Gets path answer) law e = absurd (cc e)
     begins_at (TellsApplied answer) law e = absurd (cc e)
     begins_at (NextOut answer) law e = absurd (cc e)
@@ -331,6 +405,9 @@ module _ (limits : Limits) (szx word : ℕ) where
 
         told : Told t s o
         told = told_here t now w below room passed id answer o reply law
+
+        way : Way
+        way = way_of (by_plain s o) id
 
         grounded : (way : Way) (n : ℕ) → way ≡ InCon n → o.to ≡ x.to → FlightOf x way s.exchanges.separate after
             → Ever (HearsAck x.to n) after
@@ -363,11 +440,11 @@ module _ (limits : Limits) (szx word : ℕ) where
             omega (arith, most, size, low)
 
         by : (held : Option Held) → s.store.holds o.path ≡ held
-            → tells o.to o.token o.path (InCon id) s.clock false held ≡ Some y
+            → tells o.to o.token o.path way s.clock false held ≡ Some y
             → Lives x (FlightOf x x.way s.exchanges.separate after) s.store s.observers → FollowsOn limits.changes after x y
         by None is k l = absurd (cc k)
         by (Some held) is k l =
-            let same : notice t now w below room passed id answer o reply held ≡ y = one _ y k in
+            let same : telling_of o.to o.token o.path way s.clock false held ≡ y = one _ y k in
             let there : o.to ≡ x.to = ap (λ (z : Telling). z.to) same ∙ to in
             let mine : o.token ≡ x.token = ap (λ (z : Telling). z.token) same ∙ token in
             let found : registration x.to x.token s.observers
@@ -432,6 +509,7 @@ module _ (limits : Limits) (szx word : ℕ) where
     follows_at (Sets now path format body answer left) law e first = absurd (cc e)
     follows_at (Removes now path answer left) law e first = absurd (cc e)
     follows_at (Delays path ms answer) law e first = absurd (cc e)
+    follows_at (Plains path answer) law e first = absurd (cc e)
     follows_at (Gets path answer) law e first = absurd (cc e)
     follows_at (TellsApplied answer) law e first = absurd (cc e)
     follows_at (NextOut answer) law e first = absurd (cc e)

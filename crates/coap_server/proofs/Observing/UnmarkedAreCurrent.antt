@@ -19,7 +19,7 @@ use Rattle.coap_exchange.specs.declared.answerer.Due.TheVariants as due
 use Rattle.coap_exchange.specs.AnswererSteps as P
 use Rattle.coap_common.specs.SuccessCodes.{content}
 use Rattle.coap_server.specs.Trace.{Own, Handling, Silent, Replies, Serves, Waits, Notifies, Call, Sets, Removes}
-use Rattle.coap_server.specs.Trace.{Delays, Feeds, Ticks, NextOut, Gets, TellsApplied}
+use Rattle.coap_server.specs.Trace.{Delays, Plains, Feeds, Ticks, NextOut, Gets, TellsApplied}
 use Rattle.coap_server.specs.Observers.{observes, registers, observers_with, marked_if}
 use Rattle.coap_server.specs.Deferring.{question_of}
 use Rattle.coap_server.specs.Notifying.{behind, marked}
@@ -27,7 +27,7 @@ use Rattle.coap_server.specs.Handling.{incoming, ticking, heard}
 use Rattle.coap_server.specs.Law.{ServerLaw, own_of}
 use Rattle.coap_server.specs.Follows.Current.{told_then, told_last, AreCurrent}
 use Rattle.coap_server.specs.Follows.Serves.{Serving, serving, serving_of}
-use Rattle.coap_server.specs.Follows.Tells.{InCon, Telling, tells, tells_if}
+use Rattle.coap_server.specs.Follows.Tells.{Telling, tells, tells_if, way_of}
 use Rattle.coap_server.proofs.Answering.TickTurns.{next_notifies, next_is}
 use Rattle.coap_server.proofs.Holding.Holds.{held_is}
 use Rattle.coap_server.proofs.Observing.LastRegistered.{unmarked}
@@ -38,7 +38,9 @@ use Rattle.coap_server.proofs.Observing.StoreChanges.{Effect, served_effect, set
 use Rattle.coap_server.proofs.Observing.VersionsRise.{behind_there, marked_there, there_is}
 use Rattle.coap_server.proofs.Serving.Brought.{server_back}
 use Rattle.coap_server.proofs.Observing.CurrentLists.{Good, ended_good, marked_good, none_or, notified_good}
-use Rattle.coap_server.proofs.Observing.CurrentLists.{registered_good, removed_good}
+use Rattle.coap_server.proofs.Observing.CurrentLists.{registered_good, rejected_good, removed_good}
+use Rattle.coap_server.specs.Plain.{by_plain}
+use Rattle.coap_exchange.specs.AnswererSteps.{unmatched_by}
 
 module _ (to : Endpoint) (token : List ℕ) (limits : Limits) (szx word : ℕ) where
   abbrev own : List Call → Own
@@ -112,17 +114,21 @@ module _ (to : Endpoint) (token : List ℕ) (limits : Limits) (szx word : ℕ) w
       → ServerLaw limits szx word (Feeds now from bytes w up came h below ∷ t) → Fine t
       → Fine (Feeds now from bytes w up came h below ∷ t)
   fed t now from bytes w up None Silent below law g =
-      ended_good to token (last_of t) (own t).store.holds _ (own t).observers g
+      rejected_good to token (last_of t) (own t).store.holds (max (own t).clock now) (unmatched_by from up) _
+      (ended_good to token (last_of t) (own t).store.holds _ (own t).observers g)
   fed t now from bytes w up None (Replies r) below law g = let k = law.rows.0 in absurd (cc k)
   fed t now from bytes w up None (Serves q reply left) below law g = let k = law.rows.0 in absurd (cc k)
   fed t now from bytes w up None (Waits q d) below law g = let k = law.rows.0 in absurd (cc k)
   fed t now from bytes w up None (Notifies o reply) below law g = let k = law.rows.0 in absurd (cc k)
   fed t now from bytes w up (Some p) Silent below law g =
-      ended_good to token (last_of t) (own t).store.holds _ (own t).observers g
+      rejected_good to token (last_of t) (own t).store.holds (max (own t).clock now) (unmatched_by from up) _
+      (ended_good to token (last_of t) (own t).store.holds _ (own t).observers g)
   fed t now from bytes w up (Some p) (Replies r) below law g =
-      ended_good to token (last_of t) (own t).store.holds _ (own t).observers g
+      rejected_good to token (last_of t) (own t).store.holds (max (own t).clock now) (unmatched_by from up) _
+      (ended_good to token (last_of t) (own t).store.holds _ (own t).observers g)
   fed t now from bytes w up (Some p) (Waits q d) below law g =
-      ended_good to token (last_of t) (own t).store.holds _ (own t).observers g
+      rejected_good to token (last_of t) (own t).store.holds (max (own t).clock now) (unmatched_by from up) _
+      (ended_good to token (last_of t) (own t).store.holds _ (own t).observers g)
   fed t now from bytes w up (Some p) (Serves q reply left) below law g =
       served_good t (Feeds now from bytes w up (Some p) (Serves q reply left) below) law
       (serving_of (heard (own t) now (incoming (own t) now from bytes up (Some p))) p.0 q reply left) refl refl g
@@ -150,7 +156,8 @@ module _ (to : Endpoint) (token : List ℕ) (limits : Limits) (szx word : ℕ) w
       let distinct = (good_ended limits szx t
       (P.after (own t).exchanges (ticking (own t) now below room due.Idle)).ended (own t).observers
       (good limits szx t)).registrations.distinct in
-      notified_good to token s.clock (last_of t) (own t).store o (InCon id) s.observers distinct (there_is s.observers o distinct there)
+      notified_good to token (by_plain s o) s.clock id s.clock (last_of t) (own t).store o (way_of (by_plain s o) id)
+      s.observers (there_is s.observers o distinct there)
       (ended_good to token (last_of t) (own t).store.holds _ (own t).observers g) ((own t).store.holds o.path) refl
 
   ticked : (t : List Call) (now w : ℕ) (below : L.Answer) (room : Bool) (d : Due) (passed : ℕ) (h : Handling)
@@ -202,6 +209,7 @@ module _ (to : Endpoint) (token : List ℕ) (limits : Limits) (szx word : ℕ) w
           (removes_effect ((own t).store.holds path) (rate_refusal (own t).store.tally (max (own t).clock now))
           (own t).store (max (own t).clock now) path answer left refl law.rows.0) g
       on (Delays path ms answer) law g = g
+      on (Plains path answer) law g = g
       on (Gets path answer) law g = g
       on (TellsApplied answer) law g = g
       on (NextOut answer) law g = g

@@ -1,15 +1,13 @@
 -- What is told under one registration follows on: the versions rise, and each CON was acknowledged.
-use Rattle.std.proofs.Common.{◌≡◌, ◌≤◌, ◌⊎◌, inl, inr, ℕ, zero, suc, max, Bool, true, false, Option, Some, None, List}
-use Rattle.std.proofs.Common.{[], ◌∷◌, ◌++◌, refl, ap, sym, subst, ◌∙◌, cond, arith}
+use Rattle.std.proofs.Common.{◌≡◌, ◌⊎◌, inl, inr, ℕ, zero, suc, max, Bool, true, false, Option, Some, None, List}
+use Rattle.std.proofs.Common.{[], ◌∷◌, ◌++◌, refl, ap, sym, ◌∙◌, cond}
 use Rattle.coap_types.specs.Past.{Ever}
-use Rattle.coap_types.specs.Path.{same_path}
-use Rattle.coap_types.proofs.Facts.Paths.{same_path-decides}
 use Rattle.coap_types.specs.Recognised.{has_number}
 use Rattle.coap_types.specs.declared.endpoint.Endpoint.{Endpoint}
 use Rattle.coap_codec.specs.Message.{Message}
 use Rattle.coap_layer.specs.Trace as L
 use Rattle.coap_block.specs.Whole.{Each}
-use Rattle.coap_observe.specs.Observers.{Observer, AreDistinct, is_of, removed, registered, registration}
+use Rattle.coap_observe.specs.Observers.{Observer, AreDistinct, is_of, noted_to, removed, registered, registration, sent_to}
 use Rattle.coap_observe.proofs.Facts.Registrations.{is_of-decides, registration-removed}
 use Rattle.coap_resource.specs.Content.{Content, Held, put_refusal}
 use Rattle.coap_resource.specs.Rate.{rate_refusal}
@@ -23,26 +21,29 @@ use Rattle.coap_exchange.specs.declared.answerer.Due.TheVariants as due
 use Rattle.coap_exchange.specs.declared.answerer.Ended.{Ended}
 use Rattle.coap_exchange.specs.declared.separate.Separate.{Separate}
 use Rattle.coap_exchange.specs.AnswererTrace as E
-use Rattle.coap_exchange.specs.AnswererSteps.{separate_after, separate_unless, reset_by, failed_by, may_defer}
+use Rattle.coap_exchange.specs.AnswererSteps.{separate_after, separate_unless, reset_by, failed_by, may_defer, unmatched_by}
+use Rattle.coap_exchange.specs.AnswererTrace.{Sending}
 use Rattle.coap_server.specs.Trace.{Own, Handling, Silent, Replies, Serves, Waits, Notifies, Call}
 use Rattle.coap_server.specs.Trace.{Sets}
-use Rattle.coap_server.specs.Trace.{Removes, Delays, Feeds, Ticks, NextOut, Gets, TellsApplied}
+use Rattle.coap_server.specs.Trace.{Removes, Delays, Plains, Feeds, Ticks, NextOut, Gets, TellsApplied}
 use Rattle.coap_server.specs.Responses.{response_with}
 use Rattle.coap_server.specs.Serving.{observers_served}
-use Rattle.coap_server.specs.Observers.{observes, registers, observers_with, marked_if, unless_ended}
+use Rattle.coap_server.specs.Observers.{observes, registers, observers_with, marked_if, unless_ended, unless_rejected}
 use Rattle.coap_server.specs.Deferring.{deferral, deferral_by, delay_for, question_of}
-use Rattle.coap_server.specs.Notifying.{NotifiesNext, marked, behind, readies, notified}
+use Rattle.coap_server.specs.Notifying.{NotifiesNext, marked, behind, readies, notification, notified}
 use Rattle.coap_server.specs.Handling.{incoming, ticking, heard, HandlesCame}
-use Rattle.coap_server.specs.Asks.{answering, responding}
+use Rattle.coap_server.specs.Asks.{answering, notifies_by, responding}
+use Rattle.coap_server.specs.Plain.{by_plain}
 use Rattle.coap_server.specs.Steps.{exchanges_after}
 use Rattle.coap_server.specs.Law.{ServerLaw, own_of}
 use Rattle.coap_server.specs.Follows.Tells.{HearsAck, InCon, InNon, InReply, Pair, Telling, Way, registering}
 use Rattle.coap_server.specs.Follows.Tells.{NoneMade, registers_by}
 use Rattle.coap_server.proofs.Observing.StoreChanges.{served_effect, sets_effect, removes_effect}
-use Rattle.coap_server.proofs.Observing.OneRegistration.{Turn, removed_turn, sent_turn, registered_turn}
+use Rattle.coap_server.proofs.Observing.OneRegistration.{Turn, noted_turn, removed_turn, sent_turn, registered_turn}
 use Rattle.coap_server.proofs.Observing.OneRegistration.{marked_turn, same_turn}
+use Rattle.coap_server.proofs.Observing.ObserverLists.{notified_left, rejected_left}
 use Rattle.coap_server.proofs.Observing.LivesOn.{Lives, LivesAt, turned}
-use Rattle.coap_server.proofs.Observing.StoreSteps.{next_serves, store_timed}
+use Rattle.coap_server.proofs.Observing.StoreSteps.{next_serves}
 use Rattle.coap_server.proofs.Observing.Outcomes.{serves_came, never_notifies, serves_waited}
 use Rattle.coap_server.proofs.Observing.Outcomes.{never_notifies_ready}
 use Rattle.coap_server.proofs.Observing.ConsAreAcknowledged.{Flying, arrival, turn, IsLater, later}
@@ -65,6 +66,17 @@ pub behind_there : (n : ℕ) (os : List Observer) (o : Observer) → behind n os
 behind_there n [] o h = absurd (cc h)
 behind_there zero (y ∷ os) o h = inl (cc h)
 behind_there (suc n) (y ∷ os) o h = inr (behind_there n os o h)
+
+-- what was asked last before a notification
+pub readies_head : (at n : ℕ) (os : List Observer) (o : Observer) → behind n os ≡ Some o
+    → (rest : List E.Call) × (readies at n os ≡ E.Ready at o.to true ∷ rest)
+readies_head at n [] o h = absurd (cc h)
+readies_head at zero (y ∷ os) o h = let e : y ≡ o = cc h in ([], ap (λ (z : Observer). E.Ready at z.to true ∷ []) e)
+readies_head at (suc n) (y ∷ os) o h =
+    let k = readies_head at n os o h in (
+      k.0 ++ E.Ready at y.to false ∷ [],
+      ap (λ xs. xs ++ E.Ready at y.to false ∷ []) k.1,
+    )
 
 pub marked_there : (os : List Observer) (o : Observer) → IsThere o (marked os) → IsThere o os × (o.marked ≡ true)
 marked_there [] o h = absurd h
@@ -119,7 +131,6 @@ module _ (x : Telling) where
     path = l.path;
     low = l.low;
     fresh = l.fresh;
-    dated = l.dated;
     young = l.young;
     flies = f l.flies;
   }
@@ -145,6 +156,12 @@ module _ (x : Telling) where
         | inl g ↦ turned x G s s os (unless_ended e os) (ended_turn e s os) (inr (flying s os (λ f. g) l))
         | inr k ↦ inl (ap (λ z. registration x.to x.token (unless_ended z os)) k ∙ registration-removed x.to x.token os)
       ]
+
+  rejected_lives : {F : Type 0} (at : ℕ) (r : Option Sending) (s : Content) (os : List Observer) → Lives x F s os
+      → Lives x F s (unless_rejected at r os)
+  rejected_lives {F} at r s os l =
+      rejected_left (Lives x F s) at r os l
+      (λ to token. turned x F s s os (removed to token os) (removed_turn x.to x.token s to token os) l)
 
   flight_fed : (way : Way) (from : Endpoint) (up : L.Answer) (xs : List Separate) (after : List Call) (c : Call)
       → ((id : ℕ) → from ≡ x.to → up ≡ L.Becomes (L.Acked id) → HearsAck x.to id c) → FlightOf way xs after
@@ -203,6 +220,11 @@ module _ (x : Telling) where
     readies_later at (suc n) (o ∷ os) = joined_later (readies at n os) (E.Ready at o.to false ∷ [])
         (readies_later at n os) (tt, tt)
 
+    pub notifies_later : (plain : Bool) (at : ℕ) (o : Observer) (r : E.Response) (w n : ℕ)
+        → IsLater x.to id x.token (notifies_by plain at o r w n)
+    notifies_later true at o r w n = tt
+    notifies_later false at o r w n = tt
+
     answering_later : (s : Own) (p : Asked × Message) (h : Handling) (below : L.Answer)
         → Later (answering s (Some p) h below)
     answering_later s p Silent below = tt
@@ -231,19 +253,24 @@ module _ (x : Telling) where
       by false false f = same_turn x.to x.token s os
 
   served_lives : {F : Type 0} (s : Own) (a : Asked) (q : Question) (reply : Reply) (left : Content)
-      → R.Serves s.store s.clock q reply left → s.store.tally.clock ≤ s.clock
+      → R.Serves s.store s.clock q reply left
       → (registers_by s a q reply ≡ Some (record { to = x.to; token = x.token }) → ⊥)
       → Lives x F s.store s.observers → Lives x F left (observers_served s.clock s.store a q reply left s.observers)
-  served_lives {F} s a q reply left k timed none l =
+  served_lives {F} s a q reply left k none l =
       let os : List Observer = observers_with s.clock a q reply s.observers in
       turned x F s.store left os (marked_if s.clock q.path s.store left os)
-      (marked_turn x.to x.token s.clock q.path s.store left os (served_effect s.store s.clock q reply left k) timed)
+      (marked_turn x.to x.token s.clock q.path s.store left os (served_effect s.store s.clock q reply left k))
       (turned x F s.store s.store s.observers os (with_turn s.store s.clock a q reply s.observers s refl none) l)
 
-  notified_turn : (at : ℕ) (held : Option Held) (s : Content) (o : Observer) (os : List Observer)
-      → Turn x.to x.token s s os (notified at held o os)
-  notified_turn at None s o os = removed_turn x.to x.token s o.to o.token os
-  notified_turn at (Some h) s o os = sent_turn x.to x.token s at true o.to o.token os
+  notified_lives : {F : Type 0} (plain : Bool) (at id : ℕ) (held : Option Held) (s : Content) (o : Observer)
+      (os : List Observer) → Lives x F s os → Lives x F s (notified plain at id held o os)
+  notified_lives {F} plain at id held s o os l =
+      let noted : List Observer = noted_to at o.to o.token id os in
+      notified_left (Lives x F s) plain at id held o os
+      (turned x F s s os (removed o.to o.token os) (removed_turn x.to x.token s o.to o.token os) l)
+      (turned x F s s noted (sent_to at o.to o.token false noted) (sent_turn x.to x.token s at false o.to o.token noted)
+      (turned x F s s os noted (noted_turn x.to x.token s at o.to o.token id os) l))
+      (turned x F s s os (sent_to at o.to o.token true os) (sent_turn x.to x.token s at true o.to o.token os) l)
 
   module _ (limits : Limits) (szx word : ℕ) where
     abbrev pub At : List Call → List Call → Type 0
@@ -252,10 +279,6 @@ module _ (x : Telling) where
 
     abbrev NotNew : List Call → Call → Type 0
     NotNew t c = registering (own_of limits szx t) c ≡ Some (record { to = x.to; token = x.token }) → ⊥
-
-    timed_before : (t : List Call) (c : Call) → ServerLaw limits szx word (c ∷ t)
-        → (own limits szx t).store.tally.clock ≤ (own limits szx t).clock
-    timed_before t c law = store_timed limits szx word t (server_back limits szx word c t law)
 
     -- an arrival
     module _ (t after : List Call) (now : ℕ) (from : Endpoint) (bytes : List ℕ) (w : ℕ) (up : L.Answer)
@@ -271,7 +294,9 @@ module _ (x : Telling) where
           (fed_stage came).store (fed_stage came).observers
       heard_fed came h l =
           let s : Own = own limits szx t in
-          heard_lives (reset_by from up s.exchanges.separate) s.store s.observers
+          rejected_lives (max s.clock now) (unmatched_by from up) s.store
+          (unless_ended (reset_by from up s.exchanges.separate) s.observers)
+          (heard_lives (reset_by from up s.exchanges.separate) s.store s.observers
           (flight_fed x.way from up s.exchanges.separate after (fed_call came h)
           (λ id e k. record {
             now = now;
@@ -282,7 +307,7 @@ module _ (x : Telling) where
             below = below;
             is = ap (λ z. Feeds now z bytes w up came h below) e
                 ∙ ap (λ z. Feeds now x.to bytes w z came h below) k;
-          })) l
+          })) l)
 
       asked_lives : (p : Asked × Message) (h : Handling) (s : Content) (os : List Observer)
           → Lives x (FlightOf x.way (fed_stage (Some p)).exchanges.separate (fed_call (Some p) h ∷ after)) s os
@@ -294,20 +319,20 @@ module _ (x : Telling) where
           (λ id. answering_later id (fed_stage (Some p)) p h below)) l
 
       fed_step : (came : Option (Asked × Message)) (h : Handling) → HandlesCame (fed_stage came) came h
-          → (own limits szx t).store.tally.clock ≤ (own limits szx t).clock → NotNew t (fed_call came h) → At t after
+          → NotNew t (fed_call came h) → At t after
           → At (fed_call came h ∷ t) (fed_call came h ∷ after)
-      fed_step None Silent right timed none l = heard_fed None Silent l
-      fed_step None (Replies r) right timed none l = absurd (cc right)
-      fed_step None (Serves q reply left) right timed none l = absurd (cc right)
-      fed_step None (Waits q d) right timed none l = absurd (cc right)
-      fed_step None (Notifies o reply) right timed none l = absurd (cc right)
-      fed_step (Some p) Silent right timed none l = heard_fed (Some p) Silent l
-      fed_step (Some p) (Replies r) right timed none l = asked_lives p (Replies r) _ _ (heard_fed (Some p) (Replies r) l)
-      fed_step (Some p) (Waits q d) right timed none l = asked_lives p (Waits q d) _ _ (heard_fed (Some p) (Waits q d) l)
-      fed_step (Some p) (Notifies o reply) right timed none l = absurd (never_notifies (fed_stage (Some p)) p o reply right)
-      fed_step (Some p) (Serves q reply left) right timed none l =
+      fed_step None Silent right none l = heard_fed None Silent l
+      fed_step None (Replies r) right none l = absurd (cc right)
+      fed_step None (Serves q reply left) right none l = absurd (cc right)
+      fed_step None (Waits q d) right none l = absurd (cc right)
+      fed_step None (Notifies o reply) right none l = absurd (cc right)
+      fed_step (Some p) Silent right none l = heard_fed (Some p) Silent l
+      fed_step (Some p) (Replies r) right none l = asked_lives p (Replies r) _ _ (heard_fed (Some p) (Replies r) l)
+      fed_step (Some p) (Waits q d) right none l = asked_lives p (Waits q d) _ _ (heard_fed (Some p) (Waits q d) l)
+      fed_step (Some p) (Notifies o reply) right none l = absurd (never_notifies (fed_stage (Some p)) p o reply right)
+      fed_step (Some p) (Serves q reply left) right none l =
           let s : Own = fed_stage (Some p) in
-          served_lives s p.0 q reply left (serves_came s p q reply left right) (omega (arith, timed)) none
+          served_lives s p.0 q reply left (serves_came s p q reply left right) none
           (asked_lives p (Serves q reply left) s.store s.observers (heard_fed (Some p) (Serves q reply left) l))
 
     -- time passes
@@ -369,12 +394,12 @@ module _ (x : Telling) where
       tick_step due.Idle (Notifies o reply) law none l =
           let s : Own = tick_stage due.Idle in
           let cs : List E.Call = responding s due.Idle passed (Notifies o reply) w id in
-          turned x (FlightOf x.way (exchanges_after s.exchanges cs).separate
-          (tick_call due.Idle (Notifies o reply) ∷ after)) s.store s.store s.observers
-          (notified s.clock (s.store.holds o.path) o s.observers)
-          (notified_turn s.clock (s.store.holds o.path) s.store o s.observers)
+          notified_lives (by_plain s o) s.clock id (s.store.holds o.path) s.store o s.observers
           (with_asks due.Idle (Notifies o reply) cs s.store s.observers
-          (λ n. (tt, readies_later n s.clock passed (marked s.observers))) (tock due.Idle (Notifies o reply) l))
+          (λ n. (
+            notifies_later n (by_plain s o) s.clock o (notification s.store o reply) w id,
+            readies_later n s.clock passed (marked s.observers),
+          )) (tock due.Idle (Notifies o reply) l))
       tick_step (due.Ready a) Silent law none l = tock (due.Ready a) Silent l
       tick_step (due.Ready a) (Replies r) law none l = tock (due.Ready a) (Replies r) l
       tick_step (due.Ready a) (Waits q d) law none l = tock (due.Ready a) (Waits q d) l
@@ -384,9 +409,8 @@ module _ (x : Telling) where
       tick_step (due.Ready a) (Serves q reply left) law none l =
           let s : Own = tick_stage (due.Ready a) in
           let cs : List E.Call = responding s (due.Ready a) passed (Serves q reply left) w id in
-          let timed = timed_before t (tick_call (due.Ready a) (Serves q reply left)) law in
           served_lives s a q reply left (serves_waited
-          (question_of s.clock a s.waiting) s.store s.clock q reply left law.rows.0.0) (omega (arith, timed)) none
+          (question_of s.clock a s.waiting) s.store s.clock q reply left law.rows.0.0) none
           (with_asks (due.Ready a) (Serves q reply left) cs s.store s.observers (λ n. (tt, tt))
           (tock (due.Ready a) (Serves q reply left) l))
 
@@ -395,24 +419,23 @@ module _ (x : Telling) where
     step t after (Sets now path format body answer left) law none l =
         let s : Own = own limits szx t in
         let at : ℕ = max s.clock now in
-        let timed = timed_before t (Sets now path format body answer left) law in
         turned x _ s.store left s.observers (marked_if at path s.store left s.observers)
         (marked_turn x.to x.token at path s.store left s.observers
-        (sets_effect (put_refusal s.store at path _) s.store at path format body answer left refl law.rows.0)
-        (omega (arith, timed)))
+        (sets_effect (put_refusal s.store at path _) s.store at path format body answer left refl law.rows.0))
         (map_lives s.store s.observers (flight_more x.way s.exchanges.separate after
         (Sets now path format body answer left)) l)
     step t after (Removes now path answer left) law none l =
         let s : Own = own limits szx t in
         let at : ℕ = max s.clock now in
-        let timed = timed_before t (Removes now path answer left) law in
         turned x _ s.store left s.observers (marked_if at path s.store left s.observers)
         (marked_turn x.to x.token at path s.store left s.observers
         (removes_effect (s.store.holds path) (rate_refusal s.store.tally at) s.store at path answer left refl
-        law.rows.0) (omega (arith, timed)))
+        law.rows.0))
         (map_lives s.store s.observers (flight_more x.way s.exchanges.separate after (Removes now path answer left)) l)
     step t after (Delays path ms answer) law none l =
         map_lives _ _ (flight_more x.way (own limits szx t).exchanges.separate after (Delays path ms answer)) l
+    step t after (Plains path answer) law none l =
+        map_lives _ _ (flight_more x.way (own limits szx t).exchanges.separate after (Plains path answer)) l
     step t after (Gets path answer) law none l =
         map_lives _ _ (flight_more x.way (own limits szx t).exchanges.separate after (Gets path answer)) l
     step t after (TellsApplied answer) law none l =
@@ -420,8 +443,7 @@ module _ (x : Telling) where
     step t after (NextOut answer) law none l = map_lives _ _
         (flight_more x.way (own limits szx t).exchanges.separate after (NextOut answer)) l
     step t after (Feeds now from bytes w up came h below) law none l =
-        fed_step t after now from bytes w up below came h law.rows.0
-        (timed_before t (Feeds now from bytes w up came h below) law) none l
+        fed_step t after now from bytes w up below came h law.rows.0 none l
     step t after (Ticks now w below room d passed h id answer) law none l =
         tick_step t after now w below room passed id answer d h law none l
 

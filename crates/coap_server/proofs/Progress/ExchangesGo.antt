@@ -104,6 +104,25 @@ module _ (word : ℕ) (calls : List E.Call) (law : ResponseLaw word calls) where
         );
       }
 
+  pub notifies_plain : (at : ℕ) (to : Endpoint) (token : List ℕ) (r : E.Response) → P.IsResponseWith token r
+      → TakesCon left at to → ResponseLaw word (E.NotifiesPlain at to token r left.upcoming ∷ calls)
+  unfolding left_by
+  notifies_plain at to token r response can =
+      let call : L.Call = L.Plain to (P.content_with token r) in
+      record {
+        rows = (response, law.rows);
+        left = left_by left at call;
+        layer = (
+          left,
+          law.layer,
+          record {
+            may = response.spelled;
+            right = sym (ap (λ b. sending b left.upcoming) can.free);
+            new_is = refl;
+          },
+        );
+      }
+
 -- the first that can be notified
 module _ (word at : ℕ) where
   pub record Walked (os : List Observer) (calls : List E.Call) : Type 0 where

@@ -77,6 +77,10 @@ use Rattle.coap_server.proofs.Progress.StoreReplies.{is_answered, got_good}
 use Rattle.coap_server.proofs.Progress.TokensShort.{asked_short, waiting_short, observers_short}
 use Rattle.coap_server.proofs.Serving.Waiting.{Mirrors, mirrors, taken}
 use Rattle.coap_server.proofs.Serving.FoundReady.{found_ready}
+use Rattle.coap_server.specs.Asks.{notifies_by}
+use Rattle.coap_server.specs.Plain.{by_plain, may_be_plain}
+use Rattle.coap_server.proofs.Progress.ExchangesGo.{notifies_plain}
+use Rattle.coap_server.proofs.Progress.AnswererGoing.{TakesCon}
 
 -- a refusal has a code of a response
 abbrev IsRefusal : Verdict → Type 0
@@ -368,6 +372,13 @@ module _ (limits : Limits) (szx word : ℕ) (t : List Call) (law : ServerLaw lim
     noticed o few = reply_response o.token (told mine.store o) (sequence (mine.store.holds o.path)) None few
         (got_good (mine.store.holds o.path) (asks_for o))
 
+    -- in a NON, or in a CON
+    noticed_by : (plain : Bool) (o : Observer) (r : E.Response) (w : ℕ) (calls : List E.Call)
+        → (law : ResponseLaw word calls) → P.IsResponseWith o.token r → TakesCon law.left moment o.to
+        → ResponseLaw word (notifies_by plain moment o r w law.left.upcoming ∷ calls)
+    noticed_by true o r w calls law is can = notifies_plain word calls law moment o.to o.token r is can
+    noticed_by false o r w calls law is can = notifies word calls law moment o.to o.token r w is can
+
     idled : (below : L.Answer) (room : Bool) → TimePasses word under law.exchanges moment below room due.Idle
         → Dues below room due.Idle
     idled below room k = by (behind x.passed (marked os)) refl
@@ -397,14 +408,14 @@ module _ (limits : Limits) (szx word : ℕ) (t : List Call) (law : ServerLaw lim
         )
         by (Some o) is =
             let calls : List E.Call = readies moment x.passed (marked os) ++ first ∷ under in
-            let n = notifies word calls x.law_of moment o.to o.token (notification mine.store o (told mine.store o)) w
-            (noticed o (short o is)) (x.can o is) in (
+            let s : Own = turn below room due.Idle in
+            let r : E.Response = notification mine.store o (told mine.store o) in
+            let n = noticed_by (by_plain s o) o r w calls x.law_of (noticed o (short o is)) (x.can o is) in (
               x.passed,
               Notifies o (told mine.store o),
               x.law_of.left.upcoming,
               subst (λ y. NotifiesNext y mine.store (Notifies o (told mine.store o))) (sym is) refl,
-              subst (λ z. ResponseLaw word (E.Notifies moment o.to o.token
-                  (notification mine.store o (told mine.store o)) w x.law_of.left.upcoming ∷ z))
+              subst (λ z. ResponseLaw word (notifies_by (by_plain s o) moment o r w x.law_of.left.upcoming ∷ z))
                   (sym (joined (readies moment x.passed (marked os)) first under)) n,
             )
 
@@ -454,6 +465,7 @@ module _ (limits : Limits) (szx word : ℕ) (t : List Call) (law : ServerLaw lim
     sets = sets_on;
     removes = removes_on;
     delays = λ path ms. (may_delay path mine.delays, record { rows = (refl, law.rows); exchanges = law.exchanges });
+    plains = λ path. (may_be_plain path mine.plains, record { rows = (refl, law.rows); exchanges = law.exchanges });
     feeds = λ now from bytes w are. feeds_on now from bytes are w;
     ticks = ticks_on;
     next_out = let k = takes word under law.exchanges in (k.0, record { rows = (tt, law.rows); exchanges = k.1 });

@@ -6,7 +6,7 @@ use Rattle.coap_resource.specs.Rate.{rate_refusal}
 use Rattle.coap_resource.specs.Limits.{Limits}
 use Rattle.coap_exchange.specs.declared.answerer.Due.TheVariants as due
 use Rattle.coap_server.specs.Trace.{Own, Silent, Replies, Serves, Waits, Notifies, Call, Sets, Removes}
-use Rattle.coap_server.specs.Trace.{Delays, Feeds, Ticks, NextOut, Gets, TellsApplied}
+use Rattle.coap_server.specs.Trace.{Delays, Plains, Feeds, Ticks, NextOut, Gets, TellsApplied}
 use Rattle.coap_server.specs.Local.{SetsBy, RemovesBy}
 use Rattle.coap_server.specs.Deferring.{question_of}
 use Rattle.coap_server.specs.Notifying.{marked, behind}
@@ -41,6 +41,7 @@ moves_by s (Removes now path answer left) right =
     removes_moves (s.store.holds path) (rate_refusal s.store.tally (max s.clock now)) s.store
     (max s.clock now) path answer left right
 moves_by s (Delays path ms answer) right = kept s
+moves_by s (Plains path answer) right = kept s
 moves_by s (NextOut answer) right = kept s
 moves_by s (Gets path answer) right = kept s
 moves_by s (TellsApplied answer) right = kept s

@@ -17,7 +17,7 @@ use Rattle.coap_exchange.specs.AnswererTrace as E
 use Rattle.coap_exchange.specs.AnswererFollows.{AreRequests, same_asked}
 use Rattle.coap_exchange.proofs.Facts.ServerSide.{came_in}
 use Rattle.coap_server.specs.Trace.{Waiting, Own, Handling, Silent, Replies, Serves, Waits, Notifies}
-use Rattle.coap_server.specs.Trace.{Call, Sets, Removes, Delays, Feeds, Ticks, NextOut, Gets}
+use Rattle.coap_server.specs.Trace.{Call, Sets, Removes, Delays, Plains, Feeds, Ticks, NextOut, Gets}
 use Rattle.coap_server.specs.Trace.{TellsApplied}
 use Rattle.coap_server.specs.Deferring.{is_of, question_of, without_waiting, AnswersWaiting}
 use Rattle.coap_server.specs.Handling.{incoming, ticking, heard}
@@ -95,6 +95,7 @@ module _ (limits : Limits) (szx word : ℕ) where
   short_call t (Sets now path format body answer left) law h = h
   short_call t (Removes now path answer left) law h = h
   short_call t (Delays path ms answer) law h = h
+  short_call t (Plains path answer) law h = h
   short_call t (NextOut answer) law h = h
   short_call t (Gets path answer) law h = h
   short_call t (TellsApplied answer) law h = h
@@ -145,6 +146,7 @@ module _ (limits : Limits) (szx word : ℕ) where
   serving_short t (Sets now path format body answer left) law x e = absurd (cc e)
   serving_short t (Removes now path answer left) law x e = absurd (cc e)
   serving_short t (Delays path ms answer) law x e = absurd (cc e)
+  serving_short t (Plains path answer) law x e = absurd (cc e)
   serving_short t (NextOut answer) law x e = absurd (cc e)
   serving_short t (Gets path answer) law x e = absurd (cc e)
   serving_short t (TellsApplied answer) law x e = absurd (cc e)

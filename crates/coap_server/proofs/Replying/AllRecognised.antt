@@ -19,7 +19,7 @@ use Rattle.coap_exchange.specs.declared.answerer.Asked.{Asked}
 use Rattle.coap_exchange.specs.declared.answerer.Due.TheVariants as due
 use Rattle.coap_exchange.specs.AnswererSteps as P
 use Rattle.coap_exchange.specs.AnswererTrace as E
-use Rattle.coap_server.specs.Trace.{Own, Silent, Replies, Serves, Waits, Notifies, Call, Sets, Removes, Delays, Feeds}
+use Rattle.coap_server.specs.Trace.{Own, Silent, Replies, Serves, Waits, Notifies, Call, Sets, Removes, Delays, Plains, Feeds}
 use Rattle.coap_server.specs.Trace.{Ticks, NextOut, Gets, TellsApplied}
 use Rattle.coap_server.specs.Checks.{Verdict, Ignored, Refused, Asks, Uploads, verdict_on}
 use Rattle.coap_server.specs.Deferring.{question_of}
@@ -75,6 +75,7 @@ block_small s (Feeds now from bytes w up None h below) x e = absurd (cc e)
 block_small s (Sets now path format body answer left) x e = absurd (cc e)
 block_small s (Removes now path answer left) x e = absurd (cc e)
 block_small s (Delays path ms answer) x e = absurd (cc e)
+block_small s (Plains path answer) x e = absurd (cc e)
 block_small s (Ticks now w below room d passed h id answer) x e = absurd (cc e)
 block_small s (NextOut answer) x e = absurd (cc e)
 block_small s (Gets path answer) x e = absurd (cc e)
@@ -199,6 +200,7 @@ module _ (limits : Limits) (szx word : ℕ) where
       notices x (Sets now path format body answer left) is e = absurd (cc e)
       notices x (Removes now path answer left) is e = absurd (cc e)
       notices x (Delays path ms answer) is e = absurd (cc e)
+      notices x (Plains path answer) is e = absurd (cc e)
       notices x (Gets path answer) is e = absurd (cc e)
       notices x (TellsApplied answer) is e = absurd (cc e)
       notices x (NextOut answer) is e = absurd (cc e)

@@ -20,7 +20,7 @@ use Rattle.coap_resource.specs.Serves.{Question}
 use Rattle.coap_resource.specs.Limits.{Limits}
 use Rattle.coap_exchange.specs.declared.answerer.Asked.{Asked}
 use Rattle.coap_exchange.specs.AnswererTrace as E
-use Rattle.coap_server.specs.Trace.{Own, Handling, Replies, Call, Sets, Removes, Delays, Feeds, Ticks, NextOut, Gets}
+use Rattle.coap_server.specs.Trace.{Own, Handling, Replies, Call, Sets, Removes, Delays, Plains, Feeds, Ticks, NextOut, Gets}
 use Rattle.coap_server.specs.Trace.{TellsApplied}
 use Rattle.coap_server.specs.Checks.{Verdict, Ignored, Refused, Asks, Uploads, bad_request, verdict_on}
 use Rattle.coap_server.specs.Responses.{bare}
@@ -194,6 +194,7 @@ module _ (limits : Limits) (szx word : ℕ) (t : List Call) where
   blocks (Sets now path format body answer left) law p q b is v more = absurd (cc is)
   blocks (Removes now path answer left) law p q b is v more = absurd (cc is)
   blocks (Delays path ms answer) law p q b is v more = absurd (cc is)
+  blocks (Plains path answer) law p q b is v more = absurd (cc is)
   blocks (Ticks now w below room d passed h id answer) law p q b is v more = absurd (cc is)
   blocks (NextOut answer) law p q b is v more = absurd (cc is)
   blocks (Gets path answer) law p q b is v more = absurd (cc is)
@@ -208,6 +209,7 @@ module _ (limits : Limits) (szx word : ℕ) (t : List Call) where
   sizes (Sets now path format body answer left) x size e k = absurd (cc e)
   sizes (Removes now path answer left) x size e k = absurd (cc e)
   sizes (Delays path ms answer) x size e k = absurd (cc e)
+  sizes (Plains path answer) x size e k = absurd (cc e)
   sizes (Ticks now w below room d passed h id answer) x size e k = absurd (cc e)
   sizes (NextOut answer) x size e k = absurd (cc e)
   sizes (Gets path answer) x size e k = absurd (cc e)

@@ -23,7 +23,7 @@ use Rattle.coap_block.specs.declared.block_verdict.BlockVerdict.TheVariants.{Ref
 use Rattle.coap_resource.specs.RequestOptions.{block_said}
 use Rattle.coap_resource.specs.Serves.{Question}
 use Rattle.coap_exchange.specs.declared.answerer.Asked.{Asked}
-use Rattle.coap_server.specs.Trace.{Own, Call, Sets, Removes, Delays, Feeds, Ticks, NextOut, Gets}
+use Rattle.coap_server.specs.Trace.{Own, Call, Sets, Removes, Delays, Plains, Feeds, Ticks, NextOut, Gets}
 use Rattle.coap_server.specs.Trace.{TellsApplied}
 use Rattle.coap_server.specs.Checks.{Verdict, Ignored, Refused, Asks, Uploads, verdict_on, bad_by}
 use Rattle.coap_server.specs.Checks.{asked_by, uploading, question, asks, is_reserved, bad_request}
@@ -110,6 +110,7 @@ in_call s (Ticks now word below room d passed h id answer) = refl
 in_call s (Sets now path format body answer left) = refl
 in_call s (Removes now path answer left) = refl
 in_call s (Delays path ms answer) = refl
+in_call s (Plains path answer) = refl
 in_call s (NextOut answer) = refl
 in_call s (Gets path answer) = refl
 in_call s (TellsApplied answer) = refl

@@ -24,10 +24,10 @@ use Rattle.coap_exchange.specs.AnswererLaw as W
 use Rattle.coap_exchange.specs.AskerRequests.{asked}
 use Rattle.coap_server.specs.Trace.{Own, Handling, Silent, Replies, Serves, Waits, Notifies, Call}
 use Rattle.coap_server.specs.Trace.{Sets}
-use Rattle.coap_server.specs.Trace.{Removes, Delays, Feeds, Ticks, NextOut, Gets, TellsApplied}
+use Rattle.coap_server.specs.Trace.{Removes, Delays, Plains, Feeds, Ticks, NextOut, Gets, TellsApplied}
 use Rattle.coap_server.specs.Serving.{response_to}
 use Rattle.coap_server.specs.Deferring.{delay_for, deferral_by}
-use Rattle.coap_server.specs.Notifying.{marked, readies}
+use Rattle.coap_server.specs.Notifying.{marked, notification, readies}
 use Rattle.coap_server.specs.Handling.{incoming, ticking, heard}
 use Rattle.coap_server.specs.Asks.{answering, responding}
 use Rattle.coap_server.specs.Law.{ServerLaw, own_of, lower_of, layer_of}
@@ -38,6 +38,8 @@ use Rattle.coap_server.proofs.Replying.ResponsesRejected.{So, over, replies_so}
 use Rattle.coap_server.proofs.Replying.RepliesSo as N
 use Rattle.coap_server.proofs.Replying.RepliesSo.{Under, Left, one_back, asking_none}
 use Rattle.coap_server.proofs.Serving.Brought.{server_back}
+use Rattle.coap_server.specs.Asks.{notifies_by}
+use Rattle.coap_server.specs.Plain.{by_plain}
 
 -- a piggybacked response behind a refused deferral
 module _ (begin : L.State) (from : Endpoint) (now : ℕ) (bytes : List ℕ) (up : T.Answer) (rest : List G.Asked)
@@ -89,9 +91,17 @@ module _ (word : ℕ) where
   readies_quiet at (suc n) (o ∷ os) = quiet_append (readies at n os) (E.Ready at o.to false ∷ [])
       (readies_quiet at n os) ((λ s. (refl, tt)), tt)
 
+  notice_quiet : (plain : Bool) (at : ℕ) (o : Observer) (r : E.Response) (w id : ℕ) (s : E.Own)
+      → NoReplies (P.lower s (notifies_by plain at o r w id))
+  notice_quiet true at o r w id s = (refl, tt)
+  notice_quiet false at o r w id s = (refl, tt)
+
   responding_quiet : (s : Own) (d : Due) (passed : ℕ) (h : Handling) (w id : ℕ) → Quiet (responding s d passed h w id)
   responding_quiet s due.Idle passed (Notifies o reply) w id =
-      ((λ e. (refl, tt)), readies_quiet s.clock passed (marked s.observers))
+      (
+        notice_quiet (by_plain s o) s.clock o (notification s.store o reply) w id,
+        readies_quiet s.clock passed (marked s.observers),
+      )
   responding_quiet s due.Idle passed Silent w id = readies_quiet s.clock passed (marked s.observers)
   responding_quiet s due.Idle passed (Replies r) w id = readies_quiet s.clock passed (marked s.observers)
   responding_quiet s due.Idle passed (Serves q reply left) w id = readies_quiet s.clock passed (marked s.observers)
@@ -175,6 +185,7 @@ module _ (limits : Limits) (szx word : ℕ) where
       here (Sets now path format body answer left) law so = so
       here (Removes now path answer left) law so = so
       here (Delays path ms answer) law so = so
+      here (Plains path answer) law so = so
       here (Gets path answer) law so = so
       here (TellsApplied answer) law so = so
       here (NextOut answer) law so = quiet_over word (E.Take answer ∷ []) (lower_of limits szx t)

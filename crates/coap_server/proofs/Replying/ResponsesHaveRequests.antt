@@ -28,14 +28,14 @@ use Rattle.coap_exchange.specs.AnswererLaw as W
 use Rattle.coap_exchange.proofs.Facts.ServerSide.{layer_stands}
 use Rattle.coap_server.specs.Trace.{Own, Handling, Silent, Replies, Serves, Waits, Notifies, Call}
 use Rattle.coap_server.specs.Trace.{Sets}
-use Rattle.coap_server.specs.Trace.{Removes, Delays, Feeds, Ticks, NextOut, Gets, TellsApplied}
+use Rattle.coap_server.specs.Trace.{Removes, Delays, Plains, Feeds, Ticks, NextOut, Gets, TellsApplied}
 use Rattle.coap_server.specs.Responses.{bare, response_with}
 use Rattle.coap_server.specs.Checks.{Verdict, Ignored, Refused, Asks, Uploads, verdict_on}
 use Rattle.coap_server.specs.Checks.{bad_request}
 use Rattle.coap_server.specs.Uploads.{key_of, ruling_of, whole, continue, continuing}
 use Rattle.coap_server.specs.Observers.{sequence}
 use Rattle.coap_server.specs.Deferring.{WaitsBy, deferral, deferral_by, delay_for}
-use Rattle.coap_server.specs.Notifying.{NotifiesNext, marked, behind, readies, told, asks_for}
+use Rattle.coap_server.specs.Notifying.{NotifiesNext, marked, behind, notification, readies, told, asks_for}
 use Rattle.coap_server.specs.Handling.{incoming, ticking, heard, HandlesBlock, Handles}
 use Rattle.coap_server.specs.Asks.{lower}
 use Rattle.coap_server.specs.Law.{ServerLaw, own_of, lower_of}
@@ -53,6 +53,8 @@ use Rattle.coap_server.proofs.Replying.LayerSendsResponses.{called, CarriesIn, m
 use Rattle.coap_server.proofs.Replying.RefusalsAreErrors.{refused_with}
 use Rattle.coap_server.specs.Follows.Sources.{Source}
 use Rattle.coap_server.proofs.Facts.Sources.{sourced}
+use Rattle.coap_server.specs.Asks.{notifies_by}
+use Rattle.coap_server.specs.Plain.{by_plain}
 
 not_continue : (code : ℕ) → bad_request ≤ code → code ≢ continue
 not_continue code h is = omega (arith, h, is)
@@ -154,6 +156,11 @@ module _ (limits : Limits) (szx word : ℕ) (p : L.Packet) where
       → In (readies at n os ++ first ∷ []) → ⊥
   idle_none at n os first f h = elim (Ever_append (CarriesIn p) (readies at n os) (first ∷ []) h)
       [ inl k ↦ readies_none at n os k | inr k ↦ elim k [ inl z ↦ f z | inr z ↦ z ] ]
+
+  notice_carries : (plain : Bool) (at : ℕ) (o : Observer) (r : E.Response) (w id : ℕ)
+      → CarriesIn p (notifies_by plain at o r w id) → Carries p o.to o.token r
+  notice_carries true at o r w id k = k
+  notice_carries false at o r w id k = k
 
   module _ (t : List Call) where
     fed : (now : ℕ) (from : Endpoint) (bytes : List ℕ) (w : ℕ) (up : L.Answer) (came : Option (Asked × Message))
@@ -266,13 +273,14 @@ module _ (limits : Limits) (szx word : ℕ) (p : L.Packet) where
               (response_with z (sequence (s.store.holds o.path)) None))
               (sym (next_told (behind passed (marked s.observers)) s.store o reply right))
               (shows_held o (s.store.holds o.path));
-          carries = k;
+          carries = notice_carries (by_plain s o) s.clock o (notification s.store o reply) w id k;
         })))
 
     here : (c : Call) → ServerLaw limits szx word (c ∷ t) → In (lower (own t) c) → CarriesResponse limits szx word p t c
     here (Sets now path format body answer left) law k = absurd k
     here (Removes now path answer left) law k = absurd k
     here (Delays path ms answer) law k = absurd k
+    here (Plains path answer) law k = absurd k
     here (Gets path answer) law k = absurd k
     here (TellsApplied answer) law k = absurd k
     here (Feeds now from bytes w up came h below) law k = fed now from bytes w up came h below law k

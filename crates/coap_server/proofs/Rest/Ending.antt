@@ -8,7 +8,8 @@ use Rattle.coap_layer.specs.Machine.State as S
 use Rattle.coap_layer.specs.Machine.Steps.{Asked, Steps, left_after}
 use Rattle.coap_layer.specs.Trace as L
 use Rattle.coap_block.specs.Whole.{Each}
-use Rattle.coap_observe.specs.Observers.{Observer, is_of, removed, sent_to, unmarked_by}
+use Rattle.coap_observe.specs.Observers.{Observer, is_of, noted_by, noted_to, removed, sent_to, unmarked_by}
+use Rattle.coap_observe.proofs.Facts.DueCounts.{note_never_raises}
 use Rattle.coap_observe.proofs.Facts.Registrations.{is_of-decides}
 use Rattle.coap_resource.specs.Content.{Held}
 use Rattle.coap_resource.specs.Serves.{Question}
@@ -29,6 +30,9 @@ use Rattle.coap_server.specs.Deferring.{AnswersWaiting, question_of, without_wai
 use Rattle.coap_server.specs.Deferring as D
 use Rattle.coap_server.specs.Notifying.{marked, behind, readies, notification, notified}
 use Rattle.coap_server.specs.Notifying as N
+use Rattle.coap_server.specs.Asks.{notifies_by}
+use Rattle.coap_server.specs.Plain.{by_plain}
+use Rattle.coap_server.proofs.Observing.ObserverLists.{notified_left}
 use Rattle.coap_server.specs.Serving as R
 use Rattle.coap_server.specs.Handling.{ticking, heard}
 use Rattle.coap_server.specs.Law.{ServerLaw, own_of, lower_of}
@@ -43,7 +47,7 @@ use Rattle.coap_server.proofs.Observing.VersionsRise.{IsThere, behind_there, mar
 use Rattle.coap_server.proofs.Observing.StoreSteps.{next_serves}
 use Rattle.coap_server.proofs.Serving.Waiting.{ready_are_served}
 use Rattle.coap_common.specs.StepsDue.{due_count}
-use Rattle.coap_common.proofs.Facts.StepsDue.{is_step, ticks_least, ticks_fewer, confirm_least, room_same}
+use Rattle.coap_common.proofs.Facts.StepsDue.{is_step, ticks_least, ticks_fewer, confirm_least, room_same, same_opens}
 
 -- how many are marked
 
@@ -93,47 +97,64 @@ dropped_fewer p o (y ∷ os) m n (inr h) = by (p y) y.marked refl (dropped_fewer
     by false true e k = omega (arith, k)
     by false false e k = k
 
-sent_least : (at : ℕ) (to : Endpoint) (token : List ℕ) (os : List Observer)
-    → marks (sent_to at to token true os) ≤ marks os
-sent_least at to token [] = omega arith
-sent_least at to token (o ∷ os) = cons_least (o.marked && not (is_of to token o)) o.marked
-    (unmarked_by at to token true o) o (marked (sent_to at to token true os)) (marked os) (sent_least at to token os)
+sent_least : (at : ℕ) (to : Endpoint) (token : List ℕ) (con : Bool) (os : List Observer)
+    → marks (sent_to at to token con os) ≤ marks os
+sent_least at to token con [] = omega arith
+sent_least at to token con (o ∷ os) = cons_least (o.marked && not (is_of to token o)) o.marked
+    (unmarked_by at to token con o) o (marked (sent_to at to token con os)) (marked os) (sent_least at to token con os)
     (left o.marked (not (is_of to token o)))
   where
     left : (b c : Bool) → (b && c) ≡ true → b ≡ true
     left true c e = refl
     left false c e = absurd (cc e)
 
-sent_fewer : (at : ℕ) (o : Observer) (os : List Observer) → o.marked ≡ true → IsThere o os
-    → marks (sent_to at o.to o.token true os) < marks os
-sent_fewer at o [] m h = absurd h
-sent_fewer at o (y ∷ os) m (inl e) =
-    let k = sent_least at o.to o.token os in
+sent_fewer : (at : ℕ) (con : Bool) (o : Observer) (os : List Observer) → o.marked ≡ true → IsThere o os
+    → marks (sent_to at o.to o.token con os) < marks os
+sent_fewer at con o [] m h = absurd h
+sent_fewer at con o (y ∷ os) m (inl e) =
+    let k = sent_least at o.to o.token con os in
     let mine : is_of o.to o.token y ≡ true = (is_of-decides o.to o.token y).1
     (ap (λ (z : Observer). z.to) e, ap (λ (z : Observer). z.token) e) in
     let there : y.marked ≡ true = ap (λ (z : Observer). z.marked) e ∙ m in
     let gone : (y.marked && not (is_of o.to o.token y)) ≡ false = ap (λ b. b && not (is_of o.to o.token y)) there
     ∙ ap not mine in
-    let left : marks (sent_to at o.to o.token true (y ∷ os)) ≡ marks (sent_to at o.to o.token true os) =
-    ap (λ b. length (cond b (unmarked_by at o.to o.token true y ∷ marked (sent_to at o.to o.token true os))
-    (marked (sent_to at o.to o.token true os)))) gone in
+    let left : marks (sent_to at o.to o.token con (y ∷ os)) ≡ marks (sent_to at o.to o.token con os) =
+    ap (λ b. length (cond b (unmarked_by at o.to o.token con y ∷ marked (sent_to at o.to o.token con os))
+    (marked (sent_to at o.to o.token con os)))) gone in
     let was : marks (y ∷ os) ≡ suc (marks os) = ap (λ b. length (cond b (y ∷ marked os) (marked os))) there in
     omega (arith, k, left, was)
-sent_fewer at o (y ∷ os) m (inr h) = by y.marked (is_of o.to o.token y) (sent_fewer at o os m h)
+sent_fewer at con o (y ∷ os) m (inr h) = by y.marked (is_of o.to o.token y) (sent_fewer at con o os m h)
   where
-    by : (b c : Bool) → marks (sent_to at o.to o.token true os) < marks os
-        → length (cond (b && not c) (unmarked_by at o.to o.token true y ∷ marked (sent_to at o.to o.token true os))
-        (marked (sent_to at o.to o.token true os))) < length (cond b (y ∷ marked os) (marked os))
+    by : (b c : Bool) → marks (sent_to at o.to o.token con os) < marks os
+        → length (cond (b && not c) (unmarked_by at o.to o.token con y ∷ marked (sent_to at o.to o.token con os))
+        (marked (sent_to at o.to o.token con os))) < length (cond b (y ∷ marked os) (marked os))
     by true true k = omega (arith, k)
     by true false k = omega (arith, k)
     by false c k = k
 
-notified_fewer : (at : ℕ) (held : Option Held) (o : Observer) (os : List Observer) → o.marked ≡ true → IsThere o os
-    → marks (notified at held o os) < marks os
-notified_fewer at None o os m h =
+-- what is kept of a NON changes no mark
+
+noted_there : (at : ℕ) (to : Endpoint) (token : List ℕ) (id : ℕ) (o : Observer) (os : List Observer) → IsThere o os
+    → IsThere (noted_by at to token id o) (noted_to at to token id os)
+noted_there at to token id o [] h = absurd h
+noted_there at to token id o (y ∷ os) (inl e) = inl (ap (noted_by at to token id) e)
+noted_there at to token id o (y ∷ os) (inr h) = inr (noted_there at to token id o os h)
+
+non_fewer : (at id : ℕ) (o : Observer) (os : List Observer) → o.marked ≡ true → IsThere o os
+    → marks (sent_to at o.to o.token false (noted_to at o.to o.token id os)) < marks os
+non_fewer at id o os m h =
+    let same : marks (noted_to at o.to o.token id os) ≡ marks os = note_never_raises at o.to o.token id os in
+    let less = sent_fewer at false (noted_by at o.to o.token id o) (noted_to at o.to o.token id os) m
+    (noted_there at o.to o.token id o os h) in
+    omega (arith, same, less)
+
+notified_fewer : (plain : Bool) (at id : ℕ) (held : Option Held) (o : Observer) (os : List Observer) → o.marked ≡ true
+    → IsThere o os → marks (notified plain at id held o os) < marks os
+notified_fewer plain at id held o os m h =
     let mine : is_of o.to o.token o ≡ true = (is_of-decides o.to o.token o).1 (refl, refl) in
-    dropped_fewer (λ x. not (is_of o.to o.token x)) o os m (ap not mine) h
-notified_fewer at (Some held) o os m h = sent_fewer at o os m h
+    notified_left (λ ps. marks ps < marks os) plain at id held o os
+    (dropped_fewer (λ x. not (is_of o.to o.token x)) o os m (ap not mine) h) (non_fewer at id o os m h)
+    (sent_fewer at true o os m h)
 
 ended_least : (e : Option Ended) (os : List Observer) → marks (unless_ended e os) ≤ marks os
 ended_least None os = omega arith
@@ -302,31 +323,65 @@ module _ (limits : Limits) (szx word : ℕ) where
         ∙ ap (λ n. due_count n asked_room.open_cons) clock in
         omega (arith, moved, fewer)
 
-    -- a CON that begins now is not due
-    begun_least : (b : S.State) (calls : List Asked) (to : Endpoint) (content : L.Content) (id : ℕ) (new : S.State)
+    -- what is sent now makes nothing due
+    sent_now : (call : L.Call) (id : ℕ)
+        → ((old new : S.State) → S.Step old at call (L.Sent id) new
+        → due_count (max old.clock at) new.open_cons ≡ due_count (max old.clock at) old.open_cons)
+        → ((s : S.State) → S.moment s at call ≡ max s.clock at) → (b : S.State) (calls : List Asked) (new : S.State)
         → b ≡ left_after (S.start (S.usual word)) calls → b.open_cons ≡ asked_room.open_cons
         → max b.clock at ≡ max asked_room.clock at
         → (mid : S.State) → Steps (S.start (S.usual word)) (asking word at (W.lower_of under) below ready room) mid
-        → Steps (S.start (S.usual word)) (asked at (L.Confirm to content w) (L.Sent id) ∷ calls) new
-        → after (left_after (S.start (S.usual word)) (asked at (L.Confirm to content w) (L.Sent id) ∷ calls)) ≤ before
-    begun_least b calls to content id new b_is opens clocks mid turn steps =
+        → Steps (S.start (S.usual word)) (asked at call (L.Sent id) ∷ calls) new
+        → after (left_after (S.start (S.usual word)) (asked at call (L.Sent id) ∷ calls)) ≤ before
+    sent_now call id keeps timed b calls new b_is opens clocks mid turn steps =
         let a : S.State = left_after (S.start (S.usual word)) calls in
-        let last : S.State = left_after (S.start (S.usual word))
-        (asked at (L.Confirm to content w) (L.Sent id) ∷ calls) in
+        let last : S.State = left_after (S.start (S.usual word)) (asked at call (L.Sent id) ∷ calls) in
         let k = asks word at (W.lower_of under) below mid ready room turn in
-        let step = last_step (S.start (S.usual word)) new (asked at (L.Confirm to content w) (L.Sent id)) calls steps in
-        let same = confirm_least a last at to content w (L.Sent id) step in
+        let step = last_step (S.start (S.usual word)) new (asked at call (L.Sent id)) calls steps in
+        let same = keeps a last step in
+        let moment = timed a in
         let clock = k.clock in
         let least = k.least in
         let a_opens : a.open_cons ≡ asked_room.open_cons = ap (λ (s : S.State). s.open_cons) (sym b_is) ∙ opens in
         let a_clock : max a.clock at ≡ max asked_room.clock at = ap (λ (s : S.State). max s.clock at) (sym b_is)
         ∙ clocks in
-        let later : max (max a.clock at) (max at now) ≡ max a.clock at = omega arith in
+        let later : max (S.moment a at call) (max at now) ≡ max a.clock at = omega (arith, moment) in
         let moved : after last ≡ due_count (max (layer t).clock at) asked_room.open_cons =
         ap (λ n. due_count n last.open_cons) later
         ∙ (same ∙ (ap (λ n. due_count n a.open_cons) (a_clock ∙ clock)
         ∙ ap (λ cs. due_count (max (layer t).clock at) cs) a_opens)) in
         omega (arith, moved, least)
+
+    -- a CON, and a NON
+
+    abbrev with_con : Endpoint → L.Content → L.Call
+    with_con to content = L.Confirm to content w
+
+    con_now : (to : Endpoint) (content : L.Content) (id : ℕ) (old new : S.State)
+        → S.Step old at (with_con to content) (L.Sent id) new
+        → due_count (max old.clock at) new.open_cons ≡ due_count (max old.clock at) old.open_cons
+    con_now to content id old new step = confirm_least old new at to content w (L.Sent id) step
+
+    non_now : (to : Endpoint) (content : L.Content) (id : ℕ) (old new : S.State)
+        → S.Step old at (L.Plain to content) (L.Sent id) new
+        → due_count (max old.clock at) new.open_cons ≡ due_count (max old.clock at) old.open_cons
+    non_now to content id old new step =
+        ap (due_count (max old.clock at)) (same_opens old new at (L.Plain to content) (L.Sent id) step (λ e c. refl)
+        (λ n. refl))
+
+    -- a notification, behind what was asked of the exchanges before it
+    notice_least : (plain : Bool) (o : Observer) (r : E.Response) (id : ℕ) (calls : List E.Call)
+        → W.ResponseLaw word (notifies_by plain at o r w id ∷ calls) → Rooms word at asked_room (behind_calls word calls)
+        → (mid : S.State) → Steps (S.start (S.usual word)) (asking word at (W.lower_of under) below ready room) mid
+        → after (behind_calls word (notifies_by plain at o r w id ∷ calls)) ≤ before
+    notice_least false o r id calls law rooms mid turn =
+        let content : L.Content = P.content_with o.token r in
+        sent_now (with_con o.to content) id (con_now o.to content id) (λ s. refl) (behind_calls word calls)
+        (W.lower_of calls) law.left refl rooms.opens rooms.clock mid turn law.layer
+    notice_least true o r id calls law rooms mid turn =
+        let content : L.Content = P.content_with o.token r in
+        sent_now (L.Plain o.to content) id (non_now o.to content id) (λ s. refl) (behind_calls word calls)
+        (W.lower_of calls) law.left refl rooms.opens rooms.clock mid turn law.layer
 
     pub less : (d : Due) (passed : ℕ) (h : Handling) (id : ℕ)
         → ServerLaw limits szx word (Ticks now w below room d passed h id true ∷ t)
@@ -376,21 +431,19 @@ module _ (limits : Limits) (szx word : ℕ) where
         let s : Own = heard (own t) now (ticking (own t) now below room due.Idle) in
         let is = next_is (behind passed (marked s.observers)) s.store o reply law.rows.0.0 in
         let there = marked_there s.observers o (behind_there passed (marked s.observers) o is) in
-        let fewer = notified_fewer s.clock (s.store.holds o.path) o s.observers there.1 there.0 in
+        let fewer = notified_fewer (by_plain s o) s.clock id (s.store.holds o.path) o s.observers there.1 there.0 in
         let l = ended_least (P.failed_by below (own t).exchanges.separate) (own t).observers in
         let first : E.Call = ticking (own t) now below room due.Idle in
         let cs : List E.Call = readies at passed (marked s.observers) in
         let calls : List E.Call = (cs ++ first ∷ []) ++ under in
         let e = joined cs first under in
-        let rest = back word (E.Notifies at o.to o.token (notification s.store o reply) w id ∷ []) calls law.exchanges
-        in
+        let r : E.Response = notification s.store o reply in
+        let rest = back word (notifies_by (by_plain s o) at o r w id ∷ []) calls law.exchanges in
         let room_law = subst (W.ResponseLaw word) e rest in
-        let r = subst (λ z. Rooms word at asked_room (behind_calls word z)) (sym e)
+        let all = subst (λ z. Rooms word at asked_room (behind_calls word z)) (sym e)
         (rooms word at passed (marked s.observers) (first ∷ under) room_law) in
         let turn = back word cs (first ∷ under) room_law in
-        let k = begun_least (behind_calls word calls) (W.lower_of calls) o.to
-        (P.content_with o.token (notification s.store o reply)) id law.exchanges.left refl r.opens r.clock turn.left
-        turn.layer law.exchanges.layer in
+        let k = notice_least (by_plain s o) o r id calls law.exchanges all turn.left turn.layer in
         omega (arith, k, l, fewer)
     less (due.Ready a) passed (Serves q reply left) id law = by (question_of at a (own t).waiting) refl law.rows.0.0
       where
@@ -406,9 +459,10 @@ module _ (limits : Limits) (szx word : ℕ) where
         by (Some x) is h =
             let turn = back word (E.Responds at a (R.response_to s.store s.observers a q reply) w id ∷ [])
             (ticking (own t) now below room (due.Ready a) ∷ under) law.exchanges in
-            let k = begun_least asked_room (asking word at (W.lower_of under) below ready room) a.from
-            (P.content_of a (R.response_to s.store s.observers a q reply)) id law.exchanges.left refl refl refl
-            turn.left turn.layer law.exchanges.layer in
+            let content : L.Content = P.content_of a (R.response_to s.store s.observers a q reply) in
+            let k = sent_now (with_con a.from content) id (con_now a.from content id) (λ s. refl) asked_room
+            (asking word at (W.lower_of under) below ready room) law.exchanges.left refl refl refl turn.left turn.layer
+            law.exchanges.layer in
             let few = (are_observers limits szx (c ∷ t)).registrations.few in
             let most = length-filter_both (λ (o : Observer). o.marked) (λ (o : Observer). not o.marked) (λ o. refl)
             (own (c ∷ t)).observers in

@@ -13,7 +13,7 @@ use Rattle.coap_block.specs.Gathered.{part}
 use Rattle.coap_resource.specs.Serves.{Question}
 use Rattle.coap_resource.specs.Limits.{Limits}
 use Rattle.coap_exchange.specs.declared.answerer.Asked.{Asked}
-use Rattle.coap_server.specs.Trace.{Own, Call, Sets, Removes, Delays, Feeds, Ticks, NextOut, Gets}
+use Rattle.coap_server.specs.Trace.{Own, Call, Sets, Removes, Delays, Plains, Feeds, Ticks, NextOut, Gets}
 use Rattle.coap_server.specs.Trace.{TellsApplied}
 use Rattle.coap_server.specs.Checks.{Verdict, Ignored, Refused, Asks, Uploads, verdict_on}
 use Rattle.coap_server.specs.Uploads.{key_of, uploads_after}
@@ -93,6 +93,7 @@ module _ (limits : Limits) (szx : ℕ) where
   limit_is (Sets now path format body answer left ∷ t) = limit_is t
   limit_is (Removes now path answer left ∷ t) = limit_is t
   limit_is (Delays path ms answer ∷ t) = limit_is t
+  limit_is (Plains path answer ∷ t) = limit_is t
   limit_is (Gets path answer ∷ t) = limit_is t
   limit_is (TellsApplied answer ∷ t) = limit_is t
   limit_is (Feeds now from bytes word up None h below ∷ t) = limit_is t
@@ -107,6 +108,7 @@ module _ (limits : Limits) (szx : ℕ) where
   uploads_is (Sets now path format body answer left ∷ t) = uploads_is t
   uploads_is (Removes now path answer left ∷ t) = uploads_is t
   uploads_is (Delays path ms answer ∷ t) = uploads_is t
+  uploads_is (Plains path answer ∷ t) = uploads_is t
   uploads_is (Gets path answer ∷ t) = uploads_is t
   uploads_is (TellsApplied answer ∷ t) = uploads_is t
   uploads_is (Feeds now from bytes word up None h below ∷ t) = uploads_is t
@@ -131,6 +133,7 @@ module _ (limits : Limits) (szx : ℕ) where
   since_is key (Sets now path format body answer left ∷ t) = since_is key t
   since_is key (Removes now path answer left ∷ t) = since_is key t
   since_is key (Delays path ms answer ∷ t) = since_is key t
+  since_is key (Plains path answer ∷ t) = since_is key t
   since_is key (Gets path answer ∷ t) = since_is key t
   since_is key (TellsApplied answer ∷ t) = since_is key t
   since_is key (Feeds now from bytes word up None h below ∷ t) = since_is key t

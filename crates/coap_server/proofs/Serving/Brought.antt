@@ -17,7 +17,7 @@ use Rattle.coap_exchange.specs.AnswererSteps.{asked_of}
 use Rattle.coap_exchange.specs.AnswererLaw as W
 use Rattle.coap_exchange.specs.AskerRequests.{asked}
 use Rattle.coap_exchange.specs.AskerArrivals.{id_in, replying}
-use Rattle.coap_server.specs.Trace.{Own, Handling, Call, Sets, Removes, Delays, Feeds, Ticks, NextOut}
+use Rattle.coap_server.specs.Trace.{Own, Handling, Call, Sets, Removes, Delays, Plains, Feeds, Ticks, NextOut}
 use Rattle.coap_server.specs.Trace.{Gets, TellsApplied}
 use Rattle.coap_server.specs.Checks.{Verdict, verdict_on}
 use Rattle.coap_server.specs.Handling.{incoming, heard}
@@ -46,6 +46,7 @@ szx_is limits szx [] = refl
 szx_is limits szx (Sets now path format body answer left ∷ t) = szx_is limits szx t
 szx_is limits szx (Removes now path answer left ∷ t) = szx_is limits szx t
 szx_is limits szx (Delays path ms answer ∷ t) = szx_is limits szx t
+szx_is limits szx (Plains path answer ∷ t) = szx_is limits szx t
 szx_is limits szx (Gets path answer ∷ t) = szx_is limits szx t
 szx_is limits szx (TellsApplied answer ∷ t) = szx_is limits szx t
 szx_is limits szx (Feeds now from bytes word up came h below ∷ t) = szx_is limits szx t

@@ -28,7 +28,7 @@ use Rattle.coap_block.specs.AssemblyState.{reached, without_key}
 use Rattle.coap_block.specs.AssemblyStep.{there_at}
 use Rattle.coap_block.specs.declared.block_verdict.BlockVerdict.{BlockVerdict}
 use Rattle.coap_block.specs.declared.block_verdict.BlockVerdict.TheVariants.{Refuse, Join, Done}
-use Rattle.coap_server.specs.Trace.{Own, Handling, Waits, Call, Sets, Removes, Delays, Feeds, Ticks}
+use Rattle.coap_server.specs.Trace.{Own, Handling, Waits, Call, Sets, Removes, Delays, Plains, Feeds, Ticks}
 use Rattle.coap_server.specs.Trace.{NextOut, Gets, TellsApplied}
 use Rattle.coap_server.specs.Checks.{Verdict, Refused, Asks, Uploads, verdict_on, bad_by, asked_by}
 use Rattle.coap_server.specs.Checks.{uploading, question, asks, is_reserved, bad_request}
@@ -232,6 +232,7 @@ module _ (limits : Limits) (szx : ℕ) where
   methods_here t (Sets now path format body answer left) rows p q is asked = absurd (cc is)
   methods_here t (Removes now path answer left) rows p q is asked = absurd (cc is)
   methods_here t (Delays path ms answer) rows p q is asked = absurd (cc is)
+  methods_here t (Plains path answer) rows p q is asked = absurd (cc is)
   methods_here t (NextOut answer) rows p q is asked = absurd (cc is)
   methods_here t (Gets path answer) rows p q is asked = absurd (cc is)
   methods_here t (TellsApplied answer) rows p q is asked = absurd (cc is)
@@ -254,6 +255,7 @@ module _ (limits : Limits) (szx : ℕ) where
   uploads_here t (Sets now path format body answer left) rows p q b is asked = absurd (cc is)
   uploads_here t (Removes now path answer left) rows p q b is asked = absurd (cc is)
   uploads_here t (Delays path ms answer) rows p q b is asked = absurd (cc is)
+  uploads_here t (Plains path answer) rows p q b is asked = absurd (cc is)
   uploads_here t (NextOut answer) rows p q b is asked = absurd (cc is)
   uploads_here t (Gets path answer) rows p q b is asked = absurd (cc is)
   uploads_here t (TellsApplied answer) rows p q b is asked = absurd (cc is)

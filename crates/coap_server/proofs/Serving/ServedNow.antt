@@ -11,7 +11,7 @@ use Rattle.coap_exchange.specs.declared.answerer.Due.TheVariants as due
 use Rattle.coap_exchange.specs.AnswererSteps.{may_defer}
 use Rattle.coap_server.specs.Trace.{Own, Handling, Silent, Replies, Serves, Waits, Notifies, Call}
 use Rattle.coap_server.specs.Trace.{Sets}
-use Rattle.coap_server.specs.Trace.{Removes, Delays, Feeds, Ticks, NextOut, Gets, TellsApplied}
+use Rattle.coap_server.specs.Trace.{Removes, Delays, Plains, Feeds, Ticks, NextOut, Gets, TellsApplied}
 use Rattle.coap_server.specs.Serving.{IsServed}
 use Rattle.coap_server.specs.Checks.{Verdict, Ignored, Refused, Asks, Uploads, verdict_on}
 use Rattle.coap_server.specs.Uploads.{ruling_of, whole}
@@ -89,6 +89,7 @@ served_now s (Ticks now word below room (due.Ready a) passed (Notifies o reply) 
 served_now s (Sets now path format body answer left) right x e = absurd (cc e)
 served_now s (Removes now path answer left) right x e = absurd (cc e)
 served_now s (Delays path ms answer) right x e = absurd (cc e)
+served_now s (Plains path answer) right x e = absurd (cc e)
 served_now s (Gets path answer) right x e = absurd (cc e)
 served_now s (TellsApplied answer) right x e = absurd (cc e)
 served_now s (NextOut answer) right x e = absurd (cc e)

@@ -14,18 +14,20 @@ use Rattle.coap_exchange.specs.AnswererFollows.{hits, same_asked}
 use Rattle.coap_exchange.specs.AnswererSteps.{asked_in}
 use Rattle.coap_server.specs.Trace.{Own, Handling, Silent, Replies, Serves, Waits, Notifies, Call}
 use Rattle.coap_server.specs.Trace.{Sets}
-use Rattle.coap_server.specs.Trace.{Removes, Delays, Feeds, Ticks, NextOut, Gets, TellsApplied}
+use Rattle.coap_server.specs.Trace.{Removes, Delays, Plains, Feeds, Ticks, NextOut, Gets, TellsApplied}
 use Rattle.coap_observe.specs.Observers.{Observer}
 use Rattle.coap_resource.specs.Serves.{Question}
 use Rattle.coap_resource.specs.Limits.{Limits}
 use Rattle.coap_server.specs.Deferring.{deferral, deferral_by, delay_for}
-use Rattle.coap_server.specs.Notifying.{marked, readies}
+use Rattle.coap_server.specs.Notifying.{marked, notification, readies}
 use Rattle.coap_server.specs.Handling.{incoming, ticking, heard}
 use Rattle.coap_server.specs.Asks.{lower, answering, responding}
 use Rattle.coap_exchange.specs.AnswererSteps.{may_defer}
 use Rattle.coap_server.specs.Law.{own_of, lower_of}
 use Rattle.coap_server.specs.Follows.Serves.{Serving, serving, serving_of, asked_of, times_handed}
 use Rattle.coap_server.specs.Follows.Serves.{times_served, ServedOnce}
+use Rattle.coap_server.specs.Plain.{by_plain}
+use Rattle.coap_server.proofs.Calls.NotifiesBy.{in_either}
 
 abbrev pub H : Asked → List E.Call → ℕ
 H a calls = F.times_handed a calls
@@ -82,8 +84,10 @@ responding_handed a s due.Idle passed (Serves q reply left) word id rest =
     (readies_handed a s.clock passed (marked s.observers) rest).0
 responding_handed a s due.Idle passed (Waits q d) word id rest =
     (readies_handed a s.clock passed (marked s.observers) rest).0
-responding_handed a s due.Idle passed (Notifies o reply) word id rest = let k =
-    (readies_handed a s.clock passed (marked s.observers) rest).0 in omega (arith, k)
+responding_handed a s due.Idle passed (Notifies o reply) word id rest =
+    let k = (readies_handed a s.clock passed (marked s.observers) rest).0 in
+    let none = in_either (λ c. H a (c ∷ []) ≡ 0) (by_plain s o) s.clock o (notification s.store o reply) word id refl refl
+    in omega (arith, k, none)
 responding_handed a s due.Copied passed h word id rest = refl
 responding_handed a s due.Expired passed h word id rest = refl
 responding_handed a s (due.Ready b) passed Silent word id rest = refl
@@ -139,6 +143,7 @@ module _ (limits : Limits) (szx : ℕ) where
   handed_is a (Sets now path format body answer left ∷ t) = let k = handed_is a t in omega (arith, k)
   handed_is a (Removes now path answer left ∷ t) = let k = handed_is a t in omega (arith, k)
   handed_is a (Delays path ms answer ∷ t) = let k = handed_is a t in omega (arith, k)
+  handed_is a (Plains path answer ∷ t) = let k = handed_is a t in omega (arith, k)
   handed_is a (Gets path answer ∷ t) = let k = handed_is a t in omega (arith, k)
   handed_is a (TellsApplied answer ∷ t) = let k = handed_is a t in omega (arith, k)
   handed_is a (NextOut answer ∷ t) = let k = handed_is a t in omega (arith, k)
@@ -162,6 +167,7 @@ module _ (limits : Limits) (szx : ℕ) where
   served_at_most a (Sets now path format body answer left ∷ t) = let k = served_at_most a t in omega (arith, k)
   served_at_most a (Removes now path answer left ∷ t) = let k = served_at_most a t in omega (arith, k)
   served_at_most a (Delays path ms answer ∷ t) = let k = served_at_most a t in omega (arith, k)
+  served_at_most a (Plains path answer ∷ t) = let k = served_at_most a t in omega (arith, k)
   served_at_most a (Gets path answer ∷ t) = let k = served_at_most a t in omega (arith, k)
   served_at_most a (TellsApplied answer ∷ t) = let k = served_at_most a t in omega (arith, k)
   served_at_most a (NextOut answer ∷ t) = let k = served_at_most a t in omega (arith, k)
@@ -229,6 +235,7 @@ module _ (limits : Limits) (szx : ℕ) where
   here t (Sets now path format body answer left) law x e = absurd (cc e)
   here t (Removes now path answer left) law x e = absurd (cc e)
   here t (Delays path ms answer) law x e = absurd (cc e)
+  here t (Plains path answer) law x e = absurd (cc e)
   here t (Gets path answer) law x e = absurd (cc e)
   here t (TellsApplied answer) law x e = absurd (cc e)
   here t (NextOut answer) law x e = absurd (cc e)

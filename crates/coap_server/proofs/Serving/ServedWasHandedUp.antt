@@ -35,7 +35,7 @@ use Rattle.coap_exchange.specs.Tokens.{same_token}
 use Rattle.std.proofs.lemmas.Bool.{and_parts}
 use Rattle.coap_exchange.proofs.Facts.SameToken.{same_token_is}
 use Rattle.coap_server.specs.Trace.{Waiting, Own, Handling, Silent, Replies, Serves, Waits, Notifies}
-use Rattle.coap_server.specs.Trace.{Call, Sets, Removes, Delays, Feeds, Ticks, NextOut, Gets}
+use Rattle.coap_server.specs.Trace.{Call, Sets, Removes, Delays, Plains, Feeds, Ticks, NextOut, Gets}
 use Rattle.coap_server.specs.Trace.{TellsApplied}
 use Rattle.coap_server.specs.Checks.{Verdict, Ignored, Refused, Asks, Uploads, verdict_on}
 use Rattle.coap_server.specs.Uploads.{key_of, ruling_of, whole}
@@ -308,6 +308,7 @@ module _ (limits : Limits) (szx word : ℕ) where
       by (Sets now path format body answer left) law k = k
       by (Removes now path answer left) law k = k
       by (Delays path ms answer) law k = k
+      by (Plains path answer) law k = k
       by (Gets path answer) law k = k
       by (TellsApplied answer) law k = k
       by (Feeds now from bytes w up came h below) law k = waits_fed t now from bytes w up came h below law k
@@ -352,6 +353,7 @@ module _ (limits : Limits) (szx word : ℕ) where
   served_from t (Sets now path format body answer left) law x e = absurd (cc e)
   served_from t (Removes now path answer left) law x e = absurd (cc e)
   served_from t (Delays path ms answer) law x e = absurd (cc e)
+  served_from t (Plains path answer) law x e = absurd (cc e)
   served_from t (Gets path answer) law x e = absurd (cc e)
   served_from t (TellsApplied answer) law x e = absurd (cc e)
   served_from t (NextOut answer) law x e = absurd (cc e)
@@ -369,6 +371,7 @@ module _ (limits : Limits) (szx word : ℕ) where
   taken_from t (Sets now path format body answer left) law x e = absurd (cc e)
   taken_from t (Removes now path answer left) law x e = absurd (cc e)
   taken_from t (Delays path ms answer) law x e = absurd (cc e)
+  taken_from t (Plains path answer) law x e = absurd (cc e)
   taken_from t (Gets path answer) law x e = absurd (cc e)
   taken_from t (TellsApplied answer) law x e = absurd (cc e)
   taken_from t (NextOut answer) law x e = absurd (cc e)

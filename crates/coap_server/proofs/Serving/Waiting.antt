@@ -24,7 +24,7 @@ use Rattle.coap_observe.specs.Observers.{Observer}
 use Rattle.coap_resource.specs.Content.{Content}
 use Rattle.coap_resource.specs.Limits.{Limits}
 use Rattle.coap_server.specs.Trace.{Waiting, Own, Handling, Silent, Replies, Serves, Waits, Notifies}
-use Rattle.coap_server.specs.Trace.{Call, Sets, Removes, Delays, Feeds, Ticks, NextOut, Gets}
+use Rattle.coap_server.specs.Trace.{Call, Sets, Removes, Delays, Plains, Feeds, Ticks, NextOut, Gets}
 use Rattle.coap_server.specs.Trace.{TellsApplied}
 use Rattle.coap_server.specs.Serving.{IsServed}
 use Rattle.coap_server.specs.Checks.{Verdict, Ignored, Refused, Asks, Uploads, verdict_on}
@@ -32,7 +32,7 @@ use Rattle.coap_server.specs.Uploads.{ruling_of, whole}
 use Rattle.coap_server.specs.Deferring.{WaitsBy, AnswersWaiting, delay_for, deferral, deferral_by}
 use Rattle.coap_server.specs.Deferring.{is_of}
 use Rattle.coap_server.specs.Deferring.{question_of, without_waiting}
-use Rattle.coap_server.specs.Notifying.{marked, readies}
+use Rattle.coap_server.specs.Notifying.{marked, notification, readies}
 use Rattle.coap_server.specs.Handling.{incoming, ticking, heard, HandlesBlock, Handles, HandlesCame}
 use Rattle.coap_server.specs.Asks.{responding}
 use Rattle.coap_server.specs.Steps.{exchanges_after}
@@ -45,6 +45,8 @@ use Rattle.coap_server.proofs.Observing.EndsObservation.{first_row}
 use Rattle.coap_server.proofs.Exact.Leads.{exchanges_kept}
 use Rattle.coap_server.specs.Follows.Waits.{deferred_as, ready_in, WaitsAsDeferred, ReadyAreServed}
 use Rattle.coap_server.proofs.Serving.ServedWasHandedUp.{same_asked_is}
+use Rattle.coap_server.specs.Plain.{by_plain}
+use Rattle.coap_server.proofs.Calls.NotifiesBy.{in_either}
 
 -- what is ready, of what waits
 
@@ -311,7 +313,13 @@ module _ (limits : Limits) (szx word : ℕ) where
         by (Replies r) = record { clock = clock; lists = lists }
         by (Serves q reply left) = record { clock = clock; lists = lists }
         by (Waits q d) = record { clock = clock; lists = lists }
-        by (Notifies o reply) = record { clock = omega (arith, clock); lists = lists }
+        by (Notifies o reply) =
+            let es : E.Own = exchanges_after s.exchanges (readies s.clock passed (marked s.observers)) in
+            let k = in_either (λ e. (max (P.after es e).clock s.clock ≡ max es.clock s.clock)
+            × ((P.after es e).deferred ≡ es.deferred)) (by_plain s o) s.clock o (notification s.store o reply) w id
+            (omega arith, refl) (omega arith, refl) in
+            let same = k.0 in
+            record { clock = omega (arith, clock, same); lists = lists ∙ sym k.1 }
 
     ticked : (now w : ℕ) (below : L.Answer) (room : Bool) (d : Due) (passed : ℕ) (h : Handling) (id : ℕ) (answer : Bool)
         → ServerLaw limits szx word (Ticks now w below room d passed h id answer ∷ t)
@@ -329,6 +337,7 @@ module _ (limits : Limits) (szx word : ℕ) where
     mirrored (Removes now path answer left) law =
         record { clock = let k = m.clock in omega (arith, k); lists = m.lists }
     mirrored (Delays path ms answer) law = record { clock = m.clock; lists = m.lists }
+    mirrored (Plains path answer) law = record { clock = m.clock; lists = m.lists }
     mirrored (Gets path answer) law = record { clock = m.clock; lists = m.lists }
     mirrored (TellsApplied answer) law = record { clock = m.clock; lists = m.lists }
     mirrored (Feeds now from bytes w up came h below) law = fed now from bytes w up came h below law.rows.0
@@ -360,6 +369,7 @@ module _ (limits : Limits) (szx word : ℕ) where
       here (Sets now path format body answer left) m law a is = absurd (cc is)
       here (Removes now path answer left) m law a is = absurd (cc is)
       here (Delays path ms answer) m law a is = absurd (cc is)
+      here (Plains path answer) m law a is = absurd (cc is)
       here (Gets path answer) m law a is = absurd (cc is)
       here (TellsApplied answer) m law a is = absurd (cc is)
       here (Feeds now from bytes w up came h below) m law a is = absurd (cc is)

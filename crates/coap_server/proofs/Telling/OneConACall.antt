@@ -26,14 +26,16 @@ use Rattle.coap_exchange.specs.AskerArrivals.{id_in, replying}
 use Rattle.coap_common.specs.Adds.{asked_by_server}
 use Rattle.coap_server.specs.Trace.{Own, Handling, Silent, Replies, Serves, Waits, Notifies, Call}
 use Rattle.coap_server.specs.Trace.{Sets}
-use Rattle.coap_server.specs.Trace.{Removes, Delays, Feeds}
+use Rattle.coap_server.specs.Trace.{Removes, Delays, Plains, Feeds}
 use Rattle.coap_server.specs.Trace.{Ticks, NextOut, Gets, TellsApplied}
 use Rattle.coap_server.specs.Asks.{lower, answering, responding}
 use Rattle.coap_server.specs.Deferring.{deferral, deferral_by, delay_for}
 use Rattle.coap_server.specs.Handling.{incoming, ticking, heard}
-use Rattle.coap_server.specs.Notifying.{readies, marked}
+use Rattle.coap_server.specs.Notifying.{marked, notification, readies}
 use Rattle.coap_server.specs.Law.{own_of, lower_of}
 use Rattle.coap_server.specs.Follows.Adds.{call_asks, all_asked, call_adds}
+use Rattle.coap_server.specs.Asks.{notifies_by}
+use Rattle.coap_server.specs.Plain.{by_plain}
 
 -- how many CONs are asked for, of the layer and of the exchanges
 
@@ -166,6 +168,11 @@ few_answers s (Some p) (Serves q reply left) below = let z = no_deferred s p.0 q
 few_answers s (Some p) (Waits q d) below = let z = no_deferred s p.0 q in omega (arith, z)
 few_answers s (Some p) (Notifies o reply) below = omega arith
 
+few_notices : (plain : Bool) (at : ℕ) (o : Observer) (r : E.Response) (word id : ℕ)
+    → weight (notifies_by plain at o r word id) ≤ 1
+few_notices true at o r word id = omega arith
+few_notices false at o r word id = omega arith
+
 few_responses : (s : Own) (d : Due) (passed : ℕ) (h : Handling) (word id : ℕ)
     → total (responding s d passed h word id) ≤ 1
 few_responses s (due.Ready a) passed (Serves q reply left) word id = omega arith
@@ -175,8 +182,10 @@ few_responses s (due.Ready a) passed (Waits q d) word id = omega arith
 few_responses s (due.Ready a) passed (Notifies o reply) word id = omega arith
 few_responses s due.Copied passed h word id = omega arith
 few_responses s due.Expired passed h word id = omega arith
-few_responses s due.Idle passed (Notifies o reply) word id = let z =
-    no_readies s.clock passed (marked s.observers) in omega (arith, z)
+few_responses s due.Idle passed (Notifies o reply) word id =
+    let z = no_readies s.clock passed (marked s.observers) in
+    let one = few_notices (by_plain s o) s.clock o (notification s.store o reply) word id in
+    omega (arith, z, one)
 few_responses s due.Idle passed Silent word id = let z =
     no_readies s.clock passed (marked s.observers) in omega (arith, z)
 few_responses s due.Idle passed (Replies r) word id = let z =
@@ -199,6 +208,7 @@ few s (Ticks now word below room d passed h id answer) =
 few s (Sets now path format body answer left) = omega arith
 few s (Removes now path answer left) = omega arith
 few s (Delays path ms answer) = omega arith
+few s (Plains path answer) = omega arith
 few s (NextOut answer) = omega arith
 few s (Gets path answer) = omega arith
 few s (TellsApplied answer) = omega arith

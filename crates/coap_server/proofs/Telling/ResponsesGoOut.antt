@@ -1,5 +1,5 @@
 -- What a server answers and notifies its message layer is given in that very call.
-use Rattle.std.proofs.Common.{◌≡◌, ◌≢◌, inl, inr, ℕ, Some, List, [], ◌∷◌, ◌++◌, refl, ap, sym}
+use Rattle.std.proofs.Common.{◌≡◌, ◌≢◌, inl, inr, ℕ, Bool, true, false, Some, List, [], ◌∷◌, ◌++◌, refl, ap, sym}
 use Rattle.std.proofs.Common.{subst, ◌∙◌}
 use Rattle.coap_types.specs.Past.{Ever}
 use Rattle.coap_types.proofs.Facts.Traces.{Ever_front, Ever_back}
@@ -19,16 +19,17 @@ use Rattle.coap_exchange.specs.AnswererTrace as E
 use Rattle.coap_exchange.specs.AnswererLaw as W
 use Rattle.coap_common.specs.Adds.{asked_by_server}
 use Rattle.coap_server.specs.Trace.{Own, Silent, Replies, Serves, Waits, Notifies, Call, Sets, Removes}
-use Rattle.coap_server.specs.Trace.{Delays, Feeds, Ticks, NextOut, Gets, TellsApplied}
-use Rattle.coap_server.specs.Asks.{lower}
+use Rattle.coap_server.specs.Trace.{Delays, Plains, Feeds, Ticks, NextOut, Gets, TellsApplied}
+use Rattle.coap_server.specs.Asks.{lower, notifies_by}
+use Rattle.coap_server.specs.Plain.{by_plain}
 use Rattle.coap_server.specs.Deferring.{question_of}
 use Rattle.coap_server.specs.Handling.{heard, ticking}
 use Rattle.coap_server.specs.Notifying.{notification}
 use Rattle.coap_server.specs.Law.{ServerLaw, own_of, lower_of}
 use Rattle.coap_server.specs.Follows.Adds.{call_asks, call_adds}
-use Rattle.coap_server.specs.Follows.GoesOut.{responds_with, GoesOut, in_ack, in_non, in_con, InCon}
-use Rattle.coap_server.specs.Follows.GoesOut.{GoesOutHere, AllGoOut}
-use Rattle.coap_server.specs.Follows.Observes.{Notice, notice}
+use Rattle.coap_server.specs.Follows.GoesOut.{responds_with, GoesOut, in_ack, in_non, in_con, InCon, InNon}
+use Rattle.coap_server.specs.Follows.GoesOut.{AllGoOut, GoesOutHere, InEither}
+use Rattle.coap_server.specs.Follows.Observes.{Notice, notice, plain_in}
 use Rattle.coap_server.proofs.Observing.Outcomes.{never_notifies_ready}
 use Rattle.coap_server.proofs.Serving.Brought.{server_back}
 use Rattle.coap_server.proofs.Telling.LayerCalls.{steps_here}
@@ -103,30 +104,30 @@ module _ (a : Asked) (r : E.Response) where
   response_out s (E.Take answer) right h = absurd (cc h)
 
 -- a notification
-abbrev IsNotifying : Observer → E.Response → E.Call → Type 0
-IsNotifying o r d = (at w id : ℕ) × (d ≡ E.Notifies at o.to o.token r w id)
+abbrev IsNotifying : Bool → Observer → E.Response → E.Call → Type 0
+IsNotifying plain o r d = (at w id : ℕ) × (d ≡ notifies_by plain at o r w id)
 
-notice_out : (o : Observer) (r : E.Response) (s : E.Own) (d : E.Call) → P.IsRight s d → IsNotifying o r d
-    → Ever (λ (b : G.Asked). InCon o.to (P.content_with o.token r) b.call b.answer) (P.lower s d)
-notice_out o r s d right k =
+notice_out : (plain : Bool) (o : Observer) (r : E.Response) (s : E.Own) (d : E.Call) → P.IsRight s d
+    → IsNotifying plain o r d
+    → Ever (λ (b : G.Asked). InEither plain o.to (P.content_with o.token r) b.call b.answer) (P.lower s d)
+notice_out true o r s d right k =
+    subst (λ x. Ever (λ (b : G.Asked). InNon o.to (P.content_with o.token r) b.call b.answer) (P.lower s x)) (sym k.3)
+    (inl (record { id = k.2; call_is = refl; answer_is = refl }))
+notice_out false o r s d right k =
     subst (λ x. Ever (λ (b : G.Asked). InCon o.to (P.content_with o.token r) b.call b.answer) (P.lower s x)) (sym k.3)
     (inl (record { word = k.1; id = k.2; call_is = refl; answer_is = refl }))
 
 module _ (limits : Limits) (szx word : ℕ) where
   notifying : (t : List Call) (c : Call) → ServerLaw limits szx word (c ∷ t) → (x : Notice) → notice c ≡ Some x
-      → Ever (IsNotifying x.observer (notification (own_of limits szx t).store x.observer x.reply))
-      (lower (own_of limits szx t) c)
+      → Ever (IsNotifying (plain_in (own_of limits szx t) c) x.observer
+      (notification (own_of limits szx t).store x.observer x.reply)) (lower (own_of limits szx t) c)
   notifying t (Ticks now w below room due.Idle passed (Notifies o reply) id answer) law x e =
       let same : ◌≡◌ {A = Notice} (record { observer = o; reply = reply }) x = cc e in
-      subst (λ (y : Notice). Ever (IsNotifying y.observer
+      let s : Own = heard (own_of limits szx t) now (ticking (own_of limits szx t) now below room due.Idle) in
+      subst (λ (y : Notice). Ever (IsNotifying (by_plain s o) y.observer
       (notification (own_of limits szx t).store y.observer y.reply))
       (lower (own_of limits szx t) (Ticks now w below room due.Idle passed (Notifies o reply) id answer))) same
-      (inl (
-        (heard (own_of limits szx t) now (ticking (own_of limits szx t) now below room due.Idle)).clock,
-        w,
-        id,
-        refl,
-      ))
+      (inl (s.clock, w, id, refl))
   notifying t (Ticks now w below room due.Copied passed (Notifies o reply) id answer) law x e =
       let k = law.rows.0.0 in absurd (cc k)
   notifying t (Ticks now w below room due.Expired passed (Notifies o reply) id answer) law x e =
@@ -142,6 +143,7 @@ module _ (limits : Limits) (szx word : ℕ) where
   notifying t (Sets now path format body answer left) law x e = absurd (cc e)
   notifying t (Removes now path answer left) law x e = absurd (cc e)
   notifying t (Delays path ms answer) law x e = absurd (cc e)
+  notifying t (Plains path answer) law x e = absurd (cc e)
   notifying t (Gets path answer) law x e = absurd (cc e)
   notifying t (TellsApplied answer) law x e = absurd (cc e)
   notifying t (NextOut answer) law x e = absurd (cc e)
@@ -156,8 +158,10 @@ module _ (limits : Limits) (szx word : ℕ) where
             word t c law h;
         notices = λ x e.
             let r : E.Response = notification (own_of limits szx t).store x.observer x.reply in
-            given_in (InCon x.observer.to (P.content_with x.observer.token r)) (IsNotifying x.observer r)
-            (notice_out x.observer r) limits szx word t c law (notifying t c law x e);
+            let plain : Bool = plain_in (own_of limits szx t) c in
+            given_in (InEither plain x.observer.to (P.content_with x.observer.token r))
+            (IsNotifying plain x.observer r) (notice_out plain x.observer r) limits szx word t c law
+            (notifying t c law x e);
       }
 
   pub all_go_out : (t : List Call) → ServerLaw limits szx word t → AllGoOut limits szx word t

@@ -18,7 +18,7 @@ use Rattle.coap_exchange.specs.AnswererFollows.{responds}
 use Rattle.coap_exchange.specs.AnswererSteps.{may_defer}
 use Rattle.coap_exchange.specs.AnswererTrace as E
 use Rattle.coap_server.specs.Trace.{Own, Handling, Silent, Replies, Serves, Waits, Notifies, Call, Sets, Removes}
-use Rattle.coap_server.specs.Trace.{Delays, Feeds, Ticks, NextOut, Gets, TellsApplied}
+use Rattle.coap_server.specs.Trace.{Delays, Plains, Feeds, Ticks, NextOut, Gets, TellsApplied}
 use Rattle.coap_server.specs.Asks.{lower}
 use Rattle.coap_server.specs.Checks.{verdict_on}
 use Rattle.coap_server.specs.Uploads.{key_of}
@@ -32,6 +32,9 @@ use Rattle.coap_server.specs.Follows.Gives.{size_by, size_of}
 use Rattle.coap_server.specs.Follows.GoesOut.{responds_with, response_of, IsMade}
 use Rattle.coap_server.proofs.Serving.ServedWasHandedUp.{joins_more}
 use Rattle.coap_server.proofs.Replying.ResponsesHaveRequests.{replies}
+use Rattle.coap_server.specs.Plain.{by_plain}
+use Rattle.coap_server.proofs.Calls.NotifiesBy.{in_either}
+use Rattle.coap_server.specs.Notifying.{notification}
 
 abbrev SendsIn : Asked → E.Response → List E.Call → Type 0
 SendsIn a r cs = Ever (λ b. responds_with b ≡ Some (a, r)) cs
@@ -89,6 +92,7 @@ served_sent s (Ticks now word below room (due.Ready a) passed (Notifies o reply)
 served_sent s (Sets now path format body answer left) x e = absurd (cc e)
 served_sent s (Removes now path answer left) x e = absurd (cc e)
 served_sent s (Delays path ms answer) x e = absurd (cc e)
+served_sent s (Plains path answer) x e = absurd (cc e)
 served_sent s (Gets path answer) x e = absurd (cc e)
 served_sent s (TellsApplied answer) x e = absurd (cc e)
 served_sent s (NextOut answer) x e = absurd (cc e)
@@ -212,7 +216,10 @@ module _ (limits : Limits) (szx word : ℕ) (t : List Call) (a : Asked) (r : E.R
       absurd (tick_none now below room (due.Ready b) k)
   ticked now w below room due.Copied passed h id answer k = absurd (tick_none now below room due.Copied k)
   ticked now w below room due.Expired passed h id answer k = absurd (tick_none now below room due.Expired k)
-  ticked now w below room due.Idle passed (Notifies o reply) id answer (inl k) = absurd (cc k)
+  ticked now w below room due.Idle passed (Notifies o reply) id answer (inl k) =
+      let s : Own = heard own now (ticking own now below room due.Idle) in
+      let none = in_either (λ c. responds_with c ≡ None) (by_plain s o) s.clock o (notification s.store o reply) w id refl
+      refl in let z : None ≡ Some (a, r) = sym none ∙ k in absurd (cc z)
   ticked now w below room due.Idle passed (Notifies o reply) id answer (inr k) =
       let s : Own = heard own now (ticking own now below room due.Idle) in
       absurd (idle_none a r s.clock passed (marked s.observers) (ticking own now below room due.Idle ∷ [])
@@ -238,6 +245,7 @@ module _ (limits : Limits) (szx word : ℕ) (t : List Call) (a : Asked) (r : E.R
   here (Sets now path format body answer left) law k = absurd k
   here (Removes now path answer left) law k = absurd k
   here (Delays path ms answer) law k = absurd k
+  here (Plains path answer) law k = absurd k
   here (Gets path answer) law k = absurd k
   here (TellsApplied answer) law k = absurd k
   here (Feeds now from bytes w up came h below) law k = fed now from bytes w up came h below law k

@@ -34,7 +34,7 @@ use Rattle.coap_exchange.specs.AnswererTrace as E
 use Rattle.coap_common.specs.SuccessCodes.{content}
 use Rattle.coap_server.specs.Trace.{Own, Handling, Silent, Replies, Serves, Waits, Notifies, Call}
 use Rattle.coap_server.specs.Trace.{Sets}
-use Rattle.coap_server.specs.Trace.{Removes, Delays, Feeds}
+use Rattle.coap_server.specs.Trace.{Removes, Delays, Plains, Feeds}
 use Rattle.coap_server.specs.Trace.{Ticks, NextOut, Gets, TellsApplied}
 use Rattle.coap_server.specs.Responses.{response_with}
 use Rattle.coap_server.specs.Serving.{response_to}
@@ -44,13 +44,14 @@ use Rattle.coap_server.specs.Observers.{registers, sequence, sequence_if}
 use Rattle.coap_server.specs.Deferring.{WaitsBy, deferral, deferral_by, delay_for, question_of}
 use Rattle.coap_server.specs.Notifying.{marked, behind, readies, told, asks_for, notification}
 use Rattle.coap_server.specs.Handling.{incoming, ticking, heard, HandlesBlock, Handles}
-use Rattle.coap_server.specs.Asks.{lower, answering, responding}
+use Rattle.coap_server.specs.Asks.{lower, answering, notifies_by, responding}
+use Rattle.coap_server.specs.Plain.{by_plain}
 use Rattle.coap_server.specs.Law.{ServerLaw, own_of}
 use Rattle.coap_server.specs.Follows.Holds.{Change, change, held_then, held_at}
 use Rattle.coap_server.specs.Follows.Serves.{Serving, serving, serving_of}
 use Rattle.coap_server.specs.Follows.Tags.{AreStamped}
-use Rattle.coap_server.specs.Follows.Tells.{InCon, InReply, Telling, Way, answer_tells, notice_tells}
-use Rattle.coap_server.specs.Follows.Tells.{telling, telling_of, tells, tells_if}
+use Rattle.coap_server.specs.Follows.Tells.{InCon, InNon, InReply, Telling, Way, answer_tells, notice_tells}
+use Rattle.coap_server.specs.Follows.Tells.{telling, telling_of, tells, tells_if, way_of}
 use Rattle.coap_server.proofs.Facts.Laws as facts
 use Rattle.coap_server.proofs.Observing.Outcomes.{serves_came, serves_waited}
 use Rattle.coap_server.proofs.Replying.ResponsesHaveRequests.{next_told}
@@ -236,7 +237,7 @@ module _ (limits : Limits) (szx : ℕ) (t : List Call) (c : Call) where
   Means (E.Answers a r below) = Notes r → Says limits szx t c InReply a.from a.token r × Serving_of a
   Means (E.Responds now a r word id) = Notes r → Says limits szx t c (InCon id) a.from a.token r
   Means (E.Notifies now to token r word id) = Notes r → Says limits szx t c (InCon id) to token r
-  Means (E.NotifiesPlain now to token r id) = ⊥
+  Means (E.NotifiesPlain now to token r id) = Notes r → Says limits szx t c InNon to token r
   Means _ = Unit {0}
 
   join : (xs ys : List E.Call) → Each Means xs → Each Means ys → Each Means (xs ++ ys)
@@ -254,6 +255,11 @@ module _ (limits : Limits) (szx : ℕ) (t : List Call) (c : Call) where
 
   deferred_mean : (s : Own) (a : Asked) (q : Question) → Each Means (deferral s a q)
   deferred_mean s a q = deferral_mean (delay_for a.kind q.path s.delays) (may_defer s.exchanges.deferred) s.clock a
+
+  notice_means : (plain : Bool) (at : ℕ) (o : Observer) (r : E.Response) (w id : ℕ)
+      → (Notes r → Says limits szx t c (way_of plain id) o.to o.token r) → Means (notifies_by plain at o r w id)
+  notice_means true at o r w id f = f
+  notice_means false at o r w id f = f
 
   pub meant : (e : E.Call) (cs : List E.Call) → Each Means cs → Ever (λ d. d ≡ e) cs → Means e
   meant e [] m h = absurd h
@@ -318,8 +324,9 @@ module _ (limits : Limits) (szx word : ℕ) (t : List Call) where
   ticked now w below room due.Idle passed (Notifies o reply) id answer law =
       let s : Own = heard own now (ticking own now below room due.Idle) in
       let c : Call = Ticks now w below room due.Idle passed (Notifies o reply) id answer in (
-        λ n. noticed limits szx t c (stamped c law) (kept c law) s refl o reply (InCon id) refl
-            (next_told (behind passed (marked s.observers)) s.store o reply law.rows.0.0) n,
+        notice_means limits szx t c (by_plain s o) s.clock o (notification s.store o reply) w id
+            (λ n. noticed limits szx t c (stamped c law) (kept c law) s refl o reply (way_of (by_plain s o) id) refl
+            (next_told (behind passed (marked s.observers)) s.store o reply law.rows.0.0) n),
         readies_mean limits szx t c s.clock passed (marked s.observers),
       )
   ticked now w below room due.Idle passed Silent id answer law = let s : Own =
@@ -348,6 +355,7 @@ module _ (limits : Limits) (szx word : ℕ) (t : List Call) where
   mean (Sets now path format body answer left) law = tt
   mean (Removes now path answer left) law = tt
   mean (Delays path ms answer) law = tt
+  mean (Plains path answer) law = tt
   mean (Gets path answer) law = tt
   mean (TellsApplied answer) law = tt
   mean (NextOut answer) law = (tt, tt)

@@ -23,7 +23,7 @@ use Rattle.coap_exchange.specs.AnswererSteps as P
 use Rattle.coap_exchange.specs.AnswererSteps.{may_defer}
 use Rattle.coap_exchange.specs.AnswererTrace as E
 use Rattle.coap_server.specs.Trace.{Own, Handling, Silent, Replies, Serves, Waits, Notifies, Call, Sets, Removes}
-use Rattle.coap_server.specs.Trace.{Delays, Feeds, Ticks, NextOut, Gets, TellsApplied}
+use Rattle.coap_server.specs.Trace.{Delays, Plains, Feeds, Ticks, NextOut, Gets, TellsApplied}
 use Rattle.coap_server.specs.Asks.{answering, responding, lower}
 use Rattle.coap_server.specs.Deferring.{deferral_by, delay_for}
 use Rattle.coap_server.specs.Handling.{incoming, ticking, heard}
@@ -37,6 +37,9 @@ use Rattle.coap_server.specs.Follows.Serves.{hands}
 use Rattle.coap_server.proofs.Serving.Brought.{server_back}
 use Rattle.coap_server.proofs.Telling.ResponsesGoOut.{given_in}
 use Rattle.coap_server.proofs.Telling.ResponsesMade.{pair_of}
+use Rattle.coap_server.specs.Plain.{by_plain}
+use Rattle.coap_server.proofs.Calls.NotifiesBy.{in_either}
+use Rattle.coap_server.specs.Notifying.{notification}
 
 -- what entries send
 
@@ -133,7 +136,10 @@ all_later s (due.Ready a) passed Silent w id = tt
 all_later s (due.Ready a) passed (Replies r) w id = tt
 all_later s (due.Ready a) passed (Waits q delay) w id = tt
 all_later s (due.Ready a) passed (Notifies o reply) w id = tt
-all_later s due.Idle passed (Notifies o reply) w id = (refl, readies_later s.clock passed (marked s.observers))
+all_later s due.Idle passed (Notifies o reply) w id = (
+  in_either Later (by_plain s o) s.clock o (notification s.store o reply) w id refl refl,
+  readies_later s.clock passed (marked s.observers),
+)
 all_later s due.Idle passed Silent w id = readies_later s.clock passed (marked s.observers)
 all_later s due.Idle passed (Replies r) w id = readies_later s.clock passed (marked s.observers)
 all_later s due.Idle passed (Serves q reply left) w id = readies_later s.clock passed (marked s.observers)
@@ -216,6 +222,7 @@ module _ (limits : Limits) (szx word : ℕ) (t : List Call) where
   handed_now (Sets now path format body answer left) a is = absurd (cc is)
   handed_now (Removes now path answer left) a is = absurd (cc is)
   handed_now (Delays path ms answer) a is = absurd (cc is)
+  handed_now (Plains path answer) a is = absurd (cc is)
   handed_now (Ticks now w below room d passed h id answer) a is = absurd (cc is)
   handed_now (NextOut answer) a is = absurd (cc is)
   handed_now (Gets path answer) a is = absurd (cc is)

@@ -1,5 +1,5 @@
 -- What a server's message layer is given in a call, by type, and what it hears.
-use Rattle.std.proofs.Common.{◌≡◌, inl, inr, ℕ, max, ◌==◌, ◌<◌, true, false, Option, Some, None, is_some, List, [], ◌∷◌}
+use Rattle.std.proofs.Common.{◌≡◌, ◌⊎◌, inl, inr, ℕ, max, ◌==◌, ◌<◌, true, false, Some, is_some, List, [], ◌∷◌}
 use Rattle.std.proofs.Common.{◌++◌, refl, ap, sym, subst}
 use Rattle.std.proofs.Common.{◌∙◌, arith}
 use Rattle.std.proofs.lemmas.Bool.{and_parts}
@@ -41,7 +41,7 @@ use Rattle.coap_server.specs.Trace.{Own, Call}
 use Rattle.coap_server.specs.Handling.{incoming, heard}
 use Rattle.coap_server.specs.Asks.{lower, answering}
 use Rattle.coap_server.specs.Law.{ServerLaw, own_of, lower_of, layer_of}
-use Rattle.coap_server.specs.Follows.Tells.{HearsAck, InCon, InReply, Way}
+use Rattle.coap_server.specs.Follows.Tells.{HearsAck, InCon, InNon, InReply, Way}
 use Rattle.coap_server.proofs.Facts.Laws as facts
 use Rattle.coap_common.proofs.Facts.AskerReplies.{empty_of, ack_spells, reset_spells}
 use Rattle.coap_common.proofs.Facts.ComesUp.{entry_of}
@@ -258,7 +258,8 @@ module _ (limits : Limits) (szx word : ℕ) (past : List Call) (c : Call)
     }
 
     abbrev TellsPlainly : Type 0
-    TellsPlainly = TellsIn limits szx InReply to m past c × ServesNon limits szx to past c
+    TellsPlainly = (TellsIn limits szx InReply to m past c × ServesNon limits szx to past c)
+        ⊎ TellsIn limits szx InNon to m past c
 
     serves_non : (a : Asked) → Serving_of limits szx past c a → a.from ≡ to → (a.kind ≡ Con → ⊥)
         → ServesNon limits szx to past c
@@ -276,11 +277,25 @@ module _ (limits : Limits) (szx word : ℕ) (past : List Call) (c : Call)
         let place : a.from ≡ to = cc call in
         let same_x : P.content_of a r ≡ k.0 = cc call in
         let there = subst (λ z. Spells bytes (with_head Non k.1 z)) (sym same_x) k.3 in
-        let said = f (notes Non k.1 a.token r bytes m are spells there note) in (
+        let said = f (notes Non k.1 a.token r bytes m are spells there note) in
+        inl (
           tells_so Non k.1 a.token r bytes m are spells there limits szx past c InReply to
               (subst (λ z. Says limits szx past c InReply z a.token r) place said.0),
           serves_non a said.1 place none,
         )
+
+    -- a notification
+    notice_by : (at : Endpoint) (token : List ℕ) (r : E.Response) (id : ℕ)
+        → Plainly (L.Plain at (P.content_with token r)) (L.Sent id) → (Notes r → Says limits szx past c InNon at token r)
+        → TellsPlainly
+    notice_by at token r id k f =
+        let call = k.2 in
+        let place : at ≡ to = cc call in
+        let same_x : P.content_with token r ≡ k.0 = cc call in
+        let there = subst (λ z. Spells bytes (with_head Non k.1 z)) (sym same_x) k.3 in
+        inr (tells_so Non k.1 token r bytes m are spells there limits szx past c InNon to
+        (subst (λ z. Says limits szx past c InNon z token r) place
+        (f (notes Non k.1 token r bytes m are spells there note))))
 
     non_says : (s : E.Own) (kind : Kind) (a : Asked) (r : E.Response) (below : L.Answer) → a.kind ≡ kind
         → Plainly (P.answering s kind a r) below → (Notes r
@@ -299,7 +314,8 @@ module _ (limits : Limits) (szx word : ℕ) (past : List Call) (c : Call)
         (means Plainly g (E.Answers a r below) is).0
     plain_so g (responds now a r w id is k) = let z = k.2 in absurd (cc z)
     plain_so g (notifies now there token r w id is k) = let z = k.2 in absurd (cc z)
-    plain_so g (plains now there token r id is k) = absurd (means Plainly g (E.NotifiesPlain now there token r id) is).0
+    plain_so g (plains now there token r id is k) =
+        notice_by there token r id k (means Plainly g (E.NotifiesPlain now there token r id) is).0
 
     plain_tells : Ever (λ (b : L.Entry). PlainOut b (record { to = to; bytes = bytes })) adds → TellsPlainly
     plain_tells h =

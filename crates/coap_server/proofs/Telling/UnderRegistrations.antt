@@ -12,7 +12,7 @@ use Rattle.coap_exchange.specs.declared.answerer.Asked.{Asked}
 use Rattle.coap_exchange.specs.declared.answerer.Due.TheVariants as due
 use Rattle.coap_exchange.specs.AnswererSteps as P
 use Rattle.coap_server.specs.Trace.{Own, Silent, Replies, Serves, Waits, Notifies, Call, Sets, Removes}
-use Rattle.coap_server.specs.Trace.{Delays, Feeds, Ticks, NextOut}
+use Rattle.coap_server.specs.Trace.{Delays, Plains, Feeds, Ticks, NextOut}
 use Rattle.coap_server.specs.Trace.{Gets, TellsApplied}
 use Rattle.coap_server.specs.Observers.{registers}
 use Rattle.coap_server.specs.Notifying.{marked, behind}
@@ -21,7 +21,8 @@ use Rattle.coap_server.specs.Law.{ServerLaw, own_of}
 use Rattle.coap_server.specs.Follows.Observes.{MadeWith, WasMade}
 use Rattle.coap_server.specs.Follows.Serves.{serving, serving_of}
 use Rattle.coap_server.specs.Follows.Tells.{InCon, InReply, Pair, Telling, Way, answer_tells, registering}
-use Rattle.coap_server.specs.Follows.Tells.{registers_by, telling_of, tells, tells_if}
+use Rattle.coap_server.specs.Follows.Tells.{registers_by, telling_of, tells, tells_if, way_of}
+use Rattle.coap_server.specs.Plain.{by_plain}
 use Rattle.coap_server.proofs.Observing.ObserversWereMade.{good_ended, good}
 use Rattle.coap_server.proofs.Observing.VersionsRise.{IsThere, behind_there, marked_there, next_is}
 use Rattle.coap_server.proofs.Serving.Brought.{server_back}
@@ -97,7 +98,7 @@ module _ (limits : Limits) (szx word : ℕ) (t : List Call) where
       let there = (marked_there s.observers o (behind_there passed (marked s.observers) o is)).0 in
       let g = good_ended limits szx t (P.after own.exchanges (ticking own now below room due.Idle)).ended own.observers
       (good limits szx t) in
-      notified (Ticks now w below room due.Idle passed (Notifies o reply) id answer) o (InCon id) s.clock (s.store.holds o.path)
+      notified (Ticks now w below room due.Idle passed (Notifies o reply) id answer) o (way_of (by_plain s o) id) s.clock (s.store.holds o.path)
       (each_there (WasMade limits szx t) s.observers o g.made there) x h
   told_under (Feeds now from bytes w up None h below) law x e = absurd (cc e)
   told_under (Feeds now from bytes w up (Some p) Silent below) law x e = absurd (cc e)
@@ -117,6 +118,7 @@ module _ (limits : Limits) (szx word : ℕ) (t : List Call) where
   told_under (Sets now path format body answer left) law x e = absurd (cc e)
   told_under (Removes now path answer left) law x e = absurd (cc e)
   told_under (Delays path ms answer) law x e = absurd (cc e)
+  told_under (Plains path answer) law x e = absurd (cc e)
   told_under (NextOut answer) law x e = absurd (cc e)
   told_under (Gets path answer) law x e = absurd (cc e)
   told_under (TellsApplied answer) law x e = absurd (cc e)
@@ -167,6 +169,7 @@ module _ (limits : Limits) (szx : ℕ) (t : List Call) where
   serves_pair (Sets now path format body answer left) p e = absurd (cc e)
   serves_pair (Removes now path answer left) p e = absurd (cc e)
   serves_pair (Delays path ms answer) p e = absurd (cc e)
+  serves_pair (Plains path answer) p e = absurd (cc e)
   serves_pair (NextOut answer) p e = absurd (cc e)
   serves_pair (Gets path answer) p e = absurd (cc e)
   serves_pair (TellsApplied answer) p e = absurd (cc e)

@@ -10,7 +10,7 @@ use Rattle.coap_exchange.specs.declared.answerer.Asked.{Asked}
 use Rattle.coap_exchange.specs.declared.answerer.Due.{Due}
 use Rattle.coap_exchange.specs.AnswererLaw as E
 use Rattle.coap_server.specs.Trace.{Applied, Own, Handling, Call, Sets, Removes, Delays, Feeds, Ticks}
-use Rattle.coap_server.specs.Trace.{NextOut, Gets, TellsApplied}
+use Rattle.coap_server.specs.Trace.{NextOut, Gets, Plains, TellsApplied}
 use Rattle.coap_server.specs.Handling.{incoming, ticking, heard}
 use Rattle.coap_server.specs.Asks.{answering, responding}
 use Rattle.coap_server.specs.Law.{ServerLaw, own_of, lower_of}
@@ -44,6 +44,9 @@ pub record IsExact (limits : Limits) (szx word : ℕ) (past : List Call) : Type 
   pub delays : (path : List (List ℕ)) (ms : ℕ) (answer another : Bool)
       → ServerLaw limits szx word (Delays path ms answer ∷ past)
       → ServerLaw limits szx word (Delays path ms another ∷ past) → answer ≡ another
+  pub plains : (path : List (List ℕ)) (answer another : Bool)
+      → ServerLaw limits szx word (Plains path answer ∷ past)
+      → ServerLaw limits szx word (Plains path another ∷ past) → answer ≡ another
   pub feeds :
       (now : ℕ) (from : Endpoint) (bytes : List ℕ) (w : ℕ) (up other : L.Answer) (came come : Option (Asked × Message))
       (h k : Handling) (below beyond : L.Answer)

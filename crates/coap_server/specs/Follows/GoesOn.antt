@@ -11,7 +11,7 @@ use Rattle.coap_resource.specs.Limits.{Limits}
 use Rattle.coap_exchange.specs.declared.answerer.Asked.{Asked}
 use Rattle.coap_exchange.specs.declared.answerer.Due.{Due}
 use Rattle.coap_server.specs.Trace.{Applied, Handling, Call, Sets, Removes, Delays, Feeds, Ticks}
-use Rattle.coap_server.specs.Trace.{NextOut, Gets, TellsApplied}
+use Rattle.coap_server.specs.Trace.{NextOut, Gets, Plains, TellsApplied}
 use Rattle.coap_server.specs.Law.{ServerLaw}
 
 pub record GoesOn (limits : Limits) (szx word : ℕ) (t : List Call) : Type 0 where
@@ -22,6 +22,7 @@ pub record GoesOn (limits : Limits) (szx word : ℕ) (t : List Call) : Type 0 wh
       → (answer : Result Bool StoreRefusal) × (left : Content)
       × ServerLaw limits szx word (Removes now path answer left ∷ t)
   pub delays : (path : List (List ℕ)) (ms : ℕ) → (answer : Bool) × ServerLaw limits szx word (Delays path ms answer ∷ t)
+  pub plains : (path : List (List ℕ)) → (answer : Bool) × ServerLaw limits szx word (Plains path answer ∷ t)
   pub feeds :
       (now : ℕ) (from : Endpoint) (bytes : List ℕ) (w : ℕ) → AreBytes bytes
       → (up : L.Answer) × (came : Option (Asked × Message)) × (handling : Handling) × (below : L.Answer)

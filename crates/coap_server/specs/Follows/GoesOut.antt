@@ -1,6 +1,6 @@
 -- What a server answers and notifies was made in that call, and its message layer is given it in that very call (RFC
 -- 7252, sections 5.2.1 to 5.2.3; RFC 7641, section 4.5; RFC 7959, section 2.9).
-use Rattle.std.specs.Prelude.{◌≡◌, ◌≢◌, ◌⊎◌, ℕ, true, Option, Some, None, List}
+use Rattle.std.specs.Prelude.{◌≡◌, ◌≢◌, ◌⊎◌, ℕ, Bool, true, false, Option, Some, None, List}
 use Rattle.coap_types.specs.Past.{Ever, Always}
 use Rattle.coap_types.specs.declared.endpoint.Endpoint.{Endpoint}
 use Rattle.coap_types.specs.declared.message.Kind.TheVariants.{Con, Ack}
@@ -20,7 +20,7 @@ use Rattle.coap_server.specs.Law.{own_of}
 use Rattle.coap_server.specs.Follows.Adds.{call_adds}
 use Rattle.coap_server.specs.Follows.Attended.{AnswersIt}
 use Rattle.coap_server.specs.Follows.Gives.{refusal_in, size_in}
-use Rattle.coap_server.specs.Follows.Observes.{Notice, notice}
+use Rattle.coap_server.specs.Follows.Observes.{Notice, notice, plain_in}
 use Rattle.coap_server.specs.Follows.Serves.{Serving, serving, hands}
 use Rattle.coap_server.specs.Follows.Takes.{Took, takes_block}
 
@@ -43,12 +43,22 @@ pub data GoesOut (a : Asked) (r : E.Response) (call : L.Call) (answer : L.Answer
       → GoesOut a r call answer
   in_con : (w id : ℕ) → call ≡ L.Confirm a.from (content_of a r) w → answer ≡ L.Sent id → GoesOut a r call answer
 
--- a notification with this content goes out, in a CON
+-- a notification with this content goes out, in a CON or in a NON
+
 pub record InCon (to : Endpoint) (content : L.Content) (call : L.Call) (answer : L.Answer) : Type 0 where
   pub word : ℕ
   pub id : ℕ
   pub call_is : call ≡ L.Confirm to content word
   pub answer_is : answer ≡ L.Sent id
+
+pub record InNon (to : Endpoint) (content : L.Content) (call : L.Call) (answer : L.Answer) : Type 0 where
+  pub id : ℕ
+  pub call_is : call ≡ L.Plain to content
+  pub answer_is : answer ≡ L.Sent id
+
+abbrev pub InEither : Bool → Endpoint → L.Content → L.Call → L.Answer → Type 0
+InEither true to content call answer = InNon to content call answer
+InEither false to content call answer = InCon to content call answer
 
 module _ (limits : Limits) (szx : ℕ) where
   -- this response to this request is sent in this call
@@ -96,7 +106,7 @@ module _ (limits : Limits) (szx word : ℕ) where
     pub responses : (a : Asked) (r : E.Response) → Sends limits szx past c a r
         → Ever (λ e. GoesOut a r e.call e.answer) (call_adds limits szx word past c)
     pub notices : (x : Notice) → notice c ≡ Some x
-        → Ever (λ e. InCon x.observer.to
+        → Ever (λ e. InEither (plain_in (own_of limits szx past) c) x.observer.to
         (content_with x.observer.token (notification (own_of limits szx past).store x.observer x.reply)) e.call
         e.answer)
         (call_adds limits szx word past c)

@@ -1,18 +1,21 @@
 -- Who observes, and when an observation ends (RFC 7641, sections 3.6, 4.1, 4.2 and 4.5).
-use Rattle.std.specs.Prelude.{◌≡◌, ◌≢◌, ℕ, true, Option, Some, None, List, ◌∷◌}
+use Rattle.std.specs.Prelude.{◌≡◌, ◌≢◌, ℕ, Bool, true, false, Option, Some, None, List, ◌∷◌}
 use Rattle.coap_types.specs.Past.{Sometime, Always}
 use Rattle.coap_types.specs.declared.endpoint.Endpoint.{Endpoint}
 use Rattle.coap_types.specs.declared.message.TheConstants.Code as codes
 use Rattle.coap_block.specs.Whole.{Each}
-use Rattle.coap_observe.specs.Observers.{Observer, AreRegistrations, registration}
+use Rattle.coap_observe.specs.Observers.{Observer, AreRegistrations, registration, rejected}
 use Rattle.coap_resource.specs.RequestOptions.{block_of, szx_by}
 use Rattle.coap_resource.specs.Serves.{Reply}
 use Rattle.coap_resource.specs.Limits.{Limits}
 use Rattle.coap_exchange.specs.declared.answerer.Ended.{Ended}
-use Rattle.coap_exchange.specs.AnswererSteps.{reset_by, failed_by}
+use Rattle.coap_exchange.specs.AnswererSteps.{reset_by, failed_by, unmatched_by}
+use Rattle.coap_exchange.specs.AnswererTrace.{Sending}
 use Rattle.coap_common.specs.SuccessCodes.{content}
 use Rattle.coap_server.specs.Trace.{Own, Notifies, Call, Feeds, Ticks}
+use Rattle.coap_server.specs.Handling.{heard, ticking}
 use Rattle.coap_server.specs.Observers.{observes}
+use Rattle.coap_server.specs.Plain.{by_plain}
 use Rattle.coap_server.specs.Law.{own_of}
 use Rattle.coap_server.specs.Follows.Serves.{Serving, serving}
 use Rattle.coap_server.specs.Follows.Tells.{registering}
@@ -31,6 +34,17 @@ pub record Notice : Type 0 where
 abbrev pub notice : Call → Option Notice
 notice (Ticks now word below room d passed (Notifies o reply) id answer) = Some (record { observer = o; reply = reply })
 notice _ = None
+
+-- whether it goes in a NON
+abbrev pub plain_in : Own → Call → Bool
+plain_in s (Ticks now word below room d passed (Notifies o reply) id answer) =
+    by_plain (heard s now (ticking s now below room d)) o
+plain_in s _ = false
+
+-- the Reset that a call brings, of what isn't outstanding
+abbrev pub rejects_in : Call → Option Sending
+rejects_in (Feeds now from bytes word up came h below) = unmatched_by from up
+rejects_in _ = None
 
 abbrev pub not_found : ℕ
 not_found = codes.NOT_FOUND.0
@@ -84,11 +98,14 @@ module _ (limits : Limits) (szx : ℕ) where
   abbrev pub EndsOnNotice : List Call → Type 0
   EndsOnNotice t = Always (λ past c. (x : Notice) → notice c ≡ Some x → EndsWith past c x) t
 
-  -- The observation of this endpoint and token ends in this call: by what is told to have ended, a GET with Observe 1,
-  -- or a notification.
+  -- The observation of this endpoint and token ends in this call: by what is told to have ended, a Reset of its last
+  -- NON, a GET with Observe 1, or a notification.
   pub data Ends (to : Endpoint) (token : List ℕ) (past : List Call) (c : Call) : Type 0 where
     is_told : (x : Ended) → ends_in (own_of limits szx past) c ≡ Some x → x.observe ≡ true → x.to ≡ to → x.token ≡ token
         → Ends to token past c
+    is_rejected : (x : Sending) (o : Observer) → rejects_in c ≡ Some x
+        → rejected (own_of limits szx (c ∷ past)).clock x.to x.id (own_of limits szx past).observers ≡ Some o → o.to ≡ to
+        → o.token ≡ token → Ends to token past c
     cancels : (x : Serving) → serving (own_of limits szx past) c ≡ Some x → observes 1 x.question ≡ true
         → x.asked.from ≡ to → x.asked.token ≡ token → Ends to token past c
     is_gone : (x : Notice) → notice c ≡ Some x → x.reply.code ≢ content → x.observer.to ≡ to → x.observer.token ≡ token

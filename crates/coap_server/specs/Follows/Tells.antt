@@ -14,6 +14,7 @@ use Rattle.coap_exchange.specs.declared.answerer.Asked.{Asked}
 use Rattle.coap_exchange.specs.declared.answerer.Due.TheVariants as due
 use Rattle.coap_server.specs.Trace.{Own, Handling, Serves, Notifies, Call, Feeds, Ticks}
 use Rattle.coap_server.specs.Observers.{registers}
+use Rattle.coap_server.specs.Plain.{by_plain}
 use Rattle.coap_server.specs.Handling.{incoming, ticking, heard}
 use Rattle.coap_server.specs.Law.{own_of}
 
@@ -75,13 +76,18 @@ answer_tells s a q reply way = tells_if (registers a q reply s.observers) s.cloc
 abbrev pub notice_tells : Own → Observer → Way → Option Telling
 notice_tells s o way = tells o.to o.token o.path way s.clock false (s.store.holds o.path)
 
+abbrev pub way_of : Bool → ℕ → Way
+way_of true id = InNon
+way_of false id = InCon id
+
 abbrev pub telling : Own → Call → Option Telling
 telling s (Feeds now from bytes word up (Some p) (Serves q reply left) below) =
     answer_tells (heard s now (incoming s now from bytes up (Some p))) p.0 q reply InReply
 telling s (Ticks now word below room (due.Ready a) passed (Serves q reply left) id answer) =
     answer_tells (heard s now (ticking s now below room (due.Ready a))) a q reply (InCon id)
 telling s (Ticks now word below room due.Idle passed (Notifies o reply) id answer) =
-    notice_tells (heard s now (ticking s now below room due.Idle)) o (InCon id)
+    let t = heard s now (ticking s now below room due.Idle) in
+    notice_tells t o (way_of (by_plain t o) id)
 telling s _ = None
 
 -- the acknowledgement of the CON to this endpoint with this Message ID arrives

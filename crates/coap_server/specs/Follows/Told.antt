@@ -1,5 +1,5 @@
 -- What a server tells its observers in the datagrams of each call (RFC 7641, sections 3 and 4.2).
-use Rattle.std.specs.Prelude.{◌≡◌, ◌≢◌, ◌⊎◌, ◌<◌, ◌^◌, ℕ, true, false, Option, Some, None, List}
+use Rattle.std.specs.Prelude.{◌≡◌, ◌≢◌, ◌⊎◌, ◌<◌, ◌^◌, ℕ, true, false, Some, List}
 use Rattle.coap_types.specs.Bytes.{AreBytes}
 use Rattle.coap_types.specs.Past.{Ever, Sometime, Always}
 use Rattle.coap_types.specs.declared.endpoint.Endpoint.{Endpoint}
@@ -14,7 +14,8 @@ use Rattle.coap_common.specs.Notifications.{is_notification, tag_in}
 use Rattle.coap_server.specs.Trace.{Call}
 use Rattle.coap_server.specs.Law.{own_of}
 use Rattle.coap_server.specs.Follows.Serves.{Serving, serving}
-use Rattle.coap_server.specs.Follows.Tells.{HearsAck, InCon, InReply, Pair, Telling, Way, registering, telling}
+use Rattle.coap_server.specs.Follows.Tells.{HearsAck, InCon, InNon, InReply, Pair, Telling, Way, registering}
+use Rattle.coap_server.specs.Follows.Tells.{telling}
 use Rattle.coap_server.specs.Follows.Adds.{call_adds}
 
 -- The message tells this there: under its token, with the entity-tag of its version.
@@ -55,11 +56,12 @@ module _ (limits : Limits) (szx : ℕ) where
         → Spells bytes m
         → is_notification m ≡ true
         → TellsIn InReply to m past c
-    -- It is in a NON where the request was no CON.
+    -- A NON is the answer to a request that was no CON, or is told so.
     pub plain : (to : Endpoint) (bytes : List ℕ) (m : Message)
         → Ever (λ b. PlainOut b (record { to = to; bytes = bytes })) (call_adds limits szx word past c) → AreBytes bytes
         → Spells bytes m
-        → is_notification m ≡ true → TellsIn InReply to m past c × ServesNon to past c
+        → is_notification m ≡ true
+        → (TellsIn InReply to m past c × ServesNon to past c) ⊎ TellsIn InNon to m past c
     -- One CON begins in a call at most.
     pub one : (a b : Open) → Ever (λ e. begun e ≡ Some a) (call_adds limits szx word past c)
         → Ever (λ e. begun e ≡ Some b) (call_adds limits szx word past c) → a ≡ b

@@ -49,6 +49,7 @@ pub record Kept (S : Type 0) : Type 0 where
   pub store : S
   pub uploads : AssemblyState
   pub observers : Roll
+  pub plains : List (List (List ℕ))
   pub delays : List T.Delay
   pub waiting : List T.Waiting
   pub applied : List T.Applied
@@ -61,6 +62,7 @@ kept_of p = record {
   store = p.store;
   uploads = p.uploads.state;
   observers = p.observers;
+  plains = p.plains.items;
   delays = map delay_as p.delays.items;
   waiting = map (waiting_as p.szx) p.waiting.items;
   applied = applied_list p.applied;
@@ -80,6 +82,7 @@ state_of content k = record {
     store = content k.store;
     uploads = k.uploads;
     observers = k.observers.list;
+    plains = k.plains;
     delays = k.delays;
     waiting = k.waiting;
     applied = k.applied;

@@ -16,4 +16,4 @@ pub record IsTurned (s : State) (d : Due) (word : ℕ) (answer : Bool) (new : St
   pub right : HandlesDue s.own d passed handling
   pub answer_is : answer ≡ is_done d handling
   pub asks : X.Exchanged (exchanges_of s) (responding s.own d passed handling word id) (exchanges_of new)
-  pub left : new.own ≡ due_after s.own d handling (responding s.own d passed handling word id)
+  pub left : new.own ≡ due_after s.own d handling id (responding s.own d passed handling word id)

@@ -6,21 +6,24 @@ ghost use Rattle.coap_observe.specs.Observers.{Observer};
 ghost use Rattle.coap_resource.specs.Content.{Held};
 ghost use Rattle.coap_exchange.specs.declared.answerer.Due.TheVariants as dues;
 ghost use Rattle.coap_exchange.specs.AnswererLaw.{Exchanged, Step};
-ghost use Rattle.coap_exchange.specs.AnswererTrace.{Notifies};
 ghost use Rattle.coap_exchange.specs.Machine.AnswererShown.{MayNotify};
+ghost use Rattle.coap_server.specs.Asks.{notifies_by};
 ghost use Rattle.coap_server.specs.Notifying as next;
 ghost use Rattle.coap_server.specs.Notifying.{behind, marked, notified, readies};
 ghost use Rattle.coap_server.specs.Object.Shown.{kept_of, seen};
+ghost use Rattle.coap_server.specs.Plain.{goes_plain};
 ghost use Rattle.coap_server.specs.Turns.Idle.{takes_notice};
 ghost use Rattle.coap_server.specs.Turns.Turned.{IsTurned};
 
 use crate::server::full_response::FullResponse;
 use crate::server::observing::sequence_of;
 use crate::server::parts::Parts;
+use crate::server::plain::is_plain;
+use crate::{CON_NOTIFICATION_MS, MAX_PLAIN_AGE_MS};
 use coap_exchange::Answerer;
 use coap_observe::{Notice, Observers};
 use coap_resource::{Asking, Store, serve};
-use coap_types::{Endpoint, Id, Method, Moment, Token};
+use coap_types::{Endpoint, Id, Method, Moment, Path, Token};
 use std::alloc::{AllocError, Allocator};
 use std::hash::BuildHasher;
 
@@ -79,7 +82,25 @@ fn notification<S: Store<A>, A: Allocator + Copy>(
     ))
 }
 
-// Sends a notification, in a Confirmable message (RFC 7641, section 4.5). It takes no memory.
+// Whether a notification goes in a Non-confirmable message: the path is plain and holds something, and
+// neither was the last Confirmable one sent a day ago, nor is the state old (RFC 7641, section 4.5).
+fn goes_plain<A: Allocator>(
+    plains: &[Path<A>],
+    at: Moment,
+    notice: &Notice<'_, A>,
+    there: bool,
+) -> bool
+    ensures { (held : Option Held) → is_some held ≡ there
+        → result ≡ goes_plain plains.now at.0 held (told notice.now true) }
+{
+    there
+        && is_plain(plains, notice.path)
+        && at.since(notice.con) < CON_NOTIFICATION_MS
+        && at.since(notice.changed) <= MAX_PLAIN_AGE_MS
+}
+
+// Sends a notification, in a Non-confirmable or a Confirmable message (RFC 7641, section 4.5). It takes
+// no memory.
 fn send<A: Allocator + Copy, H: BuildHasher>(
     exchanges: &mut Answerer<A, H>,
     at: Moment,
@@ -87,36 +108,45 @@ fn send<A: Allocator + Copy, H: BuildHasher>(
     token: &Token,
     response: &FullResponse<A>,
     word: u64,
+    plain: bool,
 ) -> Id
     requires may { MayNotify exchanges.old at.0 to }
-    ensures step { Step exchanges.old.state (Notifies at.0 to token.now response.now word result.0)
-        exchanges.new.state }
+    ensures step { (o : Observer) → o.to ≡ to → o.token ≡ token.now
+        → Step exchanges.old.state (notifies_by plain at.0 o response.now word result.0) exchanges.new.state }
     ensures before { exchanges.new.before ≡ exchanges.old.before }
 {
     let options = response.options();
     let _short = token.as_slice();
+    if plain {
+        return exchanges.notify_plain(at, to, token, &response.with(&options));
+    }
     exchanges.notify(at, to, token, &response.with(&options), word)
 }
 
-// An observer was notified at this moment: it was told what the path holds, or that it holds nothing,
-// which ends the registration (RFC 7641, section 4.2).
+// An observer was notified at this moment, in a message with this Message ID: it was told what the
+// path holds, or that it holds nothing, which ends the registration (RFC 7641, section 4.2).
 fn note_sent<A: Allocator + Copy>(
     observers: &mut Observers<A>,
     at: Moment,
     to: Endpoint,
     token: &Token,
     there: bool,
+    plain: bool,
+    id: Id,
 )
     requires timed { observers.old.clock ≤ at.0 }
     ensures left { (held : Option Held) (o : Observer) → is_some held ≡ there → o.to ≡ to → o.token ≡ token.now
-        → observers.new.list ≡ notified at.0 held o observers.old.list }
+        → observers.new.list ≡ notified plain at.0 id.0 held o observers.old.list }
     ensures timed { observers.new.clock ≤ at.0 }
 {
-    if there {
-        let _was_due = observers.sent(at, to, token, true);
-    } else {
+    if !there {
         let _was_there = observers.remove(to, token);
+        return;
     }
+    if plain {
+        observers.noted(at, to, token, id);
+    }
+    let _was_due = observers.sent(at, to, token, !plain);
 }
 
 /// Notifies the first observer to which a notification is due and can be sent, of what its path holds
@@ -143,9 +173,10 @@ pub(crate) fn notify_next<S: Store<A>, A: Allocator + Copy, H: BuildHasher>(
     };
     let (response, there) = notification(&mut parts.store, at, &notice)?;
     // Nothing fails from here on.
+    let plain = goes_plain(&parts.plains, at, &notice, there);
     let Notice { to, token, .. } = notice;
-    let _id = send(&mut parts.exchanges, at, to, &token, &response, word);
-    note_sent(&mut parts.observers, at, to, &token, there);
+    let id = send(&mut parts.exchanges, at, to, &token, &response, word, plain);
+    note_sent(&mut parts.observers, at, to, &token, there, plain, id);
     parts.applied = None;
     Ok(true)
 }

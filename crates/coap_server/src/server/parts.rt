@@ -78,6 +78,8 @@ pub(crate) struct Parts<S: Drop, A: Allocator + Copy, H: BuildHasher> {
     pub(crate) uploads: Assembly<A>,
     /// Who observes which resource (RFC 7641, section 4.1).
     pub(crate) observers: Observers<A>,
+    /// The paths whose observers are told in Non-confirmable messages.
+    pub(crate) plains: Vec<Path<A>, A>,
     /// The paths whose requests are answered later.
     pub(crate) delays: Vec<Delay<A>, A>,
     /// The requests that are answered later, in order.
