@@ -17,6 +17,7 @@ pub const CON_NOTIFICATION_MS: u64 = 86_400_000;
 pub const MAX_PLAIN_AGE_MS: u64 = 100_000;
 
 const _: () = prove!(MAX_DELAYS == 16 && MAX_PLAINS == 16 && CON_NOTIFICATION_MS == 86_400_000);
+
 const _: () = prove!(MAX_PLAIN_AGE_MS == 100_000);
 
 // What goes in a NON arrives within the window of the change that made it and the next one, and so

@@ -268,96 +268,96 @@ module _ (limits : Limits) (szx word : ℕ) where
     -- a notification
     module _ (now w : ℕ) (below : L.Answer) (room : Bool) (passed id : ℕ) (answer : Bool) (o : Observer) (reply : Reply)
         (law : ServerLaw limits szx word (Ticks now w below room due.Idle passed (Notifies o reply) id answer ∷ older))
-        where
-      abbrev s : Own
-      s = stage older now w below room passed id answer o reply
+      where
+        abbrev s : Own
+        s = stage older now w below room passed id answer o reply
 
-      abbrev r : E.Response
-      r = notification s.store o reply
+        abbrev r : E.Response
+        r = notification s.store o reply
 
-      past_law : ServerLaw limits szx word older
-      past_law = server_back limits szx word
-          (Ticks now w below room due.Idle passed (Notifies o reply) id answer) older law
+        past_law : ServerLaw limits szx word older
+        past_law = server_back limits szx word
+            (Ticks now w below room due.Idle passed (Notifies o reply) id answer) older law
 
-      told : Told older s o
-      told = told_here older now w below room passed id answer o reply law
+        told : Told older s o
+        told = told_here older now w below room passed id answer o reply law
 
-      -- what is asked before it
-      abbrev xs : E.Own
-      xs = exchanges_after s.exchanges (asks older now w below room passed id answer o reply)
+        -- what is asked before it
+        abbrev xs : E.Own
+        xs = exchanges_after s.exchanges (asks older now w below room passed id answer o reply)
 
-      -- what it leaves, as it goes
-      abbrev Left : Bool → Telling → Type 0
-      Left plain y = Lives y (FlightOf y y.way (P.after xs (notifies_by plain s.clock o r w id)).separate []) s.store
-          (notified plain s.clock id (s.store.holds o.path) o s.observers)
+        -- what it leaves, as it goes
+        abbrev Left : Bool → Telling → Type 0
+        Left plain y = Lives y (FlightOf y y.way (P.after xs (notifies_by plain s.clock o r w id)).separate []) s.store
+            (notified plain s.clock id (s.store.holds o.path) o s.observers)
 
-      abbrev notice : Bool → Held → Telling
-      notice plain held = telling_of o.to o.token o.path (way_of plain id) s.clock false held
+        abbrev notice : Bool → Held → Telling
+        notice plain held = telling_of o.to o.token o.path (way_of plain id) s.clock false held
 
-      low : (held : Held) → s.store.holds o.path ≡ Some held → held.version ≤ s.store.tally.version
-      low held is = are_low limits szx word older past_law o.path held is
+        low : (held : Held) → s.store.holds o.path ≡ Some held → held.version ≤ s.store.tally.version
+        low held is = are_low limits szx word older past_law o.path held is
 
-      in_con : (held : Held) → s.store.holds o.path ≡ Some held → Left false (notice false held)
-      in_con held is =
-          let y : Telling = notice false held in
-          let F : Type 0 = FlightOf y y.way (xs.separate ++ separate_of o.to id o.token r ∷ []) [] in
-          let left : notified false s.clock id (s.store.holds o.path) o s.observers
-          ≡ sent_to s.clock o.to o.token true s.observers =
-          ap (λ z. notified false s.clock id z o s.observers) is in
-          let first : LivesAt y F s.store (sent_to s.clock o.to o.token true s.observers) = record {
-            entry = told_by s.clock true o;
-            is = registration-sent_to s.clock o.to o.token true s.observers
-                ∙ ap (option_map (told_by s.clock true)) told.is;
-            path = refl;
-            low = low held is;
-            fresh = λ m z e. absurd (cc m);
-            young = λ k. absurd (cc k);
-            flies = inl (begins o.to id o.token xs.separate r
-                (free older now w below room passed id answer o reply law)
-                (ends_as o.to id o.token r (notification_observes s.store o reply held is)));
-          } in
-          subst (Lives y F s.store) (sym left) (inr first)
+        in_con : (held : Held) → s.store.holds o.path ≡ Some held → Left false (notice false held)
+        in_con held is =
+            let y : Telling = notice false held in
+            let F : Type 0 = FlightOf y y.way (xs.separate ++ separate_of o.to id o.token r ∷ []) [] in
+            let left : notified false s.clock id (s.store.holds o.path) o s.observers
+            ≡ sent_to s.clock o.to o.token true s.observers =
+            ap (λ z. notified false s.clock id z o s.observers) is in
+            let first : LivesAt y F s.store (sent_to s.clock o.to o.token true s.observers) = record {
+              entry = told_by s.clock true o;
+              is = registration-sent_to s.clock o.to o.token true s.observers
+                  ∙ ap (option_map (told_by s.clock true)) told.is;
+              path = refl;
+              low = low held is;
+              fresh = λ m z e. absurd (cc m);
+              young = λ k. absurd (cc k);
+              flies = inl (begins o.to id o.token xs.separate r
+                  (free older now w below room passed id answer o reply law)
+                  (ends_as o.to id o.token r (notification_observes s.store o reply held is)));
+            } in
+            subst (Lives y F s.store) (sym left) (inr first)
 
-      -- its state was made when the entry says
-      dated : (held : Held) → s.store.holds o.path ≡ Some held → IsSince held.version o.changed s.store.tally
-      dated held is =
-          each_there (IsDated s.store) s.observers o
-          (ended_dated s.store (P.failed_by below (own older).exchanges.separate) (own older).observers
-          (are_dated limits szx word older past_law)) told.there told.marked_is held is
+        -- its state was made when the entry says
+        dated : (held : Held) → s.store.holds o.path ≡ Some held → IsSince held.version o.changed s.store.tally
+        dated held is =
+            each_there (IsDated s.store) s.observers o
+            (ended_dated s.store (P.failed_by below (own older).exchanges.separate) (own older).observers
+            (are_dated limits szx word older past_law)) told.there told.marked_is held is
 
-      in_non : by_plain s o ≡ true → (held : Held) → s.store.holds o.path ≡ Some held → Left true (notice true held)
-      in_non goes held is =
-          let y : Telling = notice true held in
-          let noted : List Observer = noted_to s.clock o.to o.token id s.observers in
-          let left : notified true s.clock id (s.store.holds o.path) o s.observers
-          ≡ sent_to s.clock o.to o.token false noted = ap (λ z. notified true s.clock id z o s.observers) is in
-          let keep : Observer → Observer = λ z. record z { noted = Some (record { id = id; at = s.clock }) } in
-          let first : LivesAt y (Unit {0}) s.store (sent_to s.clock o.to o.token false noted) = record {
-            entry = told_by s.clock false (keep o);
-            is = registration-sent_to s.clock o.to o.token false noted
-                ∙ ap (option_map (told_by s.clock false))
-                (registration-noted_to s.clock o.to o.token id s.observers ∙ ap (option_map keep) told.is);
-            path = refl;
-            low = low held is;
-            fresh = λ m z e. absurd (cc m);
-            young = λ k. record {
-              made = o.changed;
-              young = young_by s.plains s.clock held o (ap (λ z. goes_plain s.plains s.clock z o) (sym is) ∙ goes);
-              since = dated held is;
-            };
-            flies = tt;
-          } in
-          subst (Lives y (Unit {0}) s.store) (sym left) (inr first)
+        in_non : by_plain s o ≡ true → (held : Held) → s.store.holds o.path ≡ Some held → Left true (notice true held)
+        in_non goes held is =
+            let y : Telling = notice true held in
+            let noted : List Observer = noted_to s.clock o.to o.token id s.observers in
+            let left : notified true s.clock id (s.store.holds o.path) o s.observers
+            ≡ sent_to s.clock o.to o.token false noted = ap (λ z. notified true s.clock id z o s.observers) is in
+            let keep : Observer → Observer = λ z. record z { noted = Some (record { id = id; at = s.clock }) } in
+            let first : LivesAt y (Unit {0}) s.store (sent_to s.clock o.to o.token false noted) = record {
+              entry = told_by s.clock false (keep o);
+              is = registration-sent_to s.clock o.to o.token false noted
+                  ∙ ap (option_map (told_by s.clock false))
+                  (registration-noted_to s.clock o.to o.token id s.observers ∙ ap (option_map keep) told.is);
+              path = refl;
+              low = low held is;
+              fresh = λ m z e. absurd (cc m);
+              young = λ k. record {
+                made = o.changed;
+                young = young_by s.plains s.clock held o (ap (λ z. goes_plain s.plains s.clock z o) (sym is) ∙ goes);
+                since = dated held is;
+              };
+              flies = tt;
+            } in
+            subst (Lives y (Unit {0}) s.store) (sym left) (inr first)
 
-      by_way : (plain : Bool) → by_plain s o ≡ plain → (held : Option Held) → s.store.holds o.path ≡ held
-          → tells o.to o.token o.path (way_of plain id) s.clock false held ≡ Some x → Left plain x
-      by_way plain goes None is k = absurd (cc k)
-      by_way false goes (Some held) is k = subst (Left false) (one _ x k) (in_con held is)
-      by_way true goes (Some held) is k = subst (Left true) (one _ x k) (in_non goes held is)
+        by_way : (plain : Bool) → by_plain s o ≡ plain → (held : Option Held) → s.store.holds o.path ≡ held
+            → tells o.to o.token o.path (way_of plain id) s.clock false held ≡ Some x → Left plain x
+        by_way plain goes None is k = absurd (cc k)
+        by_way false goes (Some held) is k = subst (Left false) (one _ x k) (in_con held is)
+        by_way true goes (Some held) is k = subst (Left true) (one _ x k) (in_non goes held is)
 
-      notifies : telling (own older) (Ticks now w below room due.Idle passed (Notifies o reply) id answer) ≡ Some x
-          → Begins (Ticks now w below room due.Idle passed (Notifies o reply) id answer)
-      notifies h = by_way (by_plain s o) refl (s.store.holds o.path) refl h
+        notifies : telling (own older) (Ticks now w below room due.Idle passed (Notifies o reply) id answer) ≡ Some x
+            → Begins (Ticks now w below room due.Idle passed (Notifies o reply) id answer)
+        notifies h = by_way (by_plain s o) refl (s.store.holds o.path) refl h
 
     begins_at : (c : Call) → ServerLaw limits szx word (c ∷ older) → telling (own older) c ≡ Some x → Begins c
     begins_at (Feeds now from bytes w up (Some p) (Serves q reply left) below) law h =

@@ -97,11 +97,10 @@ module _ (word : ℕ) where
   notice_quiet false at o r w id s = (refl, tt)
 
   responding_quiet : (s : Own) (d : Due) (passed : ℕ) (h : Handling) (w id : ℕ) → Quiet (responding s d passed h w id)
-  responding_quiet s due.Idle passed (Notifies o reply) w id =
-      (
-        notice_quiet (by_plain s o) s.clock o (notification s.store o reply) w id,
-        readies_quiet s.clock passed (marked s.observers),
-      )
+  responding_quiet s due.Idle passed (Notifies o reply) w id = (
+    notice_quiet (by_plain s o) s.clock o (notification s.store o reply) w id,
+    readies_quiet s.clock passed (marked s.observers),
+  )
   responding_quiet s due.Idle passed Silent w id = readies_quiet s.clock passed (marked s.observers)
   responding_quiet s due.Idle passed (Replies r) w id = readies_quiet s.clock passed (marked s.observers)
   responding_quiet s due.Idle passed (Serves q reply left) w id = readies_quiet s.clock passed (marked s.observers)
