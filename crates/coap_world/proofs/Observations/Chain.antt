@@ -1,6 +1,6 @@
 -- From notifications that lie next to each other to any two (RFC 7641, section 3.4): where each rises over the newest
 -- before it, each rises over any that was taken before.
-use Rattle.std.proofs.Common.{◌≡◌, ◌<◌, ◌⊎◌, inl, inr, ℕ, ◌==◌, Bool, true, false, Option, Some, None, List, [], ◌∷◌, refl}
+use Rattle.std.proofs.Common.{◌≡◌, ◌⊎◌, inl, inr, ℕ, ◌==◌, Bool, true, false, Option, Some, None, List, [], ◌∷◌, refl}
 use Rattle.std.proofs.Common.{ap, sym, subst, ◌∙◌, arith}
 use Rattle.std.specs.Cmp.{unsigned_Decides}
 use Rattle.coap_types.specs.Past.{Sometime, Always}

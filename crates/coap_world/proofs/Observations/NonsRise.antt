@@ -1,11 +1,10 @@
 -- A notification in a NON that is taken was told behind the newest before it (RFC 7641, sections 3.4 and 4.5), as moments
 -- and versions alone: where it was told earlier, or no later, the rule of freshness does not take it as newer.
-use Rattle.std.proofs.Common.{◌≡◌, ◌<◌, ◌≤◌, ℕ, ◌+◌, ◌*◌, sym, subst, arith}
+use Rattle.std.proofs.Common.{◌≡◌, ◌<◌, ◌≤◌, ℕ, ◌+◌, ◌*◌, subst, arith}
 use Rattle.coap_types.specs.declared.transmission.TheConstants.{MAX_LATENCY_MS as max_latency}
-use Rattle.coap_observe.specs.Fresh.{ComesBehind, IsNear}
+use Rattle.coap_observe.specs.Fresh.{IsNear}
 use Rattle.coap_observe.specs.Newer.{Mark, Newer}
 use Rattle.coap_observe.specs.Versions.{sequence_number}
-use Rattle.coap_observe.specs.declared.sequence.TheConstants.{HALF_RANGE as half_range}
 use Rattle.coap_observe.proofs.Facts.Fresh.{none_is_stale}
 use Rattle.coap_resource.specs.declared.tally.TheConstants.{MAX_CHANGES_PER_WINDOW as max_changes}
 

@@ -1,9 +1,8 @@
 -- An entity-tag names one version, and a notification says the number of the version that its tag names (RFC 7641,
 -- section 4.4).
-use Rattle.std.proofs.Common.{◌≡◌, ◌<◌, ◌^◌, inl, inr, ℕ, true, Option, Some, List, [], ◌∷◌, ap, sym, subst, ◌∙◌}
+use Rattle.std.proofs.Common.{◌≡◌, ◌<◌, ◌^◌, inl, inr, ℕ, true, Option, Some, List, [], ◌∷◌, ap, sym, ◌∙◌}
 use Rattle.std.specs.Int.{w64, from_be_bytes}
 use Rattle.std.proofs.lemmas.Nat.{from_be_bytes-to_be_bytes_8}
-use Rattle.coap_types.specs.Past.{Always}
 use Rattle.coap_codec.specs.Message.{Message}
 use Rattle.coap_observe.specs.Versions.{sequence_number}
 use Rattle.coap_resource.specs.Content.{Held}

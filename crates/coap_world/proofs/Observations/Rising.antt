@@ -42,7 +42,6 @@ use Rattle.coap_world.proofs.Observations.Taken.{sizes, HeardTold, in_con, in_ac
 use Rattle.coap_world.proofs.Observations.Taken.{formats_back, taken_here, taken_told}
 use Rattle.coap_world.proofs.Reports.FormatsSet.{FormatsIn}
 use Rattle.coap_world.proofs.Requests.OfACall.{Lawful, lawful_back}
-use Rattle.coap_world.proofs.Requests.Traced.{sent_later}
 
 rising_by : (v w : ℕ) (first second : Option (List ℕ)) → Names v first → Names w second → v < w → AreRising first second
 rising_by v w first second a b less = record {
