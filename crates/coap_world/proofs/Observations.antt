@@ -1,8 +1,13 @@
 pub mod Positions
 pub mod Heard
 pub mod OneRegistration
+pub mod RepliesRegister
 pub mod Following
 pub mod Acknowledged
 pub mod TagOfAValue
+pub mod OneVersion
+pub mod NonsRise
+pub mod Chain
+pub mod Taken
 pub mod Rising
 pub mod HeldAreNamed

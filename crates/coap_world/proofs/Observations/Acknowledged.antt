@@ -27,7 +27,7 @@ use Rattle.coap_world.proofs.Observations.Following.{AckedBehind}
 use Rattle.coap_world.proofs.Observations.Positions.{across_append, across_far, AtServer, server_entries}
 
 -- moments don't fall
-before_now : (setup : Setup) (P : T.Entry → Type 0) (t : List T.Entry) (n : ℕ) → LayerLaw setup t → clock t ≤ n → Ever P t
+pub before_now : (setup : Setup) (P : T.Entry → Type 0) (t : List T.Entry) (n : ℕ) → LayerLaw setup t → clock t ≤ n → Ever P t
     → Ever (λ e. P e × (e.at ≤ n)) t
 before_now setup P [] n law low h = absurd h
 before_now setup P (e ∷ past) n law low (inl h) = inl (h, low)

@@ -1,6 +1,6 @@
 -- What a server tells under one registration, as long as there is one alone.
-use Rattle.std.proofs.Common.{◌≡◌, ◌<◌, inl, inr, ℕ, false, Option, Some, List, [], ◌∷◌, ◌++◌, refl, ap, sym, subst}
-use Rattle.std.proofs.Common.{◌∙◌}
+use Rattle.std.proofs.Common.{◌≡◌, inl, inr, ℕ, true, false, Option, Some, None, List, [], ◌∷◌, ◌++◌, refl, ap, sym}
+use Rattle.std.proofs.Common.{subst, ◌∙◌}
 use Rattle.coap_types.specs.Past.{Ever, Sometime, Always}
 use Rattle.coap_types.proofs.Facts.Traces.{Ever_front, Ever_back, Sometime_back, Always_back}
 use Rattle.coap_types.specs.declared.endpoint.Endpoint.{Endpoint}
@@ -13,10 +13,11 @@ use Rattle.coap_server.specs.Law.{ServerLaw, own_of, layer_of}
 use Rattle.coap_server.specs.Follows.Tells.{Pair, Telling, telling, HearsAck, FollowsOn, NoneMade}
 use Rattle.coap_server.proofs.Facts.Laws as facts
 use Rattle.coap_server.specs.Follows.Adds.{call_adds}
-use Rattle.coap_server.specs.Follows.Told.{Conveys, TellsIn, ServesPair, pair_of, IsUnder}
+use Rattle.coap_server.specs.Follows.Told.{Conveys, TellsIn, ServesPair, pair_of, IsUnder, AreUnder}
 use Rattle.coap_server.specs.Follows.Told.{AllServePairs}
 use Rattle.coap_server.proofs.Facts.EachCall.{layer_next}
 use Rattle.coap_server.proofs.Facts.EachCall.{all_serve_pairs, are_under}
+use Rattle.coap_world.proofs.Observations.RepliesRegister.{reply_registers}
 
 -- where something happened, and what came behind it and before
 pub record Split {E : Type 0} (P : List E → E → Type 0) (t : List E) : Type 0 where
@@ -61,20 +62,32 @@ module _ (limits : Limits) (szx word : ℕ) where
       ]
 
   -- one behind the other
-  follow_here : (newer older : List Call) (c d : Call) (x y : Telling)
-      → ServerLaw limits szx word (d ∷ (newer ++ c ∷ older)) → OnceOf (pair_of limits szx x) (d ∷ (newer ++ c ∷ older))
-      → telling (own older) c ≡ Some x → telling (own (newer ++ c ∷ older)) d ≡ Some y → y.to ≡ x.to → y.token ≡ x.token
-      → FollowsOn newer x y
-  follow_here newer older c d x y law once first second to token =
-      let p : Pair = pair_of limits szx x in
-      let under = are_under limits szx word (d ∷ (newer ++ c ∷ older)) law in
-      let made = told_since older c x (Always_back (IsUnder limits szx) newer (c ∷ older) under.1).0 first in
-      let before = Sometime_back (ServesPair limits szx p) newer (c ∷ older) made in
-      let same : pair_of limits szx y ≡ p = ap {B = Pair} (λ z. record { to = z; token = y.token }) to
-      ∙ ap {B = Pair} (λ z. record { to = x.to; token = z }) token in
-      facts.follows limits szx word (d ∷ (newer ++ c ∷ older)) law newer older c d x y refl first second
-      (not_first (newer ++ c ∷ older) d p y same under.0 second once before) to token
-      (none_made p newer (c ∷ older) once.1 (all_serve_pairs limits szx (newer ++ c ∷ older)) made)
+  module _ (newer older : List Call) (c d : Call) (x y : Telling)
+      (law : ServerLaw limits szx word (d ∷ (newer ++ c ∷ older)))
+      (once : OnceOf (pair_of limits szx x) (d ∷ (newer ++ c ∷ older))) (first : telling (own older) c ≡ Some x)
+      (second : telling (own (newer ++ c ∷ older)) d ≡ Some y) (to : y.to ≡ x.to) (token : y.token ≡ x.token) where
+    abbrev p : Pair
+    p = pair_of limits szx x
+
+    under : AreUnder limits szx (d ∷ (newer ++ c ∷ older))
+    under = are_under limits szx word (d ∷ (newer ++ c ∷ older)) law
+
+    made : Sometime (ServesPair limits szx p) (c ∷ older)
+    made = told_since older c x (Always_back (IsUnder limits szx) newer (c ∷ older) under.1).0 first
+
+    -- the newer one does not make the registration
+    registers_not : y.registers ≡ false
+    registers_not =
+        let same : pair_of limits szx y ≡ p = ap {B = Pair} (λ z. record { to = z; token = y.token }) to
+        ∙ ap {B = Pair} (λ z. record { to = x.to; token = z }) token in
+        not_first (newer ++ c ∷ older) d p y same under.0 second once
+        (Sometime_back (ServesPair limits szx p) newer (c ∷ older) made)
+
+    follow_here : FollowsOn newer x y
+    follow_here =
+        facts.follows limits szx word (d ∷ (newer ++ c ∷ older)) law newer older c d x y refl first second registers_not to
+        token
+        (none_made p newer (c ∷ older) once.1 (all_serve_pairs limits szx (newer ++ c ∷ older)) made)
 
   -- what was begun in a call is in the layer's entries behind it
   begun_behind : (P : L.Entry → Type 0) (newer older : List Call) (c : Call) → Ever P (call_adds limits szx word older c)
@@ -114,46 +127,80 @@ module _ (limits : Limits) (szx word : ℕ) where
       abbrev Second : List Call → Call → Type 0
       Second past c = TellsIn limits szx l to n past c
 
-      follow_split : (newer older : List Call) (c d : Call) → ServerLaw limits szx word (d ∷ (newer ++ c ∷ older))
-          → OnceOf pair (d ∷ (newer ++ c ∷ older)) → (x : First older c) → (y : Second (newer ++ c ∷ older) d)
-          → FollowsOn newer x.told y.told
-      follow_split newer older c d law once x y =
-          follow_here newer older c d x.told y.told law
-          (subst (λ z. OnceOf z (d ∷ (newer ++ c ∷ older))) (pair_is x.told m x.conveys older_is) once) x.here
-          y.here
-          (y.conveys.to_is ∙ sym x.conveys.to_is) (y.conveys.token_is
-          ∙ (newer_is ∙ (sym older_is ∙ sym x.conveys.token_is)))
+      module _ (newer older : List Call) (c d : Call) (law : ServerLaw limits szx word (d ∷ (newer ++ c ∷ older)))
+          (once : OnceOf pair (d ∷ (newer ++ c ∷ older))) (x : First older c) (y : Second (newer ++ c ∷ older) d) where
+        once_here : OnceOf (pair_of limits szx x.told) (d ∷ (newer ++ c ∷ older))
+        once_here = subst (λ z. OnceOf z (d ∷ (newer ++ c ∷ older))) (pair_is x.told m x.conveys older_is) once
 
-      -- the versions rise
-      pub record Rises : Type 0 where
-        pub first : Telling
-        pub second : Telling
-        pub first_conveys : Conveys first to m
-        pub second_conveys : Conveys second to n
-        pub less : first.version < second.version
+        to_same : y.told.to ≡ x.told.to
+        to_same = y.conveys.to_is ∙ sym x.conveys.to_is
 
-      rises_split : (past : List Call) (d : Call) → ServerLaw limits szx word (d ∷ past) → OnceOf pair (d ∷ past)
-          → Second past d → (s : Split First past) → Rises
-      rises_split past d law once y s = by s.newer s.entry s.older s.is s.here
+        token_same : y.told.token ≡ x.told.token
+        token_same = y.conveys.token_is ∙ (newer_is ∙ (sym older_is ∙ sym x.conveys.token_is))
+
+        follow_split : FollowsOn newer x.told y.told
+        follow_split = follow_here newer older c d x.told y.told law once_here x.here y.here to_same token_same
+
+        split_registers : y.told.registers ≡ false
+        split_registers = registers_not newer older c d x.told y.told law once_here x.here y.here to_same token_same
+
+      -- .. with all that is known of both
+      module _ (A B : List Call → Call → Type 0) (is_first : (past : List Call) (c : Call) → A past c → First past c)
+          (is_second : (past : List Call) (c : Call) → B past c → Second past c) where
+        pub record Follow : Type 0 where
+          pub after : List Call
+          pub older : List Call
+          pub call : Call
+          pub one : A older call
+          pub next : Call
+          pub other : B (after ++ call ∷ older) next
+          pub follows : FollowsOn after (is_first older call one).told (is_second (after ++ call ∷ older) next other).told
+
+        follows_split : (past : List Call) (d : Call) → ServerLaw limits szx word (d ∷ past) → OnceOf pair (d ∷ past)
+            → B past d → (s : Split A past) → Follow
+        follows_split past d law once y s = by s.newer s.entry s.older s.is s.here
+          where
+            by : (newer : List Call) (c : Call) (older : List Call) → past ≡ newer ++ c ∷ older → A older c → Follow
+            by newer c older e x =
+                let z = subst (λ q. B q d) e y in
+                record {
+                  after = newer;
+                  older = older;
+                  call = c;
+                  one = x;
+                  next = d;
+                  other = z;
+                  follows = follow_split newer older c d (subst (λ q. ServerLaw limits szx word (d ∷ q)) e law)
+                      (subst (λ q. OnceOf pair (d ∷ q)) e once) (is_first older c x) (is_second (newer ++ c ∷ older) d z);
+                }
+
+        pub follows_in : (t : List Call) → ServerLaw limits szx word t → OnceOf pair t
+            → Sometime (λ past d. B past d × Sometime A past) t → Follow
+        follows_in [] law once h = absurd h
+        follows_in (d ∷ past) law once (inl h) = follows_split past d law once h.0 (split A past h.1)
+        follows_in (d ∷ past) law once (inr h) =
+            follows_in past (facts.back limits szx word (d ∷ []) past law) once.1 h
+
+      -- the answer to the registration, which goes in no CON, is told first
+      reply_split : l ≡ None → (past : List Call) (d : Call) → ServerLaw limits szx word (d ∷ past)
+          → OnceOf pair (d ∷ past) → Second past d → (s : Split First past) → ⊥
+      reply_split reply past d law once y s = by s.newer s.entry s.older s.is s.here
         where
-          by : (newer : List Call) (c : Call) (older : List Call) → past ≡ newer ++ c ∷ older → First older c → Rises
+          by : (newer : List Call) (c : Call) (older : List Call) → past ≡ newer ++ c ∷ older → First older c → ⊥
           by newer c older e x =
               let z = subst (λ q. Second q d) e y in
-              let f = follow_split newer older c d (subst (λ q. ServerLaw limits szx word (d ∷ q)) e law)
+              let no = split_registers newer older c d (subst (λ q. ServerLaw limits szx word (d ∷ q)) e law)
               (subst (λ q. OnceOf pair (d ∷ q)) e once) x z in
-              record {
-                first = x.told;
-                second = z.told;
-                first_conveys = x.conveys;
-                second_conveys = z.conveys;
-                less = f.version;
-              }
+              let yes = reply_registers (own (newer ++ c ∷ older)) d z.told z.here (z.con_is ∙ reply) in
+              let both : false ≡ true = sym no ∙ yes in
+              cc both
 
-      pub rises_in : (t : List Call) → ServerLaw limits szx word t → OnceOf pair t
-          → Sometime (λ past d. Second past d × Sometime First past) t → Rises
-      rises_in [] law once h = absurd h
-      rises_in (d ∷ past) law once (inl h) = rises_split past d law once h.0 (split First past h.1)
-      rises_in (d ∷ past) law once (inr h) = rises_in past (facts.back limits szx word (d ∷ []) past law) once.1 h
+      pub reply_first : l ≡ None → (t : List Call) → ServerLaw limits szx word t → OnceOf pair t
+          → Sometime (λ past d. Second past d × Sometime First past) t → ⊥
+      reply_first reply [] law once h = h
+      reply_first reply (d ∷ past) law once (inl h) = reply_split reply past d law once h.0 (split First past h.1)
+      reply_first reply (d ∷ past) law once (inr h) =
+          reply_first reply past (facts.back limits szx word (d ∷ []) past law) once.1 h
 
     -- where the earlier one was sent in a CON, that was acknowledged before the later one was made
     module _ (con : Open) (l : Option ℕ) (m n : Message) (older_is : m.token ≡ token) (newer_is : n.token ≡ token) where

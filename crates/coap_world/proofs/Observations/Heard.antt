@@ -1,5 +1,5 @@
--- What a client hears of an observation the server told before, in which call.
-use Rattle.std.proofs.Common.{◌≡◌, inl, inr, ℕ, true, Option, Some, None, List, [], ◌∷◌, ◌++◌, map, refl, ap, sym}
+-- What a client hears of an observation the server told before, in which call, and when.
+use Rattle.std.proofs.Common.{◌≡◌, ◌≤◌, inl, inr, ℕ, true, Option, Some, None, List, [], ◌∷◌, ◌++◌, map, refl, ap, sym}
 use Rattle.std.proofs.Common.{subst, ◌∙◌, cond}
 use Rattle.coap_types.specs.Bytes.{AreBytes}
 use Rattle.coap_types.specs.Past.{Ever, Sometime, Always}
@@ -17,6 +17,7 @@ use Rattle.coap_layer.proofs.Facts.Laws.{responses_spelled}
 use Rattle.coap_layer.specs.Machine.State.{usual}
 use Rattle.coap_layer.specs.declared.setup.Setup.{Setup}
 use Rattle.coap_client.specs.Follows.Hears.{Hears}
+use Rattle.coap_client.specs.Follows.Noted.{HeardAt}
 use Rattle.coap_client.specs.Responses.{is_notification}
 use Rattle.coap_client.specs.Trace as C
 use Rattle.coap_server.specs.Law.{layer_of}
@@ -33,22 +34,23 @@ use Rattle.coap_world.proofs.Delivery.HopsAreEntries.{far_is}
 use Rattle.coap_world.proofs.Requests.OfACall.{Lawful}
 use Rattle.coap_world.proofs.Observations.Positions.{across_near, located}
 
--- a CON is in the bytes of an entry of the near layer, and it is handed up here
-pub record ConHeard (m : Message) (adds : List T.Entry) (hs : List Hop) : Type 0 where
+-- a CON is in the bytes of an entry of the near layer, and it is handed up here, at this moment
+pub record ConHeard (m : Message) (at : ℕ) (adds : List T.Entry) (hs : List Hop) : Type 0 where
   pub con : Open
   pub begun_before : Ever (λ b. begun b ≡ Some con) (near_of hs)
   pub to_is : con.to ≡ client_end
   pub are : AreBytes con.bytes
   pub spells : Spells con.bytes m
   pub up : Ever (HandsUpAs server_end con) adds
+  pub from : con.first ≤ at
 
--- a NON was sent by the near layer, an acknowledgement given by the far one
+-- a NON was sent by the near layer, at most MAX_LATENCY before this moment; an acknowledgement given by the far one
 
-pub record NonHeard (m : Message) (hs : List Hop) : Type 0 where
+pub record NonHeard (m : Message) (at : ℕ) (hs : List Hop) : Type 0 where
   pub bytes : List ℕ
   pub are : AreBytes bytes
   pub spells : Spells bytes m
-  pub sent : Ever (λ e. PlainOut e (record { to = client_end; bytes = bytes })) (near_of hs)
+  pub sent : Ever (PlainSent client_end bytes at) (near_of hs)
 
 pub record AckHeard (m : Message) (hs : List Hop) : Type 0 where
   pub bytes : List ℕ
@@ -72,11 +74,11 @@ module _ (one other : Setup) (m : Message) where
     handed_by = (handed_spelled other (x ∷ far_of past) law.far_law).0 incoming is_handed
 
   module _ (hs : List Hop) where
-    con_heard : (adds : List T.Entry) → ChannelLaw one other server_end client_end (map Far adds ++ hs)
-        → Ever (Hears server_end m) adds → m.kind ≡ Con → ConHeard m adds hs
-    con_heard [] law h kind = absurd h
-    con_heard (x ∷ adds) law (inr h) kind =
-        let k = con_heard adds (earlier one other server_end client_end (map Far adds ++ hs) (Far x) law) h kind in
+    con_heard : (at : ℕ) (adds : List T.Entry) → ChannelLaw one other server_end client_end (map Far adds ++ hs)
+        → Ever (HeardAt server_end m at) adds → m.kind ≡ Con → ConHeard m at adds hs
+    con_heard at [] law h kind = absurd h
+    con_heard at (x ∷ adds) law (inr h) kind =
+        let k = con_heard at adds (earlier one other server_end client_end (map Far adds ++ hs) (Far x) law) h kind in
         record {
           con = k.con;
           begun_before = k.begun_before;
@@ -84,11 +86,12 @@ module _ (one other : Setup) (m : Message) where
           are = k.are;
           spells = k.spells;
           up = inr k.up;
+          from = k.from;
         }
-    con_heard (x ∷ adds) law (inl h) kind =
+    con_heard at (x ∷ adds) law (inl h) kind =
         let past = map Far adds ++ hs in
         let kept : is_kept m.kind ≡ true = ap is_kept kind in
-        let by = handed_by past x law h kept in
+        let by = handed_by past x law h.hears kept in
         let b = begun_as one other server_end client_end past x by.bytes m law by.call by.spells kind in
         record {
           con = b.con;
@@ -97,33 +100,33 @@ module _ (one other : Setup) (m : Message) where
           are = subst AreBytes (sym b.bytes_are) by.are_bytes;
           spells = subst (λ z. Spells z m) (sym b.bytes_are) by.spells;
           up = inl (record {
-            message = incoming past x law h kept;
-            up = is_handed past x law h kept;
+            message = incoming past x law h.hears kept;
+            up = is_handed past x law h.hears kept;
             from_is = refl;
             id_is = sym b.id_is;
             from = b.from;
             till = b.till;
           });
+          from = subst (λ n. b.con.first ≤ n) h.at_is b.from;
         }
 
-    non_heard : (adds : List T.Entry) → ChannelLaw one other server_end client_end (map Far adds ++ hs)
-        → Ever (Hears server_end m) adds → m.kind ≡ Non → NonHeard m hs
-    non_heard [] law h kind = absurd h
-    non_heard (x ∷ adds) law (inr h) kind = non_heard adds
+    non_heard : (at : ℕ) (adds : List T.Entry) → ChannelLaw one other server_end client_end (map Far adds ++ hs)
+        → Ever (HeardAt server_end m at) adds → m.kind ≡ Non → NonHeard m at hs
+    non_heard at [] law h kind = absurd h
+    non_heard at (x ∷ adds) law (inr h) kind = non_heard at adds
         (earlier one other server_end client_end (map Far adds ++ hs) (Far x) law) h kind
-    non_heard (x ∷ adds) law (inl h) kind =
+    non_heard at (x ∷ adds) law (inl h) kind =
         let past = map Far adds ++ hs in
         let kept : is_kept m.kind ≡ true = ap is_kept kind in
-        let by = handed_by past x law h kept in
+        let by = handed_by past x law h.hears kept in
         let sent = (nons_sent one other server_end client_end (Far x ∷ past) law).0 x by.bytes m refl by.call by.spells
         kind in
         record {
           bytes = by.bytes;
           are = by.are_bytes;
           spells = by.spells;
-          sent = subst (Ever (λ e. PlainOut e (record { to = client_end; bytes = by.bytes }))) (near_far adds hs)
-              (Ever_map (PlainSent client_end by.bytes x.at)
-              (λ e. PlainOut e (record { to = client_end; bytes = by.bytes })) (λ e p. p.goes) (near_of past) sent);
+          sent = subst (λ n. Ever (PlainSent client_end by.bytes n) (near_of hs)) h.at_is
+              (subst (Ever (PlainSent client_end by.bytes x.at)) (near_far adds hs) sent);
         }
 
     replies_there : (con : Open) (bytes : List ℕ) (past : List Hop) (h : Hop)
@@ -131,16 +134,17 @@ module _ (one other : Setup) (m : Message) where
     replies_there con bytes past (Near e) k = absurd k
     replies_there con bytes past (Far e) k = k.call
 
-    ack_heard : (adds : List T.Entry) → ChannelLaw one other client_end server_end (map Near adds ++ hs)
-        → Ever (Hears server_end m) adds → m.kind ≡ Ack → AckHeard m hs
-    ack_heard [] law h kind = absurd h
-    ack_heard (x ∷ adds) law (inr h) kind = ack_heard adds
+    ack_heard : (at : ℕ) (adds : List T.Entry) → ChannelLaw one other client_end server_end (map Near adds ++ hs)
+        → Ever (HeardAt server_end m at) adds → m.kind ≡ Ack → AckHeard m hs
+    ack_heard at [] law h kind = absurd h
+    ack_heard at (x ∷ adds) law (inr h) kind = ack_heard at adds
         (earlier one other client_end server_end (map Near adds ++ hs) (Near x) law) h kind
-    ack_heard (x ∷ adds) law (inl h) kind =
+    ack_heard at (x ∷ adds) law (inl h) kind =
         let past = map Near adds ++ hs in
         let near = x ∷ near_of past in
-        let c = (responses_spelled one near law.near_law).0 m h.answer in
-        let a = (acks_heard one near law.near_law).0 server_end h.bytes m.id h.call (inr (m, h.answer, kind, refl)) in
+        let c = (responses_spelled one near law.near_law).0 m h.hears.answer in
+        let a = (acks_heard one near law.near_law).0 server_end h.hears.bytes m.id h.hears.call
+        (inr (m, h.hears.answer, kind, refl)) in
         let r = (acks_replied one other client_end server_end (Near x ∷ past) law).0 x a.0 refl a.1 a.3 in
         let calls : T.Receive c.from c.bytes ≡ T.Receive a.0.to a.3.bytes = let p = c.call in let q =
         a.3.call in cc (p, q) in
@@ -170,8 +174,17 @@ module _ (config : Config) where
   abbrev pub TellsAck : Message → List S.Call → S.Call → Type 0
   TellsAck m past c = TellsIn config.limits config.server_szx None client_end m past c
 
+  -- a CON that was begun before this moment, handed up here, and the call of the server that told it
+  pub record ConTold (m : Message) (at : ℕ) (past : List Entry) (adds : List T.Entry) : Type 0 where
+    pub con : Open
+    pub to_is : con.to ≡ client_end
+    pub begun_before : Ever (λ b. begun b ≡ Some con) (near_of (across (hops_in config past)))
+    pub up : Ever (HandsUpAs server_end con) adds
+    pub told : Sometime (TellsCon con m) (trace past)
+    pub from : con.first ≤ at
+
   module _ (past : List Entry) (c : C.Call) (law : Lawful config (OfClient c ∷ past)) (m : Message)
-      (hears : Ever (Hears server_end m) (client_adds config (client_of past) c))
+      (at : ℕ) (hears : Ever (HeardAt server_end m at) (client_adds config (client_of past) c))
       (note : is_notification m ≡ true) where
     abbrev adds : List T.Entry
     adds = client_adds config (client_of past) c
@@ -195,45 +208,55 @@ module _ (config : Config) where
     told = all_tell_sent config.limits config.server_szx config.server_word (trace past) law.server
 
     -- in a CON
-    pub con_told : m.kind ≡ Con → (con : Open) × Ever (HandsUpAs server_end con) adds
-        × Sometime (TellsCon con m) (trace past) × Ever (λ b. begun b ≡ Some con)
-        (near_of (across (hops_in config past))) × (con.to ≡ client_end)
+    pub con_told : m.kind ≡ Con → ConTold m at past adds
     con_told kind =
         let k = con_heard (usual config.server_word) (usual config.client_word) m
-        (across (hops_in config past)) adds law_across hears kind in
+        (across (hops_in config past)) at adds law_across hears kind in
         let P : T.Entry → Type 0 = λ b. begun b ≡ Some k.con in
         let there = located config.limits config.server_szx config.server_word P (trace past)
-        (subst (Ever P) near_there k.begun_before) in (
-          k.con,
-          k.up,
-          by_law (TellsSent config.limits config.server_szx config.server_word) (Added P) (TellsCon k.con m)
+        (subst (Ever P) near_there k.begun_before) in
+        record {
+          con = k.con;
+          to_is = k.to_is;
+          begun_before = k.begun_before;
+          up = k.up;
+          told = by_law (TellsSent config.limits config.server_szx config.server_word) (Added P) (TellsCon k.con m)
               (λ p b l h. (
                 subst (λ z. TellsIn config.limits config.server_szx (Some k.con.id) z m p b) k.to_is
                     (l.0.begun_now k.con m h k.are k.spells note),
                 h,
-              )) (trace past) told there,
-          k.begun_before,
-          k.to_is,
-        )
+              )) (trace past) told there;
+          from = k.from;
+        }
 
     -- in an acknowledgement
     pub ack_told : m.kind ≡ Ack → Sometime (TellsAck m) (trace past)
     ack_told kind =
-        let k = ack_heard (usual config.client_word) (usual config.server_word) m (hops_in config past) adds law.channel hears kind in
+        let k = ack_heard (usual config.client_word) (usual config.server_word) m (hops_in config past) at adds
+        law.channel hears kind in
         let P : T.Entry → Type 0 = λ b. b.call ≡ T.Reply client_end m.id k.bytes in
         let there = located config.limits config.server_szx config.server_word P (trace past)
         (subst (Ever P) (far_is config past) k.given) in
         by_law (TellsSent config.limits config.server_szx config.server_word) (Added P) (TellsAck m)
         (λ p b l h. l.0.replied client_end k.bytes m h k.are k.spells note) (trace past) told there
 
-    -- in a NON
+    -- in a NON, which the server's layer sent in that call, at most MAX_LATENCY before
+    pub non_sent : m.kind ≡ Non → (k : NonHeard m at (across (hops_in config past)))
+        × Sometime (Added (PlainSent client_end k.bytes at)) (trace past)
+    non_sent kind =
+        let k = non_heard (usual config.server_word) (usual config.client_word) m
+        (across (hops_in config past)) at adds law_across hears kind in
+        let P : T.Entry → Type 0 = PlainSent client_end k.bytes at in
+        (k, located config.limits config.server_szx config.server_word P (trace past) (subst (Ever P) near_there k.sent))
+
     pub non_told : m.kind ≡ Non → Sometime (ServesNon config.limits config.server_szx client_end) (trace past)
     non_told kind =
-        let k = non_heard (usual config.server_word) (usual config.client_word) m
-        (across (hops_in config past)) adds law_across hears kind in
-        let P : T.Entry → Type 0 = λ b. PlainOut b (record { to = client_end; bytes = k.bytes }) in
-        let there = located config.limits config.server_szx config.server_word P (trace past)
-        (subst (Ever P) near_there k.sent) in
+        let sent = non_sent kind in
+        let k = sent.0 in
+        let P : T.Entry → Type 0 = PlainSent client_end k.bytes at in
         by_law (TellsSent config.limits config.server_szx config.server_word) (Added P)
         (ServesNon config.limits config.server_szx client_end)
-        (λ p b l h. (l.0.plain client_end k.bytes m h k.are k.spells note).1) (trace past) told there
+        (λ p b l h. (l.0.plain client_end k.bytes m
+        (Ever_map P (λ e. PlainOut e (record { to = client_end; bytes = k.bytes })) (λ e z. z.goes)
+        (call_adds config.limits config.server_szx config.server_word p b) h) k.are k.spells note).1)
+        (trace past) told sent.1

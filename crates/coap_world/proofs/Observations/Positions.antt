@@ -26,6 +26,13 @@ module _ {E : Type 0} where
   order_of A B (e ∷ t) (inr a) (inr b) = ⊎_elim (λ x. inl (inr x))
       (λ y. ⊎_elim (λ x. inr (inl (inr x))) (λ x. inr (inr (inr x))) y) (order_of A B t a b)
 
+  -- neither at one entry, nor the first behind the second: so the second behind the first
+  pub behind : (A B : List E → E → Type 0) (t : List E) → Sometime A t → Sometime B t
+      → (Sometime (λ past e. A past e × B past e) t → ⊥) → (Sometime (λ past e. A past e × Sometime B past) t → ⊥)
+      → Sometime (λ past e. B past e × Sometime A past) t
+  behind A B t a b apart sooner =
+      ⊎_elim (λ x. absurd (apart x)) (λ y. ⊎_elim (λ x. x) (λ x. absurd (sooner x)) y) (order_of A B t a b)
+
 -- the hops, with the server's layer as the near one
 
 pub across_append : (xs ys : List Hop) → across (xs ++ ys) ≡ across xs ++ across ys

@@ -54,7 +54,8 @@ module _ (config : Config) (events : List Event) (turns : List Turn) (run : Reco
   -- the values of an observation rise
 
   pub rising : ValuesRise config (entries_of turns)
-  rising = all_rise config (entries_of turns) law
+  rising = all_rise config legal.range.server_szx legal.range.limit (entries_of turns) law
+      (formats_in turns run.made legal.events)
 
   pub named : HeldAreNamed config (entries_of turns)
   named = all_named config (entries_of turns) law

@@ -1,0 +1,165 @@
+-- What a client takes of an observation the server told before, and when it was taken.
+use Rattle.std.proofs.Common.{◌≡◌, ◌≤◌, ◌⊎◌, inl, inr, ℕ, true, Some, List, [], ◌∷◌, ◌++◌, map, refl, sym, subst, ◌∙◌}
+use Rattle.std.proofs.Common.{arith}
+use Rattle.coap_types.specs.Past.{Ever, Sometime}
+use Rattle.coap_types.proofs.Facts.Traces.{Ever_back, Ever_front, Ever_map, forget}
+use Rattle.coap_types.specs.declared.message.Kind.TheVariants.{Con, Non, Ack}
+use Rattle.coap_codec.specs.Message.{Message}
+use Rattle.coap_layer.specs.Channel.{Hop, Far, far_of, ChannelLaw, OnFar, HandsUpAs}
+use Rattle.coap_layer.specs.declared.setup.Setup.{Setup}
+use Rattle.coap_layer.specs.Trace as T
+use Rattle.coap_layer.specs.Words.{Open}
+use Rattle.coap_layer.proofs.Facts.Hops.{earlier, far_ever}
+use Rattle.coap_observe.specs.Versions.{sequence_number}
+use Rattle.coap_block.specs.Sizes.{Sizes}
+use Rattle.coap_client.specs.Law as C
+use Rattle.coap_client.specs.Follows.Newer.{Newly, notifies}
+use Rattle.coap_client.specs.Follows.Noted.{HeardAt}
+use Rattle.coap_client.specs.Follows.Notified.{WasRegistered, IsFirst, IsLater, IsTaken}
+use Rattle.coap_client.specs.Follows.Types.{IsOfType}
+use Rattle.coap_client.specs.Responses.{is_notification, tag_in}
+use Rattle.coap_client.specs.Trace.{Call}
+use Rattle.coap_client.proofs.Facts.EachCall.{are_noted_at, are_of_types, are_taken}
+use Rattle.coap_world.specs.Events.{client_end, server_end, Config}
+use Rattle.coap_world.specs.Hops.{hops_at, hops_in, across, client_adds}
+use Rattle.coap_world.specs.Record.{Entry, OfClient, OfServer, client_of, server_trace}
+use Rattle.coap_world.specs.Rising.{Names}
+use Rattle.coap_world.proofs.Observations.Acknowledged.{before_now}
+use Rattle.coap_world.proofs.Observations.Heard.{TellsCon, TellsAck, con_told, ack_told, non_told}
+use Rattle.coap_world.proofs.Observations.OneRegistration.{no_non}
+use Rattle.coap_world.proofs.Observations.OneVersion.{says_number}
+use Rattle.coap_world.proofs.Observations.Positions.{across_append, across_near, AtClient, server_more}
+use Rattle.coap_world.proofs.Reports.FormatsSet.{FormatsIn}
+use Rattle.coap_world.proofs.Reports.HeldThere.{some_shown}
+use Rattle.coap_world.proofs.Reports.ValuesShown.{taken_shown}
+use Rattle.coap_world.proofs.Requests.OfACall.{Lawful, lawful_back}
+use Rattle.coap_world.proofs.Requests.Traced.{sent_later}
+
+pub far_there : (P : T.Entry → Type 0) (adds : List T.Entry) → Ever P adds → Ever (OnFar P) (map Far adds)
+far_there P [] h = h
+far_there P (x ∷ adds) (inl h) = inl h
+far_there P (x ∷ adds) (inr h) = inr (far_there P adds h)
+
+pub formats_back : (past : List Entry) (e : Entry) → FormatsIn (e ∷ past) → FormatsIn past
+formats_back past (OfClient c) h = h
+formats_back past (OfServer c) h = h.1
+
+-- what is heard here was not heard before what was heard in the past
+pub not_earlier : (one other : Setup) (m n : Message) (before now : ℕ) (hs : List Hop) (adds : List T.Entry)
+    → ChannelLaw one other server_end client_end (map Far adds ++ hs) → Ever (HeardAt server_end n now) adds
+    → Ever (OnFar (HeardAt server_end m before)) hs → before ≤ now
+not_earlier one other m n before now hs [] law up h = absurd up
+not_earlier one other m n before now hs (x ∷ adds) law (inr up) h = not_earlier one other m n before now hs adds
+    (earlier one other server_end client_end (map Far adds ++ hs) (Far x) law) up h
+not_earlier one other m n before now hs (x ∷ adds) law (inl up) h =
+    let past = map Far adds ++ hs in
+    let P : T.Entry → Type 0 = HeardAt server_end m before in
+    let there = far_ever P past (Ever_back (OnFar P) (map Far adds) hs h) in
+    let till = before_now other P (far_of past) x.at law.far_law.1 law.far_law.0.time there in
+    let here = up.at_is in
+    forget (before ≤ now) (far_of past) (Ever_map (λ e. P e × (e.at ≤ x.at)) (λ e. before ≤ now)
+    (λ e k. (let a = k.0.at_is in let b = k.1 in omega (arith, a, b, here))) (far_of past) till)
+
+module _ (config : Config) where
+  abbrev pub sizes : Sizes
+  sizes = config.client_sizes
+
+  -- what was heard of an observation, as the server told it: in a CON that began no later and was handed up, or in an
+  -- acknowledgement
+  pub data HeardTold (m : Message) (at : ℕ) (t : List Entry) : Type 0 where
+    in_con : (con : Open) → con.first ≤ at → Ever (OnFar (HandsUpAs server_end con)) (across (hops_in config t))
+        → Sometime (TellsCon config con m) (server_trace config t) → HeardTold m at t
+    in_ack : Sometime (TellsAck config m) (server_trace config t) → HeardTold m at t
+
+  hops_more : (P : Hop → Type 0) (e : Entry) (t : List Entry) → Ever P (across (hops_in config t))
+      → Ever P (across (hops_in config (e ∷ t)))
+  hops_more P e t h = subst (Ever P) (sym (across_append (hops_at config t e) (hops_in config t)))
+      (Ever_back P (across (hops_at config t e)) (across (hops_in config t)) h)
+
+  hops_here : (P : T.Entry → Type 0) (past : List Entry) (c : Call) → Ever P (client_adds config (client_of past) c)
+      → Ever (OnFar P) (across (hops_in config (OfClient c ∷ past)))
+  hops_here P past c h =
+      let adds = client_adds config (client_of past) c in
+      subst (Ever (OnFar P)) (sym (across_near adds (hops_in config past)))
+      (Ever_front (OnFar P) (map Far adds) (across (hops_in config past)) (far_there P adds h))
+
+  heard_more : (m : Message) (at : ℕ) (e : Entry) (t : List Entry) → HeardTold m at t → HeardTold m at (e ∷ t)
+  heard_more m at e t (in_con con from up told) = in_con con from (hops_more (OnFar (HandsUpAs server_end con)) e t up)
+      (server_more config (TellsCon config con m) e t told)
+  heard_more m at e t (in_ack told) = in_ack (server_more config (TellsAck config m) e t told)
+
+  registered_more : (number : ℕ) (token : List ℕ) (e : Entry) (t : List Entry)
+      → WasRegistered sizes number token (client_of t) → WasRegistered sizes number token (client_of (e ∷ t))
+  registered_more number token e t r = record {
+    path = r.path;
+    sending = r.sending;
+    sent = sent_later config r.sending t e r.sent;
+    registers = r.registers;
+    token_is = r.token_is;
+  }
+
+  -- it is heard here
+  module _ (past : List Entry) (c : Call) (law : Lawful config (OfClient c ∷ past)) (m : Message) (at : ℕ)
+      (hears_it : Ever (HeardAt server_end m at) (client_adds config (client_of past) c))
+      (note : is_notification m ≡ true) where
+    pub no_plain : (X : Type 0) → m.kind ≡ Non → X
+    no_plain X kind = absurd (no_non config past (lawful_back config past (OfClient c) law)
+        (non_told config past c law m at hears_it note kind))
+
+    heard_here : (m.kind ≡ Con) ⊎ ((m.kind ≡ Non) ⊎ (m.kind ≡ Ack)) → HeardTold m at (OfClient c ∷ past)
+    heard_here (inr (inl kind)) = no_plain _ kind
+    heard_here (inr (inr kind)) = in_ack (ack_told config past c law m at hears_it note kind)
+    heard_here (inl kind) =
+        let k = con_told config past c law m at hears_it note kind in
+        in_con k.con k.from (hops_here (HandsUpAs server_end k.con) past c k.up) k.told
+
+  -- what is taken of an observation was heard so, at the moment that its mark has, under the token of its registration;
+  -- and its mark has the number of the version that it shows
+  pub record TakenTold (n : Newly) (t : List Entry) : Type 0 where
+    pub told : HeardTold n.message n.mark.at t
+    pub heard : Ever (OnFar (HeardAt server_end n.message n.mark.at)) (across (hops_in config t))
+    pub registered : WasRegistered sizes n.number n.message.token (client_of t)
+    pub numbered : (v : ℕ) → Names v (tag_in n.message) → n.mark.number ≡ sequence_number v
+
+  module _ (small : config.server_szx ≤ 6) where
+    number_here : (past : List Entry) (c : Call) → Lawful config (OfClient c ∷ past) → FormatsIn past → (n : Newly)
+        → notifies (C.own_of sizes (client_of past)) c ≡ Some n → IsTaken sizes n (client_of past) c
+        → (v : ℕ) → Names v (tag_in n.message) → n.mark.number ≡ sequence_number v
+    number_here past c law formats n is k v names =
+        let before = lawful_back config past (OfClient c) law in
+        let shown = some_shown config n.message past (taken_shown config small n.number n past c law formats is refl).shown
+        in
+        k.sequence ∙ says_number config past before n.message shown k.notification v names
+
+    pub taken_here : (past : List Entry) (c : Call) → Lawful config (OfClient c ∷ past) → FormatsIn past → (n : Newly)
+        → notifies (C.own_of sizes (client_of past)) c ≡ Some n → TakenTold n (OfClient c ∷ past)
+    taken_here past c law formats n is =
+        let t : List Call = client_of (OfClient c ∷ past) in
+        let k = (are_taken server_end sizes config.client_word t law.client).0 n is in
+        let types = (are_of_types server_end sizes config.client_word t law.client).0 in
+        let hears = (are_noted_at server_end sizes config.client_word t law.client).0 n is in
+        record {
+          told = heard_here past c law n.message n.mark.at hears k.notification (by types k.comes);
+          heard = hops_here (HeardAt server_end n.message n.mark.at) past c hears;
+          registered = registered_more n.number n.message.token (OfClient c) past k.registered;
+          numbered = number_here past c law formats n is k;
+        }
+      where
+        by : IsOfType c → IsFirst sizes n (client_of past) c ⊎ IsLater sizes n (client_of past) c
+            → (n.message.kind ≡ Con) ⊎ ((n.message.kind ≡ Non) ⊎ (n.message.kind ≡ Ack))
+        by types (inl f) = types.heard n.message f.heard
+        by types (inr l) = elim (types.noted n.message l.noted) [ inl z ↦ inl z | inr z ↦ inr (inl z) ]
+
+    pub taken_told : (t : List Entry) → Lawful config t → FormatsIn t → (n : Newly)
+        → Sometime (AtClient config (λ p b. notifies (C.own_of sizes p) b ≡ Some n)) t → TakenTold n t
+    taken_told [] law formats n h = absurd h
+    taken_told (OfServer c ∷ past) law formats n (inl h) = absurd h
+    taken_told (OfClient c ∷ past) law formats n (inl h) = taken_here past c law formats n h
+    taken_told (e ∷ past) law formats n (inr h) =
+        let k = taken_told past (lawful_back config past e law) (formats_back past e formats) n h in
+        record {
+          told = heard_more n.message n.mark.at e past k.told;
+          heard = hops_more (OnFar (HeardAt server_end n.message n.mark.at)) e past k.heard;
+          registered = registered_more n.number n.message.token e past k.registered;
+          numbered = k.numbered;
+        }
