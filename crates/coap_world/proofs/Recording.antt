@@ -11,4 +11,5 @@ pub mod Runs
 pub mod Copying
 pub mod Beginning
 pub mod Delaying
+pub mod PlainPaths
 pub mod Naming

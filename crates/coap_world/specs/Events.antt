@@ -18,7 +18,7 @@ abbrev pub server_end : Endpoint
 server_end = record { ip = localhost; port = 5683 }
 
 -- with which words, sizes of blocks and limits of bodies the ends begin; how many changes a window takes; the delays of
--- paths
+-- paths, and the paths that are plain
 pub record Config : Type 0 where
   pub client_word : ℕ
   pub client_sizes : Sizes
@@ -26,6 +26,7 @@ pub record Config : Type 0 where
   pub server_szx : ℕ
   pub limits : Limits
   pub delays : List Delay
+  pub plains : List (List (List ℕ))
 
 -- A call of the client, an observation, its cancel, and its end without a message; a local change of the server, and a
 -- removal; the ticks of an end; a datagram that was given out is delivered, by its number; a datagram of a stranger.

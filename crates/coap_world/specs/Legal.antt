@@ -9,7 +9,7 @@ use Rattle.coap_types.specs.EntityTag.{AreTags}
 use Rattle.coap_types.specs.Past.{Always}
 use Rattle.coap_types.specs.Path.{IsPath}
 use Rattle.coap_client.specs.Trace.{Request}
-use Rattle.coap_server.specs.declared.limits.TheConstants.{MAX_DELAYS as max_delays}
+use Rattle.coap_server.specs.declared.limits.TheConstants.{MAX_DELAYS as max_delays, MAX_PLAINS as max_plains}
 use Rattle.coap_server.specs.Trace.{Delay}
 use Rattle.coap_resource.specs.declared.tally.TheConstants.{MAX_CHANGES_PER_WINDOW as max_changes}
 use Rattle.coap_world.specs.Record.{Given, Turn, IsNumber, Entry, RecordOf, entries_of}
@@ -71,7 +71,8 @@ pub record IsLegal (past : List Turn) (turn : Turn) : Type 0 where
 abbrev pub AllLegal : List Turn → Type 0
 AllLegal turns = Always IsLegal turns
 
--- the words, sizes and limits with which the ends begin, how many changes a window takes, and at most 16 delays (profile)
+-- the words, sizes and limits with which the ends begin, how many changes a window takes, at most 16 delays and at most
+-- 16 plain paths (profile)
 
 -- a limit that can be chosen
 abbrev pub IsLimit : ℕ → Type 0
@@ -92,6 +93,8 @@ pub record IsConfig (config : Config) : Type 0 where
   pub server_limit : IsLimit config.limits.body
   pub delays : All IsDelay config.delays
   pub few : length config.delays ≤ max_delays
+  pub plains : All IsPath config.plains
+  pub few_plains : length config.plains ≤ max_plains
 
 -- a configuration in range, and legal events
 pub record Legal (config : Config) (turns : List Turn) : Type 0 where

@@ -34,6 +34,7 @@ with_delays delays = record {
   server_szx = 6;
   limits = limits;
   delays = delays;
+  plains = [];
 }
 
 abbrev pub config : Config

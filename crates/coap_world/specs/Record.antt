@@ -55,9 +55,21 @@ server_of [] = []
 server_of (OfClient c ∷ past) = server_of past
 server_of (OfServer c ∷ past) = c ∷ server_of past
 
--- the calls with which a server begins: its delays
+-- with what a server begins: the delay of a path, and that a path is plain
+pub data Setting : Type 0 where
+  DelayOf : (delay : S.Delay) → Setting
+  PlainOf : (path : List (List ℕ)) → Setting
+
+abbrev pub gives_it : Setting → S.Call
+gives_it (DelayOf d) = S.Delays d.path d.ms true
+gives_it (PlainOf path) = S.Plains path true
+
+abbrev pub settings : Config → List Setting
+settings config = map (λ p. PlainOf p) config.plains ++ map (λ d. DelayOf d) config.delays
+
+-- the calls that give it these
 abbrev pub begun_with : Config → List S.Call
-begun_with config = map (λ (d : S.Delay). S.Delays d.path d.ms true) config.delays
+begun_with config = map gives_it (settings config)
 
 -- its trace
 abbrev pub server_trace : Config → List Entry → List S.Call

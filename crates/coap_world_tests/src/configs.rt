@@ -1,6 +1,6 @@
 //! With what a run begins.
 use crate::script::config_of;
-use coap_ends::DelayRefusal;
+use coap_ends::{DelayRefusal, PlainRefusal};
 use coap_types::{MAX_SZX, Path, PathRefusal, Szx};
 use coap_world::{Event, WorldConfig, run};
 use failing::Failing;
@@ -82,6 +82,42 @@ fn a_delay_for_which_memory_is_wanting(rt: HostRuntime) -> Result<(), Fail> {
         assert!(rt; first == Err(DelayRefusal::Memory));
         config.delay(&path, 1_000)?;
         config.delay(&path, 2_000)?;
+    }
+    Err(Fail::new("it takes too many growths"))
+}
+
+#[test]
+fn sixteen_paths_are_plain(rt: HostRuntime) -> Result<(), Fail> {
+    let mut config = config_of(rt.alloc(), "")?;
+    for byte in 0..16u8 {
+        config.plain(&path_of(rt.alloc(), byte)?)?;
+    }
+    let further = config.plain(&path_of(rt.alloc(), 16)?);
+    assert!(rt; further == Err(PlainRefusal::Full));
+    // A path that is plain may be named again.
+    for byte in 0..16u8 {
+        config.plain(&path_of(rt.alloc(), byte)?)?;
+    }
+    Ok(())
+}
+
+// It is refused as often as it takes memory, which leaves the others as they are; then it is plain.
+#[test]
+fn a_plain_path_for_which_memory_is_wanting(rt: HostRuntime) -> Result<(), Fail> {
+    for number in 1..MANY {
+        let memory = Failing::new(rt.alloc(), number);
+        let mut config = config_of(&memory, "")?;
+        let Ok(path) = path_of(&memory, 0) else {
+            continue;
+        };
+        let first = config.plain(&path);
+        if memory.left() != 0 {
+            assert!(rt; first == Ok(()));
+            return Ok(());
+        }
+        assert!(rt; first == Err(PlainRefusal::Memory));
+        config.plain(&path)?;
+        config.plain(&path)?;
     }
     Err(Fail::new("it takes too many growths"))
 }

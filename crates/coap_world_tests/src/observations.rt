@@ -23,6 +23,83 @@ pub(crate) const RUNS: &str = "
 > reports 0 value 2 0000000000000002 0 62
 5 deliver 3
 
+== a_plain_resource_is_observed
+plain /t
+0 set /t 0 a
+> puts 1
+> changes /t 1 0 61
+0 observe /t
+> takes 0
+0 tick client
+> out 0 0 C S 4801_0000_0000000000000000_60_5174
+1 deliver 0
+> out 1 1 S C 6845_0000_0000000000000000_480000000000000001_2101_60_ff61
+2 deliver 1
+> reports 0 value 1 0000000000000001 0 61
+3 set /t 0 b
+> puts 2
+> changes /t 2 0 62
+3 tick server
+> out 2 3 S C 5845_0000_0000000000000000_480000000000000002_2102_60_ff62
+4 deliver 2
+> reports 0 value 2 0000000000000002 0 62
+
+== a_forgotten_observation_rejects_a_non
+plain /t
+0 set /t 0 a
+> puts 1
+> changes /t 1 0 61
+0 observe /t
+> takes 0
+0 tick client
+> out 0 0 C S 4801_0000_0000000000000000_60_5174
+1 deliver 0
+> out 1 1 S C 6845_0000_0000000000000000_480000000000000001_2101_60_ff61
+2 deliver 1
+> reports 0 value 1 0000000000000001 0 61
+2 forget 0
+> forgets true
+3 set /t 0 b
+> puts 2
+> changes /t 2 0 62
+3 tick server
+> out 2 3 S C 5845_0000_0000000000000000_480000000000000002_2102_60_ff62
+4 deliver 2
+> out 3 4 C S 70000000
+5 deliver 3
+6 set /t 0 c
+> puts 3
+> changes /t 3 0 63
+6 tick server
+
+== an_older_non_comes_behind_a_newer_one
+plain /t
+0 set /t 0 a
+> puts 1
+> changes /t 1 0 61
+0 observe /t
+> takes 0
+0 tick client
+> out 0 0 C S 4801_0000_0000000000000000_60_5174
+1 deliver 0
+> out 1 1 S C 6845_0000_0000000000000000_480000000000000001_2101_60_ff61
+2 deliver 1
+> reports 0 value 1 0000000000000001 0 61
+3 set /t 0 b
+> puts 2
+> changes /t 2 0 62
+3 tick server
+> out 2 3 S C 5845_0000_0000000000000000_480000000000000002_2102_60_ff62
+4 set /t 0 c
+> puts 3
+> changes /t 3 0 63
+4 tick server
+> out 3 4 S C 5845_0001_0000000000000000_480000000000000003_2103_60_ff63
+5 deliver 3
+> reports 0 value 3 0000000000000003 0 63
+# The older one comes as late as it may, and is no value.
+100003 deliver 2
+
 == an_observation_is_cancelled_and_another_forgotten
 0 cancel 0
 > refused 1

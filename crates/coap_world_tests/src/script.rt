@@ -11,6 +11,7 @@
 //! with this word, which each event has, too; their block sizes and their limits of bodies; how many changes a window
 //! takes |
 //! | `delay /t 1000` | the requests of the path wait for so many milliseconds |
+//! | `plain /t` | its notifications go in NONs |
 //! | `0 call put /t format=0 if-match=01 if-none-match etag=01 accept=0 = hi` | at this moment: a request with these
 //! options and this body, each if there is any |
 //! | `0 observe /t` · `0 cancel 0` · `0 forget 0` | an observation, its end |

@@ -88,6 +88,7 @@ by_at at (OfClient (C.NextReport r)) g h = absurd h
 by_at at (OfServer (S.Sets now path format body answer left)) g h = absurd h
 by_at at (OfServer (S.Removes now path answer left)) g h = absurd h
 by_at at (OfServer (S.Delays path ms answer)) g h = absurd h
+by_at at (OfServer (S.Plains path answer)) g h = absurd h
 by_at at (OfServer (S.Feeds now from bytes word up came w below)) g h = absurd h
 by_at at (OfServer (S.Ticks now word below room d passed w id answer)) g h = absurd h
 by_at at (OfServer (S.Gets path answer)) g h = absurd h

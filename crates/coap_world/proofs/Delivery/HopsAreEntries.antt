@@ -5,6 +5,7 @@ use Rattle.coap_layer.specs.Machine.State.{start}
 use Rattle.coap_layer.specs.Machine.Steps.{entries}
 use Rattle.coap_world.specs.Events.{server_end, Config}
 use Rattle.coap_world.specs.Record.{Entry, OfClient, OfServer, client_of, server_trace}
+use Rattle.coap_world.specs.Record.{Setting, DelayOf, PlainOf, gives_it, settings}
 use Rattle.coap_common.proofs.Facts.Adds.{answerer_append, entries_append}
 use Rattle.coap_world.specs.Hops.{client_asks, client_asked, client_adds, server_asks, server_asked, server_adds}
 use Rattle.coap_world.specs.Hops.{hops_in}
@@ -62,10 +63,11 @@ module _ (config : Config) where
       ∙ entries_append (start (usual config.server_word)) (server_asks config past c) (server_asked config past)
 
   -- a server begins with no call of its layer
-  pub begins_silent : (ds : List S.Delay) → server.lower_of config.limits config.server_szx
-      (map (λ (d : S.Delay). S.Delays d.path d.ms true) ds) ≡ []
+  pub begins_silent : (ss : List Setting) → server.lower_of config.limits config.server_szx
+      (map gives_it ss) ≡ []
   begins_silent [] = refl
-  begins_silent (d ∷ ds) = begins_silent ds
+  begins_silent (DelayOf d ∷ ss) = begins_silent ss
+  begins_silent (PlainOf p ∷ ss) = begins_silent ss
 
   pub near_is : (all : List Entry) → near_of (hops_in config all) ≡ client_layer (client_of all)
   near_is [] = refl
@@ -75,7 +77,7 @@ module _ (config : Config) where
       ∙ near_is past
 
   pub far_is : (all : List Entry) → far_of (hops_in config all) ≡ server_layer (server_trace config all)
-  far_is [] = sym (ap (λ t. entries (start (usual config.server_word)) (answerer.lower_of t)) (begins_silent config.delays))
+  far_is [] = sym (ap (λ t. entries (start (usual config.server_word)) (answerer.lower_of t)) (begins_silent (settings config)))
   far_is (OfServer c ∷ past) = far_far (server_adds config (server_trace config past) c) (hops_in config past)
       ∙ ap (λ t. server_adds config (server_trace config past) c ++ t) (far_is past)
       ∙ sym (server_next (server_trace config past) c)

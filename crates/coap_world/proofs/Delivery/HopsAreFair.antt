@@ -9,6 +9,7 @@ use Rattle.coap_layer.specs.Channel.{Hop, Near, Far, OnNear, OnFar, GaveOut, IsF
 use Rattle.coap_world.specs.Events.{client_end, server_end, Config}
 use Rattle.coap_world.specs.Hops.{SendsAt, SentIn, client_adds, server_adds, hops_in, hops_of}
 use Rattle.coap_world.specs.Record.{Given, Entry, OfClient, OfServer, client_of, server_trace, Turn, given_in}
+use Rattle.coap_world.specs.Record.{Setting, DelayOf, PlainOf, gives_it, settings}
 use Rattle.coap_world.specs.Record.{entries_of, Makes}
 use Rattle.coap_layer.specs.Machine.State.{start}
 use Rattle.coap_layer.specs.Machine.Steps.{left_after, entries}
@@ -96,18 +97,19 @@ module _ (config : Config) where
       }
 
   -- a server begins at moment 0
-  begins_by : (t : ℕ) (ds : List S.Delay) → (server_law.own_of config.limits config.server_szx
-      (map (λ (d : S.Delay). S.Delays d.path d.ms true) ds)).clock ≤ t
+  begins_by : (t : ℕ) (ss : List Setting) → (server_law.own_of config.limits config.server_szx
+      (map gives_it ss)).clock ≤ t
   begins_by t [] = omega arith
-  begins_by t (d ∷ ds) = begins_by t ds
+  begins_by t (DelayOf d ∷ ss) = begins_by t ss
+  begins_by t (PlainOf p ∷ ss) = begins_by t ss
 
   still_first : (t : ℕ) → Still config t []
   still_first t =
-      let none = begins_silent config config.delays in
+      let none = begins_silent config (settings config) in
       record {
         client = record { own = omega arith; layer = omega arith };
         server = record {
-          own = begins_by t config.delays;
+          own = begins_by t (settings config);
           between = subst (λ l. (answerer.own_of l).clock ≤ t) (sym none) (omega arith);
           layer = subst (λ l. (left_after (start (usual config.server_word)) (answerer.lower_of l)).clock ≤ t) (sym none)
               (omega arith);

@@ -171,6 +171,7 @@ server_one t g (S.NextOut o) h = as_taken S.NextOut server_end t g o h
 server_one t g (S.Sets now path format body answer left) h = absurd h
 server_one t g (S.Removes now path answer left) h = absurd h
 server_one t g (S.Delays path ms answer) h = absurd h
+server_one t g (S.Plains path answer) h = absurd h
 server_one t g (S.Feeds now from bytes word up came w below) h = absurd h
 server_one t g (S.Ticks now word below room d passed w id answer) h = absurd h
 server_one t g (S.Gets path answer) h = absurd h

@@ -9,6 +9,7 @@ use Rattle.coap_world.specs.Events.{TickServer, Deliver, StrangerToClient}
 use Rattle.coap_world.specs.Events.{StrangerToServer}
 use Rattle.coap_world.specs.Legal.{InRange, AllLegal}
 use Rattle.coap_world.specs.Record.{Entry, OfClient, OfServer, Turn, OnClient, OnServer, IsOne, AreTicks, Makes}
+use Rattle.coap_world.specs.Record.{Setting, DelayOf, PlainOf, gives_it, settings}
 use Rattle.coap_world.specs.Record.{ClientTick, ServerTick, client_of}
 use Rattle.coap_world.specs.Record.{server_trace, entries_of}
 use Rattle.coap_world.proofs.Progress.ClientSendsBytes.{CallInRange}
@@ -121,12 +122,13 @@ in_client [] h = tt
 in_client (OfClient c ∷ past) h = (h.0, in_client past h.1)
 in_client (OfServer c ∷ past) h = in_client past h.1
 
-begun_in : (ds : List S.Delay) → Each ChangeInRange (map (λ (d : S.Delay). S.Delays d.path d.ms true) ds)
+begun_in : (ss : List Setting) → Each ChangeInRange (map gives_it ss)
 begun_in [] = tt
-begun_in (d ∷ ds) = (tt, begun_in ds)
+begun_in (DelayOf d ∷ ss) = (tt, begun_in ss)
+begun_in (PlainOf p ∷ ss) = (tt, begun_in ss)
 
 in_server : (config : Config) (all : List Entry) → Each EntryInRange all → Each ChangeInRange (server_trace config all)
-in_server config [] h = begun_in config.delays
+in_server config [] h = begun_in (settings config)
 in_server config (OfClient c ∷ past) h = in_server config past h.1
 in_server config (OfServer c ∷ past) h = (h.0, in_server config past h.1)
 

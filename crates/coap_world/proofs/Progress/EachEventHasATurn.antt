@@ -12,7 +12,7 @@ use Rattle.coap_client.specs.Law.{ClientLaw}
 use Rattle.coap_common.specs.Endings.{UpToIdle, all_taken}
 use Rattle.coap_server.specs.Trace as S
 use Rattle.coap_server.specs.Law.{ServerLaw, own_of}
-use Rattle.coap_server.specs.declared.limits.TheConstants.{MAX_DELAYS as max_delays}
+use Rattle.coap_server.specs.declared.limits.TheConstants.{MAX_DELAYS as max_delays, MAX_PLAINS as max_plains}
 use Rattle.coap_server.specs.Deferring.{others}
 use Rattle.coap_client.specs.Follows.GoesOn as client_goes_spec
 use Rattle.coap_server.specs.Follows.GoesOn as server_goes_spec
@@ -25,10 +25,11 @@ use Rattle.coap_world.specs.GoesOn.{turn_of, Follows, GoesOn, MayRun, HasRecord}
 use Rattle.coap_world.specs.Legal.{IsConfig, AllLegal}
 use Rattle.coap_world.specs.LegalEvents.{MayHappen}
 use Rattle.coap_world.specs.Record.{Entry, OfClient, OfServer, Turn, entries_of, client_of, server_of, begun_with}
-use Rattle.coap_world.specs.Record.{server_trace, OnClient, OnServer}
+use Rattle.coap_world.specs.Record.{server_trace, OnClient, OnServer, DelayOf, PlainOf, gives_it}
 use Rattle.coap_world.specs.Record.{IsOne, AreTicks, FeedsClient, FeedsServer, Makes, ClientTick, ServerTick, RecordOf}
 use Rattle.coap_world.proofs.Progress.GivenOutIsBytes.{given_are}
 use Rattle.coap_world.proofs.Delivery.OneEndATurn.{client_client, client_server, server_server, server_client}
+use Rattle.coap_world.proofs.Recording.PlainPaths.{few_plain, may_be}
 
 -- ticks, in the words of a record
 are_ticks : {X : Type 0} (IsTick : Bool → X → Type 0) (calls : List X) → UpToIdle IsTick calls
@@ -208,7 +209,7 @@ few_others path (d ∷ ds) = by (not (same_path d.path path)) (few_others path d
 
 module _ (config : Config) where
   abbrev begun_by : List S.Delay → List S.Call
-  begun_by ds = map (λ (d : S.Delay). S.Delays d.path d.ms true) ds
+  begun_by ds = map gives_it (map (λ d. DelayOf d) ds)
 
   few_delays : (ds : List S.Delay) → length (own_of config.limits config.server_szx (begun_by ds)).delays ≤ length ds
   few_delays [] = omega arith
@@ -236,6 +237,21 @@ module _ (config : Config) where
         exchanges = law.exchanges;
       }
 
+  abbrev plain_by : List (List (List ℕ)) → List S.Delay → List S.Call
+  plain_by ps ds = map gives_it (map (λ p. PlainOf p) ps ++ map (λ d. DelayOf d) ds)
+
+  begins_plain : (ps : List (List (List ℕ))) (ds : List S.Delay) → length ps ≤ max_plains → length ds ≤ max_delays
+      → ServerLaw config.limits config.server_szx config.server_word (plain_by ps ds)
+  begins_plain [] ds few_ps few = begins_by ds few
+  begins_plain (p ∷ ps) ds few_ps few =
+      let have = (own_of config.limits config.server_szx (plain_by ps ds)).plains in
+      let k = few_plain config.limits config.server_szx ps ds in
+      let law = begins_plain ps ds (omega (arith, few_ps)) few in
+      record {
+        rows = (sym (may_be p have (omega (arith, few_ps, k))), law.rows);
+        exchanges = law.exchanges;
+      }
+
   begins : IsConfig config → RecordOf config [] []
   begins range = record {
     events_are = refl;
@@ -245,7 +261,7 @@ module _ (config : Config) where
       exchanges = record
           { rows = tt; left = layer.start (layer.usual config.client_word); layer = refl };
     };
-    server = begins_by config.delays range.few;
+    server = begins_plain config.plains config.delays range.few_plains range.few;
   }
 
   pub has_record : IsConfig config → (events : List Event) → MayRun config events → HasRecord config events

@@ -90,6 +90,7 @@ served_by s (S.Ticks now word below room due.Expired passed w id answer) h =
 served_by s (S.Sets now path format body answer left) h = absurd h
 served_by s (S.Removes now path answer left) h = absurd h
 served_by s (S.Delays path ms answer) h = absurd h
+served_by s (S.Plains path answer) h = absurd h
 served_by s (S.Gets path answer) h = absurd h
 served_by s (S.TellsApplied answer) h = absurd h
 served_by s (S.NextOut answer) h = absurd h

@@ -13,7 +13,7 @@ use Rattle.coap_server.specs.Trace as S
 use Rattle.coap_server.specs.declared.limits.TheConstants.{MAX_DELAYS as max_delays}
 use Rattle.coap_server.specs.declared.server.parts.Delay.{Delay as PathDelay}
 use Rattle.coap_server.specs.Object.Shown.{delay_as}
-use Rattle.coap_world.specs.Run.Configs.{gives}
+use Rattle.coap_world.specs.Run.Configs.{gives, begins_with}
 use Rattle.coap_world.proofs.Recording.Applying.{zero_plus}
 
 not_both : (b : Bool) → false ≡ b → b ≡ true → ⊥
@@ -69,7 +69,10 @@ pub few_left : (ds : List S.Delay) (left : ℕ) → 0 < left → left ≤ length
     → length (drop left ds) < max_delays
 few_left ds left some within few = let long = length-drop left ds in omega (arith, long, some, within, few)
 
--- a delay changes nothing
-pub none_changed : (limits : Limits) (szx : ℕ) (ds : List S.Delay) → changes limits szx (gives ds) ≡ 0
-none_changed limits szx [] = refl
-none_changed limits szx (d ∷ ds) = sym (zero_plus (changes limits szx (gives ds))) ∙ none_changed limits szx ds
+-- a delay changes nothing, nor does a plain path
+pub none_changed : (limits : Limits) (szx : ℕ) (ps : List (List (List ℕ))) (ds : List S.Delay)
+    → changes limits szx (begins_with ps ds) ≡ 0
+none_changed limits szx [] [] = refl
+none_changed limits szx [] (d ∷ ds) = sym (zero_plus (changes limits szx (gives ds))) ∙ none_changed limits szx [] ds
+none_changed limits szx (p ∷ ps) ds = sym (zero_plus (changes limits szx (begins_with ps ds)))
+    ∙ none_changed limits szx ps ds

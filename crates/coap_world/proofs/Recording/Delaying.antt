@@ -18,12 +18,12 @@ use Rattle.coap_world.specs.Run.Configs.{config_of}
 pub still_config :
     {A X : Type 0} (client_word : ℕ) (client_sizes : Sizes) (server_word server_szx : ℕ) (limits : Limits)
     (old new : List (PathDelay A))
-    (path : List (List ℕ)) (ms : ℕ) (r : Result Bool X)
-    → IsConfig (config_of client_word client_sizes server_word server_szx limits old) → IsPath path → ms < 2 ^ 64
+    (plains : List (List (List ℕ))) (path : List (List ℕ)) (ms : ℕ) (r : Result Bool X)
+    → IsConfig (config_of client_word client_sizes server_word server_szx limits old plains) → IsPath path → ms < 2 ^ 64
     → IfOk r (λ given. (given ≡ may_delay path (delays_as old))
     × (delays_as new ≡ delays_with path ms given (delays_as old))) → OnErr r (new ≡ old)
-    → IsConfig (config_of client_word client_sizes server_word server_szx limits new)
-still_config cw cs sw ss limits old new path ms (Ok true) is p small given err =
+    → IsConfig (config_of client_word client_sizes server_word server_szx limits new plains)
+still_config cw cs sw ss limits old new plains path ms (Ok true) is p small given err =
     let room : length (others path (delays_as old)) < max_delays = ltb-true _ _ (sym given.0) in
     let long = length-append (others path (delays_as old)) (record { path = path; ms = ms } ∷ []) in
     record {
@@ -41,10 +41,12 @@ still_config cw cs sw ss limits old new path ms (Ok true) is p small given err =
           (All-filter (λ (d : T.Delay). not (same_path d.path path)) IsDelay (delays_as old) is.delays)
           (record { path = p; ms = small }));
       few = subst (λ (ds : List T.Delay). length ds ≤ max_delays) (sym given.1) (omega (arith, room, long));
+      plains = is.plains;
+      few_plains = is.few_plains;
     }
-still_config cw cs sw ss limits old new path ms (Ok false) is p small given err =
+still_config cw cs sw ss limits old new plains path ms (Ok false) is p small given err =
     subst (λ (ds : List T.Delay). IsConfig (record
-    { client_word = cw; client_sizes = cs; server_word = sw; server_szx = ss; limits = limits; delays = ds }))
+    { client_word = cw; client_sizes = cs; server_word = sw; server_szx = ss; limits = limits; delays = ds; plains = plains }))
     (sym given.1) is
-still_config cw cs sw ss limits old new path ms (Err e) is p small given err =
-    subst (λ ds. IsConfig (config_of cw cs sw ss limits ds)) (sym err) is
+still_config cw cs sw ss limits old new plains path ms (Err e) is p small given err =
+    subst (λ ds. IsConfig (config_of cw cs sw ss limits ds plains)) (sym err) is

@@ -27,6 +27,7 @@ use Rattle.coap_world.specs.Answers.{AllAnswered}
 use Rattle.coap_world.specs.Events.{client_end, server_end, Config}
 use Rattle.coap_world.specs.Hops.{hops_in, client_adds}
 use Rattle.coap_world.specs.Record.{Entry, OfClient, OfServer, client_of, server_trace}
+use Rattle.coap_world.specs.Record.{Setting, DelayOf, PlainOf, gives_it, settings}
 use Rattle.coap_world.proofs.Reports.HeardWasSent.{Reads, SendsTo, was_given}
 use Rattle.coap_world.proofs.Delivery.HopsAreEntries.{client_layer, client_next, near_is, far_is}
 use Rattle.coap_world.proofs.Requests.OfACall.{Lawful, lawful_back}
@@ -38,27 +39,29 @@ module _ (config : Config) where
   CarriesAt p past (OfServer c) = CarriesResponse config.limits config.server_szx config.server_word p
       (server_trace config past) c
 
-  abbrev delays : List S.Delay → List S.Call
-  delays ds = map (λ (d : S.Delay). S.Delays d.path d.ms true) ds
-
-  none_made : (o : Observer) (ds : List S.Delay) → WasMade config.limits config.server_szx (delays ds) o → ⊥
+  none_made : (o : Observer) (ss : List Setting) → WasMade config.limits config.server_szx (map gives_it ss) o → ⊥
   none_made o [] h = h
-  none_made o (d ∷ ds) (inr h) = none_made o ds h
-  none_made o (d ∷ ds) (inl h) = let here = h.made.here in cc here
+  none_made o (s ∷ ss) (inr h) = none_made o ss h
+  none_made o (DelayOf d ∷ ss) (inl h) = let here = h.made.here in cc here
+  none_made o (PlainOf p ∷ ss) (inl h) = let here = h.made.here in cc here
 
-  none_begun : (p : T.Packet) (ds : List S.Delay)
-      → Sometime (λ past c. CarriesResponse config.limits config.server_szx config.server_word p past c) (delays ds) → ⊥
+  none_begun : (p : T.Packet) (ss : List Setting)
+      → Sometime (λ past c. CarriesResponse config.limits config.server_szx config.server_word p past c) (map gives_it ss)
+      → ⊥
   none_begun p [] h = h
-  none_begun p (d ∷ ds) (inr h) = none_begun p ds h
-  none_begun p (d ∷ ds) (inl (inl k)) = let here = k.here in cc here
-  none_begun p (d ∷ ds) (inl (inr (inl k))) = let here = k.taken in cc here
-  none_begun p (d ∷ ds) (inl (inr (inr (inl k)))) = let here = k.handed in cc here
-  none_begun p (d ∷ ds) (inl (inr (inr (inr k)))) = none_made k.observer ds k.made
+  none_begun p (s ∷ ss) (inr h) = none_begun p ss h
+  none_begun p (DelayOf d ∷ ss) (inl (inl k)) = let here = k.here in cc here
+  none_begun p (DelayOf d ∷ ss) (inl (inr (inl k))) = let here = k.taken in cc here
+  none_begun p (DelayOf d ∷ ss) (inl (inr (inr (inl k)))) = let here = k.handed in cc here
+  none_begun p (PlainOf q ∷ ss) (inl (inl k)) = let here = k.here in cc here
+  none_begun p (PlainOf q ∷ ss) (inl (inr (inl k))) = let here = k.taken in cc here
+  none_begun p (PlainOf q ∷ ss) (inl (inr (inr (inl k)))) = let here = k.handed in cc here
+  none_begun p (s ∷ ss) (inl (inr (inr (inr k)))) = none_made k.observer ss k.made
 
   in_entries : (p : T.Packet) (all : List Entry)
       → Sometime (λ past c. CarriesResponse config.limits config.server_szx config.server_word p past c)
       (server_trace config all) → Sometime (CarriesAt p) all
-  in_entries p [] h = absurd (none_begun p config.delays h)
+  in_entries p [] h = absurd (none_begun p (settings config) h)
   in_entries p (OfClient c ∷ past) h = inr (in_entries p past h)
   in_entries p (OfServer c ∷ past) (inl h) = inl h
   in_entries p (OfServer c ∷ past) (inr h) = inr (in_entries p past h)

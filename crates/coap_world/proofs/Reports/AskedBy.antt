@@ -24,6 +24,7 @@ use Rattle.coap_server.proofs.Facts.Laws as server_facts
 use Rattle.coap_world.specs.CameFrom.{request_of}
 use Rattle.coap_world.specs.Events.{client_end, Config}
 use Rattle.coap_world.specs.Record.{Entry, OfClient, OfServer, client_of, server_trace}
+use Rattle.coap_world.specs.Record.{Setting, DelayOf, PlainOf, gives_it, settings}
 use Rattle.coap_world.specs.Words.{ServesAt}
 use Rattle.coap_world.proofs.Requests.LastRequests.{Final}
 use Rattle.coap_world.proofs.Requests.OfACall.{Lawful, lawful_back, final_of, options_asked}
@@ -106,15 +107,16 @@ module _ (config : Config) where
     size = k.size;
   }
 
-  none_made : (o : Observer) (ds : List S.Delay)
-      → WasMade config.limits config.server_szx (map (λ (d : S.Delay). S.Delays d.path d.ms true) ds) o → ⊥
+  none_made : (o : Observer) (ss : List Setting)
+      → WasMade config.limits config.server_szx (map gives_it ss) o → ⊥
   none_made o [] h = h
-  none_made o (d ∷ ds) (inr h) = none_made o ds h
-  none_made o (d ∷ ds) (inl h) = let here = h.made.here in cc here
+  none_made o (s ∷ ss) (inr h) = none_made o ss h
+  none_made o (DelayOf d ∷ ss) (inl h) = let here = h.made.here in cc here
+  none_made o (PlainOf p ∷ ss) (inl h) = let here = h.made.here in cc here
 
   pub registered_by : (o : Observer) (w : List Entry) → Lawful config w → o.to ≡ client_end
       → WasMade config.limits config.server_szx (server_trace config w) o → RegisteredBy o w
-  registered_by o [] law to h = absurd (none_made o config.delays h)
+  registered_by o [] law to h = absurd (none_made o (settings config) h)
   registered_by o (OfClient c ∷ past) law to h =
       later o past (OfClient c) (registered_by o past (lawful_back config past (OfClient c) law) to h)
   registered_by o (OfServer c ∷ past) law to (inr h) =

@@ -169,6 +169,7 @@ module _ (limits : Limits) (szx : ℕ) where
       (removes_short t rows.1 short (s.store.holds path) (rate_refusal s.store.tally (max s.clock now))
       (max s.clock now) path answer left rows.0)
   change_short t (S.Delays path ms answer) rows short x h = absurd (cc h)
+  change_short t (S.Plains path answer) rows short x h = absurd (cc h)
   change_short t (S.Feeds now from bytes word up came w below) rows short x h =
       serving_short t (S.Feeds now from bytes word up came w below) rows short x _ refl h
   change_short t (S.Ticks now word below room d passed w id answer) rows short x h =

@@ -24,6 +24,7 @@ use Rattle.coap_server.specs.Follows.Serves.{Serving, serving}
 use Rattle.coap_server.proofs.Facts.Laws.{held_is, all_served}
 use Rattle.coap_world.specs.Events.{Config}
 use Rattle.coap_world.specs.Record.{Entry, OfClient, OfServer, server_trace}
+use Rattle.coap_world.specs.Record.{Setting, DelayOf, PlainOf, gives_it, settings}
 use Rattle.coap_world.specs.Words.{last_at}
 use Rattle.coap_world.proofs.Requests.HoldsChanges.{Rows, rows_back}
 use Rattle.coap_world.proofs.Requests.ServedLeaves.{leaves}
@@ -110,6 +111,7 @@ module _ (limits : Limits) (szx : ℕ) where
       (removes_small t rows.1 small (s.store.holds path) (rate_refusal s.store.tally (max s.clock now))
       (max s.clock now) path answer left rows.0)
   change_small t (S.Delays path ms answer) rows f small x h = absurd (cc h)
+  change_small t (S.Plains path answer) rows f small x h = absurd (cc h)
   change_small t (S.Feeds now from bytes word up came w below) rows f small x h =
       serving_small t (S.Feeds now from bytes word up came w below) rows small x _ refl h h
   change_small t (S.Ticks now word below room d passed w id answer) rows f small x h =
@@ -132,14 +134,15 @@ module _ (limits : Limits) (szx : ℕ) where
       by (Some x) is = then x (same_path x.path path) (change_small t c rows f small x is)
 
 module _ (config : Config) where
-  begun_small : (ds : List S.Delay) (path : List (List ℕ))
-      → IsSmall (held_at config.limits config.server_szx path (map (λ (d : S.Delay). S.Delays d.path d.ms true) ds))
+  begun_small : (ss : List Setting) (path : List (List ℕ))
+      → IsSmall (held_at config.limits config.server_szx path (map gives_it ss))
   begun_small [] path = tt
-  begun_small (d ∷ ds) path = begun_small ds path
+  begun_small (DelayOf d ∷ ss) path = begun_small ss path
+  begun_small (PlainOf p ∷ ss) path = begun_small ss path
 
   pub formats_held : (all : List Entry) → Rows config all → FormatsIn all → (path : List (List ℕ))
       → IsSmall (last_at config path all)
-  formats_held [] rows f = begun_small config.delays
+  formats_held [] rows f = begun_small (settings config)
   formats_held (OfClient c ∷ past) rows f = formats_held past rows f
   formats_held (OfServer c ∷ past) rows f = small_step config.limits config.server_szx
       (server_trace config past) c rows f.0 (formats_held past (rows_back config (OfServer c) past rows) f.1)

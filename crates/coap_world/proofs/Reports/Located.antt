@@ -53,6 +53,7 @@ takes_handed s (S.Feeds now from bytes word up None h below) y is = absurd (cc i
 takes_handed s (S.Sets now path format body answer left) y is = absurd (cc is)
 takes_handed s (S.Removes now path answer left) y is = absurd (cc is)
 takes_handed s (S.Delays path ms answer) y is = absurd (cc is)
+takes_handed s (S.Plains path answer) y is = absurd (cc is)
 takes_handed s (S.Gets path answer) y is = absurd (cc is)
 takes_handed s (S.TellsApplied answer) y is = absurd (cc is)
 takes_handed s (S.Ticks now word below room d passed h id answer) y is = absurd (cc is)

@@ -71,6 +71,7 @@ not_both s (S.Feeds now from bytes word up None h below) y code t r = cc t
 not_both s (S.Sets now path format body answer left) y code t r = cc t
 not_both s (S.Removes now path answer left) y code t r = cc t
 not_both s (S.Delays path ms answer) y code t r = cc t
+not_both s (S.Plains path answer) y code t r = cc t
 not_both s (S.Gets path answer) y code t r = cc t
 not_both s (S.TellsApplied answer) y code t r = cc t
 not_both s (S.Ticks now word below room d passed h id answer) y code t r = cc t
@@ -112,6 +113,7 @@ refused_in limits szx word past (S.Feeds now from bytes w up None h below) a cod
 refused_in limits szx word past (S.Sets now path format body answer left) a code law is refuses_so = absurd (cc is)
 refused_in limits szx word past (S.Removes now path answer left) a code law is refuses_so = absurd (cc is)
 refused_in limits szx word past (S.Delays path ms answer) a code law is refuses_so = absurd (cc is)
+refused_in limits szx word past (S.Plains path answer) a code law is refuses_so = absurd (cc is)
 refused_in limits szx word past (S.Gets path answer) a code law is refuses_so = absurd (cc is)
 refused_in limits szx word past (S.TellsApplied answer) a code law is refuses_so = absurd (cc is)
 refused_in limits szx word past (S.Ticks now w below room d passed h id answer) a code law is refuses_so = absurd (cc is)

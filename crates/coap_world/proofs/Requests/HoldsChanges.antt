@@ -11,13 +11,15 @@ use Rattle.coap_server.proofs.Facts.Laws.{held_is, holds_changes, stamped}
 use Rattle.coap_world.specs.Events.{Config}
 use Rattle.coap_world.specs.Holds.{Holds, HoldsChanges}
 use Rattle.coap_world.specs.Record.{Entry, OfClient, OfServer, server_trace}
+use Rattle.coap_world.specs.Record.{Setting, DelayOf, PlainOf, gives_it, settings}
 use Rattle.coap_world.specs.Words.{holds_at, last_at}
 
--- a server begins with nothing: its delays change nothing
-begun_empty : (limits : Limits) (szx : ℕ) (ds : List S.Delay) (path : List (List ℕ))
-    → (own_of limits szx (map (λ (d : S.Delay). S.Delays d.path d.ms true) ds)).store.holds path ≡ None
+-- a server begins with nothing: its settings change nothing
+begun_empty : (limits : Limits) (szx : ℕ) (ss : List Setting) (path : List (List ℕ))
+    → (own_of limits szx (map gives_it ss)).store.holds path ≡ None
 begun_empty limits szx [] path = refl
-begun_empty limits szx (d ∷ ds) path = begun_empty limits szx ds path
+begun_empty limits szx (DelayOf d ∷ ss) path = begun_empty limits szx ss path
+begun_empty limits szx (PlainOf p ∷ ss) path = begun_empty limits szx ss path
 
 module _ (config : Config) where
   abbrev pub Rows : List Entry → Type 0
@@ -73,7 +75,7 @@ module _ (config : Config) where
       (server_trace config all) → HoldsChanges config all
   changes_held all law =
       record {
-        first = begun_empty config.limits config.server_szx config.delays;
+        first = begun_empty config.limits config.server_szx (settings config);
         each = each_holds all law.rows (stamped config.limits config.server_szx config.server_word
             (server_trace config all) law);
       }

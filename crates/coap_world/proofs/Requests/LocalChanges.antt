@@ -116,6 +116,7 @@ right_here config past (OfServer (S.Sets now path format body answer left)) rows
 right_here config past (OfServer (S.Removes now path answer left)) rows =
     removes_by config past (S.Removes now path answer left) left refl rows now path answer _ _ refl refl rows.0
 right_here config past (OfServer (S.Delays path ms answer)) rows = tt
+right_here config past (OfServer (S.Plains path answer)) rows = tt
 right_here config past (OfServer (S.Feeds now from bytes word up came w below)) rows = tt
 right_here config past (OfServer (S.Ticks now word below room d passed w id answer)) rows = tt
 right_here config past (OfServer (S.Gets path answer)) rows = tt

@@ -16,6 +16,7 @@ use Rattle.coap_world.specs.Events.{client_end, Config}
 use Rattle.coap_world.specs.Hops.{hops_at, hops_in}
 use Rattle.coap_world.specs.Serves.{BroughtAt}
 use Rattle.coap_world.specs.Record.{Entry, OfClient, OfServer, client_of, server_trace}
+use Rattle.coap_world.specs.Record.{Setting, DelayOf, PlainOf, gives_it, settings}
 use Rattle.coap_world.proofs.Delivery.HopsAreEntries.{server_layer}
 use Rattle.coap_world.proofs.Requests.CameFrom.{same_front}
 
@@ -32,21 +33,22 @@ module _ (config : Config) where
   sent_later x past (OfClient c) h = inr h
   sent_later x past (OfServer c) h = h
 
-  abbrev delays : List S.Delay → List S.Call
-  delays ds = map (λ (d : S.Delay). S.Delays d.path d.ms true) ds
-
-  none_brought : (a : Asked) (q : Question) (ds : List S.Delay)
-      → Sometime (λ old b. Brings config.limits config.server_szx config.server_word old b a q) (delays ds) → ⊥
+  none_brought : (a : Asked) (q : Question) (ss : List Setting)
+      → Sometime (λ old b. Brings config.limits config.server_szx config.server_word old b a q) (map gives_it ss)
+      → ⊥
   none_brought a q [] h = h
-  none_brought a q (d ∷ ds) (inr h) = none_brought a q ds h
-  none_brought a q (d ∷ ds) (inl k) =
-      let none : [] ≡ k.comes.news = same_front [] k.comes.news (server_layer config (delays ds)) k.comes.is in
+  none_brought a q (s ∷ ss) (inr h) = none_brought a q ss h
+  none_brought a q (DelayOf d ∷ ss) (inl k) =
+      let none : [] ≡ k.comes.news = same_front [] k.comes.news (server_layer config (map gives_it ss)) k.comes.is in
+      subst (Ever (HandsUp config.server_szx a k.verdict)) (sym none) k.comes.here
+  none_brought a q (PlainOf p ∷ ss) (inl k) =
+      let none : [] ≡ k.comes.news = same_front [] k.comes.news (server_layer config (map gives_it ss)) k.comes.is in
       subst (Ever (HandsUp config.server_szx a k.verdict)) (sym none) k.comes.here
 
   pub brought_in : (a : Asked) (q : Question) (w : List Entry)
       → Sometime (λ old b. Brings config.limits config.server_szx config.server_word old b a q) (server_trace config w)
       → Sometime (BroughtAt config a q) w
-  brought_in a q [] h = absurd (none_brought a q config.delays h)
+  brought_in a q [] h = absurd (none_brought a q (settings config) h)
   brought_in a q (OfClient c ∷ past) h = inr (brought_in a q past h)
   brought_in a q (OfServer c ∷ past) (inl h) = inl h
   brought_in a q (OfServer c ∷ past) (inr h) = inr (brought_in a q past h)

@@ -86,6 +86,7 @@ serves_answer s (S.Ticks now word below room due.Expired passed h id answer) x i
 serves_answer s (S.Sets now path format body answer left) x is = absurd (cc is)
 serves_answer s (S.Removes now path answer left) x is = absurd (cc is)
 serves_answer s (S.Delays path ms answer) x is = absurd (cc is)
+serves_answer s (S.Plains path answer) x is = absurd (cc is)
 serves_answer s (S.NextOut answer) x is = absurd (cc is)
 serves_answer s (S.Gets path answer) x is = absurd (cc is)
 serves_answer s (S.TellsApplied answer) x is = absurd (cc is)
@@ -218,6 +219,7 @@ module _ (config : Config) where
   refused token past (S.Sets now path format body answer left) law a code hands_it r client same = absurd (cc hands_it)
   refused token past (S.Removes now path answer left) law a code hands_it r client same = absurd (cc hands_it)
   refused token past (S.Delays path ms answer) law a code hands_it r client same = absurd (cc hands_it)
+  refused token past (S.Plains path answer) law a code hands_it r client same = absurd (cc hands_it)
   refused token past (S.Ticks now w below room d passed h id answer) law a code hands_it r client same =
       absurd (cc hands_it)
   refused token past (S.NextOut answer) law a code hands_it r client same = absurd (cc hands_it)
@@ -258,6 +260,7 @@ module _ (config : Config) where
   continued token past (S.Sets now path format body answer left) law x takes more client same = absurd (cc takes)
   continued token past (S.Removes now path answer left) law x takes more client same = absurd (cc takes)
   continued token past (S.Delays path ms answer) law x takes more client same = absurd (cc takes)
+  continued token past (S.Plains path answer) law x takes more client same = absurd (cc takes)
   continued token past (S.Ticks now w below room d passed h id answer) law x takes more client same = absurd (cc takes)
   continued token past (S.NextOut answer) law x takes more client same = absurd (cc takes)
   continued token past (S.Gets path answer) law x takes more client same = absurd (cc takes)

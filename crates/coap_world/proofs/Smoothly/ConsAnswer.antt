@@ -198,6 +198,7 @@ module _ (to : Endpoint) where
   begins_in s (S.Sets now path format body answer left) k = absurd k
   begins_in s (S.Removes now path answer left) k = absurd k
   begins_in s (S.Delays path ms answer) k = absurd k
+  begins_in s (S.Plains path answer) k = absurd k
   begins_in s (S.NextOut answer) (inl k) = absurd (cc k)
   begins_in s (S.NextOut answer) (inr k) = absurd k
   begins_in s (S.Gets path answer) k = absurd k

@@ -12,6 +12,7 @@ use Rattle.coap_server.specs.Trace.{Delay}
 use Rattle.coap_world.specs.Events.{Config, What, Calls, Observes, Cancels, Forgets, Sets, Removes, TickClient, TickServer}
 use Rattle.coap_world.specs.Events.{Deliver, StrangerToClient, StrangerToServer}
 use Rattle.coap_world.specs.Record.{Entry, OfClient, OfServer, Turn, OnClient, OnServer, ServerTick, Makes, entries_of}
+use Rattle.coap_world.specs.Record.{DelayOf, PlainOf, gives_it}
 use Rattle.coap_world.specs.Record.{server_trace}
 use Rattle.coap_world.specs.Smooth.{max_delay}
 use Rattle.coap_world.proofs.Delivery.EntriesInTime.{Every, every_join}
@@ -83,7 +84,7 @@ none_set (turn ∷ past) made =
 
 -- so each was among those, and is as short
 short_among : (ds : List Delay) (path : List (List ℕ)) (ms : ℕ) → All (λ (d : Delay). d.ms ≤ max_delay) ds
-    → Ever (λ c. c ≡ S.Delays path ms true) (map (λ (d : Delay). S.Delays d.path d.ms true) ds) → ms ≤ max_delay
+    → Ever (λ c. c ≡ S.Delays path ms true) (map gives_it (map (λ d. DelayOf d) ds)) → ms ≤ max_delay
 short_among [] path ms all h = absurd h
 short_among (d ∷ ds) path ms all (inl h) =
     let same : d.ms ≡ ms = cc h in
@@ -91,10 +92,18 @@ short_among (d ∷ ds) path ms all (inl h) =
 short_among (d ∷ ds) path ms all (inr h) =
     short_among ds path ms (All-tail (λ (x : Delay). x.ms ≤ max_delay) d ds all) h
 
+short_first : (ps : List (List (List ℕ))) (ds : List Delay) (path : List (List ℕ)) (ms : ℕ)
+    → All (λ (d : Delay). d.ms ≤ max_delay) ds
+    → Ever (λ c. c ≡ S.Delays path ms true) (map gives_it (map (λ p. PlainOf p) ps ++ map (λ d. DelayOf d) ds))
+    → ms ≤ max_delay
+short_first [] ds path ms all h = short_among ds path ms all h
+short_first (p ∷ ps) ds path ms all (inl h) = absurd (cc h)
+short_first (p ∷ ps) ds path ms all (inr h) = short_first ps ds path ms all h
+
 pub short : (config : Config) → All (λ (d : Delay). d.ms ≤ max_delay) config.delays → (es : List Entry)
     → Every SetsNone es → (path : List (List ℕ)) (ms : ℕ)
     → Ever (λ c. c ≡ S.Delays path ms true) (server_trace config es) → ms ≤ max_delay
-short config all [] none path ms h = short_among config.delays path ms all h
+short config all [] none path ms h = short_first config.plains config.delays path ms all h
 short config all (OfClient c ∷ es) none path ms h = short config all es none.1 path ms h
 short config all (OfServer c ∷ es) none path ms (inl h) =
     let k = sym none.0 ∙ ap sets_delay h in absurd (cc k)

@@ -131,6 +131,8 @@ module _ (config : Config) (since t : ℕ) where
       let k = none_count since e rest (ap (λ d. handed_in d e.answer) call) in omega (arith, k)
   server_last (S.Delays path ms a) e rest call answer at is =
       let k = none_count since e rest (ap (λ d. handed_in d e.answer) call) in omega (arith, k)
+  server_last (S.Plains path a) e rest call answer at is =
+      let k = none_count since e rest (ap (λ d. handed_in d e.answer) call) in omega (arith, k)
   server_last (S.Ticks now word below room d passed h id a) e rest call answer at is =
       let k = none_count since e rest (ap (λ d. handed_in d e.answer) call) in omega (arith, k)
   server_last (S.NextOut a) e rest call answer at is =

@@ -211,6 +211,7 @@ server_till t (S.Feeds now from bytes word up came h below) at m is = came_when 
 server_till t (S.Sets now path format body a left) at m is = absurd (cc is)
 server_till t (S.Removes now path a left) at m is = absurd (cc is)
 server_till t (S.Delays path ms a) at m is = absurd (cc is)
+server_till t (S.Plains path a) at m is = absurd (cc is)
 server_till t (S.Ticks now word below room d passed h id a) at m is = absurd (cc is)
 server_till t (S.NextOut a) at m is = absurd (cc is)
 server_till t (S.Gets path a) at m is = absurd (cc is)

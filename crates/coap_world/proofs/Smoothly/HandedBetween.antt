@@ -34,6 +34,7 @@ use Rattle.coap_world.specs.Answers.{IsAnswer, replies, continues, refuses, noti
 use Rattle.coap_world.specs.Events.{client_end, server_end, Config}
 use Rattle.coap_world.specs.Hops.{server_adds}
 use Rattle.coap_world.specs.Record.{Entry, OfClient, OfServer, client_of, server_trace}
+use Rattle.coap_world.specs.Record.{Setting, DelayOf, PlainOf, gives_it, settings}
 use Rattle.coap_world.specs.Serves.{BroughtAt}
 use Rattle.coap_world.specs.Smooth.{came_at, to_server}
 use Rattle.coap_world.proofs.Delivery.HopsAreEntries.{server_layer, server_next}
@@ -158,16 +159,17 @@ module _ (config : Config) where
       (brought_in config x.asked x.question (OfServer c ∷ past)
       ((server_facts.handed config.limits config.server_szx config.server_word (c ∷ trace past) law.server).0 x here))
 
-  none_made : (o : Observer) (ds : List S.Delay)
-      → WasMade config.limits config.server_szx (map (λ (d : S.Delay). S.Delays d.path d.ms true) ds) o → ⊥
+  none_made : (o : Observer) (ss : List Setting)
+      → WasMade config.limits config.server_szx (map gives_it ss) o → ⊥
   none_made o [] h = h
-  none_made o (d ∷ ds) (inr h) = none_made o ds h
-  none_made o (d ∷ ds) (inl h) = let here = h.made.here in cc here
+  none_made o (s ∷ ss) (inr h) = none_made o ss h
+  none_made o (DelayOf d ∷ ss) (inl h) = let here = h.made.here in cc here
+  none_made o (PlainOf p ∷ ss) (inl h) = let here = h.made.here in cc here
 
   -- .. and so was a registration
   made_sent : (o : Observer) (w : List Entry) → Lawful config w → o.to ≡ client_end
       → WasMade config.limits config.server_szx (trace w) o → Sometime (HandsSent o.token) w
-  made_sent o [] law to h = absurd (none_made o config.delays h)
+  made_sent o [] law to h = absurd (none_made o (settings config) h)
   made_sent o (OfClient c ∷ w) law to h = inr (made_sent o w (lawful_back config w (OfClient c) law) to h)
   made_sent o (OfServer c ∷ w) law to (inr h) = inr (made_sent o w (lawful_back config w (OfServer c) law) to h)
   made_sent o (OfServer c ∷ w) law to (inl h) =

@@ -30,6 +30,7 @@ use Rattle.coap_world.specs.Events.{Config, TickServer}
 use Rattle.coap_world.specs.HasIds.{HasIds}
 use Rattle.coap_world.specs.Hops.{hops_of}
 use Rattle.coap_world.specs.Record.{Entry, OfClient, OfServer, Turn, entries_of, client_of, server_trace}
+use Rattle.coap_world.specs.Record.{Setting, DelayOf, PlainOf, gives_it, settings}
 use Rattle.coap_world.specs.Smooth.{TakesNoObservation}
 use Rattle.coap_world.proofs.Delivery.EntriesInTime.{Every, every_join}
 use Rattle.coap_world.proofs.Delivery.HopsAreEntries.{server_layer, far_is}
@@ -161,19 +162,21 @@ module _ (config : Config) (observers : (t : List S.Call) → AreObservers confi
     none_here (S.Sets now path format body answer left) whole = tt
     none_here (S.Removes now path answer left) whole = tt
     none_here (S.Delays path ms answer) whole = tt
+    none_here (S.Plains path answer) whole = tt
     none_here (S.NextOut answer) whole = (refl, tt)
     none_here (S.Gets path answer) whole = tt
     none_here (S.TellsApplied answer) whole = tt
 
-  at_first : (ds : List S.Delay)
-      → NoneNotified (lower_of config.limits config.server_szx (map (λ (d : S.Delay). S.Delays d.path d.ms true) ds))
+  at_first : (ss : List Setting)
+      → NoneNotified (lower_of config.limits config.server_szx (map gives_it ss))
   at_first [] = tt
-  at_first (d ∷ ds) = at_first ds
+  at_first (DelayOf d ∷ ss) = at_first ss
+  at_first (PlainOf p ∷ ss) = at_first ss
 
   none_notified : (es : List Entry) → Lawful config es → AreOfObservations config.client_sizes (client_of es)
       → Always (λ p d. TakesNoObservation d) (client_of es) → HeardClient config observers (server_trace config es)
       → NoneNotified (lower_of config.limits config.server_szx (server_trace config es))
-  none_notified [] law observed none from = at_first config.delays
+  none_notified [] law observed none from = at_first (settings config)
   none_notified (OfClient c ∷ es) law observed none from =
       none_notified es (lawful_back config es (OfClient c) law) observed.1 none.1 from
   none_notified (OfServer c ∷ es) law observed none from =

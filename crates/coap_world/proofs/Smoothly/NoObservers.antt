@@ -28,6 +28,7 @@ use Rattle.coap_server.specs.Observers.{observes, is_number, is_get}
 use Rattle.coap_server.specs.Trace as S
 use Rattle.coap_world.specs.Events.{client_end, Config}
 use Rattle.coap_world.specs.Record.{Entry, OfClient, OfServer, client_of, server_trace}
+use Rattle.coap_world.specs.Record.{Setting, DelayOf, PlainOf, gives_it, settings}
 use Rattle.coap_world.specs.Smooth.{TakesNoObservation}
 use Rattle.coap_world.proofs.Delivery.EntriesInTime.{Every, every_join}
 use Rattle.coap_world.proofs.Reports.AskedBy.{asked_by}
@@ -129,16 +130,17 @@ observes_none q options is other h = by (is_get q.method) h
     by false z = cc z
 
 module _ (config : Config) where
-  none_begun : (o : Observer) (ds : List S.Delay)
-      → WasMade config.limits config.server_szx (map (λ (d : S.Delay). S.Delays d.path d.ms true) ds) o → ⊥
+  none_begun : (o : Observer) (ss : List Setting)
+      → WasMade config.limits config.server_szx (map gives_it ss) o → ⊥
   none_begun o [] h = h
-  none_begun o (d ∷ ds) (inl h) = let here = h.made.here in cc here
-  none_begun o (d ∷ ds) (inr h) = none_begun o ds h
+  none_begun o (DelayOf d ∷ ss) (inl h) = let here = h.made.here in cc here
+  none_begun o (PlainOf p ∷ ss) (inl h) = let here = h.made.here in cc here
+  none_begun o (s ∷ ss) (inr h) = none_begun o ss h
 
   pub none_made : (o : Observer) (es : List Entry) → Lawful config es
       → AreOfObservations config.client_sizes (client_of es) → Always (λ p d. TakesNoObservation d) (client_of es)
       → o.to ≡ client_end → WasMade config.limits config.server_szx (server_trace config es) o → ⊥
-  none_made o [] law observed none to h = none_begun o config.delays h
+  none_made o [] law observed none to h = none_begun o (settings config) h
   none_made o (OfClient c ∷ past) law observed none to h =
       none_made o past (lawful_back config past (OfClient c) law) observed.1 none.1 to h
   none_made o (OfServer c ∷ past) law observed none to (inr h) =

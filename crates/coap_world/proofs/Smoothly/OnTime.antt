@@ -11,6 +11,7 @@ use Rattle.coap_server.specs.Trace.{Delay}
 use Rattle.coap_world.specs.Events.{Config}
 use Rattle.coap_world.specs.Hops.{server_adds}
 use Rattle.coap_world.specs.Record.{Turn, begun_with, entries_of, server_of, server_trace}
+use Rattle.coap_world.specs.Record.{Setting, DelayOf, PlainOf, gives_it, settings}
 use Rattle.coap_world.proofs.Delivery.EntriesInTime.{Every, every_map, Timely}
 use Rattle.coap_world.proofs.Delivery.OneEndATurn.{ClientTurn, ServerTurn, server_client, server_server}
 use Rattle.coap_world.proofs.Delivery.ServerInTime as server
@@ -49,12 +50,13 @@ module _ (config : Config) where
         let k = all_here cs at.1 by old in
         (server.next_by config t (cs ++ past) c k.0 at.0, (here cs c at.0 k.0, k.1))
 
-  at_first : (ds : List Delay) → Always OnTime (map (λ (d : Delay). S.Delays d.path d.ms true) ds)
+  at_first : (ss : List Setting) → Always OnTime (map gives_it ss)
   at_first [] = tt
-  at_first (d ∷ ds) = (tt, at_first ds)
+  at_first (DelayOf d ∷ ss) = (tt, at_first ss)
+  at_first (PlainOf p ∷ ss) = (tt, at_first ss)
 
   pub on_time : (turns : List Turn) → Stands config turns → Always OnTime (server_trace config (entries_of turns))
-  on_time [] s = at_first config.delays
+  on_time [] s = at_first (settings config)
   on_time (turn ∷ past) s = by (on_time past (before config turn past s)) (side_of config turn past s)
     where
       by : Always OnTime (server_trace config (entries_of past))

@@ -371,6 +371,7 @@ module _ (config : Config) where
   server_makes past (S.Sets now path format body answer left) = makes_none tt
   server_makes past (S.Removes now path answer left) = makes_none tt
   server_makes past (S.Delays path ms answer) = makes_none tt
+  server_makes past (S.Plains path answer) = makes_none tt
   server_makes past (S.Gets path answer) = makes_none tt
   server_makes past (S.TellsApplied answer) = makes_none tt
   server_makes past (S.NextOut answer) = makes_out (answer, refl)

@@ -226,6 +226,7 @@ module _ (config : Config) (observers : (t : List S.Call) → AreObservers confi
     plain_now t (S.Sets now path format body answer left) law heard k = absurd k
     plain_now t (S.Removes now path answer left) law heard k = absurd k
     plain_now t (S.Delays path ms answer) law heard k = absurd k
+    plain_now t (S.Plains path answer) law heard k = absurd k
     plain_now t (S.NextOut answer) law heard (inl k) = absurd (cc k)
     plain_now t (S.NextOut answer) law heard (inr k) = absurd k
     plain_now t (S.Gets path answer) law heard k = absurd k

@@ -34,6 +34,7 @@ module _ (limits : Limits) (szx : ℕ) (w : Waiting) where
   before (S.Sets now path format body answer left) t none still = still
   before (S.Removes now path answer left) t none still = still
   before (S.Delays path ms answer) t none still = still
+  before (S.Plains path answer) t none still = still
   before (S.NextOut answer) t none still = still
   before (S.Gets path answer) t none still = still
   before (S.TellsApplied answer) t none still = still

@@ -72,6 +72,7 @@ module _ (config : Config) (delays : All (λ (d : Delay). d.ms ≤ max_delay) co
   goes_on w past (S.Sets now path format body answer left) law still = inl still
   goes_on w past (S.Removes now path answer left) law still = inl still
   goes_on w past (S.Delays path ms answer) law still = inl still
+  goes_on w past (S.Plains path answer) law still = inl still
   goes_on w past (S.NextOut answer) law still = inl still
   goes_on w past (S.Gets path answer) law still = inl still
   goes_on w past (S.TellsApplied answer) law still = inl still

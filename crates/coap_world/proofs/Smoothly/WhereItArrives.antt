@@ -148,6 +148,7 @@ server_fed from bytes up (S.Feeds now f b word u came h below) is same =
 server_fed from bytes up (S.Sets now path format body a left) is same = absurd (cc is)
 server_fed from bytes up (S.Removes now path a left) is same = absurd (cc is)
 server_fed from bytes up (S.Delays path ms a) is same = absurd (cc is)
+server_fed from bytes up (S.Plains path a) is same = absurd (cc is)
 server_fed from bytes up (S.Ticks now word below room d passed h id a) is same = absurd (cc is)
 server_fed from bytes up (S.NextOut a) is same = absurd (cc is)
 server_fed from bytes up (S.Gets path a) is same = absurd (cc is)

@@ -26,6 +26,7 @@ use Rattle.coap_world.specs.Events.{client_end, server_end, Config}
 use Rattle.coap_world.specs.Hops.{hops_in, hops_at, client_adds}
 use Rattle.coap_world.specs.Legal.{IsRequest}
 use Rattle.coap_world.specs.Record.{Entry, OfClient, OfServer, client_of, server_trace}
+use Rattle.coap_world.specs.Record.{Setting, DelayOf, PlainOf, gives_it, settings}
 use Rattle.coap_world.specs.Serves.{BroughtAt}
 use Rattle.coap_world.proofs.Reports.Answered.{all_answered}
 use Rattle.coap_world.proofs.Requests.OfACall.{Lawful}
@@ -90,11 +91,12 @@ module _ (config : Config) (all : List Entry) (small : config.client_sizes.szx �
     abbrev MadeIn : Endpoint → List ℕ → List (List ℕ) → List S.Call → Type 0
     MadeIn to token path t = Sometime (MadeBy config.limits config.server_szx to token path) t
 
-    none_made : (to : Endpoint) (token : List ℕ) (path : List (List ℕ)) (ds : List S.Delay)
-        → MadeIn to token path (map (λ (d : S.Delay). S.Delays d.path d.ms true) ds) → ⊥
+    none_made : (to : Endpoint) (token : List ℕ) (path : List (List ℕ)) (ss : List Setting)
+        → MadeIn to token path (map gives_it ss) → ⊥
     none_made to token path [] h = h
-    none_made to token path (d ∷ ds) (inr h) = none_made to token path ds h
-    none_made to token path (d ∷ ds) (inl h) = let here = h.here in cc here
+    none_made to token path (s ∷ ss) (inr h) = none_made to token path ss h
+    none_made to token path (DelayOf d ∷ ss) (inl h) = let here = h.here in cc here
+    none_made to token path (PlainOf p ∷ ss) (inl h) = let here = h.here in cc here
 
     made_in : (o : Observer) (t : List S.Call) → WasMade config.limits config.server_szx t o
         → MadeIn o.to o.token o.path t
@@ -103,7 +105,7 @@ module _ (config : Config) (all : List Entry) (small : config.client_sizes.szx �
 
     made_up : (to : Endpoint) (token : List ℕ) (path : List (List ℕ)) (w : List Entry) → PartOf w
         → MadeIn to token path (server_trace config w) → to ≡ client_end → token ≡ x.token → UpIn (hops_in config w)
-    made_up to token path [] p h from is = absurd (none_made to token path config.delays h)
+    made_up to token path [] p h from is = absurd (none_made to token path (settings config) h)
     made_up to token path (OfClient c ∷ w) p h from is =
         later_up w (OfClient c) (made_up to token path w
         (part_back config all small whole in_range w (OfClient c) p) h from is)

@@ -39,6 +39,8 @@ configured delays each few = record {
   server_limit = (omega arith, omega arith);
   delays = each;
   few = few;
+  plains = All-nil IsPath;
+  few_plains = omega arith;
 }
 
 pub config_range : IsConfig config

@@ -157,6 +157,8 @@ by_16_range = record {
   server_limit = config_range.server_limit;
   delays = config_range.delays;
   few = omega arith;
+  plains = config_range.plains;
+  few_plains = omega arith;
 }
 
 pub range : (body : List ℕ) → AreBytes body → IsRequest (uploading body)

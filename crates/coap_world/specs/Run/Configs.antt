@@ -1,5 +1,5 @@
 -- With what a run begins.
-use Rattle.std.specs.Prelude.{ℕ, true, List, map}
+use Rattle.std.specs.Prelude.{ℕ, List, ◌++◌, map}
 use Rattle.coap_block.specs.Sizes.{Sizes}
 use Rattle.coap_resource.specs.Limits.{Limits}
 use Rattle.coap_server.specs.declared.server.parts.Delay.{Delay as PathDelay}
@@ -7,10 +7,11 @@ use Rattle.coap_server.specs.Turns.DelaysShown.{delays_as}
 use Rattle.coap_server.specs.Trace as S
 use Rattle.coap_server.specs.Trace.{Delay}
 use Rattle.coap_world.specs.Events.{Config}
+use Rattle.coap_world.specs.Record.{DelayOf, PlainOf, gives_it}
 
 abbrev pub config_of : {A : Type 0} → (client_word : ℕ) → Sizes → (server_word server_szx : ℕ) → Limits
-    → List (PathDelay A) → Config
-config_of client_word client_sizes server_word server_szx limits delays =
+    → List (PathDelay A) → List (List (List ℕ)) → Config
+config_of client_word client_sizes server_word server_szx limits delays plains =
     record {
       client_word = client_word;
       client_sizes = client_sizes;
@@ -18,6 +19,7 @@ config_of client_word client_sizes server_word server_szx limits delays =
       server_szx = server_szx;
       limits = limits;
       delays = delays_as delays;
+      plains = plains;
     }
 
 -- the same, with other limits of bodies
@@ -31,6 +33,14 @@ with_limits config client server = record config {
 abbrev pub with_delays : Config → List Delay → Config
 with_delays config delays = record config { delays = delays }
 
--- the calls that give a server these delays
+-- the same, with other plain paths
+abbrev pub with_plains : Config → List (List (List ℕ)) → Config
+with_plains config plains = record config { plains = plains }
+
+-- the calls that give a server these delays, and then make these paths plain
+
 abbrev pub gives : List Delay → List S.Call
-gives ds = map (λ (d : Delay). S.Delays d.path d.ms true) ds
+gives ds = map gives_it (map (λ d. DelayOf d) ds)
+
+abbrev pub begins_with : List (List (List ℕ)) → List Delay → List S.Call
+begins_with ps ds = map gives_it (map (λ p. PlainOf p) ps ++ map (λ d. DelayOf d) ds)

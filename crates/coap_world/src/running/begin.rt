@@ -3,6 +3,7 @@ ghost use Rattle.std.specs.Prelude.{◌≡◌, [], IfOk, OnOk};
 ghost use Rattle.coap_server.specs.Object.Shown.{state_of};
 ghost use Rattle.coap_server.specs.Led.{Led};
 ghost use Rattle.coap_world.specs.Record.{begun_with};
+ghost use Rattle.coap_world.specs.Run.Configs.{gives};
 ghost use Rattle.coap_world.specs.Run.Ends.{ClientLed, ServerLed};
 
 use crate::running::config::WorldConfig;
@@ -10,7 +11,7 @@ use crate::running::drain::SERVER_END;
 use crate::running::ends::{ClientEnd, ServerEnd};
 use crate::running::put_away::put_away;
 use crate::running::senders::Senders;
-use coap_ends::{Client, DelayRefusal, Server};
+use coap_ends::{Client, DelayRefusal, PlainRefusal, Server};
 use coap_resource::Store;
 use std::alloc::{AllocError, Allocator};
 use std::hash::BuildHasherDefault;
@@ -33,7 +34,7 @@ pub(crate) fn client_of<A: Allocator + Copy>(config: &WorldConfig<A>) -> ClientE
     }
 }
 
-// The server, without the delays.
+// The server, without the delays and the plain paths.
 fn fresh_server<S: Store<A>, A: Allocator + Copy>(config: &WorldConfig<A>) -> Server<S, A>
     ensures { Led config.now.limits config.now.server_szx config.now.server_word [] (state_of S.content result) }
 {
@@ -49,7 +50,7 @@ fn give_delays<S: Store<A>, A: Allocator + Copy>(
     config: &WorldConfig<A>,
 ) -> Result<(), AllocError>
     requires { Led config.now.limits config.now.server_szx config.now.server_word [] (state_of S.content server.old) }
-    ensures { OnOk result (Led config.now.limits config.now.server_szx config.now.server_word (begun_with config.now)
+    ensures { OnOk result (Led config.now.limits config.now.server_szx config.now.server_word (gives config.now.delays)
         (state_of S.content server.new)) }
 {
     let mut left = config.delays.len();
@@ -65,14 +66,49 @@ fn give_delays<S: Store<A>, A: Allocator + Copy>(
     Ok(())
 }
 
-/// The server, which is given the delays.
+// Then makes the paths plain, from the last to the first.
+fn make_plain<S: Store<A>, A: Allocator + Copy>(
+    server: &mut Server<S, A>,
+    config: &WorldConfig<A>,
+) -> Result<(), AllocError>
+    requires { Led config.now.limits config.now.server_szx config.now.server_word (gives config.now.delays)
+        (state_of S.content server.old) }
+    ensures { OnOk result (Led config.now.limits config.now.server_szx config.now.server_word (begun_with config.now)
+        (state_of S.content server.new)) }
+{
+    let mut left = config.plains.len();
+    'plains: while left > 0 {
+        left -= 1;
+        match server.set_plain(&config.plains[left]) {
+            Ok(()) => {}
+            Err(PlainRefusal::Full) => unreachable!(),
+            Err(PlainRefusal::Memory) => return Err(AllocError),
+        }
+    }
+    Ok(())
+}
+
+// .. both.
+fn set_up<S: Store<A>, A: Allocator + Copy>(
+    server: &mut Server<S, A>,
+    config: &WorldConfig<A>,
+) -> Result<(), AllocError>
+    requires { Led config.now.limits config.now.server_szx config.now.server_word [] (state_of S.content server.old) }
+    ensures { OnOk result (Led config.now.limits config.now.server_szx config.now.server_word (begun_with config.now)
+        (state_of S.content server.new)) }
+{
+    give_delays(server, config)?;
+    make_plain(server, config)
+}
+
+/// The server, which is given the delays and the plain paths.
 pub(crate) fn server_of<S: Store<A>, A: Allocator + Copy>(
     config: &WorldConfig<A>,
 ) -> Result<ServerEnd<S, A>, AllocError>
     ensures { IfOk result (λ server. ServerLed S.content config.now (begun_with config.now) server) }
 {
     let mut server = fresh_server(config);
-    match give_delays(&mut server, config) {
+    match set_up(&mut server, config) {
         Ok(()) => Ok(ServerEnd { server, version: 0 }),
         Err(why) => {
             put_away(server);

@@ -4,16 +4,18 @@ ghost use Rattle.coap_server.specs.Deferring.{delay_of, delays_with, may_delay};
 ghost use Rattle.coap_server.specs.declared.server.delaying.DelayRefusal.TheVariants as delay_refusals;
 ghost use Rattle.coap_block.specs.Sizes.{usual_sizes};
 ghost use Rattle.coap_resource.specs.Limits.{usual_limits};
-ghost use Rattle.coap_world.specs.Run.Configs.{with_delays, with_limits};
+ghost use Rattle.coap_server.specs.Plain.{is_plain, may_be_plain, plains_with};
+ghost use Rattle.coap_server.specs.declared.server.plain.PlainRefusal.TheVariants as plain_refusals;
+ghost use Rattle.coap_world.specs.Run.Configs.{with_delays, with_limits, with_plains};
 
-use coap_ends::{Delay, DelayRefusal, give_delay};
+use coap_ends::{Delay, DelayRefusal, PlainRefusal, give_delay, give_plain};
 use coap_resource::MAX_CHANGES_PER_WINDOW;
 use coap_types::{BodyLimit, Path, Szx};
 use std::alloc::{Allocator, Global};
 use std::marker::Model;
 
 /// With what a run begins: the words, the block sizes and the limits of bodies of both ends, how many
-/// changes a window takes, and which paths are answered later.
+/// changes a window takes, which paths are answered later, and which are notified in NONs.
 #[derive(Drop)]
 pub struct WorldConfig<A: Allocator + Copy = Global> {
     pub(crate) alloc: A,
@@ -25,6 +27,7 @@ pub struct WorldConfig<A: Allocator + Copy = Global> {
     pub(crate) server_limit: BodyLimit,
     pub(crate) changes: u32,
     pub(crate) delays: Vec<Delay<A>, A>,
+    pub(crate) plains: Vec<Path<A>, A>,
 }
 
 impl<A: Allocator + Copy> Model for WorldConfig<A> {
@@ -36,14 +39,14 @@ impl<A: Allocator + Copy> Model for WorldConfig<A> {
     ghost use Rattle.coap_world.specs.Run.Configs.{config_of};
 
     ghost view = { λ c. config_of c.client_word (record { szx = c.client_szx; limit = c.client_limit }) c.server_word
-        c.server_szx (record { changes = c.changes; body = c.server_limit }) c.delays.items };
+        c.server_szx (record { changes = c.changes; body = c.server_limit }) c.delays.items c.plains.items };
 
     ghost invariant = { λ c. IsConfig (config_of c.client_word (record { szx = c.client_szx; limit = c.client_limit })
-        c.server_word c.server_szx (record { changes = c.changes; body = c.server_limit }) c.delays.items) };
+        c.server_word c.server_szx (record { changes = c.changes; body = c.server_limit }) c.delays.items c.plains.items) };
 }
 
 impl<A: Allocator + Copy> WorldConfig<A> {
-    /// With no delays, and with the limits of `BodyLimit::default()`; None where a store does not take
+    /// With no delays and no plain path, and with the limits of `BodyLimit::default()`; None where a store does not take
     /// so many changes in a window.
     pub fn new(
         alloc: A,
@@ -53,7 +56,7 @@ impl<A: Allocator + Copy> WorldConfig<A> {
         server_szx: Szx,
         changes: u32,
     ) -> Option<WorldConfig<A>>
-        // A `new` run has these words, sizes and changes a window, the usual limits, and no delay.
+        // A `new` run has these words, sizes and changes a window, the usual limits, no delay and no plain path.
         ensures config { IfSome result (λ c. c ≡ record {
           client_word = client_word;
           client_sizes = usual_sizes client_szx;
@@ -61,6 +64,7 @@ impl<A: Allocator + Copy> WorldConfig<A> {
           server_szx = server_szx;
           limits = usual_limits changes;
           delays = [];
+          plains = [];
         }) }
         // It is made exactly where the changes a window are at least one and at most the greatest number.
         ensures when { IsSome result ↔ ((1 ≤ changes) × (changes ≤ MAX_CHANGES_PER_WINDOW)) }
@@ -78,6 +82,7 @@ impl<A: Allocator + Copy> WorldConfig<A> {
             server_limit: BodyLimit::default(),
             changes,
             delays: Vec::new(alloc),
+            plains: Vec::new(alloc),
         })
     }
 
@@ -108,6 +113,27 @@ impl<A: Allocator + Copy> WorldConfig<A> {
             Ok(true) => Ok(()),
             Ok(false) => Err(DelayRefusal::Full),
             Err(_) => Err(DelayRefusal::Memory),
+        }
+    }
+
+    /// Has each notification of the path go in a Non-confirmable message where it may, as
+    /// `coap_ends::Server::set_plain` does. It takes no memory where `MAX_PLAINS` other paths are plain,
+    /// or the path is.
+    pub fn plain(&mut self, path: &Path<A>) -> Result<(), PlainRefusal>
+        // The path of a run is plain behind it.
+        ensures ok { OnOk result (self.new ≡ with_plains self.old (plains_with path.now true self.old.plains)) }
+        // A path that isn't made plain changes nothing in the run.
+        ensures err { OnErr result (self.new ≡ self.old) }
+        // It is refused as Full exactly where the path isn't plain and 16 others are.
+        ensures full { (result ≡ Err plain_refusals.Full) ↔ (may_be_plain path.now self.old.plains ≡ false) }
+        // A path of the run that is plain takes no memory.
+        ensures again { is_plain path.now self.old.plains ≡ true → result ≢ Err plain_refusals.Memory }
+    {
+        let _path = path.segments();
+        match give_plain(&mut self.plains, path) {
+            Ok(true) => Ok(()),
+            Ok(false) => Err(PlainRefusal::Full),
+            Err(_) => Err(PlainRefusal::Memory),
         }
     }
 }

@@ -71,6 +71,8 @@ pub(crate) fn config_of<A: Allocator + Copy>(memory: A, run: &str) -> Result<Wor
         if let Some(words) = line.strip_prefix("delay ") {
             let (path, ms) = cut(words, " ");
             config.delay(&path_of(memory, path)?, ms.parse()?)?;
+        } else if let Some(path) = line.strip_prefix("plain ") {
+            config.plain(&path_of(memory, path)?)?;
         }
     }
     Ok(config)
