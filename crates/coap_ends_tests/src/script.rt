@@ -20,6 +20,7 @@
 //! | `set 0 /t 0 = hi` · `remove 0 /t` | the server's own side sets the path to a text of this format (`-` for none) ·
 //! removes what it holds |
 //! | `delay /t 1000` | the path has a delay |
+//! | `plain /t` | the path is plain: its notifications go in NONs |
 //! | `holds /t 1 0 = hi` · `holds /t nothing` | it holds this, of this version · nothing |
 //! | `applied C put /t 01 1` · `applied nothing` | the last input applied the request of this port and token, with this
 //! version · none |

@@ -6,6 +6,7 @@ mod flooding;
 mod identifiers;
 mod limits;
 mod observing;
+mod plain;
 pub(crate) mod replies;
 pub(crate) mod storing;
 mod uploading;

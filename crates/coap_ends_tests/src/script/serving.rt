@@ -1,7 +1,7 @@
 //! The steps of the server's own side, and what it shows.
 use super::ends::Ends;
 use super::words::{bytes_of, endpoint, first, format_of, method_of, path_of, port_of, text_of};
-use coap_ends::DelayRefusal;
+use coap_ends::{DelayRefusal, PlainRefusal};
 use coap_resource::StoreRefusal;
 use coap_types::Moment;
 use std::alloc::Allocator;
@@ -19,6 +19,7 @@ impl<A: Allocator + Copy> Ends<'_, A> {
             "set" => self.set(words, text, answer),
             "remove" => self.remove(words, answer),
             "delay" => self.delay(words, answer),
+            "plain" => self.plain(words, answer),
             "holds" => self.holds(words, text),
             "applied" => self.applied(words),
             _ => Err(self.wrong("no step")),
@@ -66,6 +67,17 @@ impl<A: Allocator + Copy> Ends<'_, A> {
         match self.server.set_delay(&path, ms.parse()?) {
             Ok(()) => self.is_same("", answer),
             Err(DelayRefusal::Memory) => self.wants_memory(),
+            Err(why) => self.is_same(format!(in self.alloc; "{why:?}")?.as_str(), answer),
+        }
+    }
+
+    fn plain(&mut self, words: &str, answer: &str) -> Result<(), Fail> {
+        let Some(path) = path_of(self.alloc, self.memory, words)? else {
+            return self.wants_memory();
+        };
+        match self.server.set_plain(&path) {
+            Ok(()) => self.is_same("", answer),
+            Err(PlainRefusal::Memory) => self.wants_memory(),
             Err(why) => self.is_same(format!(in self.alloc; "{why:?}")?.as_str(), answer),
         }
     }
