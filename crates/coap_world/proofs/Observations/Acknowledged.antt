@@ -19,6 +19,7 @@ use Rattle.coap_server.proofs.Facts.EachCall.{acks_arrive}
 use Rattle.coap_world.specs.Events.{client_end, server_end, Config}
 use Rattle.coap_world.specs.Hops.{hops_at, hops_in, across, server_adds}
 use Rattle.coap_world.specs.Record.{Entry, OfClient, OfServer, server_trace}
+use Rattle.coap_world.specs.Record.{Setting, DelayOf, PlainOf, gives_it}
 use Rattle.coap_world.proofs.Delivery.ChannelAcross.{near_across, channel_across}
 use Rattle.coap_world.proofs.Delivery.HopsAreEntries.{near_near, near_far}
 use Rattle.coap_world.proofs.Delivery.HopsAreEntries.{far_is}
@@ -116,8 +117,9 @@ module _ (config : Config) (con : Open) (to : con.to ≡ client_end) where
   abbrev Acked : List S.Call → S.Call → Type 0
   Acked past b = AckedBehind config.limits config.server_szx config.server_word client_end con past b
 
-  none_first : (past : List S.Call) (d : S.Delay) → Acked past (S.Delays d.path d.ms true) → ⊥
-  none_first past d k = let is = k.0.is in cc is
+  none_first : (past : List S.Call) (s : Setting) → Acked past (gives_it s) → ⊥
+  none_first past (DelayOf d) k = let is = k.0.is in cc is
+  none_first past (PlainOf p) k = let is = k.0.is in cc is
 
   across_back : (e : Entry) (past : List Entry) (P : Hop → Type 0) → Ever P (across (hops_in config past))
       → Ever P (across (hops_in config (e ∷ past)))

@@ -10,7 +10,7 @@ use Rattle.coap_layer.specs.Trace as L
 use Rattle.coap_layer.specs.Words.{Open, begun}
 use Rattle.coap_server.specs.Trace.{Own, Call}
 use Rattle.coap_server.specs.Law.{ServerLaw, own_of, layer_of}
-use Rattle.coap_server.specs.Follows.Tells.{Pair, Telling, telling, HearsAck, FollowsOn, NoneMade}
+use Rattle.coap_server.specs.Follows.Tells.{FollowsOn, HearsAck, InCon, InReply, NoneMade, Pair, Telling, Way, telling}
 use Rattle.coap_server.proofs.Facts.Laws as facts
 use Rattle.coap_server.specs.Follows.Adds.{call_adds}
 use Rattle.coap_server.specs.Follows.Told.{Conveys, TellsIn, ServesPair, pair_of, IsUnder, AreUnder}
@@ -83,7 +83,7 @@ module _ (limits : Limits) (szx word : ℕ) where
         not_first (newer ++ c ∷ older) d p y same under.0 second once
         (Sometime_back (ServesPair limits szx p) newer (c ∷ older) made)
 
-    follow_here : FollowsOn newer x y
+    follow_here : FollowsOn limits.changes newer x y
     follow_here =
         facts.follows limits szx word (d ∷ (newer ++ c ∷ older)) law newer older c d x y refl first second registers_not to
         token
@@ -120,7 +120,7 @@ module _ (limits : Limits) (szx word : ℕ) where
         ∙ ap {B = Pair} (λ z. record { to = to; token = z }) (k.token_is ∙ is))
 
     -- of two messages that are told under the token the later one follows on
-    module _ (k l : Option ℕ) (m n : Message) (older_is : m.token ≡ token) (newer_is : n.token ≡ token) where
+    module _ (k l : Way) (m n : Message) (older_is : m.token ≡ token) (newer_is : n.token ≡ token) where
       abbrev First : List Call → Call → Type 0
       First past c = TellsIn limits szx k to m past c
 
@@ -138,7 +138,7 @@ module _ (limits : Limits) (szx word : ℕ) where
         token_same : y.told.token ≡ x.told.token
         token_same = y.conveys.token_is ∙ (newer_is ∙ (sym older_is ∙ sym x.conveys.token_is))
 
-        follow_split : FollowsOn newer x.told y.told
+        follow_split : FollowsOn limits.changes newer x.told y.told
         follow_split = follow_here newer older c d x.told y.told law once_here x.here y.here to_same token_same
 
         split_registers : y.told.registers ≡ false
@@ -154,7 +154,8 @@ module _ (limits : Limits) (szx word : ℕ) where
           pub one : A older call
           pub next : Call
           pub other : B (after ++ call ∷ older) next
-          pub follows : FollowsOn after (is_first older call one).told (is_second (after ++ call ∷ older) next other).told
+          pub follows : FollowsOn limits.changes after (is_first older call one).told
+              (is_second (after ++ call ∷ older) next other).told
 
         follows_split : (past : List Call) (d : Call) → ServerLaw limits szx word (d ∷ past) → OnceOf pair (d ∷ past)
             → B past d → (s : Split A past) → Follow
@@ -182,7 +183,7 @@ module _ (limits : Limits) (szx word : ℕ) where
             follows_in past (facts.back limits szx word (d ∷ []) past law) once.1 h
 
       -- the answer to the registration, which goes in no CON, is told first
-      reply_split : l ≡ None → (past : List Call) (d : Call) → ServerLaw limits szx word (d ∷ past)
+      reply_split : l ≡ InReply → (past : List Call) (d : Call) → ServerLaw limits szx word (d ∷ past)
           → OnceOf pair (d ∷ past) → Second past d → (s : Split First past) → ⊥
       reply_split reply past d law once y s = by s.newer s.entry s.older s.is s.here
         where
@@ -191,11 +192,11 @@ module _ (limits : Limits) (szx word : ℕ) where
               let z = subst (λ q. Second q d) e y in
               let no = split_registers newer older c d (subst (λ q. ServerLaw limits szx word (d ∷ q)) e law)
               (subst (λ q. OnceOf pair (d ∷ q)) e once) x z in
-              let yes = reply_registers (own (newer ++ c ∷ older)) d z.told z.here (z.con_is ∙ reply) in
+              let yes = reply_registers (own (newer ++ c ∷ older)) d z.told z.here (z.way_is ∙ reply) in
               let both : false ≡ true = sym no ∙ yes in
               cc both
 
-      pub reply_first : l ≡ None → (t : List Call) → ServerLaw limits szx word t → OnceOf pair t
+      pub reply_first : l ≡ InReply → (t : List Call) → ServerLaw limits szx word t → OnceOf pair t
           → Sometime (λ past d. Second past d × Sometime First past) t → ⊥
       reply_first reply [] law once h = h
       reply_first reply (d ∷ past) law once (inl h) = reply_split reply past d law once h.0 (split First past h.1)
@@ -203,9 +204,9 @@ module _ (limits : Limits) (szx word : ℕ) where
           reply_first reply past (facts.back limits szx word (d ∷ []) past law) once.1 h
 
     -- where the earlier one was sent in a CON, that was acknowledged before the later one was made
-    module _ (con : Open) (l : Option ℕ) (m n : Message) (older_is : m.token ≡ token) (newer_is : n.token ≡ token) where
+    module _ (con : Open) (l : Way) (m n : Message) (older_is : m.token ≡ token) (newer_is : n.token ≡ token) where
       abbrev ByCon : List Call → Call → Type 0
-      ByCon past c = TellsIn limits szx (Some con.id) to m past c
+      ByCon past c = TellsIn limits szx (InCon con.id) to m past c
           × Ever (λ b. begun b ≡ Some con) (call_adds limits szx word past c)
 
       abbrev Behind : List Call → Call → Type 0
@@ -219,11 +220,11 @@ module _ (limits : Limits) (szx word : ℕ) where
               → Sometime (AckedBehind to con) past
           by newer c older e x =
               let z = subst (λ q. Behind q d) e y in
-              let f = follow_split (Some con.id) l m n older_is newer_is newer older c d
+              let f = follow_split (InCon con.id) l m n older_is newer_is newer older c d
               (subst (λ q. ServerLaw limits szx word (d ∷ q)) e law)
               (subst (λ q. OnceOf pair (d ∷ q)) e once) x.0 z in
               let acked = subst (λ q. Ever (HearsAck q con.id) newer) x.0.conveys.to_is
-              (f.acknowledged con.id x.0.con_is) in
+              (f.acknowledged con.id x.0.way_is) in
               subst (Sometime (AckedBehind to con)) (sym e) (acked_behind to con newer older c x.1 acked)
 
       pub acked_in : (t : List Call) → ServerLaw limits szx word t → OnceOf pair t

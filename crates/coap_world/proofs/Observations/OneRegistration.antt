@@ -29,6 +29,7 @@ use Rattle.coap_world.specs.CameFrom.{request_of}
 use Rattle.coap_world.specs.Events.{client_end, server_end, Config}
 use Rattle.coap_world.specs.Hops.{hops_at, hops_in}
 use Rattle.coap_world.specs.Record.{Entry, OfClient, OfServer, client_of, server_trace}
+use Rattle.coap_world.specs.Record.{Setting, DelayOf, PlainOf, gives_it, settings}
 use Rattle.coap_world.proofs.Requests.HandedUpOnce.{OneConBy, up_once, once_counted}
 use Rattle.coap_world.proofs.Delivery.HopsAreEntries.{near_is, far_is}
 use Rattle.coap_world.proofs.Requests.CameFrom.{same_request}
@@ -49,9 +50,10 @@ module _ (config : Config) where
       traced config x.asked x.question w law.came from (brought_in config x.asked x.question w brings)
 
   -- it is a CON
-  non_first : (past : List S.Call) (d : S.Delay)
-      → ServesNon config.limits config.server_szx client_end past (S.Delays d.path d.ms true) → ⊥
-  non_first past d k = let here = k.here in cc here
+  non_first : (past : List S.Call) (s : Setting)
+      → ServesNon config.limits config.server_szx client_end past (gives_it s) → ⊥
+  non_first past (DelayOf d) k = let here = k.here in cc here
+  non_first past (PlainOf p) k = let here = k.here in cc here
 
   non_at : (t : List Entry) → Lawful config t → Sometime
       (AtServer config (ServesNon config.limits config.server_szx client_end)) t → ⊥
@@ -189,8 +191,9 @@ module _ (config : Config) (all : List Entry) (whole : Lawful config all) (numbe
       served_before y k past (later_back (OfServer c) past later) (lawful_back config past (OfServer c) law) h in omega
       (arith, n)
 
-  first_none : (past : List S.Call) (d : S.Delay) → Serves past (S.Delays d.path d.ms true) → ⊥
-  first_none past d k = let here = k.here in cc here
+  first_none : (past : List S.Call) (s : Setting) → Serves past (gives_it s) → ⊥
+  first_none past (DelayOf d) k = let here = k.here in cc here
+  first_none past (PlainOf p) k = let here = k.here in cc here
 
   not_twice : (past : List Entry) (c : S.Call) → Later (OfServer c ∷ past) → Lawful config (OfServer c ∷ past)
       → Serves (server_trace config past) c → Sometime Serves (server_trace config past) → ⊥
@@ -218,12 +221,12 @@ module _ (config : Config) (all : List Entry) (whole : Lawful config all) (numbe
   abbrev pub Once : List S.Call → Type 0
   Once t = Always (λ past c. Serves past c → Sometime Serves past → ⊥) t
 
-  once_first : (ds : List S.Delay) → Once (map (λ (d : S.Delay). S.Delays d.path d.ms true) ds)
+  once_first : (ss : List Setting) → Once (map gives_it ss)
   once_first [] = tt
-  once_first (d ∷ ds) = (λ a h. first_none _ d a, once_first ds)
+  once_first (s ∷ ss) = (λ a h. first_none _ s a, once_first ss)
 
   once_in : (t : List Entry) → Later t → Lawful config t → Once (server_trace config t)
-  once_in [] later law = once_first config.delays
+  once_in [] later law = once_first (settings config)
   once_in (OfClient c ∷ past) later law = once_in past (later_back (OfClient c) past later)
       (lawful_back config past (OfClient c) law)
   once_in (OfServer c ∷ past) later law = (

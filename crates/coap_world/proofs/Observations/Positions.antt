@@ -13,6 +13,7 @@ use Rattle.coap_server.proofs.Facts.EachCall.{layer_next}
 use Rattle.coap_world.specs.Events.{Config}
 use Rattle.coap_world.specs.Hops.{across}
 use Rattle.coap_world.specs.Record.{Entry, OfClient, OfServer, client_of, server_trace}
+use Rattle.coap_world.specs.Record.{Setting, gives_it, settings}
 
 module _ {E : Type 0} where
   -- at one entry both, or one of them behind the other
@@ -68,21 +69,19 @@ module _ (config : Config) where
   AtClient P past (OfClient c) = P (client_of past) c
   AtClient P past (OfServer c) = ⊥
 
-  abbrev delays : List S.Delay → List S.Call
-  delays ds = map (λ (d : S.Delay). S.Delays d.path d.ms true) ds
-
   -- at none of the calls with which a server begins
   abbrev pub NotAtFirst : (List S.Call → S.Call → Type 0) → Type 0
-  NotAtFirst P = (past : List S.Call) (d : S.Delay) → P past (S.Delays d.path d.ms true) → ⊥
+  NotAtFirst P = (past : List S.Call) (s : Setting) → P past (gives_it s) → ⊥
 
-  none_first : (P : List S.Call → S.Call → Type 0) → NotAtFirst P → (ds : List S.Delay) → Sometime P (delays ds) → ⊥
+  none_first : (P : List S.Call → S.Call → Type 0) → NotAtFirst P → (ss : List Setting) → Sometime P (map gives_it ss)
+      → ⊥
   none_first P none [] h = h
-  none_first P none (d ∷ ds) (inl h) = none (delays ds) d h
-  none_first P none (d ∷ ds) (inr h) = none_first P none ds h
+  none_first P none (s ∷ ss) (inl h) = none (map gives_it ss) s h
+  none_first P none (s ∷ ss) (inr h) = none_first P none ss h
 
   pub server_entries : (P : List S.Call → S.Call → Type 0) → NotAtFirst P → (all : List Entry)
       → Sometime P (server_trace config all) → Sometime (AtServer P) all
-  server_entries P none [] h = absurd (none_first P none config.delays h)
+  server_entries P none [] h = absurd (none_first P none (settings config) h)
   server_entries P none (OfClient c ∷ past) h = inr (server_entries P none past h)
   server_entries P none (OfServer c ∷ past) (inl h) = inl h
   server_entries P none (OfServer c ∷ past) (inr h) = inr (server_entries P none past h)
