@@ -1,4 +1,5 @@
 pub mod Positions
+pub mod ToldThen
 pub mod Heard
 pub mod OneRegistration
 pub mod RepliesRegister

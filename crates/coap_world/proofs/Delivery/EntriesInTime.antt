@@ -68,10 +68,11 @@ module _ (t : ℕ) (Fed : Endpoint → List ℕ → Type 0) where
     pub now : a.now ≤ t
     pub fed : (from : Endpoint) (bytes : List ℕ) → a.call ≡ Receive from bytes → Fed from bytes
 
-  -- .. and the entries that it adds: each that sends something, or is of an arrival, has this moment
+  -- .. and the entries that it adds: each that sends something, is of an arrival, or takes nothing, has this moment
   pub record Timely (e : Entry) : Type 0 where
     pub till : e.at ≤ t
     pub from : (e.out ≡ []) ⊎ (t ≤ e.at)
+    pub since : (e.call ≡ Take) ⊎ (t ≤ e.at)
     pub fed : (from : Endpoint) (bytes : List ℕ) → e.call ≡ Receive from bytes → Fed from bytes × (t ≤ e.at)
 
   pub record Done (old : State) (asked : List Asked) : Type 0 where
@@ -102,6 +103,7 @@ module _ (t : ℕ) (Fed : Endpoint → List ℕ → Type 0) where
       record {
         till = not_after s a.now a.call t h w.now;
         from = inr k;
+        since = inr k;
         fed = λ from bytes is. (w.fed from bytes is, k);
       }
 
@@ -130,7 +132,7 @@ module _ (t : ℕ) (Fed : Endpoint → List ℕ → Type 0) where
       → Done old (record { now = 0; call = Take; answer = answer } ∷ [])
   takes old answer h = record {
     timely = (
-      record { till = h; from = inl refl; fed = λ from bytes is. absurd (cc is) },
+      record { till = h; from = inl refl; since = inl refl; fed = λ from bytes is. absurd (cc is) },
       tt,
     );
     till = h;

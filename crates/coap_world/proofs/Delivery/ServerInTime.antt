@@ -22,7 +22,7 @@ use Rattle.coap_server.specs.Notifying.{marked, readies}
 use Rattle.coap_server.specs.Steps as steps
 use Rattle.coap_server.specs.Trace.{Own, Handling, Silent, Replies, Serves, Waits, Notifies, Call}
 use Rattle.coap_server.specs.Trace.{Sets}
-use Rattle.coap_server.specs.Trace.{Removes, Delays, Feeds, Ticks, NextOut, Gets, TellsApplied}
+use Rattle.coap_server.specs.Trace.{Removes, Delays, Plains, Feeds, Ticks, NextOut, Gets, TellsApplied}
 use Rattle.coap_common.proofs.Facts.Adds.{left_append}
 use Rattle.coap_world.specs.Delivery.{FedToServer}
 use Rattle.coap_world.specs.Events.{Config}
@@ -37,11 +37,35 @@ abbrev pub IsAt : ℕ → Call → Type 0
 IsAt t (Sets now path format body answer left) = now ≡ t
 IsAt t (Removes now path answer left) = now ≡ t
 IsAt t (Delays path ms answer) = Unit {0}
+IsAt t (Plains path answer) = Unit {0}
 IsAt t (Feeds now from bytes word up came h below) = now ≡ t
 IsAt t (Ticks now word below room d passed h id answer) = now ≡ t
 IsAt t (NextOut answer) = Unit {0}
 IsAt t (Gets path answer) = Unit {0}
 IsAt t (TellsApplied answer) = Unit {0}
+
+-- the moment that counts: an earlier one than the last counts as the last
+abbrev pub Counts : ℕ → ℕ → Call → Type 0
+Counts t clock (Sets now path format body answer left) = max clock now ≡ t
+Counts t clock (Removes now path answer left) = max clock now ≡ t
+Counts t clock (Delays path ms answer) = Unit {0}
+Counts t clock (Plains path answer) = Unit {0}
+Counts t clock (Feeds now from bytes word up came h below) = max clock now ≡ t
+Counts t clock (Ticks now word below room d passed h id answer) = max clock now ≡ t
+Counts t clock (NextOut answer) = Unit {0}
+Counts t clock (Gets path answer) = Unit {0}
+Counts t clock (TellsApplied answer) = Unit {0}
+
+counts : (t clock : ℕ) (c : Call) → clock ≤ t → IsAt t c → Counts t clock c
+counts t clock (Sets now path format body answer left) h at = omega (arith, h, at)
+counts t clock (Removes now path answer left) h at = omega (arith, h, at)
+counts t clock (Delays path ms answer) h at = tt
+counts t clock (Plains path answer) h at = tt
+counts t clock (Feeds now from bytes word up came w below) h at = omega (arith, h, at)
+counts t clock (Ticks now word below room d passed w id answer) h at = omega (arith, h, at)
+counts t clock (NextOut answer) h at = tt
+counts t clock (Gets path answer) h at = tt
+counts t clock (TellsApplied answer) h at = tt
 
 abbrev pub Fed : Call → Endpoint → List ℕ → Type 0
 Fed c from bytes = FedToServer from bytes (OfServer c)
@@ -87,18 +111,19 @@ module _ (t : ℕ) (F : Endpoint → List ℕ → Type 0) where
   responding_asks s due.Expired passed h word id k = tt
 
   -- what a call asks of the exchanges
-  lower_asks : (s : Own) (c : Call) → s.clock ≤ t → IsAt t c
+  lower_asks : (s : Own) (c : Call) → s.clock ≤ t → Counts t s.clock c
       → ((from : Endpoint) (bytes : List ℕ) → Fed c from bytes → F from bytes) → Every (Asks t F) (asks_of.lower s c)
   lower_asks s (Sets now path format body answer left) h at f = tt
   lower_asks s (Removes now path answer left) h at f = tt
   lower_asks s (Delays path ms answer) h at f = tt
+  lower_asks s (Plains path answer) h at f = tt
   lower_asks s (Feeds now from bytes word up came w below) h at f =
-      let k : max s.clock now ≤ t = omega (arith, h, at) in
+      let k : max s.clock now ≤ t = omega (arith, at) in
       let z : Own = heard s now (incoming s now from bytes up came) in
       every_join (Asks t F) (answering z came w below) (incoming s now from bytes up came ∷ [])
       (answering_asks z came w below k) ((k, f from bytes (now, word, up, came, w, below, refl)), tt)
   lower_asks s (Ticks now word below room d passed w id answer) h at f =
-      let k : max s.clock now ≤ t = omega (arith, h, at) in
+      let k : max s.clock now ≤ t = omega (arith, at) in
       let z : Own = heard s now (ticking s now below room d) in
       every_join (Asks t F) (responding z d passed w word id) (ticking s now below room d ∷ [])
       (responding_asks z d passed w word id k) (k, tt)
@@ -122,17 +147,18 @@ module _ (config : Config) where
     pub between : (answerer.own_of (exchanges past)).clock ≤ t
     pub layer : (before past).clock ≤ t
 
-  asks : (t : ℕ) (past : List Call) (c : Call) → IsBy t past → IsAt t c
+  asks : (t : ℕ) (past : List Call) (c : Call) → IsBy t past → Counts t (own past).clock c
       → Every (Asks t (Fed c)) (asks_of.lower (own past) c)
   asks t past c by at = lower_asks t (Fed c) (own past) c by.own at (λ from bytes f. f)
 
-  asks_done : (t : ℕ) (past : List Call) (c : Call) → IsBy t past → IsAt t c
+  asks_done : (t : ℕ) (past : List Call) (c : Call) → IsBy t past → Counts t (own past).clock c
       → Done t (Fed c) (before past) (server_asks config past c)
   asks_done t past (Sets now path format body answer left) by at =
       nothing_done t (Fed (Sets now path format body answer left)) (before past) by.layer
   asks_done t past (Removes now path answer left) by at =
       nothing_done t (Fed (Removes now path answer left)) (before past) by.layer
   asks_done t past (Delays path ms answer) by at = nothing_done t (Fed (Delays path ms answer)) (before past) by.layer
+  asks_done t past (Plains path answer) by at = nothing_done t (Fed (Plains path answer)) (before past) by.layer
   asks_done t past (Gets path answer) by at = nothing_done t (Fed (Gets path answer)) (before past) by.layer
   asks_done t past (TellsApplied answer) by at = nothing_done t (Fed (TellsApplied answer)) (before past) by.layer
   asks_done t past (NextOut answer) by at = takes t (Fed (NextOut answer)) (before past) (L.Gives answer) by.layer
@@ -153,18 +179,20 @@ module _ (config : Config) where
       (ends t F (exchanges past) (responding (heard (own past) now (ticking (own past) now below room d)) d passed w
       word id) (ticking (own past) now below room d) k)
 
-  end_by : (t : ℕ) (s : Own) (c : Call) → s.clock ≤ t → IsAt t c → (steps.after s c).clock ≤ t
-  end_by t s (Sets now path format body answer left) h at = omega (arith, h, at)
-  end_by t s (Removes now path answer left) h at = omega (arith, h, at)
+  end_by : (t : ℕ) (s : Own) (c : Call) → s.clock ≤ t → Counts t s.clock c → (steps.after s c).clock ≤ t
+  end_by t s (Sets now path format body answer left) h at = omega (arith, at)
+  end_by t s (Removes now path answer left) h at = omega (arith, at)
   end_by t s (Delays path ms answer) h at = h
-  end_by t s (Feeds now from bytes word up came w below) h at = omega (arith, h, at)
-  end_by t s (Ticks now word below room d passed w id answer) h at = omega (arith, h, at)
+  end_by t s (Plains path answer) h at = h
+  end_by t s (Feeds now from bytes word up came w below) h at = omega (arith, at)
+  end_by t s (Ticks now word below room d passed w id answer) h at = omega (arith, at)
   end_by t s (NextOut answer) h at = h
   end_by t s (Gets path answer) h at = h
   end_by t s (TellsApplied answer) h at = h
 
-  pub next_by : (t : ℕ) (past : List Call) (c : Call) → IsBy t past → IsAt t c → IsBy t (c ∷ past)
-  next_by t past c by at =
+  pub next_counted : (t : ℕ) (past : List Call) (c : Call) → IsBy t past → Counts t (own past).clock c
+      → IsBy t (c ∷ past)
+  next_counted t past c by at =
       record {
         own = end_by t (own past) c by.own at;
         between = owns_by t (Fed c) (exchanges past) (asks_of.lower (own past) c) by.between (asks t past c by at);
@@ -174,6 +202,9 @@ module _ (config : Config) where
             (asks_done t past c by at).till;
       }
 
+  pub next_by : (t : ℕ) (past : List Call) (c : Call) → IsBy t past → IsAt t c → IsBy t (c ∷ past)
+  next_by t past c by at = next_counted t past c by (counts t (own past).clock c by.own at)
+
   pub later_by : (t u : ℕ) (past : List Call) → t ≤ u → IsBy t past → IsBy u past
   later_by t u past h by =
       let a = by.own in
@@ -181,6 +212,10 @@ module _ (config : Config) where
       let c = by.between in
       record { own = omega (arith, a, h); between = omega (arith, c, h); layer = omega (arith, b, h) }
 
+  pub adds_counted : (t : ℕ) (past : List Call) (c : Call) → IsBy t past → Counts t (own past).clock c
+      → Every (Timely t (Fed c)) (server_adds config past c)
+  adds_counted t past c by at = (asks_done t past c by at).timely
+
   pub adds_timely : (t : ℕ) (past : List Call) (c : Call) → IsBy t past → IsAt t c
       → Every (Timely t (Fed c)) (server_adds config past c)
-  adds_timely t past c by at = (asks_done t past c by at).timely
+  adds_timely t past c by at = adds_counted t past c by (counts t (own past).clock c by.own at)

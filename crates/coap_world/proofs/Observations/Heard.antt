@@ -1,8 +1,9 @@
 -- What a client hears of an observation the server told before, in which call, and when.
-use Rattle.std.proofs.Common.{◌≡◌, ◌≤◌, inl, inr, ℕ, true, Option, Some, None, List, [], ◌∷◌, ◌++◌, map, refl, ap, sym}
+use Rattle.std.proofs.Common.{◌≡◌, ◌⊎◌, ◌≤◌, inl, inr, ℕ, ◌+◌, true, Option, Some, None, List, [], ◌∷◌, ◌++◌, map, refl, ap, sym}
 use Rattle.std.proofs.Common.{subst, ◌∙◌, cond}
 use Rattle.coap_types.specs.Bytes.{AreBytes}
 use Rattle.coap_types.specs.Past.{Ever, Sometime, Always}
+use Rattle.coap_types.specs.declared.transmission.TheConstants.{MAX_LATENCY_MS as max_latency}
 use Rattle.coap_types.proofs.Facts.Traces.{by_law, Ever_map, Ever_of_Sometime}
 use Rattle.coap_types.specs.declared.message.Kind.TheVariants.{Con, Non, Ack}
 use Rattle.coap_codec.specs.Message.{Message, Spells}
@@ -23,6 +24,7 @@ use Rattle.coap_client.specs.Trace as C
 use Rattle.coap_server.specs.Law.{layer_of}
 use Rattle.coap_server.specs.Trace as S
 use Rattle.coap_server.specs.Follows.Adds.{call_adds}
+use Rattle.coap_server.specs.Follows.Tells.{InCon, InNon, InReply}
 use Rattle.coap_server.specs.Follows.Told.{TellsIn, ServesNon, TellsSent}
 use Rattle.coap_server.proofs.Facts.EachCall.{all_tell_sent}
 use Rattle.coap_world.specs.Events.{client_end, server_end, Config}
@@ -33,6 +35,7 @@ use Rattle.coap_world.proofs.Delivery.HopsAreEntries.{near_far, far_near}
 use Rattle.coap_world.proofs.Delivery.HopsAreEntries.{far_is}
 use Rattle.coap_world.proofs.Requests.OfACall.{Lawful}
 use Rattle.coap_world.proofs.Observations.Positions.{across_near, located}
+use Rattle.coap_world.proofs.Observations.ToldThen.{told_in_non}
 
 -- a CON is in the bytes of an entry of the near layer, and it is handed up here, at this moment
 pub record ConHeard (m : Message) (at : ℕ) (adds : List T.Entry) (hs : List Hop) : Type 0 where
@@ -168,11 +171,17 @@ module _ (config : Config) where
 
   -- the server tells it in this CON
   abbrev pub TellsCon : Open → Message → List S.Call → S.Call → Type 0
-  TellsCon con m past c = TellsIn config.limits config.server_szx (Some con.id) client_end m past c
+  TellsCon con m past c = TellsIn config.limits config.server_szx (InCon con.id) client_end m past c
       × Ever (λ b. begun b ≡ Some con) (call_adds config.limits config.server_szx config.server_word past c)
 
   abbrev pub TellsAck : Message → List S.Call → S.Call → Type 0
-  TellsAck m past c = TellsIn config.limits config.server_szx None client_end m past c
+  TellsAck m past c = TellsIn config.limits config.server_szx InReply client_end m past c
+
+  -- .. in a NON, at most MAX_LATENCY before this moment
+  pub record TellsNon (m : Message) (at : ℕ) (past : List S.Call) (c : S.Call) : Type 0 where
+    pub tells : TellsIn config.limits config.server_szx InNon client_end m past c
+    pub from : tells.told.at ≤ at
+    pub till : at ≤ tells.told.at + max_latency
 
   -- a CON that was begun before this moment, handed up here, and the call of the server that told it
   pub record ConTold (m : Message) (at : ℕ) (past : List Entry) (adds : List T.Entry) : Type 0 where
@@ -222,7 +231,7 @@ module _ (config : Config) where
           up = k.up;
           told = by_law (TellsSent config.limits config.server_szx config.server_word) (Added P) (TellsCon k.con m)
               (λ p b l h. (
-                subst (λ z. TellsIn config.limits config.server_szx (Some k.con.id) z m p b) k.to_is
+                subst (λ z. TellsIn config.limits config.server_szx (InCon k.con.id) z m p b) k.to_is
                     (l.0.begun_now k.con m h k.are k.spells note),
                 h,
               )) (trace past) told there;
@@ -249,14 +258,21 @@ module _ (config : Config) where
         let P : T.Entry → Type 0 = PlainSent client_end k.bytes at in
         (k, located config.limits config.server_szx config.server_word P (trace past) (subst (Ever P) near_there k.sent))
 
-    pub non_told : m.kind ≡ Non → Sometime (ServesNon config.limits config.server_szx client_end) (trace past)
+    -- that was the answer to a request in a NON, or it was told so
+    pub non_told : m.kind ≡ Non
+        → Sometime (λ p b. ServesNon config.limits config.server_szx client_end p b ⊎ TellsNon m at p b) (trace past)
     non_told kind =
         let sent = non_sent kind in
         let k = sent.0 in
         let P : T.Entry → Type 0 = PlainSent client_end k.bytes at in
         by_law (TellsSent config.limits config.server_szx config.server_word) (Added P)
-        (ServesNon config.limits config.server_szx client_end)
-        (λ p b l h. (l.0.plain client_end k.bytes m
+        (λ p b. ServesNon config.limits config.server_szx client_end p b ⊎ TellsNon m at p b)
+        (λ p b l h.
+        elim (l.0.plain client_end k.bytes m
         (Ever_map P (λ e. PlainOut e (record { to = client_end; bytes = k.bytes })) (λ e z. z.goes)
-        (call_adds config.limits config.server_szx config.server_word p b) h) k.are k.spells note).1)
+        (call_adds config.limits config.server_szx config.server_word p b) h) k.are k.spells note) [
+          | inl z ↦ inl z.1
+          | inr z ↦ (let then = told_in_non config p b z.told client_end k.bytes at z.here h in
+              inr (record { tells = z; from = then.0; till = then.1 }))
+        ])
         (trace past) told sent.1

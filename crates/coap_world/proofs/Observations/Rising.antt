@@ -1,6 +1,6 @@
 -- Of two values of one observation the later one has the later version.
 use Rattle.std.proofs.Common.{◌≡◌, ◌<◌, ◌≤◌, ◌⊎◌, inl, inr, ℕ, ◌+◌, Option, Some, None, List, [], ◌∷◌, ◌++◌, map, refl, ap}
-use Rattle.std.proofs.Common.{sym, subst, ◌∙◌}
+use Rattle.std.proofs.Common.{arith, sym, subst, ◌∙◌}
 use Rattle.coap_types.specs.Past.{Ever, Sometime, Always}
 use Rattle.coap_types.proofs.Facts.Traces.{Sometime_map}
 use Rattle.coap_types.specs.declared.transmission.TheConstants.{MAX_LATENCY_MS as max_latency}
@@ -21,7 +21,7 @@ use Rattle.coap_client.specs.Responses.{tag_in}
 use Rattle.coap_client.specs.Trace.{Call}
 use Rattle.coap_client.proofs.Facts.EachCall.{are_noted_at, are_of_types, are_over, are_taken, ask_once}
 use Rattle.coap_client.proofs.Facts.EachCall.{values_are_whole, values_rise}
-use Rattle.coap_server.specs.Follows.Tells.{Telling}
+use Rattle.coap_server.specs.Follows.Tells.{InCon, InNon, InReply, Telling, Way}
 use Rattle.coap_server.specs.Follows.Told.{Conveys, TellsIn, TellsSent}
 use Rattle.coap_server.specs.Trace as S
 use Rattle.coap_server.proofs.Facts.EachCall.{all_tell_sent}
@@ -31,14 +31,16 @@ use Rattle.coap_world.specs.Record.{Entry, OfClient, OfServer, client_of, server
 use Rattle.coap_world.specs.Rising.{Names, AreRising, ShowsValue, ValuesRise}
 use Rattle.coap_world.proofs.Observations.Acknowledged.{taken_before, not_after, not_again}
 use Rattle.coap_world.proofs.Observations.Chain.{Rise, RisesNext, newest_taken, chained}
-use Rattle.coap_world.proofs.Observations.Following.{OnceOf, follows_in, acked_in}
-use Rattle.coap_world.proofs.Observations.Heard.{TellsCon, TellsAck, con_told, law_across}
+use Rattle.coap_world.proofs.Observations.Following.{OnceOf, acked_in, follows_in, reply_first}
+use Rattle.coap_world.proofs.Observations.Heard.{TellsCon, TellsAck, TellsNon, con_told, law_across}
 use Rattle.coap_world.proofs.Observations.NonsRise.{Told, FollowsNon, Renews, not_behind, not_at_once}
 use Rattle.coap_world.proofs.Observations.OneRegistration.{serves_once}
 use Rattle.coap_world.proofs.Observations.OneVersion.{one_version}
 use Rattle.coap_world.proofs.Observations.Positions.{behind, client_entries}
+use Rattle.coap_world.proofs.Observations.ToldThen.{told_in_con}
 use Rattle.coap_world.proofs.Observations.TagOfAValue.{tag_of_first, shown_of, newest_number, one_registration}
-use Rattle.coap_world.proofs.Observations.Taken.{sizes, HeardTold, in_con, in_ack, no_plain, not_earlier, TakenTold}
+use Rattle.coap_world.proofs.Observations.Taken.{sizes, HeardTold, in_con, in_ack, in_non, non_here, not_earlier}
+use Rattle.coap_world.proofs.Observations.Taken.{TakenTold}
 use Rattle.coap_world.proofs.Observations.Taken.{formats_back, taken_here, taken_told}
 use Rattle.coap_world.proofs.Reports.FormatsSet.{FormatsIn}
 use Rattle.coap_world.proofs.Requests.OfACall.{Lawful, lawful_back}
@@ -164,11 +166,11 @@ module _ (config : Config) (small : config.server_szx ≤ 6) (few : config.limit
         (record { number = told_here.numbered x.version a.names; from = a.from }) a.till
         (record { number = earlier.numbered x.version b.names; from = b.from }) renews
 
-    abbrev Says : Option ℕ → Message → List S.Call → S.Call → Type 0
+    abbrev Says : Way → Message → List S.Call → S.Call → Type 0
     Says k x p b = TellsIn config.limits config.server_szx k client_end x p b
 
     -- what the server told behind the prior one rises over it
-    rises_behind : (k l : Option ℕ) (A B : List S.Call → S.Call → Type 0)
+    rises_behind : (k l : Way) (A B : List S.Call → S.Call → Type 0)
         → ((p : List S.Call) (b : S.Call) → A p b → Says k m p b) → ((p : List S.Call) (b : S.Call) → B p b → Says l n p b)
         → Sometime (λ p b. B p b × Sometime A p) calls → Rise prior second
     rises_behind k l A B is_prior is_second h =
@@ -179,11 +181,25 @@ module _ (config : Config) (small : config.server_szx ≤ 6) (few : config.limit
         rising_by x.told.version y.told.version (tag_in m) (tag_in n) (named x.told m x.conveys)
         (named y.told n y.conveys) f.follows.version
 
+    -- one call tells one thing, in one way
+    same_told : (k l : Way) (p : List S.Call) (b : S.Call) (x : Says k m p b) (y : Says l n p b) → x.told ≡ y.told
+    same_told k l p b x y = let same : Some x.told ≡ Some y.told = sym x.here ∙ y.here in cc same
+
+    apart : (k l : Way) (A B : List S.Call → S.Call → Type 0) → ((p : List S.Call) (b : S.Call) → A p b → Says k m p b)
+        → ((p : List S.Call) (b : S.Call) → B p b → Says l n p b) → (k ≡ l → ⊥) → (t : List S.Call)
+        → Sometime (λ p b. A p b × B p b) t → ⊥
+    apart k l A B is_prior is_second differ [] h = h
+    apart k l A B is_prior is_second differ (b ∷ p) (inr h) = apart k l A B is_prior is_second differ p h
+    apart k l A B is_prior is_second differ (b ∷ p) (inl h) =
+        let x = is_prior p b h.0 in
+        let y = is_second p b h.1 in
+        differ (sym x.way_is ∙ (ap (λ (z : Telling). z.way) (same_told k l p b x y) ∙ y.way_is))
+
     module _ (con : Open) (up : Ever (HandsUpAs server_end con) (client_adds config (client_of past) c))
         (told : Sometime (TellsCon config con n) calls) (begun_before : Ever (λ b. begun b ≡ Some con) (near_of hops))
         (to : con.to ≡ client_end) where
       -- the prior one was not told behind this CON, which was acknowledged before
-      not_sooner : (k : Option ℕ) (A : List S.Call → S.Call → Type 0)
+      not_sooner : (k : Way) (A : List S.Call → S.Call → Type 0)
           → ((p : List S.Call) (b : S.Call) → A p b → Says k m p b)
           → Sometime (λ p b. A p b × Sometime (TellsCon config con n) p) calls → ⊥
       not_sooner k A is_prior h =
@@ -195,26 +211,14 @@ module _ (config : Config) (small : config.server_szx ≤ 6) (few : config.limit
           not_after (usual config.server_word) (usual config.client_word) con to hops begun_before
           (client_adds config (client_of past) c) across_here up (taken_before config con to past before acked)
 
-      decide : (k : Option ℕ) (A : List S.Call → S.Call → Type 0)
+      decide : (k : Way) (A : List S.Call → S.Call → Type 0)
           → ((p : List S.Call) (b : S.Call) → A p b → Says k m p b)
           → (Sometime (λ p b. A p b × TellsCon config con n p b) calls → ⊥) → Sometime A calls → Rise prior second
       decide k A is_prior apart h =
-          rises_behind k (Some con.id) A (TellsCon config con n) is_prior (λ p b x. x.0)
+          rises_behind k (InCon con.id) A (TellsCon config con n) is_prior (λ p b x. x.0)
           (behind A (TellsCon config con n) calls h told apart (not_sooner k A is_prior))
 
-      -- one call tells one thing, and begins one CON
-      ack_apart : (p : List S.Call) (b : S.Call) → TellsAck config m p b → TellsCon config con n p b → ⊥
-      ack_apart p b x y =
-          let same : Some x.told ≡ Some y.0.told = sym x.here ∙ y.0.here in
-          let one : x.told ≡ y.0.told = cc same in
-          let none_con : None ≡ Some con.id = sym x.con_is ∙ (ap (λ (z : Telling). z.con) one ∙ y.0.con_is) in
-          cc none_con
-
-      acks_apart : (t : List S.Call) → Sometime (λ p b. TellsAck config m p b × TellsCon config con n p b) t → ⊥
-      acks_apart [] h = h
-      acks_apart (b ∷ p) (inl h) = ack_apart p b h.0 h.1
-      acks_apart (b ∷ p) (inr h) = acks_apart p h
-
+      -- one call begins one CON
       one_begun : (other : Open) (t : List S.Call)
           → Always (TellsSent config.limits config.server_szx config.server_word) t
           → Sometime (λ p b. TellsCon config other m p b × TellsCon config con n p b) t → other ≡ con
@@ -226,9 +230,14 @@ module _ (config : Config) (small : config.server_szx ≤ 6) (few : config.limit
       rises_by_con = by earlier.told
         where
           by : HeardTold config m prior.mark.at past → Rise prior second
-          by (in_ack x) = decide None (TellsAck config m) (λ p b h. h) (acks_apart calls) x
+          by (in_ack x) = decide InReply (TellsAck config m) (λ p b h. h)
+              (apart InReply (InCon con.id) (TellsAck config m) (TellsCon config con n) (λ p b h. h) (λ p b h. h.0)
+              (λ e. cc e) calls) x
+          by (in_non x) = decide InNon (TellsNon config m prior.mark.at) (λ p b h. h.tells)
+              (apart InNon (InCon con.id) (TellsNon config m prior.mark.at) (TellsCon config con n) (λ p b h. h.tells)
+              (λ p b h. h.0) (λ e. cc e) calls) x
           by (in_con other from before_up x) =
-              decide (Some other.id) (TellsCon config other m) (λ p b h. h.0)
+              decide (InCon other.id) (TellsCon config other m) (λ p b h. h.0)
               (λ same.
               let e = one_begun other calls (all_tell_sent config.limits config.server_szx config.server_word calls
               before.server) same in
@@ -236,12 +245,77 @@ module _ (config : Config) (small : config.server_szx ≤ 6) (few : config.limit
               (client_adds config (client_of past) c) across_here up
               (subst (λ z. Ever (OnFar (HandsUpAs server_end z)) hops) e before_up)) x
 
+    module _ (told : Sometime (TellsNon config n second.mark.at) calls) where
+      abbrev ByNon : List S.Call → S.Call → Type 0
+      ByNon = TellsNon config n second.mark.at
+
+      non_says : (p : List S.Call) (b : S.Call) → ByNon p b → Says InNon n p b
+      non_says p b x = x.tells
+
+      by_non : (k : Way) (A : List S.Call → S.Call → Type 0)
+          → ((p : List S.Call) (b : S.Call) → A p b → Says k m p b)
+          → (Sometime (λ p b. A p b × ByNon p b) calls → ⊥)
+          → (Sometime (λ p b. A p b × Sometime ByNon p) calls → ⊥) → Sometime A calls → Rise prior second
+      by_non k A is_prior apart_so not_sooner h =
+          rises_behind k InNon A ByNon is_prior non_says (behind A ByNon calls h told apart_so not_sooner)
+
+      told_as : Telling → Told
+      told_as x = record { version = x.version; at = x.at }
+
+      -- the prior one, which was taken no earlier than it was told, was not told behind it
+      crosses_none : (k : Way) (A : List S.Call → S.Call → Type 0)
+          → (is_prior : (p : List S.Call) (b : S.Call) → A p b → Says k m p b)
+          → ((p : List S.Call) (b : S.Call) (x : A p b) → (is_prior p b x).told.at ≤ prior.mark.at)
+          → Sometime (λ p b. A p b × Sometime ByNon p) calls → ⊥
+      crosses_none k A is_prior from h =
+          let f = follows_in config.limits config.server_szx config.server_word client_end n.token InNon k n m refl token
+          ByNon A non_says is_prior calls before.server once h in
+          let x = f.one.tells in
+          let y = is_prior (f.after ++ f.call ∷ f.older) f.next f.other in
+          none_crosses (told_as x.told) (told_as y.told)
+          (record { version = f.follows.version; later = f.follows.later; near = f.follows.near x.way_is })
+          (record { names = named x.told n x.conveys; from = f.one.from; till = f.one.till })
+          (record { names = named y.told m y.conveys; from = from (f.after ++ f.call ∷ f.older) f.next f.other })
+
+      at_once_none : (t : List S.Call) → Sometime (λ p b. TellsNon config m prior.mark.at p b × ByNon p b) t → ⊥
+      at_once_none [] h = h
+      at_once_none (b ∷ p) (inr h) = at_once_none p h
+      at_once_none (b ∷ p) (inl h) =
+          let x = h.1.tells in
+          let y = h.0.tells in
+          let same = same_told InNon InNon p b y x in
+          let from = h.0.from in
+          none_at_once (told_as x.told)
+          (record { names = named x.told n x.conveys; from = h.1.from; till = h.1.till })
+          (record {
+            names = subst (λ (z : Telling). Names z.version (tag_in m)) same (named y.told m y.conveys);
+            from = subst (λ (z : Telling). z.at ≤ prior.mark.at) same from;
+          })
+
+      rises_by_non : Rise prior second
+      rises_by_non = by earlier.told
+        where
+          by : HeardTold config m prior.mark.at past → Rise prior second
+          by (in_ack x) = by_non InReply (TellsAck config m) (λ p b h. h)
+              (apart InReply InNon (TellsAck config m) ByNon (λ p b h. h) non_says (λ e. cc e) calls)
+              (λ h. reply_first config.limits config.server_szx config.server_word client_end n.token InNon InReply n m
+              refl token refl calls before.server once
+              (Sometime_map (λ p b. TellsAck config m p b × Sometime ByNon p)
+              (λ p b. TellsAck config m p b × Sometime (Says InNon n) p)
+              (λ p b k. (k.0, Sometime_map ByNon (Says InNon n) non_says p k.1)) calls h)) x
+          by (in_non x) = by_non InNon (TellsNon config m prior.mark.at) (λ p b h. h.tells) (at_once_none calls)
+              (crosses_none InNon (TellsNon config m prior.mark.at) (λ p b h. h.tells) (λ p b h. h.from)) x
+          by (in_con other first before_up x) = by_non (InCon other.id) (TellsCon config other m) (λ p b h. h.0)
+              (apart (InCon other.id) InNon (TellsCon config other m) ByNon (λ p b h. h.0) non_says (λ e. cc e) calls)
+              (crosses_none (InCon other.id) (TellsCon config other m) (λ p b h. h.0)
+              (λ p b h. (let then = told_in_con config p b h.0.told other h.0.here h.1 in omega (arith, then, first)))) x
+
     rises_here : Rise prior second
     rises_here = by ((are_of_types server_end (sizes config) config.client_word (client_of (OfClient c ∷ past))
         law.client).0.noted n later.noted)
       where
         by : (n.kind ≡ Con) ⊎ (n.kind ≡ Non) → Rise prior second
-        by (inr kind) = no_plain config past c law n second.mark.at heard taken.notification _ kind
+        by (inr kind) = rises_by_non (non_here config past c law n second.mark.at heard taken.notification kind)
         by (inl kind) =
             let k = con_told config past c law n second.mark.at heard taken.notification kind in
             rises_by_con k.con k.up k.told k.begun_before k.to_is

@@ -25,7 +25,8 @@ use Rattle.coap_world.specs.Hops.{hops_at, hops_in, across, client_adds}
 use Rattle.coap_world.specs.Record.{Entry, OfClient, OfServer, client_of, server_trace}
 use Rattle.coap_world.specs.Rising.{Names}
 use Rattle.coap_world.proofs.Observations.Acknowledged.{before_now}
-use Rattle.coap_world.proofs.Observations.Heard.{TellsCon, TellsAck, con_told, ack_told, non_told}
+use Rattle.coap_server.specs.Follows.Told.{ServesNon}
+use Rattle.coap_world.proofs.Observations.Heard.{TellsCon, TellsAck, TellsNon, con_told, ack_told, non_told}
 use Rattle.coap_world.proofs.Observations.OneRegistration.{no_non}
 use Rattle.coap_world.proofs.Observations.OneVersion.{says_number}
 use Rattle.coap_world.proofs.Observations.Positions.{across_append, across_near, AtClient, server_more}
@@ -60,16 +61,25 @@ not_earlier one other m n before now hs (x ∷ adds) law (inl up) h =
     forget (before ≤ now) (far_of past) (Ever_map (λ e. P e × (e.at ≤ x.at)) (λ e. before ≤ now)
     (λ e k. (let a = k.0.at_is in let b = k.1 in omega (arith, a, b, here))) (far_of past) till)
 
+-- where the one never happened the other did
+other_one : {E : Type 0} (A B : List E → E → Type 0) (t : List E) → (Sometime A t → ⊥)
+    → Sometime (λ p b. A p b ⊎ B p b) t → Sometime B t
+other_one A B [] none h = h
+other_one A B (e ∷ t) none (inl (inl a)) = absurd (none (inl a))
+other_one A B (e ∷ t) none (inl (inr b)) = inl b
+other_one A B (e ∷ t) none (inr h) = inr (other_one A B t (λ k. none (inr k)) h)
+
 module _ (config : Config) where
   abbrev pub sizes : Sizes
   sizes = config.client_sizes
 
-  -- what was heard of an observation, as the server told it: in a CON that began no later and was handed up, or in an
-  -- acknowledgement
+  -- what was heard of an observation, as the server told it: in a CON that began no later and was handed up, in an
+  -- acknowledgement, or in a NON
   pub data HeardTold (m : Message) (at : ℕ) (t : List Entry) : Type 0 where
     in_con : (con : Open) → con.first ≤ at → Ever (OnFar (HandsUpAs server_end con)) (across (hops_in config t))
         → Sometime (TellsCon config con m) (server_trace config t) → HeardTold m at t
     in_ack : Sometime (TellsAck config m) (server_trace config t) → HeardTold m at t
+    in_non : Sometime (TellsNon config m at) (server_trace config t) → HeardTold m at t
 
   hops_more : (P : Hop → Type 0) (e : Entry) (t : List Entry) → Ever P (across (hops_in config t))
       → Ever P (across (hops_in config (e ∷ t)))
@@ -87,6 +97,7 @@ module _ (config : Config) where
   heard_more m at e t (in_con con from up told) = in_con con from (hops_more (OnFar (HandsUpAs server_end con)) e t up)
       (server_more config (TellsCon config con m) e t told)
   heard_more m at e t (in_ack told) = in_ack (server_more config (TellsAck config m) e t told)
+  heard_more m at e t (in_non told) = in_non (server_more config (TellsNon config m at) e t told)
 
   registered_more : (number : ℕ) (token : List ℕ) (e : Entry) (t : List Entry)
       → WasRegistered sizes number token (client_of t) → WasRegistered sizes number token (client_of (e ∷ t))
@@ -102,12 +113,14 @@ module _ (config : Config) where
   module _ (past : List Entry) (c : Call) (law : Lawful config (OfClient c ∷ past)) (m : Message) (at : ℕ)
       (hears_it : Ever (HeardAt server_end m at) (client_adds config (client_of past) c))
       (note : is_notification m ≡ true) where
-    pub no_plain : (X : Type 0) → m.kind ≡ Non → X
-    no_plain X kind = absurd (no_non config past (lawful_back config past (OfClient c) law)
-        (non_told config past c law m at hears_it note kind))
+    -- in a NON that is no answer, since the client sends no NON
+    pub non_here : m.kind ≡ Non → Sometime (TellsNon config m at) (server_trace config past)
+    non_here kind = other_one (ServesNon config.limits config.server_szx client_end) (TellsNon config m at)
+        (server_trace config past) (no_non config past (lawful_back config past (OfClient c) law))
+        (non_told config past c law m at hears_it note kind)
 
     heard_here : (m.kind ≡ Con) ⊎ ((m.kind ≡ Non) ⊎ (m.kind ≡ Ack)) → HeardTold m at (OfClient c ∷ past)
-    heard_here (inr (inl kind)) = no_plain _ kind
+    heard_here (inr (inl kind)) = in_non (non_here kind)
     heard_here (inr (inr kind)) = in_ack (ack_told config past c law m at hears_it note kind)
     heard_here (inl kind) =
         let k = con_told config past c law m at hears_it note kind in

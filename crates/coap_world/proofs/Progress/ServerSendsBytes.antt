@@ -32,7 +32,7 @@ use Rattle.coap_exchange.specs.AnswererLaw as W
 use Rattle.coap_exchange.specs.AnswererSteps.{may_defer}
 use Rattle.coap_exchange.proofs.Facts.ServerSide.{came_in, layer_stands}
 use Rattle.coap_server.specs.Trace.{Waiting, Own, Handling, Silent, Replies, Serves, Waits, Notifies}
-use Rattle.coap_server.specs.Trace.{Call, Sets, Removes, Delays, Feeds}
+use Rattle.coap_server.specs.Trace.{Call, Sets, Removes, Delays, Plains, Feeds}
 use Rattle.coap_server.specs.Trace.{Ticks, NextOut, Gets, TellsApplied}
 use Rattle.coap_server.specs.Checks.{Verdict, Ignored, Refused, Asks, Uploads, verdict_on}
 use Rattle.coap_server.specs.Deferring.{question_of, deferral_by, delay_for, WaitsBy, AnswersWaiting}
@@ -306,6 +306,16 @@ call_are s (Removes now path answer left) own right range h =
       tt,
     )
 call_are s (Delays path ms answer) own right range h = (
+  record {
+    szx = own.szx;
+    store = own.store;
+    uploads = own.uploads;
+    observers = own.observers;
+    waiting = own.waiting;
+  },
+  tt,
+)
+call_are s (Plains path answer) own right range h = (
   record {
     szx = own.szx;
     store = own.store;

@@ -27,7 +27,7 @@ use Rattle.coap_server.specs.Observers.{sequence_if}
 use Rattle.coap_server.specs.Responses.{response_with}
 use Rattle.coap_server.specs.Steps.{after}
 use Rattle.coap_server.specs.Trace.{Own, Silent, Replies, Serves, Waits, Notifies, Call, Sets, Removes}
-use Rattle.coap_server.specs.Trace.{Delays, Feeds, Ticks, NextOut, Gets, TellsApplied}
+use Rattle.coap_server.specs.Trace.{Delays, Plains, Feeds, Ticks, NextOut, Gets, TellsApplied}
 use Rattle.coap_server.specs.Trace as S
 use Rattle.coap_server.specs.Uploads.{last_block}
 use Rattle.coap_server.specs.Follows.Gives.{NoticeOf}
@@ -77,6 +77,7 @@ numbered s (Ticks now word below room (due.Ready a) passed (Notifies o r) id ans
 numbered s (Sets now path format body answer left) x e = absurd (cc e)
 numbered s (Removes now path answer left) x e = absurd (cc e)
 numbered s (Delays path ms answer) x e = absurd (cc e)
+numbered s (Plains path answer) x e = absurd (cc e)
 numbered s (NextOut answer) x e = absurd (cc e)
 numbered s (Gets path answer) x e = absurd (cc e)
 numbered s (TellsApplied answer) x e = absurd (cc e)
@@ -92,6 +93,7 @@ told_leaves s (Feeds now from bytes word up came h below) p e = absurd (cc e)
 told_leaves s (Sets now path format body answer left) p e = absurd (cc e)
 told_leaves s (Removes now path answer left) p e = absurd (cc e)
 told_leaves s (Delays path ms answer) p e = absurd (cc e)
+told_leaves s (Plains path answer) p e = absurd (cc e)
 told_leaves s (NextOut answer) p e = absurd (cc e)
 told_leaves s (Gets path answer) p e = absurd (cc e)
 told_leaves s (TellsApplied answer) p e = absurd (cc e)

@@ -5,7 +5,7 @@ use Rattle.coap_types.specs.Past.{Always}
 use Rattle.coap_types.specs.Path.{same_path}
 use Rattle.coap_types.proofs.Facts.Paths.{same_path-decides}
 use Rattle.coap_resource.specs.Content.{Content}
-use Rattle.coap_server.specs.Trace.{Own, Call, Sets, Removes, Delays, Feeds, Ticks, NextOut, Gets}
+use Rattle.coap_server.specs.Trace.{Own, Call, Sets, Removes, Delays, Plains, Feeds, Ticks, NextOut, Gets}
 use Rattle.coap_server.specs.Trace.{TellsApplied}
 use Rattle.coap_server.specs.Law.{own_of}
 use Rattle.coap_server.specs.Follows.Holds.{Change, change, change_of, changed_by, held_then}
@@ -53,6 +53,7 @@ module _ (config : Config) (past : List Entry) where
   owner (Sets now path format body answer left) right y h = inl (sym (path_of path own.store left y h))
   owner (Removes now path answer left) right y h = inl (sym (path_of path own.store left y h))
   owner (Delays path ms answer) right y h = by_serving (Delays path ms answer) right _ refl y h h
+  owner (Plains path answer) right y h = by_serving (Plains path answer) right _ refl y h h
   owner (Feeds now from bytes word up came w below) right y h =
       by_serving (Feeds now from bytes word up came w below) right _ refl y h h
   owner (Ticks now word below room d passed w id answer) right y h =

@@ -2,7 +2,7 @@
 use Rattle.std.proofs.Common.{◌≡◌, Some, None, refl, ap, sym, ◌∙◌}
 use Rattle.coap_exchange.specs.declared.answerer.Due.TheVariants as due
 use Rattle.coap_server.specs.Trace.{Own, Silent, Replies, Serves, Waits, Notifies, Call, Sets, Removes}
-use Rattle.coap_server.specs.Trace.{Delays, Feeds, Ticks, NextOut, Gets, TellsApplied}
+use Rattle.coap_server.specs.Trace.{Delays, Plains, Feeds, Ticks, NextOut, Gets, TellsApplied}
 use Rattle.coap_server.specs.Steps.{after}
 use Rattle.coap_server.specs.Follows.Serves.{Serving, serving}
 
@@ -38,6 +38,7 @@ leaves s (Ticks now word below room (due.Ready a) passed (Notifies o r) id answe
 leaves s (Sets now path format body answer left) x e = absurd (cc e)
 leaves s (Removes now path answer left) x e = absurd (cc e)
 leaves s (Delays path ms answer) x e = absurd (cc e)
+leaves s (Plains path answer) x e = absurd (cc e)
 leaves s (NextOut answer) x e = absurd (cc e)
 leaves s (Gets path answer) x e = absurd (cc e)
 leaves s (TellsApplied answer) x e = absurd (cc e)
