@@ -1,5 +1,5 @@
 -- When the calls of the server, at one moment, have their entries in its layer.
-use Rattle.std.proofs.Common.{◌≡◌, ◌≤◌, ℕ, zero, suc, max, Bool, false, Option, Some, None, List, [], ◌∷◌}
+use Rattle.std.proofs.Common.{◌≡◌, ◌≤◌, ℕ, zero, suc, max, Bool, true, false, Option, Some, None, List, [], ◌∷◌}
 use Rattle.std.proofs.Common.{refl, ap, sym, subst, ◌∙◌, arith}
 use Rattle.coap_types.specs.declared.endpoint.Endpoint.{Endpoint}
 use Rattle.coap_codec.specs.Message.{Message}
@@ -13,12 +13,13 @@ use Rattle.coap_exchange.specs.declared.answerer.Due.{Due}
 use Rattle.coap_exchange.specs.declared.answerer.Due.TheVariants as due
 use Rattle.coap_exchange.specs.AnswererTrace as R
 use Rattle.coap_exchange.specs.AnswererLaw as answerer
-use Rattle.coap_server.specs.Asks.{answering, responding}
+use Rattle.coap_server.specs.Asks.{answering, notifies_by, responding}
 use Rattle.coap_server.specs.Asks as asks_of
 use Rattle.coap_server.specs.Deferring.{deferral_by, deferral}
 use Rattle.coap_server.specs.Handling.{incoming, ticking, heard}
 use Rattle.coap_server.specs.Law.{own_of, lower_of}
-use Rattle.coap_server.specs.Notifying.{marked, readies}
+use Rattle.coap_server.specs.Notifying.{marked, notification, readies}
+use Rattle.coap_server.specs.Plain.{by_plain}
 use Rattle.coap_server.specs.Steps as steps
 use Rattle.coap_server.specs.Trace.{Own, Handling, Silent, Replies, Serves, Waits, Notifies, Call}
 use Rattle.coap_server.specs.Trace.{Sets}
@@ -94,6 +95,11 @@ module _ (t : ℕ) (F : Endpoint → List ℕ → Type 0) where
   readies_asks at (suc passed) (o ∷ os) k = every_join (Asks t F) (readies at passed os) (R.Ready at o.to false ∷ [])
       (readies_asks at passed os k) (k, tt)
 
+  notifying_asks : (plain : Bool) (at : ℕ) (o : Observer) (r : R.Response) (word id : ℕ) → at ≤ t
+      → Asks t F (notifies_by plain at o r word id)
+  notifying_asks true at o r word id k = k
+  notifying_asks false at o r word id k = k
+
   responding_asks : (s : Own) (d : Due) (passed : ℕ) (h : Handling) (word id : ℕ) → s.clock ≤ t
       → Every (Asks t F) (responding s d passed h word id)
   responding_asks s (due.Ready a) passed (Serves q reply left) word id k = (k, tt)
@@ -102,7 +108,8 @@ module _ (t : ℕ) (F : Endpoint → List ℕ → Type 0) where
   responding_asks s (due.Ready a) passed (Waits q delay) word id k = tt
   responding_asks s (due.Ready a) passed (Notifies o reply) word id k = tt
   responding_asks s due.Idle passed (Notifies o reply) word id k =
-      (k, readies_asks s.clock passed (marked s.observers) k)
+      (notifying_asks (by_plain s o) s.clock o (notification s.store o reply) word id k,
+      readies_asks s.clock passed (marked s.observers) k)
   responding_asks s due.Idle passed (Serves q reply left) word id k = readies_asks s.clock passed (marked s.observers) k
   responding_asks s due.Idle passed Silent word id k = readies_asks s.clock passed (marked s.observers) k
   responding_asks s due.Idle passed (Replies response) word id k = readies_asks s.clock passed (marked s.observers) k

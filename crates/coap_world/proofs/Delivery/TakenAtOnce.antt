@@ -63,6 +63,7 @@ module _ {X : Type 0} (t : ℕ) (adds : List X → X → List Entry) (IsBy : Lis
       (every_map (Timely t (Fed c)) (Timely t G) (λ e k. record {
         till = k.till;
         from = k.from;
+        since = k.since;
         fed = λ from bytes is.
             (let w = k.fed from bytes is in (f from bytes (inl w.0), w.1));
       }) (adds (later ++ past) c)

@@ -259,7 +259,7 @@ module _ (config : Config) (small : config.server_szx ≤ 6) (few : config.limit
       by_non k A is_prior apart_so not_sooner h =
           rises_behind k InNon A ByNon is_prior non_says (behind A ByNon calls h told apart_so not_sooner)
 
-      told_as : Telling → Told
+      abbrev told_as : Telling → Told
       told_as x = record { version = x.version; at = x.at }
 
       -- the prior one, which was taken no earlier than it was told, was not told behind it
@@ -269,7 +269,7 @@ module _ (config : Config) (small : config.server_szx ≤ 6) (few : config.limit
           → Sometime (λ p b. A p b × Sometime ByNon p) calls → ⊥
       crosses_none k A is_prior from h =
           let f = follows_in config.limits config.server_szx config.server_word client_end n.token InNon k n m refl token
-          ByNon A non_says is_prior calls before.server once h in
+          ByNon A (λ p b z. z.tells) is_prior calls before.server once h in
           let x = f.one.tells in
           let y = is_prior (f.after ++ f.call ∷ f.older) f.next f.other in
           none_crosses (told_as x.told) (told_as y.told)

@@ -30,7 +30,8 @@ use Rattle.coap_block.specs.declared.assembly_step.AssemblyRefusal.TheVariants.{
 use Rattle.coap_block.specs.declared.assembly_step.AssemblyRefusal.TheVariants.{EntityTooLarge, Unavailable}
 use Rattle.coap_block.specs.declared.block_verdict.BlockVerdict.{BlockVerdict}
 use Rattle.coap_block.specs.declared.block_verdict.BlockVerdict.TheVariants.{Refuse, Join, Done}
-use Rattle.coap_observe.specs.Observers.{Observer, removed, registered, changed_at, marked_by, unmarked_by}
+use Rattle.coap_observe.specs.Observers.{Observer, changed_at, marked_by, noted_by, noted_to, registered, rejected}
+use Rattle.coap_observe.specs.Observers.{removed, unmarked_by, without}
 use Rattle.coap_resource.specs.Content.{Content, Held}
 use Rattle.coap_resource.specs.RequestOptions.{block_said, block_of, szx_by}
 use Rattle.coap_resource.specs.ResponseOptions.{block_number}
@@ -45,7 +46,8 @@ use Rattle.coap_server.specs.Checks.{asked_by, uploading, question, verdict_on}
 use Rattle.coap_server.specs.Deferring.{question_of, without_waiting, waiting_with}
 use Rattle.coap_server.specs.Deferring as defer
 use Rattle.coap_server.specs.Observers.{registers, observes, observers_with, marked_if, unless_ended}
-use Rattle.coap_server.specs.Observers.{sequence, sequence_if}
+use Rattle.coap_server.specs.Observers.{sequence, sequence_if, unless_rejected}
+use Rattle.coap_exchange.specs.AnswererTrace.{Sending}
 use Rattle.coap_server.specs.Notifying.{notified}
 use Rattle.coap_server.specs.Responses.{response_with}
 use Rattle.coap_server.specs.Steps.{store_after, observers_after}
@@ -255,10 +257,15 @@ marked_are at path old left os h = by (left.tally.version == old.tally.version)
     by true = h
     by false = each_changed WatcherAre (marked_by at path) (λ o w. (w.0, w.1)) os h
 
-notified_are : (at : ℕ) (held : Option Held) (o : Observer) (os : List Observer) → Each WatcherAre os
-    → Each WatcherAre (notified at held o os)
-notified_are at None o os h = removed_are o.to o.token os h
-notified_are at (Some held) o os h = each_changed WatcherAre (unmarked_by at o.to o.token true) (λ x w. (w.0, w.1)) os h
+pub notified_are : (plain : Bool) (at id : ℕ) (held : Option Held) (o : Observer) (os : List Observer)
+    → Each WatcherAre os → Each WatcherAre (notified plain at id held o os)
+notified_are true at id None o os h = removed_are o.to o.token os h
+notified_are false at id None o os h = removed_are o.to o.token os h
+notified_are true at id (Some held) o os h =
+    each_changed WatcherAre (unmarked_by at o.to o.token false) (λ x w. (w.0, w.1)) (noted_to at o.to o.token id os)
+    (each_changed WatcherAre (noted_by at o.to o.token id) (λ x w. (w.0, w.1)) os h)
+notified_are false at id (Some held) o os h =
+    each_changed WatcherAre (unmarked_by at o.to o.token true) (λ x w. (w.0, w.1)) os h
 
 pub ended_are : (e : Option Ended) (os : List Observer) → Each WatcherAre os → Each WatcherAre (unless_ended e os)
 ended_are None os h = h
@@ -268,16 +275,25 @@ ended_are (Some x) os h = by x.observe
     by true = removed_are x.to x.token os h
     by false = h
 
+pub rejected_are : (at : ℕ) (x : Option Sending) (os : List Observer) → Each WatcherAre os
+    → Each WatcherAre (unless_rejected at x os)
+rejected_are at None os h = h
+rejected_are at (Some x) os h = by (rejected at x.to x.id os)
+  where
+    by : (o : Option Observer) → Each WatcherAre (without o os)
+    by None = h
+    by (Some o) = removed_are o.to o.token os h
+
 pub observers_are : (at : ℕ) (old : Content) (a : Option Asked) (h : Handling) (os : List Observer)
     → IfSome a (λ x. AreBytes x.token) → HandlingAre h → Each WatcherAre os
     → Each WatcherAre (observers_after at old a h os)
 observers_are at old (Some a) (Serves q reply left) os t h k =
     marked_are at q.path old left (observers_with at a q reply os) (with_observer_are at a q reply os t h.0 k)
-observers_are at old (Some a) (Notifies o reply) os t h k = notified_are at (old.holds o.path) o os k
+observers_are at old (Some a) (Notifies o reply) os t h k = k
 observers_are at old (Some a) Silent os t h k = k
 observers_are at old (Some a) (Replies response) os t h k = k
 observers_are at old (Some a) (Waits q delay) os t h k = k
-observers_are at old None (Notifies o reply) os t h k = notified_are at (old.holds o.path) o os k
+observers_are at old None (Notifies o reply) os t h k = k
 observers_are at old None (Serves q reply left) os t h k = k
 observers_are at old None Silent os t h k = k
 observers_are at old None (Replies response) os t h k = k

@@ -39,10 +39,12 @@ use Rattle.coap_server.specs.Deferring.{question_of, deferral_by, delay_for, Wai
 use Rattle.coap_server.specs.Deferring.{HandlesWhole}
 use Rattle.coap_server.specs.Uploads.{key_of, ruling_of, whole}
 use Rattle.coap_server.specs.Serving.{IsServed, response_to}
-use Rattle.coap_server.specs.Notifying.{marked, behind, readies, asks_for, NotifiesNext}
+use Rattle.coap_server.specs.Notifying.{NotifiesNext, asks_for, behind, marked, notification, readies}
 use Rattle.coap_server.specs.Handling.{incoming, ticking, heard, HandlesBlock, Handles, HandlesCame}
-use Rattle.coap_server.specs.Handling.{HandlesDue}
-use Rattle.coap_server.specs.Asks.{answering, responding, lower}
+use Rattle.coap_server.specs.Handling.{HandlesDue, rejected_in}
+use Rattle.coap_server.specs.Asks.{answering, notifies_by, responding, lower}
+use Rattle.coap_server.specs.Plain.{by_plain}
+use Rattle.coap_server.specs.Steps.{observers_due}
 use Rattle.coap_server.specs.Observers.{registers}
 use Rattle.coap_server.specs.Steps.{IsRight, after, uploads_came, waiting_came, waiting_due, ready_in}
 use Rattle.coap_server.specs.Law.{ServerLaw, ServerRows, own_of, lower_of, layer_of}
@@ -54,7 +56,7 @@ use Rattle.coap_world.proofs.Progress.LayerSendsBytes.{sent_are}
 use Rattle.coap_world.proofs.Progress.ServerKeepsBytes.{VerdictAre, verdict_are, PartialAre, joined_are, uploads_are}
 use Rattle.coap_world.proofs.Progress.ServerKeepsBytes.{WatcherAre, HandlingAre, response_are}
 use Rattle.coap_world.proofs.Progress.ServerKeepsBytes.{sequence_small, told_small, block_small, marked_are, ended_are}
-use Rattle.coap_world.proofs.Progress.ServerKeepsBytes.{observers_are, store_are, OneAre}
+use Rattle.coap_world.proofs.Progress.ServerKeepsBytes.{notified_are, observers_are, rejected_are, store_are, OneAre}
 use Rattle.coap_world.proofs.Progress.ServerKeepsBytes.{waited_are, waits_are, question_are}
 use Rattle.coap_world.proofs.Progress.SpelledInBytes.{none_are}
 use Rattle.coap_world.proofs.Progress.StoreHoldsBytes.{StoreAre, ReplyAre, QuestionAre, got_are, serves_are, sets_are}
@@ -201,6 +203,11 @@ ready_are s a q reply left own k = by (question_of s.clock a s.waiting) refl k
     by None e k = absurd (cc k)
     by (Some p) e k = (question_are s.clock a s.waiting p own.waiting e).0
 
+notice_are : (plain : Bool) (at : ℕ) (o : Observer) (r : E.Response) (word id : ℕ)
+    → RespondAre (E.Notifies at o.to o.token r word id) → RespondAre (notifies_by plain at o r word id)
+notice_are true at o r word id h = h
+notice_are false at o r word id h = h
+
 responding_are : (s : Own) (d : Due) (passed : ℕ) (h : Handling) (word id : ℕ) → OwnAre s → HandlesDue s d passed h
     → HandlingAre h → Each RespondAre (responding s d passed h word id)
 responding_are s (due.Ready a) passed (Serves q reply left) word id own k is =
@@ -210,7 +217,8 @@ responding_are s (due.Ready a) passed (Replies response) word id own k is = tt
 responding_are s (due.Ready a) passed (Waits q delay) word id own k is = tt
 responding_are s (due.Ready a) passed (Notifies o reply) word id own k is = tt
 responding_are s due.Idle passed (Notifies o reply) word id own k is = (
-  (is.0.0, response_are reply _ None is.1 (sequence_small (s.store.holds o.path)) tt),
+  notice_are (by_plain s o) s.clock o (notification s.store o reply) word id
+      (is.0.0, response_are reply _ None is.1 (sequence_small (s.store.holds o.path)) tt),
   readies_are s.clock passed (marked s.observers),
 )
 responding_are s due.Idle passed Silent word id own k is = readies_are s.clock passed (marked s.observers)
@@ -233,7 +241,7 @@ heard_are s now c h = record {
   szx = h.szx;
   store = h.store;
   uploads = h.uploads;
-  observers = ended_are _ s.observers h.observers;
+  observers = rejected_are _ (rejected_in c) _ (ended_are _ s.observers h.observers);
   waiting = h.waiting;
 }
 
@@ -259,22 +267,36 @@ token_in None c = tt
 token_in (Some p) c = c.0
 
 -- the observers behind a tick
-observers_then : (s : Own) (d : Due) (passed : ℕ) (h : Handling) → OwnAre s → HandlesDue s d passed h → HandlingAre h
-    → Each WatcherAre
-    (Rattle.coap_server.specs.Steps.observers_after s.clock s.store (ready_in d) h s.observers)
-observers_then s (due.Ready a) passed (Serves q reply left) own k is =
+observers_then : (s : Own) (d : Due) (passed : ℕ) (h : Handling) (id : ℕ) → OwnAre s → HandlesDue s d passed h
+    → HandlingAre h → Each WatcherAre (observers_due s d h id)
+observers_then s d passed (Notifies o reply) id own k is =
+    notified_are (by_plain s o) s.clock id (s.store.holds o.path) o s.observers own.observers
+observers_then s (due.Ready a) passed (Serves q reply left) id own k is =
     observers_are s.clock s.store (Some a) (Serves q reply left) s.observers (ready_are s a q reply left own k) is own.observers
-observers_then s (due.Ready a) passed (Notifies o reply) own k is = absurd (by (question_of s.clock a s.waiting) k)
+observers_then s due.Idle passed (Serves q reply left) id own k is = own.observers
+observers_then s due.Copied passed (Serves q reply left) id own k is = own.observers
+observers_then s due.Expired passed (Serves q reply left) id own k is = own.observers
+observers_then s d passed Silent id own k is = quiet_observers d
   where
-    by : (q : Option Question) → AnswersWaiting q s.store s.clock (Notifies o reply) → ⊥
-    by None k = cc k
-    by (Some q) k = (let e = k.is in cc e)
-observers_then s (due.Ready a) passed Silent own k is = own.observers
-observers_then s (due.Ready a) passed (Replies response) own k is = own.observers
-observers_then s (due.Ready a) passed (Waits q delay) own k is = own.observers
-observers_then s due.Idle passed h own k is = observers_are s.clock s.store None h s.observers tt is own.observers
-observers_then s due.Copied passed h own k is = observers_are s.clock s.store None h s.observers tt is own.observers
-observers_then s due.Expired passed h own k is = observers_are s.clock s.store None h s.observers tt is own.observers
+    quiet_observers : (e : Due) → Each WatcherAre (observers_due s e Silent id)
+    quiet_observers (due.Ready a) = own.observers
+    quiet_observers due.Idle = own.observers
+    quiet_observers due.Copied = own.observers
+    quiet_observers due.Expired = own.observers
+observers_then s d passed (Replies response) id own k is = quiet_observers d
+  where
+    quiet_observers : (e : Due) → Each WatcherAre (observers_due s e (Replies response) id)
+    quiet_observers (due.Ready a) = own.observers
+    quiet_observers due.Idle = own.observers
+    quiet_observers due.Copied = own.observers
+    quiet_observers due.Expired = own.observers
+observers_then s d passed (Waits q delay) id own k is = quiet_observers d
+  where
+    quiet_observers : (e : Due) → Each WatcherAre (observers_due s e (Waits q delay) id)
+    quiet_observers (due.Ready a) = own.observers
+    quiet_observers due.Idle = own.observers
+    quiet_observers due.Copied = own.observers
+    quiet_observers due.Expired = own.observers
 
 abbrev Leaves : Own → List E.Call → Type 0
 Leaves new calls = OwnAre new × Each RespondAre calls
@@ -362,7 +384,7 @@ call_are s (Ticks now word below room d passed k id answer) own right range h =
         szx = o.szx;
         store = store_are k t.store x o.store;
         uploads = o.uploads;
-        observers = observers_then t d passed k o right.0 x;
+        observers = observers_then t d passed k id o right.0 x;
         waiting = waiting_then t.clock d t.waiting o.waiting;
       },
       each_join RespondAre (responding t d passed k word id) (first ∷ [])

@@ -19,7 +19,7 @@ use Rattle.coap_exchange.specs.declared.answerer.Asked.{Asked}
 use Rattle.coap_exchange.specs.declared.answerer.Due.{Due}
 use Rattle.coap_exchange.specs.declared.answerer.Due.TheVariants as due
 use Rattle.coap_common.specs.Adds.{asked_by_server}
-use Rattle.coap_server.specs.Asks.{lower, answering, responding}
+use Rattle.coap_server.specs.Asks.{answering, lower, notifies_by, responding}
 use Rattle.coap_server.specs.Deferring.{deferral_by}
 use Rattle.coap_server.specs.Follows.Adds.{all_asked, call_asks, call_adds}
 use Rattle.coap_server.specs.Follows.Attended.{AnswersIt}
@@ -27,7 +27,8 @@ use Rattle.coap_server.specs.Follows.Observes.{Notice, notice}
 use Rattle.coap_server.specs.Follows.Rests.{IsTick}
 use Rattle.coap_server.specs.Handling.{heard, incoming, ticking}
 use Rattle.coap_server.specs.Law.{own_of, lower_of}
-use Rattle.coap_server.specs.Notifying.{readies, marked}
+use Rattle.coap_server.specs.Notifying.{marked, notification, readies}
+use Rattle.coap_server.specs.Plain.{by_plain}
 use Rattle.coap_server.specs.Trace as S
 use Rattle.coap_world.proofs.Delivery.EntriesInTime.{Every, every_join, every_map}
 use Rattle.coap_world.proofs.Smoothly.Confirms.{IsAskedSo, IsEntrySo, SendsSo, sends_so, entries_so, begun_so}
@@ -133,6 +134,11 @@ module _ (to : Endpoint) where
   some_is : (x : Endpoint) → Some x ≡ Some to → x ≡ to
   some_is x h = cc h
 
+  notice_to : (plain : Bool) (at : ℕ) (o : Observer) (r : R.Response) (word id : ℕ)
+      → confirms_to (notifies_by plain at o r word id) ≡ Some to → o.to ≡ to
+  notice_to true at o r word id h = absurd (cc h)
+  notice_to false at o r word id h = some_is o.to h
+
   begins : (s : S.Own) (d : Due) (passed : ℕ) (h : S.Handling) (word id : ℕ) → Here (responding s d passed h word id)
       → Begins s d passed h word id
   begins s (due.Ready a) passed (S.Serves q reply left) word id (inl k) = answers a (inl refl) (some_is a.from k)
@@ -141,7 +147,8 @@ module _ (to : Endpoint) where
   begins s (due.Ready a) passed (S.Replies r) word id k = absurd k
   begins s (due.Ready a) passed (S.Waits q delay) word id k = absurd k
   begins s (due.Ready a) passed (S.Notifies o reply) word id k = absurd k
-  begins s due.Idle passed (S.Notifies o reply) word id (inl k) = tells o reply refl (some_is o.to k)
+  begins s due.Idle passed (S.Notifies o reply) word id (inl k) = tells o reply refl
+      (notice_to (by_plain s o) s.clock o (notification s.store o reply) word id k)
   begins s due.Idle passed (S.Notifies o reply) word id (inr k) = absurd (none_ready s.clock passed (marked s.observers) k)
   begins s due.Idle passed S.Silent word id k = absurd (none_ready s.clock passed (marked s.observers) k)
   begins s due.Idle passed (S.Replies r) word id k = absurd (none_ready s.clock passed (marked s.observers) k)

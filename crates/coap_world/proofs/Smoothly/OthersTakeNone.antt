@@ -35,11 +35,12 @@ use Rattle.coap_client.specs.Effects.{Deed, Rests, Asks, Keeps, Releases, Effect
 use Rattle.coap_client.specs.Law as client_law
 use Rattle.coap_client.specs.Own as client_own
 use Rattle.coap_client.specs.Trace as C
-use Rattle.coap_server.specs.Asks.{answering, responding}
+use Rattle.coap_server.specs.Asks.{answering, notifies_by, responding}
 use Rattle.coap_server.specs.Deferring.{deferral_by, deferral}
 use Rattle.coap_server.specs.Handling.{incoming, ticking, heard}
 use Rattle.coap_server.specs.Law as server_law
-use Rattle.coap_server.specs.Notifying.{marked, readies}
+use Rattle.coap_server.specs.Notifying.{marked, notification, readies}
+use Rattle.coap_server.specs.Plain.{by_plain}
 use Rattle.coap_server.specs.Trace as S
 use Rattle.coap_world.specs.Events.{server_end, Config}
 use Rattle.coap_world.specs.Hops.{client_asks, server_asks}
@@ -272,6 +273,11 @@ work_readies at zero (o ∷ os) = (tt, tt)
 work_readies at (suc passed) (o ∷ os) = every_join IsWork (readies at passed os) (R.Ready at o.to false ∷ [])
     (work_readies at passed os) (tt, tt)
 
+work_notice : (plain : Bool) (at : ℕ) (o : Observer) (r : R.Response) (word id : ℕ)
+    → IsWork (notifies_by plain at o r word id)
+work_notice true at o r word id = tt
+work_notice false at o r word id = tt
+
 work_responding : (s : S.Own) (d : Due) (passed : ℕ) (h : S.Handling) (word id : ℕ)
     → Every IsWork (responding s d passed h word id)
 work_responding s (due.Ready a) passed (S.Serves q reply left) word id = (tt, tt)
@@ -279,7 +285,10 @@ work_responding s (due.Ready a) passed S.Silent word id = tt
 work_responding s (due.Ready a) passed (S.Replies response) word id = tt
 work_responding s (due.Ready a) passed (S.Waits q delay) word id = tt
 work_responding s (due.Ready a) passed (S.Notifies o reply) word id = tt
-work_responding s due.Idle passed (S.Notifies o reply) word id = (tt, work_readies s.clock passed (marked s.observers))
+work_responding s due.Idle passed (S.Notifies o reply) word id = (
+  work_notice (by_plain s o) s.clock o (notification s.store o reply) word id,
+  work_readies s.clock passed (marked s.observers),
+)
 work_responding s due.Idle passed (S.Serves q reply left) word id = work_readies s.clock passed (marked s.observers)
 work_responding s due.Idle passed S.Silent word id = work_readies s.clock passed (marked s.observers)
 work_responding s due.Idle passed (S.Replies response) word id = work_readies s.clock passed (marked s.observers)

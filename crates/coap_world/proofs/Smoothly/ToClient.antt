@@ -16,7 +16,7 @@ use Rattle.coap_exchange.specs.AnswererTrace as R
 use Rattle.coap_exchange.specs.declared.answerer.Asked.{Asked}
 use Rattle.coap_exchange.specs.declared.answerer.Due.{Due}
 use Rattle.coap_exchange.specs.declared.answerer.Due.TheVariants as due
-use Rattle.coap_server.specs.Asks.{lower, answering, responding}
+use Rattle.coap_server.specs.Asks.{answering, lower, notifies_by, responding}
 use Rattle.coap_server.specs.Deferring.{deferral_by}
 use Rattle.coap_server.specs.Follows.Adds.{call_adds}
 use Rattle.coap_server.specs.Follows.Begins.{CanNotify}
@@ -26,7 +26,8 @@ use Rattle.coap_server.specs.Follows.Serves.{Serving, serving}
 use Rattle.coap_server.specs.Handling as Handling
 use Rattle.coap_server.specs.Handling.{incoming, ticking}
 use Rattle.coap_server.specs.Law.{ServerLaw, own_of}
-use Rattle.coap_server.specs.Notifying.{readies, marked}
+use Rattle.coap_server.specs.Notifying.{marked, notification, readies}
+use Rattle.coap_server.specs.Plain.{by_plain}
 use Rattle.coap_server.specs.Trace as S
 use Rattle.coap_server.proofs.Facts.EachCall.{comes_here}
 use Rattle.coap_server.proofs.Facts.Laws as server_facts
@@ -171,23 +172,42 @@ module _ (config : Config) (observers : (t : List S.Call) → AreObservers confi
         ⊎_elim (λ k. none_ready at passed os k) (λ k. not_asked at o k)
         (Ever_append (λ b. plain_to b ≡ Some to) (readies at passed os) (R.Ready at o.to false ∷ []) h)
 
-    none_responding : (s : S.Own) (d : Due) (passed : ℕ) (h : S.Handling) (word id : ℕ)
-        → Here (responding s d passed h word id) → ⊥
-    none_responding s (due.Ready a) passed (S.Serves q reply left) word id (inl k) = cc k
-    none_responding s (due.Ready a) passed (S.Serves q reply left) word id (inr k) = k
-    none_responding s (due.Ready a) passed S.Silent word id k = k
-    none_responding s (due.Ready a) passed (S.Replies r) word id k = k
-    none_responding s (due.Ready a) passed (S.Waits q delay) word id k = k
-    none_responding s (due.Ready a) passed (S.Notifies o reply) word id k = k
-    none_responding s due.Idle passed (S.Notifies o reply) word id (inl k) = cc k
-    none_responding s due.Idle passed (S.Notifies o reply) word id (inr k) = none_ready s.clock passed (marked s.observers) k
-    none_responding s due.Idle passed S.Silent word id k = none_ready s.clock passed (marked s.observers) k
-    none_responding s due.Idle passed (S.Replies r) word id k = none_ready s.clock passed (marked s.observers) k
-    none_responding s due.Idle passed (S.Serves q reply left) word id k =
-        none_ready s.clock passed (marked s.observers) k
-    none_responding s due.Idle passed (S.Waits q delay) word id k = none_ready s.clock passed (marked s.observers) k
-    none_responding s due.Copied passed h word id k = k
-    none_responding s due.Expired passed h word id k = k
+    notice_to : (plain : Bool) (at : ℕ) (o : Observer) (r : R.Response) (word id : ℕ)
+        → plain_to (notifies_by plain at o r word id) ≡ Some to → o.to ≡ to
+    notice_to true at o r word id h = some_is o.to h
+    notice_to false at o r word id h = absurd (cc h)
+
+    -- by a tick, a notification alone
+    record Tells (h : S.Handling) : Type 0 where
+      observer : Observer
+      reply : _
+      is : h ≡ S.Notifies observer reply
+      there : observer.to ≡ to
+
+    told_responding : (s : S.Own) (d : Due) (passed : ℕ) (h : S.Handling) (word id : ℕ)
+        → Here (responding s d passed h word id) → Tells h
+    told_responding s (due.Ready a) passed (S.Serves q reply left) word id (inl k) = absurd (cc k)
+    told_responding s (due.Ready a) passed (S.Serves q reply left) word id (inr k) = absurd k
+    told_responding s (due.Ready a) passed S.Silent word id k = absurd k
+    told_responding s (due.Ready a) passed (S.Replies r) word id k = absurd k
+    told_responding s (due.Ready a) passed (S.Waits q delay) word id k = absurd k
+    told_responding s (due.Ready a) passed (S.Notifies o reply) word id k = absurd k
+    told_responding s due.Idle passed (S.Notifies o reply) word id (inl k) = record {
+      observer = o;
+      reply = reply;
+      is = refl;
+      there = notice_to (by_plain s o) s.clock o (notification s.store o reply) word id k;
+    }
+    told_responding s due.Idle passed (S.Notifies o reply) word id (inr k) =
+        absurd (none_ready s.clock passed (marked s.observers) k)
+    told_responding s due.Idle passed S.Silent word id k = absurd (none_ready s.clock passed (marked s.observers) k)
+    told_responding s due.Idle passed (S.Replies r) word id k = absurd (none_ready s.clock passed (marked s.observers) k)
+    told_responding s due.Idle passed (S.Serves q reply left) word id k =
+        absurd (none_ready s.clock passed (marked s.observers) k)
+    told_responding s due.Idle passed (S.Waits q delay) word id k =
+        absurd (none_ready s.clock passed (marked s.observers) k)
+    told_responding s due.Copied passed h word id k = absurd k
+    told_responding s due.Expired passed h word id k = absurd k
 
     fed_now : (s : S.Own) (p : Asked × Message) (h : S.Handling) (below : L.Answer) (call : R.Call) → plain_to call ≡ None
         → Here (answering s (Some p) h below ++ call ∷ []) → p.0.from ≡ to
@@ -200,9 +220,9 @@ module _ (config : Config) (observers : (t : List S.Call) → AreObservers confi
         last (inr z) = z
 
     ticked_now : (s : S.Own) (d : Due) (passed : ℕ) (h : S.Handling) (word id : ℕ) (call : R.Call) → plain_to call ≡ None
-        → Here (responding s d passed h word id ++ call ∷ []) → ⊥
+        → Here (responding s d passed h word id ++ call ∷ []) → Tells h
     ticked_now s d passed h word id call none k =
-        ⊎_elim (λ z. none_responding s d passed h word id z) (λ z. last z)
+        ⊎_elim (λ z. told_responding s d passed h word id z) (λ z. absurd (last z))
         (Ever_append (λ b. plain_to b ≡ Some to) (responding s d passed h word id) (call ∷ []) k)
       where
         last : Here (call ∷ []) → ⊥
@@ -222,7 +242,15 @@ module _ (config : Config) (observers : (t : List S.Call) → AreObservers confi
     plain_now t (S.Ticks now word below room d passed h id answer) law heard k =
         let s : S.Own = own_of config.limits config.server_szx t in
         let call : R.Call = ticking s now below room d in
-        absurd (ticked_now (Handling.heard s now call) d passed h word id call refl k)
+        let n = ticked_now (Handling.heard s now call) d passed h word id call refl k in
+        con_now t (S.Ticks now word below room d passed h id answer) law heard to (inr (record {
+          now = now;
+          answer = answer;
+          tick = (word, below, room, d, passed, h, id, refl);
+          notice_of = record { observer = n.observer; reply = n.reply };
+          here = ap (λ z. notice (S.Ticks now word below room d passed z id answer)) n.is;
+          there = n.there;
+        }))
     plain_now t (S.Sets now path format body answer left) law heard k = absurd k
     plain_now t (S.Removes now path answer left) law heard k = absurd k
     plain_now t (S.Delays path ms answer) law heard k = absurd k
