@@ -7,6 +7,7 @@ pub mod LastRegistered
 pub mod LatestRegistration
 pub mod LivesOn
 pub mod MarksStay
+pub mod NoticesGoSo
 pub mod ObservationEnds
 pub mod ObservationStays
 pub mod ObserverLists
@@ -22,4 +23,5 @@ pub mod ToldAt
 pub mod ToldInOrder
 pub mod UnmarkedAreCurrent
 pub mod VersionsRise
+pub mod WaysKept
 pub mod YoungNons

@@ -129,10 +129,10 @@ module _ (limits : Limits) (szx word : ℕ) where
   own t = own_of limits szx t
 
   -- the observer that is notified is there, and marked
-  record Told (t : List Call) (s : Own) (o : Observer) : Type 0 where
-    is : registration o.to o.token s.observers ≡ Some o
-    there : IsThere o s.observers
-    marked_is : o.marked ≡ true
+  pub record Told (t : List Call) (s : Own) (o : Observer) : Type 0 where
+    pub is : registration o.to o.token s.observers ≡ Some o
+    pub there : IsThere o s.observers
+    pub marked_is : o.marked ≡ true
 
   module _ (t : List Call) (now w : ℕ) (below : L.Answer) (room : Bool) (passed id : ℕ) (answer : Bool) (o : Observer)
       (reply : Reply) where
@@ -145,7 +145,7 @@ module _ (limits : Limits) (szx word : ℕ) where
     abbrev asks : List E.Call
     asks = readies stage.clock passed (marked stage.observers)
 
-    told_here : ServerLaw limits szx word (call ∷ t) → Told t stage o
+    pub told_here : ServerLaw limits szx word (call ∷ t) → Told t stage o
     told_here law =
         let is = next_is (behind passed (marked stage.observers)) stage.store o reply law.rows.0.0 in
         let k = marked_there stage.observers o (behind_there passed (marked stage.observers) o is) in
