@@ -19,9 +19,11 @@ pub mod RejectedNons
 pub mod ServedObservers
 pub mod StoreChanges
 pub mod StoreSteps
+pub mod TellsBegin
 pub mod ToldAt
 pub mod ToldInOrder
 pub mod UnmarkedAreCurrent
 pub mod VersionsRise
 pub mod WaysKept
+pub mod WaysSteps
 pub mod YoungNons

@@ -1,5 +1,5 @@
 -- A notification goes in a NON where the trace says so, and a Reset ends what its NON told last.
-use Rattle.std.proofs.Common.{◌≡◌, ◌≤◌, ◌<◌, ◌⊎◌, inl, inr, ℕ, ◌+◌, ◌-◌, ◌==◌, ◌&&◌, ◌||◌, not, Bool, true, false, Option}
+use Rattle.std.proofs.Common.{◌≡◌, ◌≤◌, ◌<◌, inl, inr, ℕ, ◌+◌, ◌-◌, ◌==◌, ◌||◌, not, Bool, true, false, Option}
 use Rattle.std.proofs.Common.{Some, None, List, [], ◌∷◌, ◌++◌, refl, ap, sym, subst, ◌∙◌, cond, arith, find, max, nat_le, nat_lt}
 use Rattle.std.proofs.lemmas.Bool.{and_from, and_parts}
 use Rattle.std.specs.Cmp.{unsigned_Decides}
@@ -20,7 +20,6 @@ use Rattle.coap_resource.specs.Serves.{Question, Reply}
 use Rattle.coap_exchange.specs.declared.answerer.Asked.{Asked}
 use Rattle.coap_exchange.specs.declared.answerer.Due.TheVariants as due
 use Rattle.coap_exchange.specs.AnswererSteps.{handed_up, reset_by, unmatched_by}
-use Rattle.coap_exchange.specs.AnswererTrace as E
 use Rattle.coap_exchange.specs.AnswererTrace.{Sending}
 use Rattle.coap_server.specs.Trace.{Own, Handling, Silent, Replies, Serves, Waits, Notifies, Call, Sets, Removes}
 use Rattle.coap_server.specs.Trace.{Delays, Plains, Feeds, Ticks, NextOut, Gets, TellsApplied}
@@ -32,15 +31,16 @@ use Rattle.coap_server.specs.Law.{ServerLaw, own_of, lower_of}
 use Rattle.coap_server.specs.Follows.Tells.{InCon, InNon, InReply, Telling, Way, telling, telling_of, tells, tells_if}
 use Rattle.coap_server.specs.Follows.Tells.{way_of}
 use Rattle.coap_server.specs.Follows.Observes.{rejects_in}
-use Rattle.coap_server.specs.Follows.Ways.{EndsOnReset, GoesSo, LastNon, PlainsStay, ResetEnds, WaysAre, clock_at}
+use Rattle.coap_server.specs.Follows.Ways.{EndsOnReset, GoesSo, LastNon, PlainsStay, ResetEnds, WaysAre}
 use Rattle.coap_server.specs.declared.limits.TheConstants.{CON_NOTIFICATION_MS as con_notification}
 use Rattle.coap_server.specs.declared.limits.TheConstants.{MAX_PLAIN_AGE_MS as max_plain_age}
 use Rattle.coap_server.proofs.Observing.EndsObservation.{first_row}
 use Rattle.coap_server.proofs.Observing.ObserversWereMade.{good}
 use Rattle.coap_server.proofs.Observing.RejectedNons.{none_rejected, none_reset}
-use Rattle.coap_server.proofs.Observing.ToldInOrder.{told_here}
+use Rattle.coap_server.proofs.Observing.TellsBegin.{told_here}
 use Rattle.coap_server.proofs.Observing.VersionsRise.{IsThere, there_is}
-use Rattle.coap_server.proofs.Observing.WaysKept.{FitsOf, fits, ticked_back}
+use Rattle.coap_server.proofs.Observing.WaysKept.{fits, ticked_back}
+use Rattle.coap_server.proofs.Observing.WaysSteps.{FitsOf}
 use Rattle.coap_server.proofs.Observing.YoungNons.{young_is}
 use Rattle.coap_server.proofs.Serving.Brought.{server_back}
 
