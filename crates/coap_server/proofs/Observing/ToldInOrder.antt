@@ -1,69 +1,36 @@
 -- What is told under one registration follows on: from the first to the next.
-use Rattle.coap_types.specs.declared.option_number.TheConstants.{OBSERVE as observe}
-use Rattle.coap_types.specs.OptionValues.{uint_at}
-use Rattle.coap_observe.specs.declared.observers.TheConstants.{MAX_OBSERVERS as max_observers}
-use Rattle.std.proofs.Common.{◌≡◌, inl, inr, ℕ, ◌==◌, ◌&&◌, nat_lt, Bool, true, false, Option, Some, None, List}
-use Rattle.std.proofs.Common.{[], ◌∷◌, ◌++◌, length, option_map, refl, ap, sym, subst, ◌∙◌, cond, ◌≤◌, ◌+◌, ◌*◌, arith}
+use Rattle.std.proofs.Common.{◌≡◌, inl, inr, ℕ, Bool, true, false, Option, Some, None, List}
+use Rattle.std.proofs.Common.{[], ◌∷◌, ◌++◌, refl, ap, sym, subst, ◌∙◌, ◌≤◌, ◌+◌, ◌*◌, arith}
 use Rattle.coap_types.specs.Past.{Ever}
-use Rattle.coap_types.specs.Recognised.{has_number}
-use Rattle.coap_types.specs.declared.endpoint.Endpoint.{Endpoint}
-use Rattle.coap_codec.specs.Message.{Message}
 use Rattle.coap_layer.specs.Trace as L
-use Rattle.coap_observe.specs.Observers.{Observer, begun, noted_to, removed, registered, sent_to, registration}
-use Rattle.coap_observe.proofs.Facts.Registrations.{registration-noted_to, registration-registered, registration-sent_to}
-use Rattle.coap_observe.specs.Versions.{sequence_number}
-use Rattle.coap_resource.specs.Content.{Content, Held}
-use Rattle.coap_resource.specs.RequestOptions.{block_of, szx_by}
+use Rattle.coap_observe.specs.Observers.{Observer, registration}
+use Rattle.coap_resource.specs.Content.{Held}
 use Rattle.coap_resource.specs.Serves.{Question, Reply}
-use Rattle.coap_resource.specs.Serves as R
 use Rattle.coap_resource.specs.Limits.{Limits}
 use Rattle.coap_exchange.specs.declared.answerer.Asked.{Asked}
 use Rattle.coap_exchange.specs.declared.answerer.Due.TheVariants as due
-use Rattle.coap_exchange.specs.declared.answerer.Ended.{Ended}
 use Rattle.coap_exchange.specs.AnswererTrace as E
-use Rattle.coap_exchange.specs.AnswererSteps as P
-use Rattle.coap_exchange.specs.AnswererSteps.{is_waited_for, ended_as, separate_of}
-use Rattle.std.proofs.lemmas.Bool.{and_parts}
-use Rattle.coap_common.specs.SuccessCodes.{content}
+use Rattle.coap_exchange.specs.AnswererSteps.{is_waited_for}
 use Rattle.coap_server.specs.Trace.{Own, Silent, Replies, Serves, Waits, Notifies, Call, Sets, Removes}
 use Rattle.coap_server.specs.Trace.{Delays, Plains, Feeds, Ticks, NextOut, Gets, TellsApplied}
-use Rattle.coap_server.specs.Responses.{response_with}
-use Rattle.coap_server.specs.Serving.{response_to, observers_served}
-use Rattle.coap_server.specs.Uploads.{last_block}
-use Rattle.coap_server.specs.Observers.{observes, registers, observers_with, marked_if, sequence}
-use Rattle.coap_server.specs.Observers.{sequence_if, is_get, is_number}
-use Rattle.coap_server.specs.Deferring.{question_of}
-use Rattle.coap_server.specs.Notifying.{marked, behind, readies, notification, notified}
+use Rattle.coap_server.specs.Observers.{registers}
+use Rattle.coap_server.specs.Notifying.{marked}
 use Rattle.coap_server.specs.Handling.{incoming, ticking, heard}
 use Rattle.coap_server.specs.Steps.{exchanges_after}
-use Rattle.coap_server.specs.Law.{ServerLaw, own_of, lower_of}
+use Rattle.coap_server.specs.Law.{ServerLaw, own_of}
 use Rattle.coap_server.specs.Follows.Tells.{FollowsOn, HearsAck, InCon, InNon, InReply, Telling, Way, telling}
 use Rattle.coap_server.specs.Follows.Tells.{Follows, telling_of, tells, tells_if, way_of}
-use Rattle.coap_server.proofs.Observing.StoreChanges.{kept_by, get_same}
-use Rattle.coap_server.proofs.Observing.OneRegistration.{marked_turn}
-use Rattle.coap_server.proofs.Observing.LivesOn.{Lives, LivesAt, turned}
-use Rattle.coap_server.proofs.Observing.StoreSteps.{AreLow, are_low, clocks_rise, store_timed}
+use Rattle.coap_server.proofs.Observing.LivesOn.{Lives, LivesAt}
+use Rattle.coap_server.proofs.Observing.StoreSteps.{are_low, clocks_rise, store_timed}
 use Rattle.coap_server.proofs.Observing.ToldAt.{told_at}
-use Rattle.coap_server.proofs.Observing.DatedMarks.{IsDated, are_dated, ended_dated}
-use Rattle.coap_server.proofs.Observing.YoungNons.{young_by}
-use Rattle.coap_server.proofs.Replying.ResponsesHaveRequests.{each_there}
-use Rattle.coap_server.proofs.Exact.Asked.{back}
-use Rattle.coap_server.specs.Asks.{notifies_by}
-use Rattle.coap_server.specs.Plain.{by_plain, goes_plain}
-use Rattle.coap_exchange.specs.AnswererLaw as W
-use Rattle.coap_exchange.specs.AnswererLaw.{ResponseLaw}
-use Rattle.coap_resource.specs.Since.{IsSince}
+use Rattle.coap_server.specs.Plain.{by_plain}
 use Rattle.coap_server.proofs.Holding.Holds.{limits_are}
 use Rattle.coap_resource.proofs.Facts.Since.{rises_little}
-use Rattle.coap_observe.specs.Registrations.{told_by}
 use Rattle.coap_types.specs.declared.transmission.TheConstants.{MAX_LATENCY_MS as max_latency}
-use Rattle.coap_server.proofs.Observing.Outcomes.{serves_came, serves_waited}
-use Rattle.coap_server.proofs.Observing.ConsAreAcknowledged.{ready_alone, alone_later, later, begins, not_flying}
-use Rattle.coap_server.proofs.Exact.Leads.{exchanges_kept, kept_behind}
-use Rattle.coap_server.proofs.Observing.ObserversWereMade.{good_ended, good}
+use Rattle.coap_server.proofs.Observing.ConsAreAcknowledged.{later, not_flying}
 use Rattle.coap_server.proofs.Serving.Brought.{server_back}
-use Rattle.coap_server.proofs.Observing.VersionsRise.{FlightOf, At, observe_there}
-use Rattle.coap_server.proofs.Observing.VersionsRise.{IsThere, behind_there, marked_there, there_is, next_is, readies_head}
+use Rattle.coap_server.proofs.Observing.VersionsRise.{FlightOf, At}
+use Rattle.coap_server.proofs.Observing.VersionsRise.{next_is}
 use Rattle.coap_server.proofs.Observing.VersionsRise.{readies_later, heard_ticked, steps}
 use Rattle.coap_server.proofs.Observing.TellsBegin.{Told, asks, begins_at, free, one, stage, told_here}
 

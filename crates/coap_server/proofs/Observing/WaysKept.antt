@@ -27,7 +27,6 @@ use Rattle.coap_server.specs.Follows.Tells.{tells, way_of}
 use Rattle.coap_server.proofs.Observing.Outcomes.{never_notifies_ready}
 use Rattle.coap_server.proofs.Observing.TellsBegin.{told_here}
 use Rattle.coap_server.proofs.Serving.Brought.{server_back}
-
 use Rattle.coap_server.proofs.Observing.WaysSteps as W
 use Rattle.coap_server.proofs.Observing.WaysSteps.{none_marked}
 
