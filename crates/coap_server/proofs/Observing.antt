@@ -7,6 +7,7 @@ pub mod LastRegistered
 pub mod LatestRegistration
 pub mod LivesOn
 pub mod MarksStay
+pub mod NoticesGoSo
 pub mod ObservationEnds
 pub mod ObservationStays
 pub mod ObserverLists
@@ -18,8 +19,11 @@ pub mod RejectedNons
 pub mod ServedObservers
 pub mod StoreChanges
 pub mod StoreSteps
+pub mod TellsBegin
 pub mod ToldAt
 pub mod ToldInOrder
 pub mod UnmarkedAreCurrent
 pub mod VersionsRise
+pub mod WaysKept
+pub mod WaysSteps
 pub mod YoungNons

@@ -34,3 +34,4 @@ pub mod Tells
 pub mod Tokens
 pub mod Told
 pub mod Waits
+pub mod Ways

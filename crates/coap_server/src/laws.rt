@@ -43,6 +43,7 @@ ghost use Rattle.coap_server.specs.Follows.GoesOn.{GoesOn};
 ghost use Rattle.coap_server.specs.Follows.Attended.{AllAttended, AllHandedOn, FirstIsAnswered};
 ghost use Rattle.coap_server.specs.Trace.{Call};
 ghost use Rattle.coap_server.specs.Examples.ObserverTold.{IsTold};
+ghost use Rattle.coap_server.specs.Follows.Ways.{EndsOnReset, PlainsStay, WaysAre};
 ghost use Rattle.coap_server.specs.Follows.Waits.{ReadyAreServed, WaitOn, WaitsAsDeferred};
 
 /// What leads to the state of a server stands in its whole law, uploads in blocks and observers among it, and what
@@ -221,6 +222,16 @@ pub fn server_must_law()
     // What waits goes on waiting until a call sends its response (RFC 7252, section 5.2.2).
     ensures waits_on { (limits : Limits) (szx word : ℕ) (t : List Call) → ServerLaw limits szx word t
         → WaitOn limits szx t }
+    // A path is plain where a call made it so, from then on (RFC 7641, section 4.5).
+    ensures plains_stay { (limits : Limits) (szx : ℕ) (t : List Call) → PlainsStay limits szx t }
+    // A notification of what its path holds is a NON exactly where its path was made plain, the last CON to it is less
+    // than a day old, and the last change of its path at most 100 s (RFC 7641, sections 4.3 and 4.5).
+    ensures ways { (limits : Limits) (szx word : ℕ) (t : List Call) → ServerLaw limits szx word t
+        → WaysAre limits szx t }
+    // A Reset of the last NON of a registration of that endpoint, while it can come, ends one, and one that was told last
+    // in that very NON (RFC 7641, section 3.6).
+    ensures ends_on_reset { (limits : Limits) (szx word : ℕ) (t : List Call) → ServerLaw limits szx word t
+        → EndsOnReset limits szx t }
     // A path has the delay that a call gave it, until a call gives another (RFC 7252, section 5.2.2).
     ensures delays_stay { (limits : Limits) (szx : ℕ) (t : List Call) → DelaysStay limits szx t }
     // It rejects responses alone, and replies to no request with a Reset (RFC 7252, sections 4.2, 4.3 and 5.2).

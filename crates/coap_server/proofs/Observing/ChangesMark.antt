@@ -35,22 +35,26 @@ marks at path old left os x h = by (left.tally.version == old.tally.version) h
         cc k in ap (λ (y : Change). changed_at at y.path os) same
 
 -- what changes is no GET, and registers nobody
-unchanged : (path : List (List ℕ)) (old left : Content) → left ≡ old → change_of path old left ≡ None
+pub unchanged : (path : List (List ℕ)) (old left : Content) → left ≡ old → change_of path old left ≡ None
 unchanged path old left h =
     ap (λ b. cond b None (Some (record { path = path; version = left.tally.version; held = left.holds path })))
     (ap (λ (s : Content). s.tally.version == old.tally.version) h
     ∙ (unsigned_Decides old.tally.version old.tally.version).1 refl)
 
-not_a_get : (q : Question) (n : ℕ) → is_get q.method ≡ false → observes n q ≡ false
+pub not_a_get : (q : Question) (n : ℕ) → is_get q.method ≡ false → observes n q ≡ false
 not_a_get q n h = ap (λ b. b && is_number n (uint_at observe q.options)) h
 
-registers_none : (at : ℕ) (a : Asked) (q : Question) (reply : Reply) (os : List Observer) → is_get q.method ≡ false
+pub not_registering : (a : Asked) (q : Question) (reply : Reply) (os : List Observer) → is_get q.method ≡ false
+    → registers a q reply os ≡ false
+not_registering a q reply os h =
+    ap (λ b. b && ((reply.code == content)
+    && ((reply.offset == 0) && nat_lt (length (removed a.from a.token os)) max_observers))) (not_a_get q 0 h)
+
+pub registers_none : (at : ℕ) (a : Asked) (q : Question) (reply : Reply) (os : List Observer) → is_get q.method ≡ false
     → observers_with at a q reply os ≡ os
 registers_none at a q reply os h =
-    let zero : registers a q reply os ≡ false = ap (λ b. b && ((reply.code == content)
-    && ((reply.offset == 0) && nat_lt (length (removed a.from a.token os)) max_observers))) (not_a_get q 0 h) in
     ap (λ b. cond b (registered at a.from a.token q.path (szx_by (block_of q.options) q.szx) os)
-    (cond (observes 1 q) (removed a.from a.token os) os)) zero
+    (cond (observes 1 q) (removed a.from a.token os) os)) (not_registering a q reply os h)
     ∙ ap (λ b. cond b (removed a.from a.token os) os) (not_a_get q 1 h)
 
 module _ (limits : Limits) (szx word : ℕ) where

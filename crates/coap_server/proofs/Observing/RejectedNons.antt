@@ -19,7 +19,7 @@ use Rattle.coap_server.proofs.Observing.OneRegistration.{pair_of}
 
 -- what rejects it ends nothing else, and is no request
 
-none_reset : (from : Endpoint) (up : L.Answer) (xs : List Separate) (x : Sending) → unmatched_by from up ≡ Some x
+pub none_reset : (from : Endpoint) (up : L.Answer) (xs : List Separate) (x : Sending) → unmatched_by from up ≡ Some x
     → reset_by from up xs ≡ None
 none_reset from (L.Becomes (L.Unmatched id)) xs x h = refl
 none_reset from (L.Becomes u) xs x h = absurd (cc h)

@@ -52,6 +52,7 @@ use Rattle.coap_server.specs.Follows.Told.{AcksArrive}
 use Rattle.coap_server.proofs.Telling.LayerCalls.{Origin, empties, answers, responds, notifies, plains, IsOfSending}
 use Rattle.coap_server.proofs.Telling.LayerCalls.{Given, given_here, layer_next}
 use Rattle.coap_server.proofs.Telling.LayerCalls.{steps_here}
+use Rattle.coap_server.proofs.Observing.ToldAt.{told_at}
 use Rattle.coap_server.proofs.Telling.OneConACall.{one_con}
 use Rattle.coap_server.proofs.Telling.SentNow.{Notes, Says, Serving_of, Means, meant, mean}
 
@@ -329,6 +330,7 @@ module _ (limits : Limits) (szx word : ℕ) (past : List Call) (c : Call)
     begun_now = λ con m h are spells note. begun_tells con m h are spells note;
     replied = λ to bytes m h are spells note. replied_tells to bytes m are spells note h;
     plain = λ to bytes m h are spells note. plain_tells to bytes m are spells note h;
+    now = λ x h. told_at limits szx past c x h;
     one = λ a b p q. one_con limits szx word past c a b p q;
   }
 

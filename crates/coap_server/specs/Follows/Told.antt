@@ -1,5 +1,5 @@
 -- What a server tells its observers in the datagrams of each call (RFC 7641, sections 3 and 4.2).
-use Rattle.std.specs.Prelude.{◌≡◌, ◌≢◌, ◌⊎◌, ◌<◌, ◌^◌, ℕ, true, false, Some, List}
+use Rattle.std.specs.Prelude.{◌≡◌, ◌≢◌, ◌⊎◌, ◌<◌, ◌^◌, ℕ, true, false, Some, List, ◌∷◌}
 use Rattle.coap_types.specs.Bytes.{AreBytes}
 use Rattle.coap_types.specs.Past.{Ever, Sometime, Always}
 use Rattle.coap_types.specs.declared.endpoint.Endpoint.{Endpoint}
@@ -62,6 +62,8 @@ module _ (limits : Limits) (szx : ℕ) where
         → Spells bytes m
         → is_notification m ≡ true
         → (TellsIn InReply to m past c × ServesNon to past c) ⊎ TellsIn InNon to m past c
+    -- What is told is told at the moment of the call.
+    pub now : (x : Telling) → telling (own_of limits szx past) c ≡ Some x → x.at ≡ (own_of limits szx (c ∷ past)).clock
     -- One CON begins in a call at most.
     pub one : (a b : Open) → Ever (λ e. begun e ≡ Some a) (call_adds limits szx word past c)
         → Ever (λ e. begun e ≡ Some b) (call_adds limits szx word past c) → a ≡ b

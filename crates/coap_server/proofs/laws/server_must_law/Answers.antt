@@ -6,6 +6,7 @@ use Rattle.coap_server.proofs.Holding.BodiesShort.{bodies_short}
 use Rattle.coap_server.proofs.Observing.ChangesMark.{all_mark}
 use Rattle.coap_server.proofs.Observing.LastRegistered.{all_register}
 use Rattle.coap_server.proofs.Observing.MarksStay.{stay_due}
+use Rattle.coap_server.proofs.Observing.NoticesGoSo.{ends_on_reset, plains_stay, ways_are}
 use Rattle.coap_server.proofs.Observing.UnmarkedAreCurrent.{are_current}
 use Rattle.coap_server.proofs.Replying.AllRecognised.{all_recognised}
 use Rattle.coap_server.proofs.Replying.BlocksContinued.{all_continues_fit}
@@ -61,3 +62,12 @@ returns-clause-notified c limits szx word t law = first_is_notified limits szx w
 
 pub returns-clause-begins : goal.returns-clause-begins
 returns-clause-begins c limits szx word t law = all_begin_next limits szx word t law
+
+pub returns-clause-plains_stay : goal.returns-clause-plains_stay
+returns-clause-plains_stay c limits szx t = plains_stay limits szx t
+
+pub returns-clause-ways : goal.returns-clause-ways
+returns-clause-ways c limits szx word t law = ways_are limits szx word t law
+
+pub returns-clause-ends_on_reset : goal.returns-clause-ends_on_reset
+returns-clause-ends_on_reset c limits szx word t law = ends_on_reset limits szx word t law
