@@ -1,9 +1,13 @@
+pub mod AllOf
 pub mod Ascending
 pub mod Ended
 pub mod FetchesSince
 pub mod Marks
+pub mod Noticed
 pub mod Notified
 pub mod ObservationOrigins
 pub mod OfObservations
+pub mod OneToken
 pub mod Rising
+pub mod StaysLive
 pub mod Values

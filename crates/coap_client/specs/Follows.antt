@@ -22,8 +22,10 @@ pub mod GoesOn
 pub mod HandedUp
 pub mod Hears
 pub mod Holds
+pub mod Live
 pub mod Newer
 pub mod Noted
+pub mod Noticed
 pub mod Notified
 pub mod Numbers
 pub mod OfAnswers

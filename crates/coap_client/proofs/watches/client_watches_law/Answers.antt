@@ -1,0 +1,15 @@
+use Rattle.coap_client.proofs.Observing.Noticed.{are_answered, are_noticed, are_shown}
+use Rattle.coap_client.proofs.Observing.StaysLive.{stay_live}
+use Rattle.coap_client.proofs.watches.client_watches_law.Goals as goal
+
+pub returns-clause-stays : goal.returns-clause-stays
+returns-clause-stays c = stay_live
+
+pub returns-clause-answered : goal.returns-clause-answered
+returns-clause-answered c = are_answered
+
+pub returns-clause-noticed : goal.returns-clause-noticed
+returns-clause-noticed c = are_noticed
+
+pub returns-clause-shown : goal.returns-clause-shown
+returns-clause-shown c = are_shown

@@ -1,0 +1,29 @@
+ghost use Rattle.std.specs.Prelude.{ℕ, List};
+ghost use Rattle.coap_types.specs.declared.endpoint.Endpoint.{Endpoint};
+ghost use Rattle.coap_block.specs.Sizes.{Sizes};
+ghost use Rattle.coap_client.specs.Law.{ClientLaw};
+ghost use Rattle.coap_client.specs.Trace.{Call};
+ghost use Rattle.coap_client.specs.Follows.Live.{StayLive};
+ghost use Rattle.coap_client.specs.Follows.Noticed.{AreNoticed, AreShownAtOnce, RegistrationsAreAnswered};
+
+use coap_exchange::asker_law;
+
+/// What a client sees of what it observes.
+pub fn client_watches_law()
+    // A live observation stays so until it is forgotten, or a report of it is made that is no value (RFC 7641, section
+    // 3.6).
+    ensures stays { (server : Endpoint) (sizes : Sizes) (word : ℕ) (t : List Call) → ClientLaw server sizes word t
+        → StayLive sizes t }
+    // The answer to a registration ends it, or is taken, and the observation is live (RFC 7641, section 3.1).
+    ensures answered { (server : Endpoint) (sizes : Sizes) (word : ℕ) (t : List Call) → ClientLaw server sizes word t
+        → RegistrationsAreAnswered sizes t }
+    // What is noted of a live observation ends it, is taken, or is not newer than the newest one before (RFC 7641,
+    // sections 3.2 and 3.4).
+    ensures noticed { (server : Endpoint) (sizes : Sizes) (word : ℕ) (t : List Call) → ClientLaw server sizes word t
+        → AreNoticed sizes t }
+    // What is taken and has all of a representation is reported at once (RFC 7641, section 3.2).
+    ensures shown { (server : Endpoint) (sizes : Sizes) (word : ℕ) (t : List Call) → ClientLaw server sizes word t
+        → AreShownAtOnce sizes t }
+{
+    asker_law();
+}
