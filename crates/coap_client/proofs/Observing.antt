@@ -2,6 +2,8 @@ pub mod AllOf
 pub mod Ascending
 pub mod Ended
 pub mod FetchesSince
+pub mod FewObserved
+pub mod KeptTokens
 pub mod Marks
 pub mod Noticed
 pub mod Notified
@@ -10,4 +12,5 @@ pub mod OfObservations
 pub mod OneToken
 pub mod Rising
 pub mod StaysLive
+pub mod TokensKept
 pub mod Values

@@ -3,7 +3,7 @@ ghost use Rattle.coap_types.specs.declared.endpoint.Endpoint.{Endpoint};
 ghost use Rattle.coap_block.specs.Sizes.{Sizes};
 ghost use Rattle.coap_client.specs.Law.{ClientLaw};
 ghost use Rattle.coap_client.specs.Trace.{Call};
-ghost use Rattle.coap_client.specs.Follows.Live.{StayLive};
+ghost use Rattle.coap_client.specs.Follows.Live.{StayLive, TokensAreKept};
 ghost use Rattle.coap_client.specs.Follows.Noticed.{AreNoticed, AreShownAtOnce, RegistrationsAreAnswered};
 
 use coap_exchange::asker_law;
@@ -24,6 +24,9 @@ pub fn client_watches_law()
     // What is taken and has all of a representation is reported at once (RFC 7641, section 3.2).
     ensures shown { (server : Endpoint) (sizes : Sizes) (word : ℕ) (t : List Call) → ClientLaw server sizes word t
         → AreShownAtOnce sizes t }
+    // The exchanges keep the token of each live observation (RFC 7641, section 3.2).
+    ensures kept { (server : Endpoint) (sizes : Sizes) (word : ℕ) (t : List Call) → ClientLaw server sizes word t
+        → TokensAreKept sizes server word t }
 {
     asker_law();
 }

@@ -1,5 +1,6 @@
 use Rattle.coap_client.proofs.Observing.Noticed.{are_answered, are_noticed, are_shown}
 use Rattle.coap_client.proofs.Observing.StaysLive.{stay_live}
+use Rattle.coap_client.proofs.Observing.TokensKept.{tokens_are_kept}
 use Rattle.coap_client.proofs.watches.client_watches_law.Goals as goal
 
 pub returns-clause-stays : goal.returns-clause-stays
@@ -13,3 +14,6 @@ returns-clause-noticed c = are_noticed
 
 pub returns-clause-shown : goal.returns-clause-shown
 returns-clause-shown c = are_shown
+
+pub returns-clause-kept : goal.returns-clause-kept
+returns-clause-kept c = tokens_are_kept
