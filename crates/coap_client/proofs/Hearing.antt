@@ -4,4 +4,5 @@ pub mod HeardOnce
 pub mod HeardRuns
 pub mod Noted
 pub mod NotedAt
+pub mod NoticesHeard
 pub mod Types

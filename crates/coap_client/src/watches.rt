@@ -4,7 +4,7 @@ ghost use Rattle.coap_block.specs.Sizes.{Sizes};
 ghost use Rattle.coap_client.specs.Law.{ClientLaw};
 ghost use Rattle.coap_client.specs.Trace.{Call};
 ghost use Rattle.coap_client.specs.Follows.Live.{StayLive, TokensAreKept};
-ghost use Rattle.coap_client.specs.Follows.Noticed.{AreNoticed, AreShownAtOnce, RegistrationsAreAnswered};
+ghost use Rattle.coap_client.specs.Follows.Noticed.{AreNoticed, AreShownAtOnce, NoticesAreHeard, RegistrationsAreAnswered};
 
 use coap_exchange::asker_law;
 
@@ -27,6 +27,9 @@ pub fn client_watches_law()
     // The exchanges keep the token of each live observation (RFC 7641, section 3.2).
     ensures kept { (server : Endpoint) (sizes : Sizes) (word : ℕ) (t : List Call) → ClientLaw server sizes word t
         → TokensAreKept sizes server word t }
+    // A response from the server with such a token is noted, where no cancel of that runs (RFC 7641, section 3.2).
+    ensures notices_heard { (server : Endpoint) (sizes : Sizes) (word : ℕ) (t : List Call)
+        → ClientLaw server sizes word t → NoticesAreHeard server sizes word t }
 {
     asker_law();
 }
