@@ -1,4 +1,5 @@
 pub mod AllOf
+pub mod AreThere
 pub mod Ascending
 pub mod Ended
 pub mod FetchesSince

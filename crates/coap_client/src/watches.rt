@@ -3,13 +3,17 @@ ghost use Rattle.coap_types.specs.declared.endpoint.Endpoint.{Endpoint};
 ghost use Rattle.coap_block.specs.Sizes.{Sizes};
 ghost use Rattle.coap_client.specs.Law.{ClientLaw};
 ghost use Rattle.coap_client.specs.Trace.{Call};
-ghost use Rattle.coap_client.specs.Follows.Live.{StayLive, TokensAreKept};
+ghost use Rattle.coap_client.specs.Follows.Live.{AreThere, StayLive, TokensAreKept};
 ghost use Rattle.coap_client.specs.Follows.Noticed.{AreNoticed, AreShownAtOnce, NoticesAreHeard, RegistrationsAreAnswered};
 
 use coap_exchange::asker_law;
 
 /// What a client sees of what it observes.
 pub fn client_watches_law()
+    // An observation that was taken, was not forgotten, and has no last report waits, runs or is live (RFC 7641, section
+    // 3.1).
+    ensures there { (server : Endpoint) (sizes : Sizes) (word : ℕ) (t : List Call) → ClientLaw server sizes word t
+        → AreThere sizes server word t }
     // A live observation stays so until it is forgotten, or a report of it is made that is no value (RFC 7641, section
     // 3.6).
     ensures stays { (server : Endpoint) (sizes : Sizes) (word : ℕ) (t : List Call) → ClientLaw server sizes word t

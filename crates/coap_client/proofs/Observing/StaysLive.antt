@@ -76,7 +76,7 @@ unless_zero : (v : Bool) → unless v 0 ≡ 0
 unless_zero true = refl
 unless_zero false = refl
 
-none_final : (number : ℕ) (made : Option Reported)
+pub none_final : (number : ℕ) (made : Option Reported)
     → ((report : Report) → made ≡ of number report → is_value report ≡ true) → final_of number made ≡ 0
 none_final number None values = refl
 none_final number (Some x) values = by (x.number == number) refl
@@ -87,7 +87,7 @@ none_final number (Some x) values = by (x.number == number) refl
         ap (λ v. unless v 1) (values x.report is)
     by false e = unless_zero (is_value x.report)
 
-none_forgotten : (number : ℕ) (c : Call) → (forgotten c ≡ Some number → ⊥) → forgotten_by number c ≡ 0
+pub none_forgotten : (number : ℕ) (c : Call) → (forgotten c ≡ Some number → ⊥) → forgotten_by number c ≡ 0
 none_forgotten number (Forgets k was true) apart = by (k == number) refl
   where
     by : (b : Bool) → (k == number) ≡ b → one_if b ≡ 0

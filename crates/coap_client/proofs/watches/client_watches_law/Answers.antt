@@ -1,5 +1,6 @@
 use Rattle.coap_client.specs.Law.{lower_of}
 use Rattle.coap_client.proofs.Hearing.NoticesHeard.{notices_are_heard}
+use Rattle.coap_client.proofs.Observing.AreThere.{are_there}
 use Rattle.coap_client.proofs.Observing.Noticed.{are_answered, are_noticed, are_shown}
 use Rattle.coap_client.proofs.Observing.StaysLive.{stay_live}
 use Rattle.coap_client.proofs.Observing.TokensKept.{tokens_are_kept}
@@ -23,3 +24,6 @@ returns-clause-kept c = tokens_are_kept
 pub returns-clause-notices_heard : goal.returns-clause-notices_heard
 returns-clause-notices_heard c server sizes word t law =
     notices_are_heard server sizes word t law (c.asker_law.ensures.told_as server word (lower_of sizes t) law.exchanges)
+
+pub returns-clause-there : goal.returns-clause-there
+returns-clause-there c server sizes word t law = are_there sizes server word t law
