@@ -1,7 +1,7 @@
 -- A message that has all of a representation is the last part of it.
 use Rattle.std.proofs.Common.{◌≡◌, ◌≤◌, inl, inr, ℕ, ◌+◌, ◌*◌, Bool, true, false, cond, not, ◌&&◌, ◌||◌, Option, Some, None}
-use Rattle.std.proofs.Common.{List, refl, ap, sym, ◌∙◌, arith, length}
-use Rattle.std.specs.Prelude.{◌==◌, nat_lt, nat_le}
+use Rattle.std.proofs.Common.{List, refl, ap, ◌∙◌, arith, length}
+use Rattle.std.specs.Prelude.{nat_lt, nat_le}
 use Rattle.std.proofs.lemmas.Bool.{le-leb, le-ltb}
 use Rattle.coap_types.specs.OptionValues.{value_of}
 use Rattle.coap_types.specs.BlockValue.{block_in}
@@ -12,14 +12,13 @@ use Rattle.coap_codec.specs.Message.{Message}
 use Rattle.coap_block.specs.Sizes.{Sizes}
 use Rattle.coap_block.specs.FetchStep as F
 use Rattle.coap_block.specs.declared.fetch_step.FetchRefusal.TheVariants as refusal
-use Rattle.coap_block.specs.declared.fetch_verdict.Verdict.{Verdict}
 use Rattle.coap_block.specs.declared.fetch_verdict.Verdict.TheVariants as verdict
 use Rattle.coap_client.specs.Trace.{Value}
 use Rattle.coap_client.specs.Effects.{of}
 use Rattle.coap_client.specs.Fetching.{value}
 use Rattle.coap_client.specs.Observing.{first_value}
-use Rattle.coap_client.specs.Responses.{said, block_at, part_by, part, sequence_in, tag_in, format_in}
-use Rattle.coap_client.specs.Follows.Noticed.{IsOneBlock, IsAllOf}
+use Rattle.coap_client.specs.Responses.{said, part_by, part, sequence_in, tag_in, format_in}
+use Rattle.coap_client.specs.Follows.Noticed.{IsAllOf}
 
 done_if : (sized over : Bool) → sized ≡ true → over ≡ false
     → cond (not sized) (verdict.Refuse refusal.BadBlock) (cond over (verdict.Refuse refusal.TooLarge) verdict.Done)

@@ -20,8 +20,7 @@ use Rattle.coap_client.specs.Follows.Numbers.{number_given, NumbersOnce}
 use Rattle.coap_client.specs.Follows.OfObservations.{Observed, observes, WasObserved}
 use Rattle.coap_client.specs.Follows.Begins.{WasSent}
 use Rattle.coap_client.specs.Follows.Order.{call_of}
-use Rattle.coap_client.specs.Follows.Places.{hit, in_op, in_running, in_queue, in_observations, places, gone, final_of}
-use Rattle.coap_client.specs.Follows.Places.{forgotten_by}
+use Rattle.coap_client.specs.Follows.Places.{in_op, in_running, in_queue, in_observations, places, gone}
 use Rattle.coap_client.specs.Follows.Words.{Taken, takes, WasTaken, Sending}
 use Rattle.coap_client.proofs.Observing.OfObservations.{sent_taken}
 use Rattle.coap_client.proofs.Observing.OneToken.{registered}
@@ -35,7 +34,6 @@ use Rattle.coap_client.proofs.Sending.OpenSince.{open_runs}
 use Rattle.coap_client.proofs.Sending.Tokens.{last_was_sent}
 use Rattle.coap_client.proofs.Turning.AllWaiting.{all_wait}
 use Rattle.coap_client.proofs.Turning.BlockByBlock.{AllOf}
-use Rattle.coap_client.proofs.Turning.Leading.{client_back}
 
 -- a number is given to one call, or to one observation
 
@@ -222,8 +220,7 @@ module _ (sizes : Sizes) where
             let r = registered server sizes word t law p.0 f.0 in
             let same : record { number = p.0.number; path = p.0.path } ≡ x = one_path t once
             (record { number = p.0.number; path = p.0.path }) x
-            (sent_taken sizes t r.sending p.0.number p.0.path r.sent r.operation) was f.1 in
-            (
+            (sent_taken sizes t r.sending p.0.number p.0.path r.sent r.operation) was f.1 in (
               p.0.token,
               record {
                 observation = p.0;

@@ -1,6 +1,6 @@
 -- At most MAX_OBSERVATIONS observations wait, run or are live.
 use Rattle.std.proofs.Common.{◌≡◌, ◌≤◌, ℕ, ◌+◌, max, Bool, true, false, cond, not, ◌&&◌, Option, Some, None, List, ◌∷◌}
-use Rattle.std.proofs.Common.{◌++◌, [], map, refl, ap, sym, ◌∙◌, Result, Ok, Err, arith, length}
+use Rattle.std.proofs.Common.{◌++◌, [], map, refl, ap, Result, Ok, Err, arith, length}
 use Rattle.std.specs.Prelude.{◌==◌, nat_le, filter, option_to_list}
 use Rattle.std.proofs.lemmas.Bool.{leb-false}
 use Rattle.coap_types.specs.declared.option_number.TheConstants.{BLOCK2 as block2}

@@ -1,5 +1,5 @@
 -- What a client makes of the answer to a registration, and of what it notes of a live observation.
-use Rattle.std.proofs.Common.{◌≡◌, ◌≤◌, ◌⊎◌, inl, inr, ℕ, ◌+◌, max, Bool, true, false, cond, not, Option, Some, None}
+use Rattle.std.proofs.Common.{◌≡◌, ◌≤◌, ◌⊎◌, inl, inr, ℕ, max, Bool, true, false, cond, not, Option, Some, None}
 use Rattle.std.proofs.Common.{List, ◌∷◌, ◌++◌, [], refl, ap, sym, subst, ◌∙◌, Result, arith, length}
 use Rattle.std.specs.Prelude.{◌==◌}
 use Rattle.coap_types.specs.declared.endpoint.Endpoint.{Endpoint}
@@ -9,7 +9,7 @@ use Rattle.coap_block.specs.Sizes.{Sizes}
 use Rattle.coap_exchange.specs.declared.asker.AskRefusal.{AskRefusal}
 use Rattle.coap_exchange.specs.declared.asker.Event.{Event}
 use Rattle.coap_exchange.specs.declared.asker.Event.TheVariants as event_of
-use Rattle.coap_observe.specs.Newer.{Newer, is_newer, Mark}
+use Rattle.coap_observe.specs.Newer.{is_newer}
 use Rattle.coap_observe.proofs.Facts.Newer.{newer_is_decided}
 use Rattle.coap_client.specs.Trace.{Value, Ended, Reported, Call, Calls, Observes, Cancels, Forgets, Feeds, Ticks}
 use Rattle.coap_client.specs.Trace.{NextOut, NextReport, Asked}
@@ -31,7 +31,7 @@ use Rattle.coap_client.specs.Follows.Places.{hit, in_running, in_observations}
 use Rattle.coap_client.specs.Follows.Words.{hears}
 use Rattle.coap_client.specs.Turns.Closing.{Closing, quiet, goes_out, is_refused}
 use Rattle.coap_client.proofs.Observing.AllOf.{all_shown}
-use Rattle.coap_client.proofs.Observing.Notified.{RegistersAs, registers_as, RenewsAs, renews_as, registered_to}
+use Rattle.coap_client.proofs.Observing.Notified.{registers_as, renews_as, registered_to}
 use Rattle.coap_client.proofs.Observing.Notified.{registered_effect, renewed_effect, has_newest, most}
 use Rattle.coap_client.proofs.Observing.ObservationOrigins.{In}
 use Rattle.coap_client.proofs.Observing.OneToken.{found_with}

@@ -1,13 +1,13 @@
 -- A live observation is the one that has its token.
-use Rattle.std.proofs.Common.{◌≡◌, inl, inr, ℕ, Bool, true, false, cond, Option, Some, None, List, ◌∷◌, [], refl, ap, sym}
+use Rattle.std.proofs.Common.{◌≡◌, inl, inr, ℕ, Bool, true, false, cond, Some, List, ◌∷◌, [], refl, ap, sym}
 use Rattle.std.proofs.Common.{◌∙◌}
 use Rattle.coap_types.specs.declared.endpoint.Endpoint.{Endpoint}
 use Rattle.coap_block.specs.Sizes.{Sizes}
 use Rattle.coap_exchange.specs.Tokens.{same_token}
 use Rattle.coap_exchange.proofs.Facts.SameToken.{same_token_self}
 use Rattle.coap_client.specs.Trace.{Call}
-use Rattle.coap_client.specs.Own.{Operation, Registering, Cancelling, Observation}
-use Rattle.coap_client.specs.Observations.{observation_of, observation_with}
+use Rattle.coap_client.specs.Own.{Registering, Cancelling, Observation}
+use Rattle.coap_client.specs.Observations.{observation_with}
 use Rattle.coap_client.specs.Law.{ClientLaw, own_of}
 use Rattle.coap_client.specs.Follows.Live.{IsLive}
 use Rattle.coap_client.specs.Follows.Words.{Sending}

@@ -1,5 +1,5 @@
 -- A live observation keeps its number, its path and its token until it is over.
-use Rattle.std.proofs.Common.{◌≡◌, ◌≤◌, inl, inr, ℕ, ◌+◌, Bool, true, false, cond, Option, Some, None, List, ◌∷◌, []}
+use Rattle.std.proofs.Common.{◌≡◌, ◌≤◌, inl, inr, ℕ, Bool, true, false, cond, Option, Some, None, List, ◌∷◌, []}
 use Rattle.std.proofs.Common.{refl, ap, sym, subst, ◌∙◌, Ok, Err, arith}
 use Rattle.std.specs.Prelude.{◌==◌}
 use Rattle.coap_types.specs.declared.endpoint.Endpoint.{Endpoint}
@@ -14,8 +14,7 @@ use Rattle.coap_client.specs.Steps.{reports}
 use Rattle.coap_client.specs.Law.{ClientLaw, own_of}
 use Rattle.coap_client.specs.Follows.Gives.{forgotten}
 use Rattle.coap_client.specs.Follows.Live.{IsLive, StayLive}
-use Rattle.coap_client.specs.Follows.Places.{hit, in_running, in_observations, places, final_of, forgotten_by}
-use Rattle.coap_client.specs.Turns.Moves.{Hears}
+use Rattle.coap_client.specs.Follows.Places.{hit, in_running, in_observations, final_of, forgotten_by}
 use Rattle.coap_client.proofs.Observing.Notified.{live_in, most}
 use Rattle.coap_client.proofs.Observing.ObservationOrigins.{In, in_count}
 use Rattle.coap_client.proofs.Observing.OfObservations.{of_number}
@@ -164,9 +163,10 @@ module _ (server : Endpoint) (sizes : Sizes) (word : ℕ) where
         let o = live.observation in
         let f = found_in number os o live.found in
         let its : AllLive Its os = live_all Its os
-        (λ p there is. (let same : p ≡ o = one_found number os o p (once_there t law number) live.found there is in
-        (ap (λ (x : Observation). x.path) same ∙ live.path_is,
-        ap (λ (x : Observation). x.token) same ∙ live.token_is))) in
+        (λ p there is. (let same : p ≡ o = one_found number os o p (once_there t law number) live.found there is in (
+          ap (λ (x : Observation). x.path) same ∙ live.path_is,
+          ap (λ (x : Observation). x.token) same ∙ live.token_is,
+        ))) in
         let new : New sizes Its t = λ n p m runs is. absurd
         (no_registration t law number o live.found p (runs ∙ ap (λ i. Some (Registering i p)) is)) in
         let after : AllLive Its (own_of sizes (c ∷ t)).observations = next_live sizes Its t c new its in

@@ -1,5 +1,5 @@
 -- The exchanges keep the tokens of the live observations.
-use Rattle.std.proofs.Common.{◌≡◌, ◌≤◌, inl, inr, ℕ, ◌+◌, max, Bool, true, false, Option, Some, None, List, ◌∷◌, ◌++◌, []}
+use Rattle.std.proofs.Common.{◌≡◌, inl, inr, ℕ, max, Bool, true, false, Option, Some, None, List, ◌∷◌, ◌++◌, []}
 use Rattle.std.proofs.Common.{refl, ap, sym, subst, ◌∙◌, Result, Ok, Err, arith, length, ◌||◌}
 use Rattle.std.specs.Prelude.{◌==◌, nat_lt}
 use Rattle.std.specs.List.{list_any}
@@ -11,8 +11,6 @@ use Rattle.coap_layer.specs.Trace as L
 use Rattle.coap_block.specs.Sizes.{Sizes}
 use Rattle.coap_exchange.specs.declared.asker.AskRefusal.{AskRefusal}
 use Rattle.coap_exchange.specs.declared.asker.Event.{Event}
-use Rattle.coap_exchange.specs.declared.asker.Event.TheVariants as event_of
-use Rattle.coap_exchange.specs.declared.asker.Turn.{Turn}
 use Rattle.coap_exchange.specs.AskerLaw as X
 use Rattle.coap_exchange.specs.AskerSteps as P
 use Rattle.coap_exchange.specs.AskerTrace as E
@@ -32,8 +30,8 @@ use Rattle.coap_client.specs.Follows.Answered.{IsSentFor}
 use Rattle.coap_client.specs.Follows.Live.{TokensAreKept}
 use Rattle.coap_client.specs.Follows.Open.{RunsSince}
 use Rattle.coap_client.specs.Follows.Words.{Sending, hears}
-use Rattle.coap_client.specs.Turns.Moves.{Move, Moved, left_by, Hears}
-use Rattle.coap_client.proofs.Observing.FewObserved.{count, few_count, running_one}
+use Rattle.coap_client.specs.Turns.Moves.{Moved, Hears}
+use Rattle.coap_client.proofs.Observing.FewObserved.{few_count, running_one}
 use Rattle.coap_client.proofs.Observing.KeptTokens.{tokens_of, kept_by, deeds_kept, not_kept, TellApart, Keeping}
 use Rattle.coap_client.proofs.Observing.KeptTokens.{over_keeps, moves_keep, closed_keeps}
 use Rattle.coap_client.proofs.Observing.ObservationOrigins.{In}
@@ -44,7 +42,7 @@ use Rattle.coap_client.proofs.Places.Once.{own_ran, done_ran, beneath}
 use Rattle.coap_client.proofs.Places.PlaceEvents.{ran, ran_append}
 use Rattle.coap_client.proofs.Places.PlaceLemmas.{same_number, number_self}
 use Rattle.coap_client.proofs.Sending.HeardOfOpen.{hears_of_open}
-use Rattle.coap_client.proofs.Sending.Tokens.{Registered, one_of_token, last_was_sent, same_observations}
+use Rattle.coap_client.proofs.Sending.Tokens.{one_of_token, last_was_sent, same_observations}
 use Rattle.coap_client.proofs.Turning.Leading.{client_back}
 use Rattle.coap_client.proofs.Turning.Moves.{happened_moves, passes_moves}
 

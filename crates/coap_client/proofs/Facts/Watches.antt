@@ -1,0 +1,6 @@
+-- What a client sees of what it observes, for proofs above.
+pub use Rattle.coap_client.proofs.Hearing.NoticesHeard.{notices_are_heard}
+pub use Rattle.coap_client.proofs.Observing.AreThere.{are_there}
+pub use Rattle.coap_client.proofs.Observing.Noticed.{are_answered, are_noticed, are_shown}
+pub use Rattle.coap_client.proofs.Observing.StaysLive.{stay_live}
+pub use Rattle.coap_client.proofs.Observing.TokensKept.{tokens_are_kept}
