@@ -5,6 +5,7 @@ pub mod Ended
 pub mod FetchesSince
 pub mod FewObserved
 pub mod KeptTokens
+pub mod LastValue
 pub mod Marks
 pub mod Noticed
 pub mod Notified
@@ -15,3 +16,4 @@ pub mod Rising
 pub mod StaysLive
 pub mod TokensKept
 pub mod Values
+pub mod WatchedAs

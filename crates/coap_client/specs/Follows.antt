@@ -22,6 +22,7 @@ pub mod GoesOn
 pub mod HandedUp
 pub mod Hears
 pub mod Holds
+pub mod LastValue
 pub mod Live
 pub mod Newer
 pub mod Noted

@@ -63,7 +63,7 @@ observed_given (NextOut answer) x h = absurd (cc h)
 observed_given (NextReport answer) x h = absurd (cc h)
 observed_given (Asked answer) x h = absurd (cc h)
 
-was_given : (x : Observed) (t : List Call) → WasObserved x t → Ever (λ c. number_given c ≡ Some x.number) t
+pub was_given : (x : Observed) (t : List Call) → WasObserved x t → Ever (λ c. number_given c ≡ Some x.number) t
 was_given x t h = Ever_map (λ c. observes c ≡ Some x) (λ c. number_given c ≡ Some x.number)
     (λ c is. observed_given c x is) t h
 
@@ -165,7 +165,7 @@ module _ (sizes : Sizes) where
         k.2.sent_for)
 
     -- it is not over
-    none_gone : (t : List Call) (number : ℕ) → (WasForgotten number t → ⊥)
+    pub none_gone : (t : List Call) (number : ℕ) → (WasForgotten number t → ⊥)
         → (HasReport server sizes word number t → ⊥) → gone sizes number t ≡ 0
     none_gone [] number kept none = refl
     none_gone (c ∷ t) number kept none =
@@ -184,6 +184,26 @@ module _ (sizes : Sizes) where
               refl,
               record { made = h; final = e },
             )))
+
+    -- .. of the path that was taken
+    pub live_where : (t : List Call) → ClientLaw server sizes word t → (x : Observed) → WasObserved x t
+        → 1 ≤ in_observations x.number (own_of sizes t).observations
+        → (token : List ℕ) × IsLive sizes x.number x.path token t
+    live_where t law x was h =
+        let p = found_there x.number (own_of sizes t).observations h in
+        let f = found_in x.number (own_of sizes t).observations p.0 p.1 in
+        let r = registered server sizes word t law p.0 f.0 in
+        let once = numbers_once server sizes word t law.rows law.exchanges.rows in
+        let same = one_path t once (record { number = p.0.number; path = p.0.path }) x
+        (sent_taken sizes t r.sending p.0.number p.0.path r.sent r.operation) was f.1 in (
+          p.0.token,
+          record {
+            observation = p.0;
+            found = p.1;
+            path_is = ap (λ (z : Observed). z.path) same;
+            token_is = refl;
+          },
+        )
 
     pub are_there : (t : List Call) → ClientLaw server sizes word t → AreThere sizes server word t
     are_there t law x was kept none = by (one_of_two (in_running n s.running)
@@ -213,27 +233,10 @@ module _ (sizes : Sizes) where
         running (Some op) is h = is ∙ ap (λ o. Some o)
             (is_registration_of t once x was op (running_of t law op is) h)
 
-        live : 1 ≤ in_observations n s.observations → (token : List ℕ) × IsLive sizes n x.path token t
-        live h =
-            let p = found_there n s.observations h in
-            let f = found_in n s.observations p.0 p.1 in
-            let r = registered server sizes word t law p.0 f.0 in
-            let same : record { number = p.0.number; path = p.0.path } ≡ x = one_path t once
-            (record { number = p.0.number; path = p.0.path }) x
-            (sent_taken sizes t r.sending p.0.number p.0.path r.sent r.operation) was f.1 in (
-              p.0.token,
-              record {
-                observation = p.0;
-                found = p.1;
-                path_is = ap (λ (z : Observed). z.path) same;
-                token_is = refl;
-              },
-            )
-
         by : (1 ≤ in_running n s.running) ⊎ (1 ≤ in_queue n s.queue + in_observations n s.observations)
             → IsThere sizes n x.path t
         by (inl h) = inr (inl (running s.running refl h))
         by (inr h) = elim (one_of_two (in_queue n s.queue) (in_observations n s.observations) h) [
           | inl waits ↦ inl (in_the_queue t once x was s.queue (queue_of t) waits)
-          | inr there ↦ inr (inr (live there))
+          | inr there ↦ inr (inr (live_where t law x was there))
         ]
