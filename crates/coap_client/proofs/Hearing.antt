@@ -1,3 +1,4 @@
+pub mod Acked
 pub mod FromServer
 pub mod HandedUp
 pub mod HeardOnce

@@ -3,6 +3,7 @@ ghost use Rattle.coap_types.specs.declared.endpoint.Endpoint.{Endpoint};
 ghost use Rattle.coap_block.specs.Sizes.{Sizes};
 ghost use Rattle.coap_client.specs.Law.{ClientLaw};
 ghost use Rattle.coap_client.specs.Trace.{Call};
+ghost use Rattle.coap_client.specs.Follows.Acked.{AreAcked};
 ghost use Rattle.coap_client.specs.Follows.LastValue.{LastIsNewest};
 ghost use Rattle.coap_client.specs.Follows.Live.{AreThere, AreWatched, CancelsAreTaken, HaveTokens};
 ghost use Rattle.coap_client.specs.Follows.Live.{RegisteredOnce, StayLive, TokensAreKept};
@@ -45,6 +46,10 @@ pub fn client_watches_law()
     // A response from the server with such a token is noted, where no cancel of that runs (RFC 7641, section 3.2).
     ensures notices_heard { (server : Endpoint) (sizes : Sizes) (word : ℕ) (t : List Call)
         → ClientLaw server sizes word t → NoticesAreHeard server sizes word t }
+    // What is heard or noted is acknowledged if it is a CON, and never rejected (RFC 7252, section 4.2; RFC 7641, section
+    // 3.5).
+    ensures acked { (server : Endpoint) (sizes : Sizes) (word : ℕ) (t : List Call) → ClientLaw server sizes word t
+        → AreAcked server sizes word t }
     // A cancel that runs was taken (RFC 7641, section 3.6).
     ensures cancels { (server : Endpoint) (sizes : Sizes) (word : ℕ) (t : List Call) → ClientLaw server sizes word t
         → CancelsAreTaken sizes t }

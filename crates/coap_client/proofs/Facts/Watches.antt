@@ -1,4 +1,5 @@
 -- What a client sees of what it observes, for proofs above.
+pub use Rattle.coap_client.proofs.Hearing.Acked.{are_acked}
 pub use Rattle.coap_client.proofs.Hearing.NoticesHeard.{notices_are_heard}
 pub use Rattle.coap_client.proofs.Observing.AreThere.{are_there}
 pub use Rattle.coap_client.proofs.Observing.LastValue.{last_is_newest}

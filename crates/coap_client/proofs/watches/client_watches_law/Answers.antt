@@ -1,4 +1,5 @@
 use Rattle.coap_client.specs.Law.{lower_of}
+use Rattle.coap_client.proofs.Hearing.Acked.{are_acked}
 use Rattle.coap_client.proofs.Hearing.NoticesHeard.{notices_are_heard}
 use Rattle.coap_client.proofs.Observing.AreThere.{are_there}
 use Rattle.coap_client.proofs.Observing.Noticed.{are_answered, are_noticed, are_shown}
@@ -46,3 +47,7 @@ returns-clause-last c = last_is_newest
 
 pub returns-clause-cancels : goal.returns-clause-cancels
 returns-clause-cancels c server sizes word t law = cancels_are_taken sizes server word t law
+
+pub returns-clause-acked : goal.returns-clause-acked
+returns-clause-acked c server sizes word t law =
+    are_acked server sizes word t law (c.asker_law.ensures.replied server word (lower_of sizes t) law.exchanges)
