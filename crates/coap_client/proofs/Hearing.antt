@@ -1,7 +1,9 @@
+pub mod Acked
 pub mod FromServer
 pub mod HandedUp
 pub mod HeardOnce
 pub mod HeardRuns
 pub mod Noted
 pub mod NotedAt
+pub mod NoticesHeard
 pub mod Types

@@ -1,6 +1,7 @@
 pub mod ApartLists
 pub mod Asked
 pub mod Begun
+pub mod CancelsTaken
 pub mod ConsAreRequests
 pub mod EndsInTime
 pub mod ExchangeBegins
@@ -13,12 +14,13 @@ pub mod OneCon
 pub mod OpenBeneath
 pub mod OpenRuns
 pub mod OpenSince
+pub mod RegisteredOnce
 pub mod RepliesToCons
 pub mod SendingsOfACon
-pub mod SentWhereFew
 pub mod SendsBegin
 pub mod SentFor
 pub mod SentIn
+pub mod SentWhereFew
 pub mod StaysOpen
 pub mod TokenOfBytes
 pub mod Tokens

@@ -1,3 +1,4 @@
+pub mod Acked
 pub mod Adds
 pub mod Answered
 pub mod AnswersLastRequest
@@ -22,8 +23,11 @@ pub mod GoesOn
 pub mod HandedUp
 pub mod Hears
 pub mod Holds
+pub mod LastValue
+pub mod Live
 pub mod Newer
 pub mod Noted
+pub mod Noticed
 pub mod Notified
 pub mod Numbers
 pub mod OfAnswers

@@ -9,6 +9,7 @@ mod limits;
 mod refusals;
 mod rests;
 mod values;
+mod watches;
 
 pub use client::{CallId, Client, Fetched, Report};
 pub use exchanges::client_exchanges_law;
@@ -18,3 +19,4 @@ pub use limits::{MAX_OBSERVATIONS, MAX_OPTIONS_LEN, MAX_WAITING_CALLS};
 pub use refusals::{CallRefusal, CancelRefusal};
 pub use rests::client_rests_law;
 pub use values::client_values_law;
+pub use watches::client_watches_law;

@@ -14,3 +14,6 @@ pub mod HoldsBack
 pub mod SmoothTurns
 pub mod DefersLate
 pub mod DefersLongest
+pub mod ObservedAlone
+pub mod ShowsLate
+pub mod StaysOld

@@ -37,3 +37,5 @@ pub mod AtOnce
 pub mod Separate
 pub mod TicksLeave
 pub mod HasIds
+pub mod Current
+pub mod CurrentRuns

@@ -1,5 +1,6 @@
 ghost use Rattle.std.specs.Prelude.{map};
 ghost use Rattle.coap_world.specs.AtOnce.{OldWait};
+ghost use Rattle.coap_world.specs.CurrentRuns.{ShowsLate, StaysOld};
 ghost use Rattle.coap_world.specs.EndsSmoothly.{SentByAnswers, YoungEndByAnswers};
 ghost use Rattle.coap_world.specs.HasIds.{HasIds};
 ghost use Rattle.coap_world.specs.InTime.{AllInTime, FewArrive};
@@ -31,6 +32,10 @@ pub fn smooth_witness()
     ensures rough { TimesOutRoughly }
     // .. and its call is not answered smoothly.
     ensures unanswered { Unanswered }
+    // A run in which a value comes 4,000 ms after the change that it shows, and no earlier (RFC 7641, section 4.5).
+    ensures shown { ShowsLate }
+    // A run in which a notification is lost: the last value stays an old one.
+    ensures old { StaysOld }
 {}
 
 /// What becomes of the datagrams of a run.

@@ -205,7 +205,7 @@ module _ (sizes : Sizes) where
   live_now t (Asked answer) n is = absurd (cc is)
 
   -- .. or it is over
-  live_or_gone : (t : List Call) (k : ℕ) (n : Newly) → newest sizes k t ≡ Some n
+  pub live_or_gone : (t : List Call) (k : ℕ) (n : Newly) → newest sizes k t ≡ Some n
       → 1 ≤ in_observations k (own_of sizes t).observations + gone sizes k t
   live_or_gone [] k n h = absurd (cc h)
   live_or_gone (c ∷ t) k n h = by (is_newly_of k (notifies (own_of sizes t) c)) refl (live_or_gone t k n)

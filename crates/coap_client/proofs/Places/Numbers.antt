@@ -70,7 +70,7 @@ module _ (server : Endpoint) (sizes : Sizes) (word : ℕ) where
   grows t (NextReport answer) k law = omega arith
   grows t (Asked answer) k law = omega arith
 
-  below : (t : List Call) → ClientRows sizes t → X.AskerLaw server word (lower_of sizes t) → (n : ℕ)
+  pub below : (t : List Call) → ClientRows sizes t → X.AskerLaw server word (lower_of sizes t) → (n : ℕ)
       → Ever (λ b. number_given b ≡ Some n) t → n + 1 ≤ taken t
   below [] rows law n w = absurd w
   below (c ∷ t) rows law n (inl h) = let k = is_next t c rows n h in let a = k.0 in let b = k.1 in omega (arith, a, b)

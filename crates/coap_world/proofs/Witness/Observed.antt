@@ -62,11 +62,11 @@ legal_asked = (
 
 -- .. and with it
 
-abbrev turns_before : List Turn
+abbrev pub turns_before : List Turn
 turns_before = a_turn (event 2 (Deliver 1)) (map OfClient
     (client_turn (client.value 1 (codes "a") ∷ []) [] client.registered)) ∷ turns_asked
 
-made_before : Always (λ past t. Makes past t.event.at t.event.word t.event.what t.refused t.entries) turns_before
+pub made_before : Always (λ past t. Makes past t.event.at t.event.word t.event.what t.refused t.entries) turns_before
 made_before = (
   (
     from_server 1 client_end first_bytes,
@@ -81,7 +81,7 @@ made_before = (
   made_asked,
 )
 
-legal_before : AllLegal turns_before
+pub legal_before : AllLegal turns_before
 legal_before = (
   legal_at 2 (Deliver 1) (omega arith) tt (omega arith)
       (from_server 1 client_end first_bytes, inl (refl, refl), inl refl, omega arith),

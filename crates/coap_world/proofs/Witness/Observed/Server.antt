@@ -46,10 +46,10 @@ a = one t (held 1 (codes "a")) (counted (unused limits) 0)
 abbrev pub b : Content
 b = one t (held 2 (codes "b")) (counted a.tally 3)
 
-first_change : Changes (nothing limits) 0 t (Some (held 1 (codes "a"))) a
+pub first_change : Changes (nothing limits) 0 t (Some (held 1 (codes "a"))) a
 first_change = first limits 0 t (held 1 (codes "a"))
 
-second : Changes a 3 t (Some (held 2 (codes "b"))) b
+pub second : Changes a 3 t (Some (held 2 (codes "b"))) b
 second = further 3 t (held 1 (codes "a")) (held 2 (codes "b")) a.tally
 
 -- the request, what it is answered, and whom it registers
@@ -122,7 +122,7 @@ calls_before =
 abbrev pub calls : List S.Call
 calls = server_turn [] acknowledged ++ calls_before
 
-answer_sendable : IsSpelled (content_of asked (response_to a [] asked question (content 1 (codes "a"))))
+pub answer_sendable : IsSpelled (content_of asked (response_to a [] asked question (content 1 (codes "a"))))
 unfolding option_bytes options_bytes
 answer_sendable = (sendable_when_short _ (record {
   some = omega arith;
@@ -134,7 +134,7 @@ answer_sendable = (sendable_when_short _ (record {
   short = refl;
 }) (omega arith)).spelled
 
-notice_sendable : IsSpelled (content_with token (notification b observer (content 2 (codes "b"))))
+pub notice_sendable : IsSpelled (content_with token (notification b observer (content 2 (codes "b"))))
 unfolding option_bytes options_bytes
 notice_sendable = (sendable_when_short _ (record {
   some = omega arith;

@@ -1,6 +1,8 @@
 use Rattle.coap_world.proofs.Delivery.SmoothGaps.{times_out_roughly}
 use Rattle.coap_world.proofs.Witness.DefersLate.{deferred_late}
 use Rattle.coap_world.proofs.Witness.DefersLongest.{deferred_longest}
+use Rattle.coap_world.proofs.Witness.ShowsLate.{shows_late}
+use Rattle.coap_world.proofs.Witness.StaysOld.{stays_old}
 use Rattle.coap_world.proofs.Witness.TimesOut.{unanswered}
 use Rattle.coap_world.proofs.smooth.smooth_witness.Goals as goal
 
@@ -10,4 +12,6 @@ returns c = record {
   longest = deferred_longest;
   rough = times_out_roughly;
   unanswered = unanswered;
+  shown = shows_late;
+  old = stays_old;
 }

@@ -1,0 +1,13 @@
+-- What a client sees of what it observes, for proofs above.
+pub use Rattle.coap_client.proofs.Hearing.Acked.{are_acked}
+pub use Rattle.coap_client.proofs.Hearing.NoticesHeard.{notices_are_heard}
+pub use Rattle.coap_client.proofs.Observing.AreThere.{are_there}
+pub use Rattle.coap_client.proofs.Observing.LastValue.{last_is_newest}
+pub use Rattle.coap_client.proofs.Observing.Noticed.{are_answered, are_noticed, are_shown}
+pub use Rattle.coap_client.proofs.Observing.Notified.{newest_kept, newest_now}
+pub use Rattle.coap_client.proofs.Observing.Rising.{newest_came}
+pub use Rattle.coap_client.proofs.Observing.StaysLive.{stay_live}
+pub use Rattle.coap_client.proofs.Observing.TokensKept.{tokens_are_kept}
+pub use Rattle.coap_client.proofs.Observing.WatchedAs.{are_watched, have_tokens}
+pub use Rattle.coap_client.proofs.Sending.CancelsTaken.{cancels_are_taken}
+pub use Rattle.coap_client.proofs.Sending.RegisteredOnce.{registered_once}
