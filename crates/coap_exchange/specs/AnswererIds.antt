@@ -1,6 +1,5 @@
 -- How many Message IDs the server's side gives, and where one is free (RFC 7252, section 4.4; profile).
-use Rattle.std.specs.Prelude.{◌≡◌, ◌≤◌, ℕ, ◌+◌, ◌*◌, Bool, true, false, List}
-use Rattle.coap_types.specs.Past.{Always}
+use Rattle.std.specs.Prelude.{◌≤◌, ℕ, ◌+◌, ◌*◌, Bool, true, false, List}
 use Rattle.coap_types.specs.declared.message.TheConstants.{MESSAGE_IDS as message_ids}
 use Rattle.coap_layer.specs.Ids.{Withholds}
 use Rattle.coap_layer.specs.Taking.{issued_since, came_since, FewCome}
@@ -8,7 +7,7 @@ use Rattle.coap_layer.specs.Words.{clock, numbers}
 use Rattle.coap_exchange.specs.AnswererTrace.{Call, Notifies, NotifiesPlain}
 use Rattle.coap_exchange.specs.AnswererSteps.{max_deferred}
 use Rattle.coap_exchange.specs.AnswererLaw.{own_of, below_of}
-use Rattle.coap_exchange.specs.Counts.{count_since}
+use Rattle.coap_exchange.specs.Counts.{count_since, AreFew}
 
 abbrev pub notifies : Call → Bool
 notifies (Notifies now to token r word id) = true
@@ -31,14 +30,14 @@ IdsCounted word t =
     (u : ℕ) → issued_since u (numbers (below_of word t))
     ≤ most_waiting + came_since u (below_of word t) + notified_since u t
 
--- no notification was sent
-abbrev pub NoneNotified : List Call → Type 0
-NoneNotified t = Always (λ past c. notifies c ≡ false) t
+-- fewer notifications than so many are sent in each EXCHANGE_LIFETIME
+abbrev pub FewNotified : ℕ → List Call → Type 0
+FewNotified most t = AreFew (λ past. (own_of past).clock) notifies most t
 
--- Where none was, and fewer messages come in each EXCHANGE_LIFETIME than a quarter of the Message IDs, one is free from
--- the latest moment on.
+-- Where these are fewer than an eighth of the Message IDs, and so are the messages that come in each EXCHANGE_LIFETIME,
+-- one is free from the latest moment on.
 abbrev pub IdIsFree : ℕ → List Call → Type 0
 IdIsFree word t =
-    (most now : ℕ) → 4 * most ≤ message_ids → NoneNotified t → FewCome most (below_of word t)
+    (most now : ℕ) → 8 * most ≤ message_ids → FewNotified most t → FewCome most (below_of word t)
     → clock (below_of word t) ≤ now
     → Withholds word (numbers (below_of word t)) now → ⊥

@@ -146,8 +146,8 @@ pub fn answerer_law()
     ensures few { (word : ℕ) (t : List trace.Call) → ResponseLaw word t → FewDeferred t }
     // Each Message ID is given to the response to a request that came, or to a notification (RFC 7252, section 4.4) ..
     ensures ids { (word : ℕ) (t : List trace.Call) → ResponseLaw word t → ids_given.IdsCounted word t }
-    // .. so where no notification is sent, and fewer messages come in each EXCHANGE_LIFETIME than a quarter of the
-    // Message IDs, one is free.
+    // .. so where fewer notifications are sent in each EXCHANGE_LIFETIME than an eighth of the Message IDs, and fewer
+    // messages come, one is free.
     ensures id_free { (word : ℕ) (t : List trace.Call) → ResponseLaw word t → ids_given.IdIsFree word t }
 {
     layer_law();

@@ -77,7 +77,7 @@ module _ (config : Config) where
   -- the observation goes on: it was not forgotten, and has no final report
   pub record Watches (number : ℕ) (all : List Entry) : Type 0 where
     pub kept : Always (λ past c. forgotten c ≡ Some number → ⊥) (client_of all)
-    pub open : Always (λ past e. (report : Report) → ReportsAt config (record { number = number; report = report }) past e
+    pub still : Always (λ past e. (report : Report) → ReportsAt config (record { number = number; report = report }) past e
         → is_value report ≡ true) all
 
   -- the value that shows this: its sequence number, entity-tag, format and body

@@ -34,11 +34,11 @@ module _ (config : Config) where
       → LeavesNone turn.event.at (server_trace config (entries_of past))
       (server_trace config (turn.entries ++ entries_of past))) turns
 
--- a tick of the server, from this moment on, and at most 2,000 ms later
+-- a tick of the server, from this moment on, and less than 1,000 ms later
 pub record TicksThen (when : ℕ) (turn : Turn) : Type 0 where
   pub what : turn.event.what ≡ TickServer
   pub from : when ≤ turn.event.at
-  pub till : turn.event.at ≤ when + max_age + max_age
+  pub till : turn.event.at < when + max_age
 
 -- There is one for each moment behind the beginning of the run, 1,000 ms or more before an event.
 abbrev pub TicksInTime : List Turn → Type 0

@@ -72,7 +72,7 @@ pub fn open_law()
     // .. and behind the ticks of a moment nothing is left that can be answered, unless no Message ID is free (sections 4.7
     // and 5.2.2).
     ensures leaves { OfLegalRuns TicksLeaveNone }
-    // In a smooth run it ticks in each 2,000 ms.
+    // In a smooth run it ticks in each 1,000 ms.
     ensures often { OfLegalRuns (λ config turns. Smooth config turns → TicksInTime turns) }
     // Where nothing is observed, a Message ID is free at each tick of the server (section 4.4) ..
     ensures ids { OfLegalRuns (λ config turns. Smooth config turns → NoneObserved turns → HasIds config turns) }

@@ -1,5 +1,5 @@
 -- In a smooth run in which nothing is observed a Message ID is free at each tick of the server.
-use Rattle.std.proofs.Common.{◌≡◌, inl, inr, ◌≤◌, ◌<◌, ℕ, zero, suc, ◌+◌, max, Bool, true, false, cond, Option, Some, None, List}
+use Rattle.std.proofs.Common.{◌≡◌, inl, inr, ◌≤◌, ◌<◌, ℕ, zero, suc, ◌+◌, max, Bool, true, false, cond, ◌&&◌, Option, Some, None, List}
 use Rattle.std.proofs.Common.{[], ◌∷◌, ◌++◌, map, refl, ap, sym, subst, ◌∙◌, arith}
 use Rattle.coap_types.specs.Past.{Ever, Always}
 use Rattle.coap_types.proofs.Facts.Traces.{Always_back}
@@ -10,8 +10,10 @@ use Rattle.coap_layer.specs.Taking.{is_then, came, FewCome}
 use Rattle.coap_layer.specs.Trace as L
 use Rattle.coap_layer.specs.Words.{Incoming, handed, clock}
 use Rattle.coap_observe.specs.Observers.{Observer}
-use Rattle.coap_exchange.specs.AnswererIds.{notifies, NoneNotified, IdIsFree}
+use Rattle.coap_exchange.specs.AnswererIds.{notifies, FewNotified, IdIsFree}
+use Rattle.coap_exchange.specs.Counts.{count_then}
 use Rattle.coap_exchange.specs.AnswererLaw.{ResponseLaw}
+use Rattle.coap_exchange.specs.AnswererLaw.{own_of as exchanges_of}
 use Rattle.coap_exchange.specs.AnswererTrace as R
 use Rattle.coap_exchange.specs.declared.answerer.Asked.{Asked}
 use Rattle.coap_exchange.specs.declared.answerer.Due.{Due}
@@ -45,6 +47,24 @@ use Rattle.coap_world.proofs.Smoothly.NoObservers.{none_made}
 use Rattle.coap_world.proofs.Smoothly.Standing.{record_of}
 use Rattle.coap_world.proofs.Smoothly.ToClient.{HeardClient, heard_before, of_observer, told_observer}
 use Rattle.coap_world.proofs.Smoothly.Young.{front_of}
+
+-- no notification was sent
+abbrev NoneNotified : List R.Call → Type 0
+NoneNotified t = Always (λ past c. notifies c ≡ false) t
+
+abbrev moment_of : List R.Call → ℕ
+moment_of t = (exchanges_of t).clock
+
+none_then : (since : ℕ) (t : List R.Call) → NoneNotified t → count_then moment_of notifies since t ≡ 0
+none_then since [] none = refl
+none_then since (c ∷ t) none = by (notifies c) (is_then since (moment_of (c ∷ t))) none.0 (none_then since t none.1)
+  where
+    by : (k b : Bool) → k ≡ false → {n : ℕ} → n ≡ 0 → cond (k && b) (1 + n) n ≡ 0
+    by false b e h = h
+    by true b e h = absurd (cc e)
+
+few_of_none : (t : List R.Call) → NoneNotified t → FewNotified max_remembered t
+few_of_none t none since = let k = none_then since t none in omega (arith, k)
 
 abbrev IsOther : R.Call → Type 0
 IsOther b = notifies b ≡ false
@@ -226,7 +246,7 @@ module _ (config : Config) (observers : (t : List S.Call) → AreObservers confi
         (subst (λ l. came since l < max_remembered) (far_is config es ∙ all) (few since)) in
         free (lower_of config.limits config.server_szx t) law.exchanges max_remembered
         (max (clock (server_layer config t)) (max (own_of config.limits config.server_szx t).clock turn.event.at))
-        (omega arith) none_t few_t
+        (omega arith) (few_of_none (lower_of config.limits config.server_szx t) none_t) few_t
         (own_first (clock (server_layer config t)) (own_of config.limits config.server_szx t).clock turn.event.at) no_id
 
   pub has_ids : (turns : List Turn) → Goes config turns

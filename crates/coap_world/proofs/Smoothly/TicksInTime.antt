@@ -1,69 +1,97 @@
--- In a smooth run the server ticks in each 2,000 ms.
-use Rattle.std.proofs.Common.{◌≡◌, ◌⊎◌, inl, inr, ◌≤◌, ◌<◌, ℕ, ◌+◌, List, [], ◌∷◌, map, arith}
+-- In a smooth run the server ticks in each 1,000 ms.
+use Rattle.std.proofs.Common.{◌≡◌, ◌⊎◌, inl, inr, ◌≤◌, ◌<◌, ℕ, ◌+◌, List, [], ◌∷◌, arith}
 use Rattle.std.proofs.Math.Decide.{dec_le}
-use Rattle.coap_types.specs.Past.{Ever, Always}
+use Rattle.coap_types.specs.Past.{Ever, Sometime, Always}
 use Rattle.coap_world.specs.Events.{TickServer}
 use Rattle.coap_world.specs.Legal.{AllLegal, NotBefore}
 use Rattle.coap_world.specs.Record.{Turn}
 use Rattle.coap_world.specs.Smooth.{max_age, GoesSmoothly}
-use Rattle.coap_world.specs.SmoothGaps.{AreClose}
 use Rattle.coap_world.specs.TicksLeave.{TicksThen, TicksInTime}
-use Rattle.coap_world.proofs.Delivery.SmoothGaps.{are_close}
-
-abbrev AllClose : List Turn → Type 0
-AllClose turns = AreClose (map (λ (t : Turn). t.event) turns)
 
 pub lifted : (past : List Turn) (at now : ℕ) → at ≤ now → NotBefore past at → NotBefore past now
 lifted [] at now h k = tt
 lifted (t ∷ past) at now h k = omega (arith, h, k)
 
--- a tick at most 1,000 ms ago
-found : (past : List Turn) → AllLegal past → (at when : ℕ) → NotBefore past at → at ≤ when + max_age + max_age
-    → when + max_age ≤ at
-    → Ever (λ (t : Turn). (t.event.what ≡ TickServer) × (at ≤ t.event.at + max_age)) past → Ever (TicksThen when) past
-found [] legal at when later soon late h = h
-found (t ∷ past) legal at when later soon late (inl h) =
+Sometime_ever : (P : Turn → Type 0) (past : List Turn) → Sometime (λ older t. P t) past → Ever P past
+Sometime_ever P [] h = h
+Sometime_ever P (t ∷ past) (inl h) = inl h
+Sometime_ever P (t ∷ past) (inr h) = inr (Sometime_ever P past h)
+
+-- the run began earlier, so it is no older than that
+young : (past : List Turn) (at when : ℕ) → Ever (λ (t : Turn). t.event.at < when) past
+    → Always (λ older (t : Turn). at ≤ t.event.at + max_age) past → at < when + max_age
+young [] at when h all = absurd h
+young (t ∷ past) at when (inl h) all = let k = all.0 in omega (arith, h, k)
+young (t ∷ past) at when (inr h) all = young past at when h all.1
+
+-- a tick from a moment on
+abbrev TicksSince : ℕ → List Turn → Turn → Type 0
+TicksSince when older t = (t.event.what ≡ TickServer) × (when ≤ t.event.at)
+
+-- a tick that is too old, or one from that moment on
+last_tick : (past : List Turn) (at when : ℕ)
+    → Ever (λ (t : Turn). (t.event.what ≡ TickServer) × (at ≤ t.event.at + max_age)) past
+    → (at < when + max_age) ⊎ Sometime (TicksSince when) past
+last_tick [] at when h = absurd h
+last_tick (t ∷ past) at when (inl h) =
     let since = h.1 in
-    inl (record { what = h.0; from = omega (arith, since, late); till = omega (arith, later, soon) })
-found (t ∷ past) legal at when later soon late (inr h) =
-    inr (found past legal.1 at when (lifted past t.event.at at later legal.0.later) soon late h)
+    elim (dec_le when t.event.at) [ yes k ↦ inr (inl (h.0, k)) | no k ↦ inl (omega (arith, since, k)) ]
+last_tick (t ∷ past) at when (inr h) =
+    elim (last_tick past at when h) [ inl k ↦ inl k | inr k ↦ inr (inr k) ]
 
--- the run began earlier
-too_old : (past : List Turn) (at when : ℕ) → when + max_age ≤ at → Ever (λ (t : Turn). t.event.at < when) past
-    → Always (λ older (t : Turn). at ≤ t.event.at + max_age) past → ⊥
-too_old [] at when late h all = h
-too_old (t ∷ past) at when late (inl h) all = let k = all.0 in omega (arith, h, k, late)
-too_old (t ∷ past) at when late (inr h) all = too_old past at when late h all.1
+abbrev OldAt : ℕ → List Turn → Type 0
+OldAt when past = Ever (λ (t : Turn). t.event.at < when) past
 
-ticks_then : (past : List Turn) (turn : Turn) → AllLegal (turn ∷ past) → Always GoesSmoothly (turn ∷ past)
-    → AllClose (turn ∷ past) → (when : ℕ) → Ever (λ (t : Turn). t.event.at < when) past
-    → when + max_age ≤ turn.event.at → Ever (TicksThen when) past
-ticks_then [] turn legal goes close when old late = old
-ticks_then (t ∷ past) turn legal goes close when old late =
-    elim (dec_le (when + max_age) t.event.at) [
-      | yes h ↦ inr (ticks_then past t legal.1 goes.1 close.1 when (older h old) h)
-      | no h ↦ (let gap = close.0 in
-          here (omega (arith, gap, h)) goes.0.server_ticks)
-    ]
+-- what is old stands before a tick from the moment on
+old_before : (t : Turn) (past : List Turn) (when : ℕ) → AllLegal (t ∷ past) → OldAt when (t ∷ past)
+    → Sometime (TicksSince when) past → OldAt when past
+old_before t past when legal (inr h) s = h
+old_before t past when legal (inl h) s = absurd (not_later past legal.0.later legal.1 s)
   where
-    older : when + max_age ≤ t.event.at → Ever (λ (u : Turn). u.event.at < when) (t ∷ past)
-        → Ever (λ (u : Turn). u.event.at < when) past
-    older h (inl k) = absurd (omega (arith, h, k))
-    older h (inr k) = k
+    not_later : (us : List Turn) → NotBefore us t.event.at → AllLegal us → Sometime (TicksSince when) us → ⊥
+    not_later [] later all k = k
+    not_later (u ∷ us) later all (inl k) = let from = k.1 in omega (arith, from, later, h)
+    not_later (u ∷ us) later all (inr k) = not_later us (lifted us u.event.at t.event.at later all.0.later) all.1 k
 
-    here : turn.event.at ≤ when + max_age + max_age
-        → Ever (λ (u : Turn). (u.event.what ≡ TickServer) × (turn.event.at ≤ u.event.at + max_age)) (t ∷ past)
-        ⊎ Always (λ before (u : Turn). turn.event.at ≤ u.event.at + max_age) (t ∷ past)
-        → Ever (TicksThen when) (t ∷ past)
-    here soon (inl h) = found (t ∷ past) legal.1 turn.event.at when legal.0.later soon late h
-    here soon (inr h) = absurd (too_old (t ∷ past) turn.event.at when late old h)
+-- the first tick from that moment on is soon
+soon : (past : List Turn) (when : ℕ) → AllLegal past → Always GoesSmoothly past → OldAt when past
+    → Sometime (TicksSince when) past → Sometime (λ older t. TicksThen when t) past
+soon [] when legal goes old h = h
+soon (t ∷ past) when legal goes old (inr h) =
+    inr (soon past when legal.1 goes.1 (old_before t past when legal old h) h)
+soon (t ∷ past) when legal goes old (inl h) = by goes.0.server_ticks
+  where
+    before : OldAt when past
+    before = elim old [ inl k ↦ absurd (let from = h.1 in omega (arith, from, k)) | inr k ↦ k ]
 
-in_time : (turns : List Turn) → AllLegal turns → Always GoesSmoothly turns → AllClose turns → TicksInTime turns
-in_time [] legal goes close = tt
-in_time (turn ∷ past) legal goes close = (
-  λ when old late. ticks_then past turn legal goes close when old late,
-  in_time past legal.1 goes.1 close.1,
-)
+    this : t.event.at < when + max_age → Sometime (λ older u. TicksThen when u) (t ∷ past)
+    this less = inl (record { what = h.0; from = h.1; till = less })
+
+    by : Ever (λ (u : Turn). (u.event.what ≡ TickServer) × (t.event.at ≤ u.event.at + max_age)) past
+        ⊎ Always (λ older (u : Turn). t.event.at ≤ u.event.at + max_age) past
+        → Sometime (λ older u. TicksThen when u) (t ∷ past)
+    by (inr all) = this (young past t.event.at when before all)
+    by (inl e) = elim (last_tick past t.event.at when e) [
+      | inl less ↦ this less
+      | inr k ↦ inr (soon past when legal.1 goes.1 before k)
+    ]
+
+-- a tick from the moment on
+since : (past : List Turn) (at when : ℕ) → when + max_age ≤ at → OldAt when past
+    → Ever (λ (u : Turn). (u.event.what ≡ TickServer) × (at ≤ u.event.at + max_age)) past
+    ⊎ Always (λ older (u : Turn). at ≤ u.event.at + max_age) past → Sometime (TicksSince when) past
+since past at when late old (inr all) = let k = young past at when old all in absurd (omega (arith, k, late))
+since past at when late old (inl e) =
+    elim (last_tick past at when e) [ inl less ↦ absurd (omega (arith, less, late)) | inr k ↦ k ]
+
+pub ticks_soon : (turn : Turn) (past : List Turn) → AllLegal (turn ∷ past) → Always GoesSmoothly (turn ∷ past)
+    → (when : ℕ) → OldAt when past → when + max_age ≤ turn.event.at → Sometime (λ older t. TicksThen when t) past
+ticks_soon turn past legal goes when old late =
+    soon past when legal.1 goes.1 old (since past turn.event.at when late old goes.0.server_ticks)
 
 pub ticks_in_time : (turns : List Turn) → AllLegal turns → Always GoesSmoothly turns → TicksInTime turns
-ticks_in_time turns legal goes = in_time turns legal goes (are_close turns legal goes)
+ticks_in_time [] legal goes = tt
+ticks_in_time (turn ∷ past) legal goes = (
+  λ when old late. Sometime_ever (λ (t : Turn). TicksThen when t) past (ticks_soon turn past legal goes when old late),
+  ticks_in_time past legal.1 goes.1,
+)

@@ -14,7 +14,7 @@ use Rattle.coap_world.specs.Record.{Entry, OfClient, OfServer, client_of}
 use Rattle.coap_world.specs.Words.{ReportsAt, holds_at}
 
 -- none of the calls is taken on
-none : List C.Call → Bool
+abbrev pub none : List C.Call → Bool
 none [] = true
 none (c ∷ past) = not (is_taken c) && none past
 
@@ -32,26 +32,26 @@ no_other x [] h = tt
 no_other x (c ∷ past) h = let k = both (is_taken c) (none past) h in (λ is. absurd (cc (is, k.0)), no_other x past k.1)
 
 -- the one observation that is taken on
-the_one : List C.Call → Option Observed
+abbrev pub the_one : List C.Call → Option Observed
 the_one [] = None
 the_one (c ∷ past) = cond (is_taken c) (cond (none past) (observes c) None) (the_one past)
 
+alone_by : (x : Observed) (c : C.Call) (past : List C.Call) → (the_one past ≡ Some x → ObservesAlone x past)
+    → (b : Bool) → is_taken c ≡ b → (n : Bool) → none past ≡ n
+    → cond b (cond n (observes c) None) (the_one past) ≡ Some x → ObservesAlone x (c ∷ past)
+alone_by x c past before true is true rest e =
+    record { taken = inl e; alone = (λ k. (e, untaken past rest), no_other x past rest) }
+alone_by x c past before true is false rest e = absurd (cc e)
+alone_by x c past before false is n rest e =
+    let k = before e in record { taken = inr k.taken; alone = (λ t. absurd (cc (t, is)), k.alone) }
+
 pub alone_of : {x : Observed} (calls : List C.Call) → the_one calls ≡ Some x → ObservesAlone x calls
 alone_of [] h = absurd (cc h)
-alone_of {x} (c ∷ past) h = go (is_taken c) refl h
-  where
-    here : is_taken c ≡ true → (n : Bool) → none past ≡ n → cond n (observes c) None ≡ Some x
-        → ObservesAlone x (c ∷ past)
-    here is true rest e = record { taken = inl e; alone = (λ k. (e, untaken past rest), no_other x past rest) }
-    here is false rest e = absurd (cc e)
-    go : (b : Bool) → is_taken c ≡ b → cond b (cond (none past) (observes c) None) (the_one past) ≡ Some x
-        → ObservesAlone x (c ∷ past)
-    go true is e = here is (none past) refl e
-    go false is e = let k = alone_of past e in record
-        { taken = inr k.taken; alone = (λ t. absurd (cc (t, is)), k.alone) }
+alone_of {x} (c ∷ past) h =
+    alone_by x c past (λ e. alone_of past e) (is_taken c) refl (none past) refl h
 
 -- each representation is short
-is_short : ℕ → Option Held → Bool
+abbrev pub is_short : ℕ → Option Held → Bool
 is_short most None = true
 is_short most (Some held) = nat_le (length held.body) most
 
@@ -66,7 +66,7 @@ all_of_both true b h = (refl, h)
 all_of_both false b h = absurd (cc h)
 
 module _ (config : Config) where
-  all_short : List (List ℕ) → List Entry → Bool
+  abbrev pub all_short : List (List ℕ) → List Entry → Bool
   all_short path [] = true
   all_short path (e ∷ past) = is_short (2 ^ (config.server_szx + 4)) (holds_at config path (e ∷ past))
       && all_short path past
@@ -79,7 +79,7 @@ module _ (config : Config) where
       (short_held most (holds_at config path (e ∷ past)) k.0, short_of path past k.1)
 
   -- each report of the client is a value
-  tells_value : Option C.Reported → Bool
+  abbrev pub tells_value : Option C.Reported → Bool
   tells_value None = true
   tells_value (Some r) = C.is_value r.report
 
@@ -88,7 +88,7 @@ module _ (config : Config) where
   value_told None h r is = absurd (cc is)
   value_told (Some other) h r is = subst (λ (o : Option C.Reported). tells_value o ≡ true) is h
 
-  all_values : List Entry → Bool
+  abbrev pub all_values : List Entry → Bool
   all_values [] = true
   all_values (OfClient c ∷ past) = tells_value (reports (own_of config.client_sizes (client_of past)) c)
       && all_values past
@@ -100,15 +100,14 @@ module _ (config : Config) where
   open_of number [] h = tt
   open_of number (OfClient c ∷ past) h =
       let o = reports (own_of config.client_sizes (client_of past)) c in
-      let k = all_of_both (tells_value o) (all_values past) h in
-      (
+      let k = all_of_both (tells_value o) (all_values past) h in (
         λ report is. value_told o k.0 (record { number = number; report = report }) is,
         open_of number past k.1,
       )
   open_of number (OfServer c ∷ past) h = (λ report is. absurd is, open_of number past h)
 
 -- no observation is forgotten
-keeps : List C.Call → Bool
+abbrev pub keeps : List C.Call → Bool
 keeps [] = true
 keeps (c ∷ past) = not (is_some (forgotten c)) && keeps past
 

@@ -2,7 +2,7 @@
 pub mod Client
 pub mod Server
 pub mod Turns
-use Rattle.std.proofs.Common.{◌≤◌, inl, inr, List, [], ◌∷◌, map, refl, arith}
+use Rattle.std.proofs.Common.{◌≡◌, ◌≤◌, inl, inr, List, [], ◌∷◌, map, refl, arith}
 use Rattle.std.proofs.lemmas.List.Elements.{All-nil}
 use Rattle.std.specs.Prelude.{codes}
 use Rattle.coap_types.specs.Past.{Always}
@@ -41,64 +41,64 @@ abbrev four : List Turn
 four = a_turn (event 1 (Deliver 0)) (map OfServer (server_turn (to_client first_bytes ∷ []) first.fed)) ∷ three
 
 goes_1 : Always GoesSmoothly one
-goes_1 = (record { in_order = tt; in_time = λ number g is to late. absurd (omega (arith, late)); client_ticks = inr tt; server_ticks = inr tt; of_an_end = tt; all_made = refl; }, tt)
+goes_1 = (record { in_order = tt; in_time = λ number g is to late. absurd (omega (arith, late)); client_ticks = inr tt; server_ticks = inr tt; of_an_end = tt; all_made = refl }, tt)
 
 goes_2 : Always GoesSmoothly two
-goes_2 = (record { in_order = tt; in_time = λ number g is to late. absurd (omega (arith, late)); client_ticks = inr (omega arith, tt); server_ticks = inr (omega arith, tt); of_an_end = tt; all_made = refl; }, goes_1)
+goes_2 = (record { in_order = tt; in_time = λ number g is to late. absurd (omega (arith, late)); client_ticks = inr (omega arith, tt); server_ticks = inr (omega arith, tt); of_an_end = tt; all_made = refl }, goes_1)
 
 goes_3 : Always GoesSmoothly three
-goes_3 = (record { in_order = tt; in_time = λ number g is to late. absurd (omega (arith, late)); client_ticks = inr (omega arith, (omega arith, tt)); server_ticks = inr (omega arith, (omega arith, tt)); of_an_end = tt; all_made = refl; }, goes_2)
+goes_3 = (record { in_order = tt; in_time = λ number g is to late. absurd (omega (arith, late)); client_ticks = inr (omega arith, (omega arith, tt)); server_ticks = inr (omega arith, (omega arith, tt)); of_an_end = tt; all_made = refl }, goes_2)
 
 goes_4 : Always GoesSmoothly four
-goes_4 = (record { in_order = none_higher 0 three (tt, (tt, (tt, tt))); in_time = none_late three 1 (inl (omega arith), tt); client_ticks = inl (inl (refl, omega arith)); server_ticks = inr (omega arith, (omega arith, (omega arith, tt))); of_an_end = tt; all_made = refl; }, goes_3)
+goes_4 = (record { in_order = none_higher 0 three (tt, (tt, (tt, tt))); in_time = none_late three 1 (inl (omega arith), tt); client_ticks = inl (inl (refl, omega arith)); server_ticks = inr (omega arith, (omega arith, (omega arith, tt))); of_an_end = tt; all_made = refl }, goes_3)
 
 goes_5 : Always GoesSmoothly turns_before
-goes_5 = (record { in_order = none_higher 1 four (omega arith, (tt, (tt, (tt, tt)))); in_time = none_late four 2 (inl (omega arith), (inl (omega arith), tt)); client_ticks = inl (inr (inl (refl, omega arith))); server_ticks = inr (omega arith, (omega arith, (omega arith, (omega arith, tt)))); of_an_end = tt; all_made = refl; }, goes_4)
+goes_5 = (record { in_order = none_higher 1 four (omega arith, (tt, (tt, (tt, tt)))); in_time = none_late four 2 (inl (omega arith), (inl (omega arith), tt)); client_ticks = inl (inr (inl (refl, omega arith))); server_ticks = inr (omega arith, (omega arith, (omega arith, (omega arith, tt)))); of_an_end = tt; all_made = refl }, goes_4)
 
 goes_6 : Always GoesSmoothly after_6
-goes_6 = (record { in_order = tt; in_time = none_late turns_before 3 (inl (omega arith), (inl (omega arith), tt)); client_ticks = inl (inr (inr (inl (refl, omega arith)))); server_ticks = inr (omega arith, (omega arith, (omega arith, (omega arith, (omega arith, tt))))); of_an_end = tt; all_made = refl; }, goes_5)
+goes_6 = (record { in_order = tt; in_time = none_late turns_before 3 (inl (omega arith), (inl (omega arith), tt)); client_ticks = inl (inr (inr (inl (refl, omega arith)))); server_ticks = inr (omega arith, (omega arith, (omega arith, (omega arith, (omega arith, tt))))); of_an_end = tt; all_made = refl }, goes_5)
 
 goes_7 : Always GoesSmoothly after_7
-goes_7 = (record { in_order = tt; in_time = none_late after_6 3 (inl (omega arith), (inl (omega arith), tt)); client_ticks = inl (inr (inr (inr (inl (refl, omega arith))))); server_ticks = inr (omega arith, (omega arith, (omega arith, (omega arith, (omega arith, (omega arith, tt)))))); of_an_end = tt; all_made = refl; }, goes_6)
+goes_7 = (record { in_order = tt; in_time = none_late after_6 3 (inl (omega arith), (inl (omega arith), tt)); client_ticks = inl (inr (inr (inr (inl (refl, omega arith))))); server_ticks = inr (omega arith, (omega arith, (omega arith, (omega arith, (omega arith, (omega arith, tt)))))); of_an_end = tt; all_made = refl }, goes_6)
 
 goes_8 : Always GoesSmoothly after_8
-goes_8 = (record { in_order = tt; in_time = none_late after_7 3 (inl (omega arith), (inl (omega arith), (inl (omega arith), tt))); client_ticks = inl (inr (inr (inr (inr (inl (refl, omega arith)))))); server_ticks = inl (inl (refl, omega arith)); of_an_end = tt; all_made = refl; }, goes_7)
+goes_8 = (record { in_order = tt; in_time = none_late after_7 3 (inl (omega arith), (inl (omega arith), (inl (omega arith), tt))); client_ticks = inl (inr (inr (inr (inr (inl (refl, omega arith)))))); server_ticks = inl (inl (refl, omega arith)); of_an_end = tt; all_made = refl }, goes_7)
 
 goes_9 : Always GoesSmoothly after_9
-goes_9 = (record { in_order = tt; in_time = none_late after_8 1000 (inl (omega arith), (inl (omega arith), (inl (omega arith), tt))); client_ticks = inl (inr (inr (inr (inr (inr (inl (refl, omega arith))))))); server_ticks = inl (inr (inl (refl, omega arith))); of_an_end = tt; all_made = refl; }, goes_8)
+goes_9 = (record { in_order = tt; in_time = none_late after_8 1000 (inl (omega arith), (inl (omega arith), (inl (omega arith), tt))); client_ticks = inl (inr (inr (inr (inr (inr (inl (refl, omega arith))))))); server_ticks = inl (inr (inl (refl, omega arith))); of_an_end = tt; all_made = refl }, goes_8)
 
 goes_10 : Always GoesSmoothly after_10
-goes_10 = (record { in_order = tt; in_time = none_late after_9 1003 (inl (omega arith), (inr (inr (inr (inr (inr (inl refl))))), (inr (inr (inr (inr (inr (inr (inl refl)))))), tt))); client_ticks = inl (inl (refl, omega arith)); server_ticks = inl (inr (inr (inl (refl, omega arith)))); of_an_end = tt; all_made = refl; }, goes_9)
+goes_10 = (record { in_order = tt; in_time = none_late after_9 1003 (inl (omega arith), (inr (inr (inr (inr (inr (inl refl))))), (inr (inr (inr (inr (inr (inr (inl refl)))))), tt))); client_ticks = inl (inl (refl, omega arith)); server_ticks = inl (inr (inr (inl (refl, omega arith)))); of_an_end = tt; all_made = refl }, goes_9)
 
 goes_11 : Always GoesSmoothly after_11
-goes_11 = (record { in_order = none_higher 2 after_10 (tt, (tt, (tt, (tt, (tt, (omega arith, (omega arith, (tt, (tt, (tt, tt)))))))))); in_time = none_late after_10 1003 (inl (omega arith), (inr (inr (inr (inr (inr (inr (inl refl)))))), (inr (inr (inr (inr (inr (inr (inr (inl refl))))))), tt))); client_ticks = inl (inr (inl (refl, omega arith))); server_ticks = inl (inl (refl, omega arith)); of_an_end = tt; all_made = refl; }, goes_10)
+goes_11 = (record { in_order = none_higher 2 after_10 (tt, (tt, (tt, (tt, (tt, (omega arith, (omega arith, (tt, (tt, (tt, tt)))))))))); in_time = none_late after_10 1003 (inl (omega arith), (inr (inr (inr (inr (inr (inr (inl refl)))))), (inr (inr (inr (inr (inr (inr (inr (inl refl))))))), tt))); client_ticks = inl (inr (inl (refl, omega arith))); server_ticks = inl (inl (refl, omega arith)); of_an_end = tt; all_made = refl }, goes_10)
 
 goes_12 : Always GoesSmoothly after_12
-goes_12 = (record { in_order = tt; in_time = none_late after_11 2000 (inl (omega arith), (inr (inl refl), (inr (inr (inr (inr (inr (inr (inr (inl refl))))))), (inr (inr (inr (inr (inr (inr (inr (inr (inl refl)))))))), tt)))); client_ticks = inl (inr (inr (inl (refl, omega arith)))); server_ticks = inl (inr (inl (refl, omega arith))); of_an_end = tt; all_made = refl; }, goes_11)
+goes_12 = (record { in_order = tt; in_time = none_late after_11 2000 (inl (omega arith), (inr (inl refl), (inr (inr (inr (inr (inr (inr (inr (inl refl))))))), (inr (inr (inr (inr (inr (inr (inr (inr (inl refl)))))))), tt)))); client_ticks = inl (inr (inr (inl (refl, omega arith)))); server_ticks = inl (inr (inl (refl, omega arith))); of_an_end = tt; all_made = refl }, goes_11)
 
 goes_13 : Always GoesSmoothly after_13
-goes_13 = (record { in_order = tt; in_time = none_late after_12 2003 (inl (omega arith), (inr (inr (inl refl)), (inr (inr (inr (inr (inr (inr (inr (inr (inl refl)))))))), (inr (inr (inr (inr (inr (inr (inr (inr (inr (inl refl))))))))), tt)))); client_ticks = inl (inl (refl, omega arith)); server_ticks = inl (inr (inr (inl (refl, omega arith)))); of_an_end = tt; all_made = refl; }, goes_12)
+goes_13 = (record { in_order = tt; in_time = none_late after_12 2003 (inl (omega arith), (inr (inr (inl refl)), (inr (inr (inr (inr (inr (inr (inr (inr (inl refl)))))))), (inr (inr (inr (inr (inr (inr (inr (inr (inr (inl refl))))))))), tt)))); client_ticks = inl (inl (refl, omega arith)); server_ticks = inl (inr (inr (inl (refl, omega arith)))); of_an_end = tt; all_made = refl }, goes_12)
 
 goes_14 : Always GoesSmoothly after_14
-goes_14 = (record { in_order = none_higher 3 after_13 (tt, (tt, (omega arith, (tt, (tt, (tt, (tt, (tt, (omega arith, (omega arith, (tt, (tt, (tt, tt))))))))))))); in_time = none_late after_13 2003 (inl (omega arith), (inr (inr (inr (inl refl))), (inr (inr (inr (inr (inr (inr (inr (inr (inr (inl refl))))))))), (inr (inr (inr (inr (inr (inr (inr (inr (inr (inr (inl refl)))))))))), tt)))); client_ticks = inl (inr (inl (refl, omega arith))); server_ticks = inl (inl (refl, omega arith)); of_an_end = tt; all_made = refl; }, goes_13)
+goes_14 = (record { in_order = none_higher 3 after_13 (tt, (tt, (omega arith, (tt, (tt, (tt, (tt, (tt, (omega arith, (omega arith, (tt, (tt, (tt, tt))))))))))))); in_time = none_late after_13 2003 (inl (omega arith), (inr (inr (inr (inl refl))), (inr (inr (inr (inr (inr (inr (inr (inr (inr (inl refl))))))))), (inr (inr (inr (inr (inr (inr (inr (inr (inr (inr (inl refl)))))))))), tt)))); client_ticks = inl (inr (inl (refl, omega arith))); server_ticks = inl (inl (refl, omega arith)); of_an_end = tt; all_made = refl }, goes_13)
 
 goes_15 : Always GoesSmoothly after_15
-goes_15 = (record { in_order = tt; in_time = none_late after_14 3000 (inr (inl refl), (inr (inr (inr (inr (inl refl)))), (inr (inr (inr (inr (inr (inr (inr (inr (inr (inr (inl refl)))))))))), (inr (inr (inr (inr (inr (inr (inr (inr (inr (inr (inr (inl refl))))))))))), tt)))); client_ticks = inl (inr (inr (inl (refl, omega arith)))); server_ticks = inl (inr (inl (refl, omega arith))); of_an_end = tt; all_made = refl; }, goes_14)
+goes_15 = (record { in_order = tt; in_time = none_late after_14 3000 (inr (inl refl), (inr (inr (inr (inr (inl refl)))), (inr (inr (inr (inr (inr (inr (inr (inr (inr (inr (inl refl)))))))))), (inr (inr (inr (inr (inr (inr (inr (inr (inr (inr (inr (inl refl))))))))))), tt)))); client_ticks = inl (inr (inr (inl (refl, omega arith)))); server_ticks = inl (inr (inl (refl, omega arith))); of_an_end = tt; all_made = refl }, goes_14)
 
 goes_16 : Always GoesSmoothly after_16
-goes_16 = (record { in_order = tt; in_time = none_late after_15 3003 (inr (inr (inl refl)), (inr (inr (inr (inr (inr (inl refl))))), (inr (inr (inr (inr (inr (inr (inr (inr (inr (inr (inr (inl refl))))))))))), (inr (inr (inr (inr (inr (inr (inr (inr (inr (inr (inr (inr (inl refl)))))))))))), tt)))); client_ticks = inl (inl (refl, omega arith)); server_ticks = inl (inr (inr (inl (refl, omega arith)))); of_an_end = tt; all_made = refl; }, goes_15)
+goes_16 = (record { in_order = tt; in_time = none_late after_15 3003 (inr (inr (inl refl)), (inr (inr (inr (inr (inr (inl refl))))), (inr (inr (inr (inr (inr (inr (inr (inr (inr (inr (inr (inl refl))))))))))), (inr (inr (inr (inr (inr (inr (inr (inr (inr (inr (inr (inr (inl refl)))))))))))), tt)))); client_ticks = inl (inl (refl, omega arith)); server_ticks = inl (inr (inr (inl (refl, omega arith)))); of_an_end = tt; all_made = refl }, goes_15)
 
 goes_17 : Always GoesSmoothly after_17
-goes_17 = (record { in_order = tt; in_time = none_late after_16 4000 (inl (omega arith), (inr (inr (inr (inl refl))), (inr (inr (inr (inr (inr (inr (inl refl)))))), (inr (inr (inr (inr (inr (inr (inr (inr (inr (inr (inr (inr (inl refl)))))))))))), (inr (inr (inr (inr (inr (inr (inr (inr (inr (inr (inr (inr (inr (inl refl))))))))))))), tt))))); client_ticks = inl (inr (inl (refl, omega arith))); server_ticks = inl (inl (refl, omega arith)); of_an_end = tt; all_made = refl; }, goes_16)
+goes_17 = (record { in_order = tt; in_time = none_late after_16 4000 (inl (omega arith), (inr (inr (inr (inl refl))), (inr (inr (inr (inr (inr (inr (inl refl)))))), (inr (inr (inr (inr (inr (inr (inr (inr (inr (inr (inr (inr (inl refl)))))))))))), (inr (inr (inr (inr (inr (inr (inr (inr (inr (inr (inr (inr (inr (inl refl))))))))))))), tt))))); client_ticks = inl (inr (inl (refl, omega arith))); server_ticks = inl (inl (refl, omega arith)); of_an_end = tt; all_made = refl }, goes_16)
 
 goes_18 : Always GoesSmoothly after_18
-goes_18 = (record { in_order = tt; in_time = none_late after_17 4002 (inl (omega arith), (inr (inr (inr (inr (inl refl)))), (inr (inr (inr (inr (inr (inr (inr (inl refl))))))), (inr (inr (inr (inr (inr (inr (inr (inr (inr (inr (inr (inr (inr (inl refl))))))))))))), (inr (inr (inr (inr (inr (inr (inr (inr (inr (inr (inr (inr (inr (inr (inl refl)))))))))))))), tt))))); client_ticks = inl (inl (refl, omega arith)); server_ticks = inl (inr (inl (refl, omega arith))); of_an_end = tt; all_made = refl; }, goes_17)
+goes_18 = (record { in_order = tt; in_time = none_late after_17 4002 (inl (omega arith), (inr (inr (inr (inr (inl refl)))), (inr (inr (inr (inr (inr (inr (inr (inl refl))))))), (inr (inr (inr (inr (inr (inr (inr (inr (inr (inr (inr (inr (inr (inl refl))))))))))))), (inr (inr (inr (inr (inr (inr (inr (inr (inr (inr (inr (inr (inr (inr (inl refl)))))))))))))), tt))))); client_ticks = inl (inl (refl, omega arith)); server_ticks = inl (inr (inl (refl, omega arith))); of_an_end = tt; all_made = refl }, goes_17)
 
 goes_19 : Always GoesSmoothly after_19
-goes_19 = (record { in_order = tt; in_time = none_late after_18 4003 (inl (omega arith), (inr (inr (inr (inr (inr (inl refl))))), (inr (inr (inr (inr (inr (inr (inr (inr (inl refl)))))))), (inr (inr (inr (inr (inr (inr (inr (inr (inr (inr (inr (inr (inr (inr (inl refl)))))))))))))), (inr (inr (inr (inr (inr (inr (inr (inr (inr (inr (inr (inr (inr (inr (inr (inl refl))))))))))))))), tt))))); client_ticks = inl (inl (refl, omega arith)); server_ticks = inl (inr (inr (inl (refl, omega arith)))); of_an_end = tt; all_made = refl; }, goes_18)
+goes_19 = (record { in_order = tt; in_time = none_late after_18 4003 (inl (omega arith), (inr (inr (inr (inr (inr (inl refl))))), (inr (inr (inr (inr (inr (inr (inr (inr (inl refl)))))))), (inr (inr (inr (inr (inr (inr (inr (inr (inr (inr (inr (inr (inr (inr (inl refl)))))))))))))), (inr (inr (inr (inr (inr (inr (inr (inr (inr (inr (inr (inr (inr (inr (inr (inl refl))))))))))))))), tt))))); client_ticks = inl (inl (refl, omega arith)); server_ticks = inl (inr (inr (inl (refl, omega arith)))); of_an_end = tt; all_made = refl }, goes_18)
 
 goes_20 : Always GoesSmoothly after_20
-goes_20 = (record { in_order = none_higher 4 after_19 (tt, (tt, (tt, (tt, (tt, (omega arith, (tt, (tt, (omega arith, (tt, (tt, (tt, (tt, (tt, (omega arith, (omega arith, (tt, (tt, (tt, tt))))))))))))))))))); in_time = none_late after_19 4003 (inl (omega arith), (inr (inr (inr (inr (inr (inr (inl refl)))))), (inr (inr (inr (inr (inr (inr (inr (inr (inr (inl refl))))))))), (inr (inr (inr (inr (inr (inr (inr (inr (inr (inr (inr (inr (inr (inr (inr (inl refl))))))))))))))), (inr (inr (inr (inr (inr (inr (inr (inr (inr (inr (inr (inr (inr (inr (inr (inr (inl refl)))))))))))))))), tt))))); client_ticks = inl (inr (inl (refl, omega arith))); server_ticks = inl (inl (refl, omega arith)); of_an_end = tt; all_made = refl; }, goes_19)
+goes_20 = (record { in_order = none_higher 4 after_19 (tt, (tt, (tt, (tt, (tt, (omega arith, (tt, (tt, (omega arith, (tt, (tt, (tt, (tt, (tt, (omega arith, (omega arith, (tt, (tt, (tt, tt))))))))))))))))))); in_time = none_late after_19 4003 (inl (omega arith), (inr (inr (inr (inr (inr (inr (inl refl)))))), (inr (inr (inr (inr (inr (inr (inr (inr (inr (inl refl))))))))), (inr (inr (inr (inr (inr (inr (inr (inr (inr (inr (inr (inr (inr (inr (inr (inl refl))))))))))))))), (inr (inr (inr (inr (inr (inr (inr (inr (inr (inr (inr (inr (inr (inr (inr (inr (inl refl)))))))))))))))), tt))))); client_ticks = inl (inr (inl (refl, omega arith))); server_ticks = inl (inl (refl, omega arith)); of_an_end = tt; all_made = refl }, goes_19)
 
 smooth : Smooth config after_20
 smooth = record {

@@ -6,11 +6,11 @@ use Rattle.std.specs.Prelude.{codes}
 use Rattle.coap_types.specs.Past.{Always}
 use Rattle.coap_types.proofs.Facts.Bytes.{bytes_are}
 use Rattle.coap_world.specs.Current.{CurrentAlone}
-use Rattle.coap_world.specs.CurrentRuns.{StaysOld}
+use Rattle.coap_world.specs.CurrentRuns.{StaysOld, value, watched}
 use Rattle.coap_world.specs.Events.{TickClient, TickServer}
 use Rattle.coap_world.specs.Legal.{AllLegal}
 use Rattle.coap_world.specs.LegalEvents.{event}
-use Rattle.coap_world.specs.LegalRuns.{config, puts}
+use Rattle.coap_world.specs.LegalRuns.{config, puts, t}
 use Rattle.coap_world.specs.ObservationRuns.{second_bytes}
 use Rattle.coap_world.specs.Record.{OfClient, OfServer, Turn, Makes, entries_of, client_of}
 use Rattle.coap_world.proofs.Witness.InWords.{config_range, t_is}
@@ -18,10 +18,10 @@ use Rattle.coap_world.proofs.Witness.ObservedAlone.{alone_of, short_of, kept_of,
 use Rattle.coap_world.proofs.Witness.TurnsMade.{a_turn, client_turn, server_turn, to_client, on_client}
 use Rattle.coap_world.proofs.Witness.TurnsMade.{on_server, legal_at, rests}
 use Rattle.coap_world.proofs.Witness.Observed.{turns_before, made_before, legal_before}
+use Rattle.coap_world.proofs.Witness.Observed.Server.{held}
 use Rattle.coap_world.proofs.Witness.Observed.Server as first
 use Rattle.coap_world.proofs.Witness.StaysOld.Client as client
 use Rattle.coap_world.proofs.Witness.StaysOld.Server as server
-
 
 abbrev AllMade : List Turn → Type 0
 AllMade turns = Always (λ past t. Makes past t.event.at t.event.word t.event.what t.refused t.entries) turns
@@ -56,10 +56,10 @@ legal_8 : AllLegal after_8
 legal_8 = (legal_at 5003 TickClient (omega arith) tt (omega arith) tt, legal_7)
 
 stale : CurrentAlone config after_8 → ⊥
-stale promised = absurd (cc ((promised _ (alone_of (client_of (entries_of after_8)) refl)
-    (short_of config _ (entries_of after_8) refl) (omega arith)).0 _ (refl, inr (refl, inl (omega arith)))
-    (inr (inl (omega arith, (_, refl))))
-    (record { kept = kept_of 0 (client_of (entries_of after_8)) refl; open = open_of config 0 (entries_of after_8) refl })))
+stale promised = absurd (cc ((promised watched (alone_of (client_of (entries_of after_8)) refl)
+    (short_of config t (entries_of after_8) refl) (omega arith)).0 (held 2 (codes "b")) (refl, inr (refl, inl (omega arith)))
+    (inr (inl (omega arith, (value 1 (codes "a"), refl))))
+    (record { kept = kept_of 0 (client_of (entries_of after_8)) refl; still = open_of config 0 (entries_of after_8) refl })))
 
 pub stays_old : StaysOld
 stays_old = record {

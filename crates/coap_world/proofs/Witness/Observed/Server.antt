@@ -37,7 +37,7 @@ use Rattle.coap_world.proofs.Witness.TurnsMade.{server_turn, to_client}
 
 -- what the path holds, in version 1 and in version 2
 
-abbrev held : ℕ → List ℕ → Held
+abbrev pub held : ℕ → List ℕ → Held
 held version body = record { version = version; format = Some plain; body = body }
 
 abbrev pub a : Content

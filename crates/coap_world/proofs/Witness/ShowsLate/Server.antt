@@ -30,7 +30,6 @@ use Rattle.coap_world.proofs.Witness.Observed.Server.{held, a, b, content, obser
 use Rattle.coap_world.proofs.Witness.Observed.Server.{first_change, second, answer_sendable, notice_sendable}
 use Rattle.coap_world.proofs.Witness.TurnsMade.{server_turn, to_client}
 
-
 -- what the path holds in version 3, and whom that is told
 
 abbrev pub c : Content

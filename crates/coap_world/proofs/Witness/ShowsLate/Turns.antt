@@ -19,7 +19,6 @@ use Rattle.coap_world.proofs.Witness.Observed.Server as first
 use Rattle.coap_world.proofs.Witness.ShowsLate.Client as client
 use Rattle.coap_world.proofs.Witness.ShowsLate.Server as server
 
-
 abbrev pub AllMade : List Turn → Type 0
 AllMade turns = Always (λ past t. Makes past t.event.at t.event.word t.event.what t.refused t.entries) turns
 

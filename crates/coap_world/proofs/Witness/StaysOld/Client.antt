@@ -20,7 +20,6 @@ use Rattle.coap_world.specs.ObservationRuns.{observe_bytes, first_bytes, second_
 use Rattle.coap_world.proofs.Witness.Observed.Client.{content, value, observing, ticked, registered}
 use Rattle.coap_world.proofs.Witness.TurnsMade.{client_turn, to_server, rests}
 
-
 abbrev pub calls : List C.Call
 calls = client_turn [] [] (rests 5003 ∷ []) ++ (client_turn (value 1 (codes "a") ∷ []) [] registered ++ (client_turn [] (to_server observe_bytes ∷ []) ticked ++ (client_turn [] [] observing)))
 
@@ -37,15 +36,55 @@ run = asker.lower_of server_end 0 (lower_of sizes calls)
 steps : Steps (start (usual 0)) run (left_after (start (usual 0)) run)
 unfolding decoded frame_fault body_at walk walk_of option_at nibbles_at value_at extended payload_at option_bytes
     options_bytes
-steps = (_, (_, (_, (_, (_, (_, (_, (_, (_, (_, refl, record { may = tt; right = refl; new_is = refl }), record { may = tt; right = refl; new_is = refl }), record { may = (sendable_when_short _ (record {
-                          some = omega arith;
-                          code = omega arith;
-                          id = omega arith;
-                          token = omega arith;
-                          order = refl;
-                          numbers = refl;
-                          short = refl;
-                        }) (omega arith)).spelled; right = refl; new_is = refl }), record { may = tt; right = refl; new_is = refl }), record { may = tt; right = refl; new_is = refl }), record { may = tt; right = refl; new_is = refl }), record { may = bytes_are first_bytes refl; right = refl; new_is = refl }), record { may = tt; right = refl; new_is = refl }), record { may = tt; right = refl; new_is = refl }), record { may = tt; right = refl; new_is = refl })
+steps = (
+  _,
+  (
+    _,
+    (
+      _,
+      (
+        _,
+        (
+          _,
+          (
+            _,
+            (
+              _,
+              (
+                _,
+                (
+                  _,
+                  (_, (_, refl, record { may = tt; right = refl; new_is = refl }), record { may = tt; right = refl; new_is = refl }),
+                  record {
+                    may = (sendable_when_short _ (record {
+                      some = omega arith;
+                      code = omega arith;
+                      id = omega arith;
+                      token = omega arith;
+                      order = refl;
+                      numbers = refl;
+                      short = refl;
+                    }) (omega arith)).spelled;
+                    right = refl;
+                    new_is = refl;
+                  },
+                ),
+                record { may = tt; right = refl; new_is = refl },
+              ),
+              record { may = tt; right = refl; new_is = refl },
+            ),
+            record { may = tt; right = refl; new_is = refl },
+          ),
+          record { may = bytes_are first_bytes refl; right = refl; new_is = refl },
+        ),
+        record { may = tt; right = refl; new_is = refl },
+      ),
+      record { may = tt; right = refl; new_is = refl },
+    ),
+    record { may = tt; right = refl; new_is = refl },
+  ),
+  record { may = tt; right = refl; new_is = refl },
+)
 
 pub lawful : ClientLaw server_end sizes 0 calls
 lawful = record { rows = rows; exchanges = record { rows = asked; left = left_after (start (usual 0)) run; layer = steps } }

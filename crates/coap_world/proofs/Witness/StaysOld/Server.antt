@@ -30,7 +30,6 @@ use Rattle.coap_world.proofs.Witness.Observed.Server.{held, a, b, content, obser
 use Rattle.coap_world.proofs.Witness.Observed.Server.{first_change, second, answer_sendable, notice_sendable}
 use Rattle.coap_world.proofs.Witness.TurnsMade.{server_turn, to_client}
 
-
 abbrev pub calls : List S.Call
 calls = server_turn (to_client second_bytes ∷ []) ticked ++ (server_turn [] second_set ++ (server_turn (to_client first_bytes ∷ []) fed ++ (server_turn [] first_set)))
 
