@@ -1,3 +1,4 @@
+pub mod ObservedCalls
 pub mod PathWords
 pub mod ScriptWords
 pub mod Statuses

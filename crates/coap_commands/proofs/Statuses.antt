@@ -12,8 +12,9 @@ use Rattle.coap_client.specs.declared.client.report.Report as R
 use Rattle.coap_client.specs.declared.client.report.Report.TheVariants as report
 use Rattle.hex.specs.Hex.{decode_of}
 use Rattle.coap_words.specs.CommandLine.{coap_app}
-use Rattle.coap_commands.specs.Asked.{IsAsked, asked_method}
+use Rattle.coap_commands.specs.Asked.{IsAsked, IsRequested, asked_method}
 use Rattle.coap_commands.specs.Asks.{changed_report, changed_status, got_report, got_status, status_after}
+use Rattle.coap_commands.specs.Observes.{observed_report, observed_status}
 use Rattle.coap_commands.specs.declared.calling.Outcome.{Outcome}
 use Rattle.coap_commands.specs.declared.calling.Outcome.TheVariants as outcome
 use Rattle.coap_commands.specs.Statuses.{CarriesOut, Ends, IsAnswered, IsCarriedOut, IsCarriedTo, IsTold, RunsScript}
@@ -36,11 +37,11 @@ use Rattle.coap_words.specs.declared.orders.AskOptions.{AskOptions}
 use Rattle.coap_words.specs.declared.orders.Content.{Content}
 use Rattle.coap_words.specs.declared.orders.Content.TheVariants as contents
 use Rattle.coap_words.specs.declared.orders.NumberRefusal.{NumberRefusal}
-use Rattle.coap_words.specs.declared.orders.NumberRefusal.TheVariants.{Port, Count, Limit, Format}
+use Rattle.coap_words.specs.declared.orders.NumberRefusal.TheVariants.{Port, Count, Limit, Format, Times, Seconds}
 use Rattle.coap_words.specs.declared.orders.TagsRefusal.{TagsRefusal}
 use Rattle.coap_words.specs.declared.orders.TagsRefusal.TheVariants.{IfMatch}
 use Rattle.coap_words.specs.declared.orders.What.{What}
-use Rattle.coap_words.specs.declared.orders.What.TheVariants.{Get, Put, Post, Delete}
+use Rattle.coap_words.specs.declared.orders.What.TheVariants.{Get, Put, Post, Delete, Observe}
 use Rattle.coap_words.specs.declared.orders.WordChoice.{WordChoice}
 use Rattle.coap_words.specs.declared.orders.Wrong.{Wrong}
 use Rattle.coap_words.specs.declared.orders.Wrong.TheVariants.{Words, Path, Number, Word, Tags, Body, Store, Hex, Memory}
@@ -105,6 +106,7 @@ pub record AsksNone (known : Text) : Type 0 where
   pub put : bytes_eq known (codes "put") ≡ false
   pub post : bytes_eq known (codes "post") ≡ false
   pub delete : bytes_eq known (codes "delete") ≡ false
+  pub observe : bytes_eq known (codes "observe") ≡ false
 
 changes_none : (known name : Text) → AsksNone known → name ≡ known → AsksChange name → ⊥
 changes_none known name n is (inl e) = differ known (codes "delete") name n.delete is e
@@ -112,29 +114,31 @@ changes_none known name n is (inr e) = sends_none known name n.put n.post is e
 
 asks_none : (known name : Text) → AsksNone known → name ≡ known → IsAsk name → ⊥
 asks_none known name n is (inl e) = differ known (codes "get") name n.get is e
-asks_none known name n is (inr e) = changes_none known name n is e
+asks_none known name n is (inr (inl e)) = differ known (codes "observe") name n.observe is e
+asks_none known name n is (inr (inr e)) = changes_none known name n is e
 
 show_asks_none : AsksNone (codes "show")
-show_asks_none = record { get = refl; put = refl; post = refl; delete = refl }
+show_asks_none = record { get = refl; put = refl; post = refl; delete = refl; observe = refl }
 
 answer_asks_none : AsksNone (codes "answer")
-answer_asks_none = record { get = refl; put = refl; post = refl; delete = refl }
+answer_asks_none = record { get = refl; put = refl; post = refl; delete = refl; observe = refl }
 
 pair_asks_none : AsksNone (codes "pair")
-pair_asks_none = record { get = refl; put = refl; post = refl; delete = refl }
+pair_asks_none = record { get = refl; put = refl; post = refl; delete = refl; observe = refl }
 
 serve_asks_none : AsksNone (codes "serve")
-serve_asks_none = record { get = refl; put = refl; post = refl; delete = refl }
+serve_asks_none = record { get = refl; put = refl; post = refl; delete = refl; observe = refl }
 
 sim_asks_none : AsksNone (codes "sim")
-sim_asks_none = record { get = refl; put = refl; post = refl; delete = refl }
+sim_asks_none = record { get = refl; put = refl; post = refl; delete = refl; observe = refl }
 
 -- what asks of a server is none of the other subcommands
 pub what_asks : (name : Text) (v : List Row) (what : What) → IsWhat name v what → IsAsk name
 what_asks name v Get h = inl h
-what_asks name v (Put content) h = inr (inr (inl h.0))
-what_asks name v (Post content) h = inr (inr (inr h.0))
-what_asks name v Delete h = inr (inl h)
+what_asks name v (Put content) h = inr (inr (inr (inl h.0)))
+what_asks name v (Post content) h = inr (inr (inr (inr h.0)))
+what_asks name v Delete h = inr (inr (inl h))
+what_asks name v Observe h = inr (inl h)
 
 -- who takes no PATH
 takes_none : (known name : Text) → AsksNone known → bytes_eq known (codes "answer") ≡ false
@@ -157,6 +161,8 @@ counts_none known name Port n p s is (inr e) = asks_none known name n is e
 counts_none known name Count n p s is e = differ known (codes "serve") name s is e
 counts_none known name Limit n p s is e = makes_none known name n p s is e
 counts_none known name Format n p s is e = sends_none known name n.put n.post is e
+counts_none known name Times n p s is e = differ known (codes "observe") name n.observe is e
+counts_none known name Seconds n p s is e = differ known (codes "observe") name n.observe is e
 
 tags_none : (known name : Text) (why : TagsRefusal) → AsksNone known → name ≡ known → TakesTags why name → ⊥
 tags_none known name IfMatch n is e = changes_none known name n is e
@@ -227,16 +233,26 @@ has_number name v (Pair path body word limit) Count e h = absurd (differ (codes 
 has_number name v (Pair path body word limit) Limit takes h = of_limit v limit h.5
 has_number name v (Pair path body word limit) Format takes h =
     absurd (sends_none (codes "pair") name refl refl h.0 takes)
+has_number name v (Pair path body word limit) Times e h =
+    absurd (differ (codes "pair") (codes "observe") name refl h.0 e)
+has_number name v (Pair path body word limit) Seconds e h =
+    absurd (differ (codes "pair") (codes "observe") name refl h.0 e)
 has_number name v (Serve port count word limit) Port takes h = inr (port, h.1)
 has_number name v (Serve port count word limit) Count takes h = inr (count, h.2)
 has_number name v (Serve port count word limit) Limit takes h = of_limit v limit h.4
 has_number name v (Serve port count word limit) Format takes h =
     absurd (sends_none (codes "serve") name refl refl h.0 takes)
+has_number name v (Serve port count word limit) Times e h =
+    absurd (differ (codes "serve") (codes "observe") name refl h.0 e)
+has_number name v (Serve port count word limit) Seconds e h =
+    absurd (differ (codes "serve") (codes "observe") name refl h.0 e)
 has_number name v (Ask port path what options) Port takes h = inr (port, h.1)
 has_number name v (Ask port path what options) Count e h =
     absurd (asks_none (codes "serve") name serve_asks_none e (what_asks name v what h.0))
 has_number name v (Ask port path what options) Limit takes h = of_limit v options.limit h.4.limit
 has_number name v (Ask port path what options) Format takes h = of_optional v Format options.format h.4.format
+has_number name v (Ask port path what options) Times takes h = of_optional v Times options.times h.4.times
+has_number name v (Ask port path what options) Seconds takes h = of_optional v Seconds options.seconds h.4.seconds
 has_number name v (Sim file store) why takes h =
     absurd (counts_none (codes "sim") name why sim_asks_none refl refl h.0 takes)
 
@@ -319,6 +335,7 @@ body_of_what v Get name h sends none = sends_none (codes "get") name refl refl h
 body_of_what v (Put content) name h sends none = content_or_not v content h.1 none
 body_of_what v (Post content) name h sends none = content_or_not v content h.1 none
 body_of_what v Delete name h sends none = sends_none (codes "delete") name refl refl h sends
+body_of_what v Observe name h sends none = sends_none (codes "observe") name refl refl h sends
 
 not_body : (order : Order) (name : Text) (v : List Row) → AsksForIn name v order → IsWrongIn name v Body → ⊥
 not_body (Show datagram) name v h (sends, none) = sends_none (codes "show") name refl refl h.0 sends
@@ -528,11 +545,33 @@ after_carried method.Post o = changed_ends o
 after_carried method.Put o = changed_ends o
 after_carried method.Delete o = changed_ends o
 
-asked_carried : (ended : Result Status Stop) (port : ℕ) (path : List (List ℕ)) (what : What) (options : AskOptions)
-    → IfOk ended (IsAsked port path what options) → IfOk ended IsCarriedOut
-asked_carried (Ok s) port path what options h =
+observed_carried : (r : R.Report Global) → IsCarriedOut (observed_report r)
+observed_carried report.Cancelled = inl refl
+observed_carried other = inr refl
+
+observed_ends : (o : Outcome) → IsCarriedOut (observed_status o)
+observed_ends (outcome.Refused why) = inr refl
+observed_ends (outcome.Reported r) = observed_carried r
+
+requested_carried : (s : Status) (port : ℕ) (path : List (List ℕ)) (what : What) (options : AskOptions)
+    → IsRequested port path what options s → IsCarriedOut s
+requested_carried s port path what options h =
     let asks = h.6 in
     subst IsCarriedOut (sym asks.2) (after_carried (asked_method what) asks.0)
+
+asked_done : (s : Status) (port : ℕ) (path : List (List ℕ)) (what : What) (options : AskOptions)
+    → IsAsked port path what options s → IsCarriedOut s
+asked_done s port path Get options h = requested_carried s port path Get options h
+asked_done s port path (Put content) options h = requested_carried s port path (Put content) options h
+asked_done s port path (Post content) options h = requested_carried s port path (Post content) options h
+asked_done s port path Delete options h = requested_carried s port path Delete options h
+asked_done s port path Observe options h =
+    let observes = h.4 in
+    subst IsCarriedOut (sym observes.2) (observed_ends observes.0)
+
+asked_carried : (ended : Result Status Stop) (port : ℕ) (path : List (List ℕ)) (what : What) (options : AskOptions)
+    → IfOk ended (IsAsked port path what options) → IfOk ended IsCarriedOut
+asked_carried (Ok s) port path what options h = asked_done s port path what options h
 asked_carried (Err stop) port path what options h = tt
 
 -- an order that is carried out comes to 2 only where it runs a script

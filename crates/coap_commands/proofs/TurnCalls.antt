@@ -18,7 +18,7 @@ use Rattle.coap_links.specs.declared.driver.Pumped.{Pumped}
 use Rattle.coap_links.specs.declared.tally.Tally.{Tally}
 use Rattle.coap_commands.specs.Asks.{AsksNothing, Chain, Each, Turned}
 
-chain_join : (old mid new : State) (later earlier : List Call) → Chain old earlier mid → Chain mid later new
+pub chain_join : (old mid new : State) (later earlier : List Call) → Chain old earlier mid → Chain mid later new
     → Chain old (later ++ earlier) new
 chain_join old mid new [] earlier h k = subst (Chain old earlier) (sym k) h
 chain_join old mid new (c ∷ later) earlier h k = (k.0, chain_join old mid k.0 later earlier h k.1, k.2)

@@ -12,8 +12,8 @@ use Rattle.coap_client.specs.declared.refusals.CallRefusal.{CallRefusal}
 use Rattle.coap_client.proofs.Facts.EachCall.{led_client}
 use Rattle.coap_words.specs.declared.orders.AskOptions.{AskOptions}
 use Rattle.coap_words.specs.declared.orders.What.{What}
-use Rattle.coap_commands.specs.Asked.{IsAsked, IsBody, IsWord, asked_request}
-use Rattle.coap_commands.specs.Asks.{Asks, AsksNothing, Becomes, Chain, Reports, status_after, takes_report}
+use Rattle.coap_commands.specs.Asked.{IsBody, IsRequested, IsWord, asked_request}
+use Rattle.coap_commands.specs.Asks.{Asks, AsksNothing, Becomes, Chain, Reports, takes_report}
 use Rattle.coap_commands.specs.Ends.{client_sizes}
 use Rattle.coap_commands.specs.declared.calling.Outcome.{Outcome}
 use Rattle.coap_commands.specs.declared.calling.Outcome.TheVariants.{Refused, Reported}
@@ -62,28 +62,30 @@ module _ (server : Endpoint) (sizes : Sizes) (word : ℕ) where
 
 -- ---- a program that ends
 
--- the status is told of what became of the request
-pub told : (Leads : Endpoint → Sizes → ℕ → Type 0) (request : Request) (outcome : Outcome) (ended : Result Status Stop)
-    → ((server : Endpoint) (sizes : Sizes) (w : ℕ) → Leads server sizes w → Becomes server sizes w request outcome)
-    → IfOk ended (λ s. s ≡ status_after request.method outcome)
-    → IfOk ended (λ s. (server : Endpoint) (sizes : Sizes) (w : ℕ) → Leads server sizes w → Asks server sizes w request s)
-told Leads request outcome (Ok s) becomes is = λ server sizes w led. (outcome, becomes server sizes w led, is)
-told Leads request outcome (Err stop) becomes is = tt
+-- the status is told of what became of it
+pub told : (Leads : Endpoint → Sizes → ℕ → Type 0) (Comes : Endpoint → Sizes → ℕ → Outcome → Type 0)
+    (status : Outcome → Status) (outcome : Outcome) (ended : Result Status Stop)
+    → ((server : Endpoint) (sizes : Sizes) (w : ℕ) → Leads server sizes w → Comes server sizes w outcome)
+    → IfOk ended (λ s. s ≡ status outcome)
+    → IfOk ended (λ s. (server : Endpoint) (sizes : Sizes) (w : ℕ) → Leads server sizes w
+    → (of : Outcome) × Comes server sizes w of × (s ≡ status of))
+told Leads Comes status outcome (Ok s) becomes is = λ server sizes w led. (outcome, becomes server sizes w led, is)
+told Leads Comes status outcome (Err stop) becomes is = tt
 
 -- by a client that began so
-pub began : (Leads : Endpoint → Sizes → ℕ → Type 0) (request : Request) (ended : Result Status Stop) (server : Endpoint)
-    (sizes : Sizes) (word : ℕ) → Leads server sizes word
-    → IfOk ended (λ s. (server : Endpoint) (sizes : Sizes) (w : ℕ) → Leads server sizes w → Asks server sizes w request s)
-    → IfOk ended (Asks server sizes word request)
-began Leads request (Ok s) server sizes word led asks = asks server sizes word led
-began Leads request (Err stop) server sizes word led asks = tt
+pub began : (Leads : Endpoint → Sizes → ℕ → Type 0) (Is : Endpoint → Sizes → ℕ → Status → Type 0)
+    (ended : Result Status Stop) (server : Endpoint) (sizes : Sizes) (word : ℕ) → Leads server sizes word
+    → IfOk ended (λ s. (server : Endpoint) (sizes : Sizes) (w : ℕ) → Leads server sizes w → Is server sizes w s)
+    → IfOk ended (Is server sizes word)
+began Leads Is (Ok s) server sizes word led is = is server sizes word led
+began Leads Is (Err stop) server sizes word led is = tt
 
 -- of the request that the words say
 pub asked_by : (server : Endpoint) (word : ℕ) (path : List (List ℕ)) (what : What) (options : AskOptions) (body : List ℕ)
     (request : Request) (ended : Result Status Stop)
     → IsWord options.word word → IsBody what body → request ≡ asked_request what path options body
     → IfOk ended (Asks server (client_sizes options.limit) word request)
-    → IfOk ended (IsAsked server.port path what options)
+    → IfOk ended (IsRequested server.port path what options)
 asked_by server word path what options body request (Ok s) is_word is_body same asks =
     (server, refl, word, is_word, body, is_body, subst (λ (r : Request). Asks server (client_sizes options.limit) word r s) same asks)
 asked_by server word path what options body request (Err stop) is_word is_body same asks = tt

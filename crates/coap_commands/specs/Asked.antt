@@ -8,11 +8,12 @@ use Rattle.coap_words.specs.declared.orders.AskOptions.{AskOptions}
 use Rattle.coap_words.specs.declared.orders.Content.{Content}
 use Rattle.coap_words.specs.declared.orders.Content.TheVariants as content
 use Rattle.coap_words.specs.declared.orders.What.{What}
-use Rattle.coap_words.specs.declared.orders.What.TheVariants.{Get, Put, Post, Delete}
+use Rattle.coap_words.specs.declared.orders.What.TheVariants.{Get, Put, Post, Delete, Observe}
 use Rattle.coap_words.specs.declared.orders.WordChoice.{WordChoice}
 use Rattle.coap_words.specs.declared.orders.WordChoice.TheVariants.{Given, Random}
 use Rattle.coap_commands.specs.Asks.{Asks}
 use Rattle.coap_commands.specs.Ends.{client_sizes}
+use Rattle.coap_commands.specs.Observes.{Observes}
 use Rattle.coap_commands.specs.declared.status.Status.{Status}
 
 -- the word that is chosen; a random one may be any
@@ -31,12 +32,14 @@ IsBody Get body = body ≡ []
 IsBody (Put content) body = IsContent content body
 IsBody (Post content) body = IsContent content body
 IsBody Delete body = body ≡ []
+IsBody Observe body = body ≡ []
 
 abbrev pub asked_method : What → Method
 asked_method Get = method.Get
 asked_method (Put content) = method.Put
 asked_method (Post content) = method.Post
 asked_method Delete = method.Delete
+asked_method Observe = method.Get
 
 -- the request, with this body
 abbrev pub asked_request : What → List (List ℕ) → AskOptions → List ℕ → Request
@@ -52,8 +55,22 @@ asked_request what path options body =
       accept = None;
     }
 
--- a client asks the server at this port for it, with the word and the limit of the options
-abbrev pub IsAsked : ℕ → List (List ℕ) → What → AskOptions → Status → Type 0
-IsAsked port path what options status =
+-- a client hands the server at this port a request for it, with the word and the limit of the options
+abbrev pub IsRequested : ℕ → List (List ℕ) → What → AskOptions → Status → Type 0
+IsRequested port path what options status =
     (server : Endpoint) × (server.port ≡ port) × (word : ℕ) × IsWord options.word word × (body : List ℕ) × IsBody what body
     × Asks server (client_sizes options.limit) word (asked_request what path options body) status
+
+-- a client observes the path at the server at this port, likewise
+abbrev pub IsObserved : ℕ → List (List ℕ) → AskOptions → Status → Type 0
+IsObserved port path options status =
+    (server : Endpoint) × (server.port ≡ port) × (word : ℕ) × IsWord options.word word
+    × Observes server (client_sizes options.limit) word path options status
+
+-- a client asks the server for it
+abbrev pub IsAsked : ℕ → List (List ℕ) → What → AskOptions → Status → Type 0
+IsAsked port path Get options status = IsRequested port path Get options status
+IsAsked port path (Put content) options status = IsRequested port path (Put content) options status
+IsAsked port path (Post content) options status = IsRequested port path (Post content) options status
+IsAsked port path Delete options status = IsRequested port path Delete options status
+IsAsked port path Observe options status = IsObserved port path options status

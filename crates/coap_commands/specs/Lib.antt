@@ -2,6 +2,7 @@ pub mod Asked
 pub mod Asks
 pub mod Bearing
 pub mod Ends
+pub mod Observes
 pub mod Script
 pub mod ScriptRefusals
 pub mod ScriptWords

@@ -6,7 +6,7 @@ ghost use Rattle.coap_client.specs.Led.{Led, Step};
 ghost use Rattle.coap_client.specs.Object.CallShown.{shown_request};
 ghost use Rattle.coap_client.specs.Object.Shown.{shown_report};
 ghost use Rattle.coap_client.specs.Trace.{NextReport};
-ghost use Rattle.coap_commands.specs.Asked.{IsAsked};
+ghost use Rattle.coap_commands.specs.Asked.{IsAsked, IsRequested};
 ghost use Rattle.coap_commands.specs.Asks.{Asks, AsksNothing, Becomes, Reports, Turned, changed_status};
 ghost use Rattle.coap_commands.specs.Asks.{got_status, status_after};
 ghost use Rattle.coap_commands.specs.Ends.{client_sizes};
@@ -15,6 +15,7 @@ ghost use Rattle.coap_commands.specs.Statuses.{IsCarriedOut};
 use crate::bearing::bear;
 use crate::calling::{Outcome, call, outcome_text};
 use crate::ends::fresh_client;
+use crate::observe::observe;
 use crate::put_away::put_away;
 use crate::request::{body_of, request_of};
 use crate::status::{Status, Stop};
@@ -31,8 +32,11 @@ use std::net::Net;
 use std::random::RandomSource;
 use std::rt::{Clock, Files};
 
-// Takes the next report; what it is, where it is of this call.
-fn next_report_of<H: BuildHasher>(client: &mut Client<Global, H>, id: CallId) -> Option<Report>
+/// Takes the next report; what it is, where it is of this call.
+pub(crate) fn next_report_of<H: BuildHasher>(
+    client: &mut Client<Global, H>,
+    id: CallId,
+) -> Option<Report>
     ensures some { IfSome result (λ report. Step client.old
         (NextReport (Some (record { number = id.0; report = shown_report report }))) client.new) }
     ensures none { IfNone result (Turned AsksNothing client.old client.new) }
@@ -164,8 +168,8 @@ pub fn ask_over<L: Link, T: Timekeeper, H: BuildHasher + Drop, W: Write>(
     ended
 }
 
-/// Asks the server at a port of 127.0.0.1 for what the words say.
-pub fn ask<R: AllocGlobal + Files + Net + Clock + RandomSource, W: Write>(
+// Hands the server at a port of 127.0.0.1 the request that the words say.
+fn request<R: AllocGlobal + Files + Net + Clock + RandomSource, W: Write>(
     rt: &R,
     port: u16,
     path: &Path,
@@ -173,7 +177,7 @@ pub fn ask<R: AllocGlobal + Files + Net + Clock + RandomSource, W: Write>(
     options: &AskOptions,
     out: &mut W,
 ) -> Result<Status, Stop>
-    ensures { IfOk result (IsAsked port path.now what.entry options.now) }
+    ensures { IfOk result (IsRequested port path.now what.entry options.now) }
 {
     let word = word_of(rt, options.word)?;
     let body = body_of(rt, what, options.limit)?;
@@ -196,4 +200,25 @@ pub fn ask<R: AllocGlobal + Files + Net + Clock + RandomSource, W: Write>(
         options.limit,
         out,
     )
+}
+
+/// Asks the server at a port of 127.0.0.1 for what the words say.
+pub(crate) fn ask<R: AllocGlobal + Files + Net + Clock + RandomSource, O: Write, E: Write>(
+    rt: &R,
+    port: u16,
+    path: &Path,
+    what: What<'_>,
+    options: &AskOptions,
+    writers: (&mut O, &mut E),
+) -> Result<Status, Stop>
+    ensures { IfOk result (IsAsked port path.now what.entry options.now) }
+{
+    let (out, err) = writers;
+    match what {
+        What::Get => request(rt, port, path, What::Get, options, out),
+        What::Put(content) => request(rt, port, path, What::Put(content), options, out),
+        What::Post(content) => request(rt, port, path, What::Post(content), options, out),
+        What::Delete => request(rt, port, path, What::Delete, options, out),
+        What::Observe => observe(rt, port, path, options, (out, err)),
+    }
 }

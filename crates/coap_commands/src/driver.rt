@@ -24,10 +24,11 @@ use std::random::RandomSource;
 use std::rt::{Clock, Files};
 
 // Carries an order out.
-fn perform<R: AllocGlobal + Files + Net + Clock + RandomSource, W: Write>(
+fn perform<R: AllocGlobal + Files + Net + Clock + RandomSource, O: Write, E: Write>(
     rt: &R,
     order: &Order<'_>,
-    out: &mut W,
+    out: &mut O,
+    err: &mut E,
 ) -> Result<Status, Stop>
     ensures { IfOk result (CarriesOut order.now) }
 {
@@ -56,7 +57,7 @@ fn perform<R: AllocGlobal + Files + Net + Clock + RandomSource, W: Write>(
             path,
             what,
             options,
-        } => ask(rt, *port, path, *what, options, out),
+        } => ask(rt, *port, path, *what, options, (out, err)),
         Order::Sim { file, store } => sim(rt, file, *store, out),
     }
 }
@@ -96,7 +97,7 @@ fn run<R: AllocGlobal + Files + Net + Clock + RandomSource, O: Write, E: Write>(
 {
     match order(rt.alloc(), words) {
         Ok(order) => {
-            let ended = perform(rt, &order, out);
+            let ended = perform(rt, &order, out, err);
             put_away(order);
             ended
         }

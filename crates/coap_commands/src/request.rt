@@ -26,6 +26,7 @@ fn method_of(what: What<'_>) -> Method
         What::Put(_) => Method::Put,
         What::Post(_) => Method::Post,
         What::Delete => Method::Delete,
+        What::Observe => Method::Get,
     }
 }
 
@@ -76,7 +77,7 @@ pub fn body_of<R: AllocGlobal + Files>(
     ensures { IfOk result (IsBody what.entry) }
 {
     match what {
-        What::Get | What::Delete => Ok(Bytes::new()),
+        What::Get | What::Delete | What::Observe => Ok(Bytes::new()),
         What::Put(content) => content_bytes(rt, content, limit),
         What::Post(content) => content_bytes(rt, content, limit),
     }

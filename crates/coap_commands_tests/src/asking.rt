@@ -39,7 +39,10 @@ fn said(alloc: Global, words: &[&str]) -> Result<String, AllocError> {
     }
 }
 
-fn check_said<R: Abort + AllocGlobal>(rt: &R, rows: &[(&[&str], &str)]) -> Result<(), AllocError> {
+pub(super) fn check_said<R: Abort + AllocGlobal>(
+    rt: &R,
+    rows: &[(&[&str], &str)],
+) -> Result<(), AllocError> {
     for (words, text) in rows {
         let said = said(rt.alloc(), words)?;
         assert_eq!(rt; said.as_str(), *text, "at {words:?}");
@@ -192,13 +195,14 @@ fn word_in(alloc: Global, words: &[&str]) -> Result<Option<WordChoice>, AllocErr
 
 #[test]
 fn words_where_none_is_given(rt: HostRuntime) -> Result<(), Fail> {
-    let rows: [(&[&str], WordChoice); 8] = [
+    let rows: [(&[&str], WordChoice); 9] = [
         (&["get", "5683", "t"], WordChoice::Given(1)),
         (&["pair", "t", "hi"], WordChoice::Given(1)),
         (&["serve", "5683", "1"], WordChoice::Given(1)),
         (&["put", "5683", "t", "hi"], WordChoice::Random),
         (&["post", "5683", "t", "hi"], WordChoice::Random),
         (&["delete", "5683", "t"], WordChoice::Random),
+        (&["observe", "5683", "t"], WordChoice::Random),
         (
             &["put", "5683", "t", "hi", "--word", "7"],
             WordChoice::Given(7),

@@ -12,6 +12,8 @@ mod buffers;
 #[cfg(test)]
 mod joined_link;
 #[cfg(test)]
+mod observing;
+#[cfg(test)]
 mod pair;
 #[cfg(test)]
 mod programs;

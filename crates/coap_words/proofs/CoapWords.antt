@@ -16,11 +16,11 @@ use Rattle.coap_words.specs.CommandLine.{coap_app}
 use Rattle.coap_words.specs.Asking.{AreNoTags, AsksChange, HasNoTags, IsAsk, SendsBody, texts_of, tags_argument_of}
 use Rattle.coap_words.specs.Numbers.{argument_of}
 use Rattle.coap_words.specs.Taking.{IsWrongOption, MakesEnd, TakesItsOwn, TakesNumber, TakesTags}
-use Rattle.coap_words.specs.Values.{Enters, HasNoNumber, HasNoWord, IsGiven, IsValue}
+use Rattle.coap_words.specs.Values.{Enters, IsGiven, IsValue}
 use Rattle.coap_words.specs.Words.{AsksFor, AsksForIn, IsWrong, IsWrongIn}
 use Rattle.coap_words.specs.Wrongs.{IsWrongOfClap}
 use Rattle.coap_words.specs.declared.orders.NumberRefusal.{NumberRefusal}
-use Rattle.coap_words.specs.declared.orders.NumberRefusal.TheVariants.{Port, Count, Limit, Format}
+use Rattle.coap_words.specs.declared.orders.NumberRefusal.TheVariants.{Port, Count, Limit, Format, Times, Seconds}
 use Rattle.coap_words.specs.declared.orders.Order.{Order}
 use Rattle.coap_words.specs.declared.orders.TagsRefusal.{TagsRefusal}
 use Rattle.coap_words.specs.declared.orders.TagsRefusal.TheVariants.{IfMatch}
@@ -67,7 +67,7 @@ abbrev asks_change : Text → Bool
 asks_change name = bytes_eq name (codes "delete") || sends_body name
 
 abbrev is_ask : Text → Bool
-is_ask name = bytes_eq name (codes "get") || asks_change name
+is_ask name = bytes_eq name (codes "get") || (bytes_eq name (codes "observe") || asks_change name)
 
 abbrev is_ours : Text → Bool
 is_ours name =
@@ -100,7 +100,7 @@ one_changes : (name : Text) → asks_change name ≡ true → AsksChange name
 one_changes name is = first_or _ name (codes "delete") _ (one_sends name) is
 
 one_asks : (name : Text) → is_ask name ≡ true → IsAsk name
-one_asks name is = first_or _ name (codes "get") _ (one_changes name) is
+one_asks name is = first_or _ name (codes "get") _ (first_or _ name (codes "observe") _ (one_changes name)) is
 
 one_serves_or_asks : (name : Text) → serves_or_asks name ≡ true → (name ≡ codes "serve") ⊎ IsAsk name
 one_serves_or_asks name is = first_or _ name (codes "serve") _ (one_asks name) is
@@ -171,14 +171,16 @@ unfolding clap_on_literals
 requires_port name (inl is) = by_name (codes "PORT") name _ refl is
 requires_port name (inr (inl is)) = by_name (codes "PORT") name _ refl is
 requires_port name (inr (inr (inl is))) = by_name (codes "PORT") name _ refl is
-requires_port name (inr (inr (inr is))) = by_name (codes "PORT") name _ refl is
+requires_port name (inr (inr (inr (inl is)))) = by_name (codes "PORT") name _ refl is
+requires_port name (inr (inr (inr (inr is)))) = by_name (codes "PORT") name _ refl is
 
 requires_path : AskRequires (codes "PATH")
 unfolding clap_on_literals
 requires_path name (inl is) = by_name (codes "PATH") name _ refl is
 requires_path name (inr (inl is)) = by_name (codes "PATH") name _ refl is
 requires_path name (inr (inr (inl is))) = by_name (codes "PATH") name _ refl is
-requires_path name (inr (inr (inr is))) = by_name (codes "PATH") name _ refl is
+requires_path name (inr (inr (inr (inl is)))) = by_name (codes "PATH") name _ refl is
+requires_path name (inr (inr (inr (inr is)))) = by_name (codes "PATH") name _ refl is
 
 pub ask_port : (words : List Text) (name : Text) (rows : List Row) → IsAsk name → Enters words name rows
     → IsGiven (codes "PORT") rows
@@ -216,6 +218,12 @@ takes_number words name rows e Limit =
     taken_by makes_end (TakesNumber Limit) (codes "limit") words name rows one_makes_end refl e
 takes_number words name rows e Format =
     taken_by sends_body (TakesNumber Format) (codes "format") words name rows one_sends refl e
+takes_number words name rows e Times = taken_by
+    (λ n. bytes_eq n (codes "observe")) (TakesNumber Times) (codes "count") words name rows
+    (λ n is. is_name n (codes "observe") is) refl e
+takes_number words name rows e Seconds = taken_by
+    (λ n. bytes_eq n (codes "observe")) (TakesNumber Seconds) (codes "seconds") words name rows
+    (λ n is. is_name n (codes "observe") is) refl e
 
 takes_word : (words : List Text) (name : Text) (rows : List Row) → Enters words name rows
     → (all_of (codes "word") rows ≡ None) ⊎ MakesEnd name

@@ -1,7 +1,7 @@
 -- Each row that a parse gives is of an argument of the command: where all their names pass a test, all of its rows do.
 use Rattle.std.proofs.Common.{◌≡◌, ◌+◌, ◌⊎◌, ◌||◌, ap, inl, inr, refl, subst, sym, unwrap_or, ℕ, Bool, true, false, cond, ◌&&◌, zero, suc, List, [], ◌∷◌, fold}
 use Rattle.std.proofs.Common.{length, drop, min, not, Option, Some, None}
-use Rattle.std.specs.List.{find, list_all, list_any}
+use Rattle.std.specs.List.{find, list_all}
 use Rattle.std.specs.Str.{bytes_eq, chars}
 use Rattle.std.specs.Prelude.{encode_utf8, slice_get, option_map}
 use Rattle.std.proofs.lemmas.Bool.{true≢false}
@@ -10,7 +10,7 @@ use Rattle.clap.specs.Lexer.{long_of, short_of}
 use Rattle.clap.specs.Walk.{Held, Names, Outcome, Row, Rule, Step, Text, Waiting, Walk, action_of, after_flag}
 use Rattle.clap.specs.Walk.{after_step, all_of, answers_to, arg_by_id, arg_by_index, arg_by_long, arg_by_short}
 use Rattle.clap.specs.Walk.{attached_value, bundle, bundle_met, bundle_step, count_of, counted, default_rows, done}
-use Rattle.clap.specs.Walk.{finished, flag_met, has_row, idle, is_pending, long_met, long_or_other, more_values}
+use Rattle.clap.specs.Walk.{flag_met, has_row, idle, is_pending, long_met, long_or_other, more_values}
 use Rattle.clap.specs.Walk.{new_count, next, nothing_held, option, option_met, option_word, plain, plain_word}
 use Rattle.clap.specs.Walk.{positional, positional_held, reacted, reading_by, refused, rows_after, settled}
 use Rattle.clap.specs.Walk.{settled_rows, short_met, short_or_plain, stop_after, subcommand, subcommand_met}

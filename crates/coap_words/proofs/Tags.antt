@@ -6,7 +6,7 @@ use Rattle.std.specs.Borrow.{Bor}
 use Rattle.std.proofs.lemmas.List.{get_or-map, length-map, length-take, map_more, take_all}
 use Rattle.clap.proofs.WalkLemmas.{raw_values-rows}
 use Rattle.clap.specs.Matches.{matched_of, raw_values}
-use Rattle.clap.specs.Words.{Row, Text, all_of, found_of, rows_of}
+use Rattle.clap.specs.Words.{Text, all_of, found_of, rows_of}
 use Rattle.clap.specs.declared.parser.matches.ArgMatches.{ArgMatches}
 use Rattle.coap_types.specs.declared.tag.TheConstants.{MAX_TAGS as max_tags}
 use Rattle.coap_words.specs.Asking.{AreNoTags, AreTagTexts, IsTagText, texts_of}

@@ -10,11 +10,11 @@ use Rattle.coap_words.specs.declared.orders.AskOptions.{AskOptions}
 use Rattle.coap_words.specs.declared.orders.Content.{Content}
 use Rattle.coap_words.specs.declared.orders.Content.TheVariants as content
 use Rattle.coap_words.specs.declared.orders.NumberRefusal.{NumberRefusal}
-use Rattle.coap_words.specs.declared.orders.NumberRefusal.TheVariants.{Format}
+use Rattle.coap_words.specs.declared.orders.NumberRefusal.TheVariants.{Format, Times, Seconds}
 use Rattle.coap_words.specs.declared.orders.TagsRefusal.{TagsRefusal}
 use Rattle.coap_words.specs.declared.orders.TagsRefusal.TheVariants.{IfMatch}
 use Rattle.coap_words.specs.declared.orders.What.{What}
-use Rattle.coap_words.specs.declared.orders.What.TheVariants.{Get, Put, Post, Delete}
+use Rattle.coap_words.specs.declared.orders.What.TheVariants.{Get, Put, Post, Delete, Observe}
 use Rattle.coap_words.specs.declared.orders.WordChoice.{WordChoice}
 use Rattle.coap_words.specs.declared.orders.WordChoice.TheVariants.{Given, Random}
 use Rattle.coap_words.specs.declared.orders.TheConstants.{DEFAULT_WORD as default_word}
@@ -31,7 +31,7 @@ AsksChange subcommand = (subcommand ≡ codes "delete") ⊎ SendsBody subcommand
 
 -- it asks something of a server
 abbrev pub IsAsk : Text → Type 0
-IsAsk subcommand = (subcommand ≡ codes "get") ⊎ AsksChange subcommand
+IsAsk subcommand = (subcommand ≡ codes "get") ⊎ ((subcommand ≡ codes "observe") ⊎ AsksChange subcommand)
 
 -- ---- the body: BODY, or what the file of this name holds, where the other is left out
 abbrev pub HasContent : List Row → Content → Type 0
@@ -49,6 +49,7 @@ IsWhat subcommand values Get = subcommand ≡ codes "get"
 IsWhat subcommand values (Put content) = (subcommand ≡ codes "put") × HasContent values content
 IsWhat subcommand values (Post content) = (subcommand ≡ codes "post") × HasContent values content
 IsWhat subcommand values Delete = subcommand ≡ codes "delete"
+IsWhat subcommand values Observe = subcommand ≡ codes "observe"
 
 -- ---- entity-tags (RFC 7252, section 5.10.6)
 
@@ -93,16 +94,20 @@ HasOptionalNumber argument values (Some n) = HasNumber argument values n
 abbrev pub HasFlag : Text → List Row → Bool → Type 0
 HasFlag name values set = IsTrue set ↔ IsValue name values (codes "true")
 
--- the word where none is given: what may change something begins with a random one
+-- the word where none is given: what may change something, and an observation, begin with a random one
 abbrev pub usual_word : What → WordChoice
 usual_word Get = Given default_word
 usual_word (Put content) = Random
 usual_word (Post content) = Random
 usual_word Delete = Random
+usual_word Observe = Random
 
 pub record HasOptions (usual : WordChoice) (values : List Row) (options : AskOptions) : Type 0 where
   pub format : HasOptionalNumber Format values options.format
   pub if_match : HasTags IfMatch values options.if_match
   pub if_none_match : HasFlag (codes "if-none-match") values options.if_none_match
+  pub times : HasOptionalNumber Times values options.times
+  pub seconds : HasOptionalNumber Seconds values options.seconds
+  pub hex : HasFlag (codes "hex") values options.hex
   pub word : HasWord usual values options.word
   pub limit : HasLimit values options.limit

@@ -70,6 +70,11 @@ post_app = leaf (codes "post") (asking (with_body (conditions of_an_end)))
 abbrev pub delete_app : App
 delete_app = leaf (codes "delete") (asking (conditions of_an_end))
 
+-- `coap observe PORT PATH --count N --seconds N --hex`, and the options of an end
+abbrev pub observe_app : App
+observe_app = leaf (codes "observe")
+    (asking (option_of (codes "count") ∷ option_of (codes "seconds") ∷ flag_of (codes "hex") ∷ of_an_end))
+
 -- `coap sim FILE --store list|map`
 abbrev pub sim_app : App
 sim_app = leaf (codes "sim") (required_word (codes "FILE") ∷ option_of (codes "store") ∷ [])
@@ -83,5 +88,5 @@ abbrev pub coap_app : App
 coap_app = record {
   top = record base_app.top { is_leaf = false };
   subs = show_app.top ∷ answer_app.top ∷ pair_app.top ∷ serve_app.top ∷ get_app.top ∷ put_app.top ∷ post_app.top
-      ∷ delete_app.top ∷ sim_app.top ∷ [];
+      ∷ delete_app.top ∷ observe_app.top ∷ sim_app.top ∷ [];
 }

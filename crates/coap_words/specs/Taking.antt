@@ -5,7 +5,7 @@ use Rattle.coap_words.specs.Asking.{AsksChange, HasNoTags, IsAsk, SendsBody, tag
 use Rattle.coap_words.specs.Numbers.{argument_of}
 use Rattle.coap_words.specs.Values.{HasNoNumber, HasNoWord}
 use Rattle.coap_words.specs.declared.orders.NumberRefusal.{NumberRefusal}
-use Rattle.coap_words.specs.declared.orders.NumberRefusal.TheVariants.{Port, Count, Limit, Format}
+use Rattle.coap_words.specs.declared.orders.NumberRefusal.TheVariants.{Port, Count, Limit, Format, Times, Seconds}
 use Rattle.coap_words.specs.declared.orders.TagsRefusal.{TagsRefusal}
 use Rattle.coap_words.specs.declared.orders.TagsRefusal.TheVariants.{IfMatch}
 use Rattle.coap_words.specs.declared.orders.Wrong.{Wrong}
@@ -25,6 +25,8 @@ TakesNumber Port subcommand = (subcommand ≡ codes "serve") ⊎ IsAsk subcomman
 TakesNumber Count subcommand = subcommand ≡ codes "serve"
 TakesNumber Limit subcommand = MakesEnd subcommand
 TakesNumber Format subcommand = SendsBody subcommand
+TakesNumber Times subcommand = subcommand ≡ codes "observe"
+TakesNumber Seconds subcommand = subcommand ≡ codes "observe"
 
 -- the subcommand takes this argument, entity-tags
 abbrev pub TakesTags : TagsRefusal → Text → Type 0

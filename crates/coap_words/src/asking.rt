@@ -7,7 +7,7 @@ ghost use Rattle.coap_words.specs.Numbers.{least_of, most_of};
 ghost use Rattle.coap_words.specs.Taking.{IsWrongOption};
 
 use crate::orders::{AskOptions, Content, NumberRefusal, TagsRefusal, WordChoice, Wrong};
-use crate::words::{limit, optional, small_number, word};
+use crate::words::{limit, number, optional, small_number, word};
 use clap::ArgMatches;
 use coap_types::{Tag, Tags};
 use hex::FromHexError;
@@ -39,6 +39,9 @@ pub(crate) fn options_of(
     let format = small_of(given, NumberRefusal::Format)?;
     let if_match = tags_of(alloc, given, TagsRefusal::IfMatch)?;
     let if_none_match = is_set(given, "if-none-match");
+    let times = number_of(given, NumberRefusal::Times)?;
+    let seconds = number_of(given, NumberRefusal::Seconds)?;
+    let hex = is_set(given, "hex");
     let Some(word) = word(given, usual) else {
         return Err(Wrong::Word);
     };
@@ -49,6 +52,9 @@ pub(crate) fn options_of(
         format,
         if_match,
         if_none_match,
+        times,
+        seconds,
+        hex,
         word,
         limit,
     })
@@ -65,6 +71,22 @@ fn small_of(given: &ArgMatches<'_>, argument: NumberRefusal) -> Result<Option<u1
         return Ok(None);
     };
     match small_number(text) {
+        Some(n) => Ok(Some(n)),
+        None => Err(Wrong::Number(argument)),
+    }
+}
+
+// A number of 64 bits, where it is there.
+fn number_of(given: &ArgMatches<'_>, argument: NumberRefusal) -> Result<Option<u64>, Wrong>
+    requires least { least_of argument ≡ 0 }
+    requires most { most_of argument ≡ 2 ^ 64 - 1 }
+    ensures { MatchResult result (HasOptionalNumber argument (rows_of (found_of given.now)))
+        (IsWrongOption (rows_of (found_of given.now))) }
+{
+    let Some(text) = optional(given, argument.name()) else {
+        return Ok(None);
+    };
+    match number(text) {
         Some(n) => Ok(Some(n)),
         None => Err(Wrong::Number(argument)),
     }

@@ -69,7 +69,7 @@ pub enum Order<'a> {
     },
 }
 
-/// What is asked of a server (RFC 7252, section 5.8).
+/// What is asked of a server (RFC 7252, section 5.8; RFC 7641).
 #[derive(Clone, Copy, Debug)]
 pub enum What<'a> {
     /// What it holds at the path.
@@ -80,18 +80,20 @@ pub enum What<'a> {
     Post(Content<'a>),
     /// That it hold nothing there.
     Delete,
+    /// What it holds at the path, each time that this changes (RFC 7641).
+    Observe,
 }
 
 impl<'a> What<'a> {
-    // The word that the client begins with where none is given. What may change something begins with a
-    // random one, since with the same word two runs have the same Message IDs and tokens (RFC 7252,
-    // sections 4.4 and 5.3.1).
+    // The word that the client begins with where none is given. What may change something, and an
+    // observation, begin with a random one, since with the same word two runs have the same Message IDs
+    // and tokens (RFC 7252, sections 4.4 and 5.3.1).
     pub(crate) fn usual_word(&self) -> WordChoice
         ensures { result ≡ usual_word self.now }
     {
         match self {
             What::Get => WordChoice::Given(DEFAULT_WORD),
-            What::Put(_) | What::Post(_) | What::Delete => WordChoice::Random,
+            What::Put(_) | What::Post(_) | What::Delete | What::Observe => WordChoice::Random,
         }
     }
 }
@@ -114,6 +116,12 @@ pub struct AskOptions {
     pub if_match: Tags,
     /// Whether nothing may be there yet.
     pub if_none_match: bool,
+    /// After how many values an observation is cancelled.
+    pub times: Option<u64>,
+    /// After how many seconds an observation is cancelled.
+    pub seconds: Option<u64>,
+    /// Whether values are printed in hex.
+    pub hex: bool,
     /// The word that the client begins with.
     pub word: WordChoice,
     /// The longest body that the client takes.
@@ -159,6 +167,12 @@ pub enum NumberRefusal {
     /// The format of a body.
     #[error("--format is no number from 0 to 65535")]
     Format,
+    /// After how many values an observation ends.
+    #[error("--count is no number from 0 to 18446744073709551615")]
+    Times,
+    /// After how many seconds an observation ends.
+    #[error("--seconds is no number from 0 to 18446744073709551615")]
+    Seconds,
 }
 
 impl NumberRefusal {
@@ -171,6 +185,8 @@ impl NumberRefusal {
             NumberRefusal::Count => "COUNT",
             NumberRefusal::Limit => "limit",
             NumberRefusal::Format => "format",
+            NumberRefusal::Times => "count",
+            NumberRefusal::Seconds => "seconds",
         }
     }
 }

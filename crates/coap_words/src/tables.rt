@@ -84,6 +84,25 @@ const IF_NONE_MATCH: Argument = Argument {
     help: "only where PATH holds nothing",
 };
 
+const TIMES: Argument = Argument {
+    form: Form::Single { value_name: "N" },
+    name: "count",
+    help: "ends after this many values; with neither this nor --seconds it goes on until the server ends it. \
+           A signal that ends it sends no cancel: the server goes on until a notification is not acknowledged",
+};
+
+const SECONDS: Argument = Argument {
+    form: Form::Single { value_name: "N" },
+    name: "seconds",
+    help: "ends after so many seconds",
+};
+
+const IN_HEX: Argument = Argument {
+    form: Form::Flag,
+    name: "hex",
+    help: "prints values in hex",
+};
+
 // --word, which is 1 where it is left out.
 const WORD: Argument = Argument {
     form: Form::Single {
@@ -94,7 +113,7 @@ const WORD: Argument = Argument {
 };
 
 // --word, which is drawn where it is left out.
-const CHANGE_WORD: Argument = Argument {
+const DRAWN_WORD: Argument = Argument {
     form: Form::Single {
         value_name: "N|random",
     },
@@ -117,7 +136,7 @@ const STORE: Argument = Argument {
 };
 
 /// The subcommands, in the order in which help lists them.
-pub(crate) static SUBCOMMANDS: [Subcommand; 9] = [
+pub(crate) static SUBCOMMANDS: [Subcommand; 10] = [
     Subcommand {
         name: "show",
         about: "Prints the message in a datagram, or its first fault",
@@ -154,7 +173,7 @@ pub(crate) static SUBCOMMANDS: [Subcommand; 9] = [
             FORMAT,
             IF_MATCH,
             IF_NONE_MATCH,
-            CHANGE_WORD,
+            DRAWN_WORD,
             LIMIT,
         ],
     },
@@ -169,7 +188,7 @@ pub(crate) static SUBCOMMANDS: [Subcommand; 9] = [
             FORMAT,
             IF_MATCH,
             IF_NONE_MATCH,
-            CHANGE_WORD,
+            DRAWN_WORD,
             LIMIT,
         ],
     },
@@ -181,9 +200,14 @@ pub(crate) static SUBCOMMANDS: [Subcommand; 9] = [
             PATH,
             IF_MATCH,
             IF_NONE_MATCH,
-            CHANGE_WORD,
+            DRAWN_WORD,
             LIMIT,
         ],
+    },
+    Subcommand {
+        name: "observe",
+        about: "Prints what the server at a port of 127.0.0.1 holds at PATH, each time that it changes",
+        arguments: &[SERVER_PORT, PATH, TIMES, SECONDS, IN_HEX, DRAWN_WORD, LIMIT],
     },
     Subcommand {
         name: "sim",

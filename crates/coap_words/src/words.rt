@@ -128,7 +128,7 @@ fn serve_order<'a>(given: &ArgMatches<'a>) -> Result<Order<'a>, Wrong>
     })
 }
 
-// `coap get PORT PATH`, and `put`, `post` and `delete`
+// `coap get PORT PATH`, and `put`, `post`, `delete` and `observe`
 #[tactic(auto, using(crate::proofs::CoapWords::value_wrong))]
 fn ask_order<'a>(
     alloc: Global,
@@ -174,6 +174,7 @@ fn what_of<'a>(subcommand: &str, given: &ArgMatches<'a>) -> Result<What<'a>, Wro
             None => Err(Wrong::Body),
         },
         "delete" => Ok(What::Delete),
+        "observe" => Ok(What::Observe),
         _ => unreachable!(),
     }
 }

@@ -1,12 +1,14 @@
 use Rattle.std.proofs.Common.{[]}
 use Rattle.coap_client.specs.Led.{Led}
 use Rattle.coap_client.specs.Object.CallShown.{shown_request}
+use Rattle.coap_commands.specs.Asks.{Asks}
 use Rattle.coap_commands.specs.Ends.{client_sizes}
 use Rattle.coap_commands.proofs.WhatBecomes.{began}
 use Rattle.coap_commands.proofs.ask.ask_over.Goals as goal
 
 pub returns : goal.returns
 returns g c =
-    began (λ server sizes w. Led server sizes w [] c.fresh_client-client.result) (shown_request c.args.request)
+    began (λ server sizes w. Led server sizes w [] c.fresh_client-client.result)
+    (λ server sizes w. Asks server sizes w (shown_request c.args.request))
     c.ask_and_tell-ended.result c.args.server (client_sizes c.args.limit) c.args.word c.fresh_client-client.ensures
     c.ask_and_tell-ended.ensures

@@ -1,4 +1,4 @@
-use Rattle.std.proofs.Common.{◌≡◌, ◌∙◌, ◌<◌, ap, sym, inr, arith}
+use Rattle.std.proofs.Common.{◌∙◌, ap, sym, inr, arith}
 use Rattle.clap.specs.Words.{first_of, found_of, rows_of}
 use Rattle.coap_words.proofs.asking.small_of.Goals as goal
 

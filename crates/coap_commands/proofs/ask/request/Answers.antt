@@ -1,5 +1,5 @@
 use Rattle.coap_commands.proofs.WhatBecomes.{asked_by}
-use Rattle.coap_commands.proofs.ask.ask.Goals as goal
+use Rattle.coap_commands.proofs.ask.request.Goals as goal
 
 pub returns : goal.returns
 returns g c =

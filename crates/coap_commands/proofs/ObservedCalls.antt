@@ -1,0 +1,142 @@
+-- What becomes of an observation, from the calls of its client to how it ends.
+use Rattle.std.proofs.Common.{◌≡◌, ◌≤◌, ◌+◌, ◌++◌, ◌∷◌, [], ℕ, List, Option, Some, None, Result, Ok, Err, IfOk, true, false}
+use Rattle.std.proofs.Common.{inl, inr, refl, subst, arith}
+use Rattle.std.specs.declared.alloc.Global.{Global}
+use Rattle.coap_types.specs.declared.endpoint.Endpoint.{Endpoint}
+use Rattle.coap_block.specs.Sizes.{Sizes}
+use Rattle.coap_client.specs.Led.{Led, State, Step}
+use Rattle.coap_client.specs.Object.Shown.{number_of, shown_report}
+use Rattle.coap_client.specs.Trace.{Asked, Call, Calls, Cancels, Feeds, Forgets, NextOut, NextReport, Report, Ticks, is_value}
+use Rattle.coap_client.specs.Trace.{Observes as observes}
+use Rattle.coap_client.specs.declared.client.report.CallId.{CallId}
+use Rattle.coap_client.specs.declared.client.report.Report as R
+use Rattle.coap_client.specs.declared.refusals.CallRefusal.{CallRefusal}
+use Rattle.coap_client.specs.declared.refusals.CancelRefusal.{CancelRefusal}
+use Rattle.coap_client.proofs.Facts.EachCall.{led_client}
+use Rattle.coap_words.specs.declared.orders.AskOptions.{AskOptions}
+use Rattle.coap_commands.specs.Asked.{IsObserved, IsWord}
+use Rattle.coap_commands.specs.Asks.{AsksNothing, Chain, Each, Turned, takes_report}
+use Rattle.coap_commands.specs.Ends.{client_sizes}
+use Rattle.coap_commands.specs.Observes.{AllObserving, HasAll, IsOver, ObserveBecomes, Observed, Observes, Observing, value_in, values_in}
+use Rattle.coap_commands.specs.declared.calling.Outcome.TheVariants.{Refused, Reported}
+use Rattle.coap_commands.specs.declared.status.Status.{Status}
+use Rattle.coap_commands.specs.declared.status.Stop.{Stop}
+use Rattle.coap_commands.proofs.TurnCalls.{chain_join}
+use Rattle.coap_commands.proofs.WhatBecomes.{led_on}
+
+-- ---- what is over stays over, as more values come
+
+has_all_on : (times : Option ℕ) (a b : ℕ) → a ≤ b → HasAll times a → HasAll times b
+has_all_on None a b le h = h
+has_all_on (Some times) a b le h = omega (arith, le, h)
+
+over_on : (options : AskOptions) (begin a b now : ℕ) → a ≤ b → IsOver options begin a now → IsOver options begin b now
+over_on options begin a b now le h = elim h [
+  | inl all ↦ inl (has_all_on options.times a b le all)
+  | inr late ↦ inr late
+]
+
+-- ---- calls that are added
+
+values_on : (calls earlier : List Call) → values_in earlier ≤ values_in (calls ++ earlier)
+values_on [] earlier = omega arith
+values_on (c ∷ calls) earlier = let h = values_on calls earlier in omega (arith, h)
+
+counted : (number : ℕ) (report : Report) → is_value report ≡ true → value_in (takes_report number report) ≡ 1
+counted number report is = rw is
+
+module _ (options : AskOptions) (begin number : ℕ) where
+  asks_nothing : (values : ℕ) (c : Call) → AsksNothing c → Observing options begin number values c
+  asks_nothing values (Calls now request answer) h = absurd h
+  asks_nothing values (observes now path answer) h = absurd h
+  asks_nothing values (Cancels now of answer) h = absurd h
+  asks_nothing values (Forgets of kept answer) h = absurd h
+  asks_nothing values (Feeds now from bytes word up settled event sent token kept) h = tt
+  asks_nothing values (Ticks now word below turn sent token kept answer) h = tt
+  asks_nothing values (NextOut answer) h = tt
+  asks_nothing values (NextReport answer) h = tt
+  asks_nothing values (Asked answer) h = absurd h
+
+  all_on : (calls earlier : List Call) → Each AsksNothing calls → AllObserving options begin number earlier
+      → AllObserving options begin number (calls ++ earlier)
+  all_on [] earlier h all = all
+  all_on (c ∷ calls) earlier h all =
+      (asks_nothing (values_in (calls ++ earlier)) c h.0, all_on calls earlier h.1 all)
+
+  pub observed_here : (s : State) → Observed options begin number s 0 s
+  observed_here s = ([], tt, omega arith, refl)
+
+  -- a turn
+  pub observed_on : (values : ℕ) (old mid new : State) → Observed options begin number old values mid
+      → Turned AsksNothing mid new → Observed options begin number old values new
+  observed_on values old mid new a b =
+      let more = values_on b.0 a.0 in
+      let few = a.2 in (
+        b.0 ++ a.0,
+        all_on b.0 a.0 b.1 a.1,
+        omega (arith, more, few),
+        chain_join old mid new b.0 a.0 a.3 b.2,
+      )
+
+  -- a value is taken
+  pub observed_value : (values more : ℕ) (report : Report) (old mid new : State) → Observed options begin number old values mid
+      → Step mid (takes_report number report) new → is_value report ≡ true → more ≤ values + 1
+      → Observed options begin number old more new
+  observed_value values more report old mid new a step is le =
+      let few = a.2 in
+      let one = counted number report is in (
+        takes_report number report ∷ a.0,
+        (tt, a.1),
+        omega (arith, few, one, le),
+        (mid, a.3, step),
+      )
+
+  -- it is cancelled
+  pub observed_cancel : (values now : ℕ) (answer : Option CancelRefusal) (old mid new : State)
+      → Observed options begin number old values mid → IsOver options begin values now
+      → Step mid (Cancels now number answer) new → Observed options begin number old values new
+  observed_cancel values now answer old mid new a over step =
+      let few = a.2 in (
+        Cancels now number answer ∷ a.0,
+        ((refl, over_on options begin values (values_in a.0) now few over), a.1),
+        omega (arith, few),
+        (mid, a.3, step),
+      )
+
+-- ---- from the client's beginning
+
+module _ (server : Endpoint) (sizes : Sizes) (word : ℕ) (options : AskOptions) (now : ℕ) (path : List (List ℕ)) where
+  pub taken_observes : (answer : Result CallId CallRefusal) (id : CallId) (report : R.Report Global) (values : ℕ)
+      (s turned taken : State)
+      → answer ≡ Ok id → Led server sizes word (observes now path (number_of answer) ∷ []) s
+      → Observed options now id.0 s values turned → Step turned (takes_report id.0 (shown_report report)) taken
+      → is_value (shown_report report) ≡ false → ObserveBecomes server sizes word path options (Reported report)
+  taken_observes answer id report values s turned taken is led h step last =
+      let first : List Call = observes now path (Ok id.0) ∷ [] in
+      let begun : Led server sizes word first s =
+      subst (λ (a : Result CallId CallRefusal). Led server sizes word (observes now path (number_of a) ∷ []) s) is led in (
+        now,
+        id.0,
+        h.0,
+        taken,
+        h.1,
+        last,
+        led_client server sizes word (h.0 ++ first) (takes_report id.0 (shown_report report)) turned taken
+            (led_on server sizes word first h.0 s turned begun h.3) step,
+      )
+
+  pub refused_observes : (answer : Result CallId CallRefusal) (why : CallRefusal) (s : State) → answer ≡ Err why
+      → Led server sizes word (observes now path (number_of answer) ∷ []) s
+      → ObserveBecomes server sizes word path options (Refused why)
+  refused_observes answer why s is led = (
+    now,
+    s,
+    subst (λ (a : Result CallId CallRefusal). Led server sizes word (observes now path (number_of a) ∷ []) s) is led,
+  )
+
+-- of the path and the options that the words say
+pub observed_by : (server : Endpoint) (word : ℕ) (path : List (List ℕ)) (options : AskOptions) (ended : Result Status Stop)
+    → IsWord options.word word → IfOk ended (Observes server (client_sizes options.limit) word path options)
+    → IfOk ended (IsObserved server.port path options)
+observed_by server word path options (Ok s) is_word is = (server, refl, word, is_word, is)
+observed_by server word path options (Err stop) is_word is = tt

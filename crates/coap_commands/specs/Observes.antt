@@ -1,0 +1,94 @@
+-- What becomes of an observation that a client is handed, and with which status a program ends that observes (RFC 7641,
+-- section 3).
+use Rattle.std.specs.Prelude.{◌≡◌, ◌≤◌, ◌⊎◌, ⊤, ℕ, ◌+◌, ◌-◌, ◌*◌, false, List, [], ◌∷◌, ◌++◌, Option}
+use Rattle.std.specs.Prelude.{None, Some, Ok, Err, if◌then◌else◌}
+use Rattle.std.specs.declared.alloc.Global.{Global}
+use Rattle.coap_types.specs.declared.endpoint.Endpoint.{Endpoint}
+use Rattle.coap_block.specs.Sizes.{Sizes}
+use Rattle.coap_client.specs.Led.{Led, State, Step}
+use Rattle.coap_client.specs.Object.Shown.{shown_report}
+use Rattle.coap_client.specs.Trace.{Call, Cancels, Feeds, NextOut, NextReport, Reported, Ticks, is_value}
+use Rattle.coap_client.specs.Trace.{Observes as observes}
+use Rattle.coap_client.specs.declared.client.report.Report as R
+use Rattle.coap_client.specs.declared.client.report.Report.TheVariants as report
+use Rattle.coap_words.specs.declared.orders.AskOptions.{AskOptions}
+use Rattle.coap_commands.specs.Asks.{Chain, takes_report}
+use Rattle.coap_commands.specs.declared.calling.Outcome.{Outcome}
+use Rattle.coap_commands.specs.declared.calling.Outcome.TheVariants as outcome
+use Rattle.coap_commands.specs.declared.observe.TheConstants.{MS_PER_SECOND as ms_per_second}
+use Rattle.coap_commands.specs.declared.status.Status.{Status}
+use Rattle.coap_commands.specs.declared.status.Status.TheVariants as status
+
+-- so many values are as many as are wanted
+abbrev pub HasAll : Option ℕ → ℕ → Type 0
+HasAll None values = ⊥
+HasAll (Some times) values = times ≤ values
+
+-- at that moment, the second one, so many seconds have passed since this one
+abbrev pub IsLate : Option ℕ → ℕ → ℕ → Type 0
+IsLate None begin now = ⊥
+IsLate (Some seconds) begin now = seconds * ms_per_second ≤ now - begin
+
+-- An observation that began at this moment is over, by the options, at that one: so many values of it were taken, or its
+-- time has passed.
+abbrev pub IsOver : AskOptions → ℕ → ℕ → ℕ → Type 0
+IsOver options begin values now = HasAll options.times values ⊎ IsLate options.seconds begin now
+
+-- how many values are taken
+abbrev pub value_of : Option Reported → ℕ
+value_of None = 0
+value_of (Some r) = if is_value r.report then 1 else 0
+
+abbrev pub value_in : Call → ℕ
+value_in (NextReport answer) = value_of answer
+value_in call = 0
+
+abbrev pub values_in : List Call → ℕ
+values_in [] = 0
+values_in (c ∷ earlier) = value_in c + values_in earlier
+
+-- A call of a client that observes, after so many values: a datagram is fed, time passes, or what is out or reported is
+-- taken; or the observation is cancelled, and is over (RFC 7641, section 3.6).
+abbrev pub Observing : AskOptions → ℕ → ℕ → ℕ → Call → Type 0
+Observing options begin number values (Feeds now from bytes word up settled event sent token kept) = ⊤
+Observing options begin number values (Ticks now word below turn sent token kept answer) = ⊤
+Observing options begin number values (NextOut answer) = ⊤
+Observing options begin number values (NextReport answer) = ⊤
+Observing options begin number values (Cancels now of answer) = (of ≡ number) × IsOver options begin values now
+Observing options begin number values call = ⊥
+
+-- each of these calls, the newest first
+abbrev pub AllObserving : AskOptions → ℕ → ℕ → List Call → Type 0
+AllObserving options begin number [] = ⊤
+AllObserving options begin number (c ∷ earlier) =
+    Observing options begin number (values_in earlier) c × AllObserving options begin number earlier
+
+-- such calls lead from one state to the other, and at least so many values are taken
+abbrev pub Observed : AskOptions → ℕ → ℕ → State → ℕ → State → Type 0
+Observed options begin number old values new =
+    (calls : List Call) × AllObserving options begin number calls × (values ≤ values_in calls) × Chain old calls new
+
+-- A client of this server began with this word and these sizes. It was called to observe the path, and cancelled that
+-- once it was over, and else was asked for nothing: it refused it; or it took it under a number, and then this was
+-- reported last of that number.
+abbrev pub ObserveBecomes : Endpoint → (sizes : Sizes) → ℕ → List (List ℕ) → AskOptions → Outcome → Type 0
+ObserveBecomes server sizes word path options (outcome.Refused why) =
+    (now : ℕ) × (s : State) × Led server sizes word (observes now path (Err why) ∷ []) s
+ObserveBecomes server sizes word path options (outcome.Reported report) =
+    (now : ℕ) × (number : ℕ) × (calls : List Call) × (s : State) × AllObserving options now number calls
+    × (is_value (shown_report report) ≡ false)
+    × Led server sizes word (takes_report number (shown_report report) ∷ calls ++ observes now path (Ok number) ∷ []) s
+
+-- done is an observation that is cancelled
+abbrev pub observed_report : R.Report Global → Status
+observed_report report.Cancelled = status.Done
+observed_report other = status.Refused
+
+abbrev pub observed_status : Outcome → Status
+observed_status (outcome.Refused why) = status.Refused
+observed_status (outcome.Reported report) = observed_report report
+
+-- a client observes this, and the status is that of what becomes of it
+abbrev pub Observes : Endpoint → (sizes : Sizes) → ℕ → List (List ℕ) → AskOptions → Status → Type 0
+Observes server sizes word path options status =
+    (outcome : Outcome) × ObserveBecomes server sizes word path options outcome × (status ≡ observed_status outcome)

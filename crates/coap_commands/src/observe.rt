@@ -1,0 +1,318 @@
+//! Observing a resource, and printing its values (RFC 7641).
+ghost use Rattle.std.specs.Prelude.{◌≡◌, ◌+◌, ◌≤◌, ◌∷◌, ℕ, List, [], true, false, IfNone, IfOk, IfSome};
+ghost use Rattle.coap_types.specs.declared.endpoint.Endpoint.{Endpoint as EndpointSpec};
+ghost use Rattle.coap_block.specs.Sizes.{Sizes};
+ghost use Rattle.coap_client.specs.Led.{Led, State, Step};
+ghost use Rattle.coap_client.specs.Object.Shown.{number_of, shown_report};
+ghost use Rattle.coap_client.specs.Trace.{Call, is_value};
+ghost use Rattle.coap_client.specs.Trace.{Observes as observes};
+ghost use Rattle.coap_words.specs.declared.orders.AskOptions.{AskOptions as OptionsSpec};
+ghost use Rattle.coap_commands.specs.Asked.{IsObserved};
+ghost use Rattle.coap_commands.specs.Asks.{takes_report};
+ghost use Rattle.coap_commands.specs.Ends.{client_sizes};
+ghost use Rattle.coap_commands.specs.Observes.{HasAll, IsLate, IsOver, ObserveBecomes, Observed, Observes};
+ghost use Rattle.coap_commands.specs.Observes.{observed_status};
+
+use crate::ask::next_report_of;
+use crate::bearing::bear;
+use crate::calling::{Outcome, outcome_text};
+use crate::ends::fresh_client;
+use crate::put_away::put_away;
+use crate::status::{Status, Stop};
+use crate::text::hex_or_dash;
+use crate::timekeeper::{ProgramTime, Timekeeper};
+use crate::word::word_of;
+use coap_ends::{CallId, CallRefusal, Client, Report};
+use coap_links::{ANY_PORT, Link, UdpLink, fresh_tally, get_turn, send_all};
+use coap_types::{Endpoint, Moment, Path};
+use coap_words::AskOptions;
+use std::alloc::Global;
+use std::hash::{BuildHasher, RandomState};
+use std::io::Write;
+use std::net::Net;
+use std::random::RandomSource;
+use std::rt::Clock;
+
+/// The milliseconds of a second.
+pub const MS_PER_SECOND: u64 = 1_000;
+
+const _: () = prove!(MS_PER_SECOND == 1_000);
+
+// Whether so many values are as many as are wanted.
+fn has_all(times: Option<u64>, values: u64) -> bool
+    ensures { result ≡ true → HasAll times values }
+{
+    match times {
+        Some(times) => times <= values,
+        None => false,
+    }
+}
+
+// Whether so many seconds have passed.
+fn is_late(seconds: Option<u64>, begin: Moment, now: Moment) -> bool
+    ensures { result ≡ true → IsLate seconds begin.0 now.0 }
+{
+    match seconds {
+        Some(seconds) => seconds <= now.since(begin) / MS_PER_SECOND,
+        None => false,
+    }
+}
+
+// Whether an observation that began at this moment is over, after so many values.
+fn is_over(options: &AskOptions, begin: Moment, values: u64, now: Moment) -> bool
+    ensures { result ≡ true → IsOver options.now begin.0 values now.0 }
+{
+    has_all(options.times, values) || is_late(options.seconds, begin, now)
+}
+
+// Prints a value on a line, at once; whether the report is one. One that comes when the observation is
+// over isn't printed.
+fn print_value<W: Write>(
+    alloc: Global,
+    report: &Report,
+    is_over: bool,
+    is_hex: bool,
+    out: &mut W,
+) -> Result<bool, Stop>
+    ensures { IfOk result (λ is. is ≡ is_value (shown_report report.now)) }
+{
+    let Report::Value(_, fetched) = report else {
+        return Ok(false);
+    };
+    if is_over {
+        return Ok(true);
+    }
+    print_line(alloc, fetched.body.as_slice(), is_hex, out)?;
+    Ok(true)
+}
+
+// Prints bytes on a line, at once.
+fn print_line<W: Write>(
+    alloc: Global,
+    bytes: &[u8],
+    is_hex: bool,
+    out: &mut W,
+) -> Result<(), Stop> {
+    if is_hex {
+        let text = hex_or_dash(alloc, bytes)?;
+        writeln!(out, "{text}")?;
+    } else {
+        out.write_all(bytes)?;
+        writeln!(out)?;
+    }
+    out.flush()?;
+    Ok(())
+}
+
+// Takes the next report of the observation: prints and counts it where it is a value, and else answers it, as it
+// is the last one.
+fn last_report<H: BuildHasher, W: Write>(
+    alloc: Global,
+    client: &mut Client<Global, H>,
+    id: CallId,
+    values: &mut u64,
+    is_over: bool,
+    is_hex: bool,
+    out: &mut W,
+) -> Result<Option<Report>, Stop>
+    ensures last { IfOk result (λ last. IfSome last (λ report. Step client.old
+        (takes_report id.0 (shown_report report)) client.new × (is_value (shown_report report) ≡ false))) }
+    ensures more { (options : OptionsSpec) (begin : ℕ) (s : State) → Observed options begin id.0 s values.old client.old
+        → IfOk result (λ last. IfNone last (Observed options begin id.0 s values.new client.new)) }
+{
+    let Some(report) = next_report_of(client, id) else {
+        return Ok(None);
+    };
+    if print_value(alloc, &report, is_over, is_hex, out)? {
+        *values = values.saturating_add(1);
+        return Ok(None);
+    }
+    Ok(Some(report))
+}
+
+// Cancels the observation where it is over (RFC 7641, section 3.6). That is refused, and tried again later, while the
+// registration is not answered; and where it is cancelled already.
+fn cancel_at_end<H: BuildHasher>(
+    client: &mut Client<Global, H>,
+    id: CallId,
+    options: &AskOptions,
+    begin: Moment,
+    values: u64,
+    now: Moment,
+)
+    ensures { (s : State) → Observed options.now begin.0 id.0 s values client.old
+        → Observed options.now begin.0 id.0 s values client.new }
+{
+    if is_over(options, begin, values, now) {
+        let _answer = client.cancel(now, id);
+    }
+}
+
+// Turns the client until it reports for the last time of this observation, which began at this moment,
+// and sends what is out then.
+fn reported<H: BuildHasher, L: Link, T: Timekeeper, W: Write>(
+    alloc: Global,
+    client: &mut Client<Global, H>,
+    link: &mut L,
+    time: &mut T,
+    id: CallId,
+    begin: Moment,
+    options: &AskOptions,
+    word: u64,
+    out: &mut W,
+) -> Result<Report, Stop>
+    ensures { IfOk result (λ report. (turned : State) × (values : ℕ) × (taken : State)
+        × Observed options.now begin.0 id.0 client.old values turned
+        × Step turned (takes_report id.0 (shown_report report)) taken × (is_value (shown_report report) ≡ false)) }
+{
+    let mut tally = fresh_tally(word);
+    let mut values = 0;
+    // More turns than a program lives.
+    for _turn in 0..u64::MAX {
+        let now = time.now()?;
+        get_turn(client, link, now, &mut tally);
+        let is_over = is_over(options, begin, values, now);
+        if let Some(report) = last_report(
+            alloc,
+            client,
+            id,
+            &mut values,
+            is_over,
+            options.hex,
+            out,
+        )? {
+            send_all(client, link);
+            return Ok(report);
+        }
+        cancel_at_end(client, id, options, begin, values, now);
+        bear(link, &tally)?;
+    }
+    Err(Stop::Failed)
+}
+
+// Hands a client the observation of a path: its number, or the refusal where the client does not take it.
+fn register<H: BuildHasher>(
+    client: &mut Client<Global, H>,
+    now: Moment,
+    path: &Path,
+) -> Result<Result<CallId, CallRefusal>, Stop>
+    ensures { IfOk result (λ answer. (server : EndpointSpec) (sizes : Sizes) (w : ℕ) (t : List Call)
+        → Led server sizes w t client.old
+        → Led server sizes w (observes now.0 path.now (number_of answer) ∷ t) client.new) }
+{
+    match client.observe(now, path.clone()?) {
+        Ok(id) => Ok(Ok(id)),
+        Err(CallRefusal::Memory) => Err(Stop::Memory),
+        Err(refusal) => Ok(Err(refusal)),
+    }
+}
+
+// What becomes of an observation, where the client was asked for nothing before.
+fn outcome_of<H: BuildHasher, L: Link, T: Timekeeper, W: Write>(
+    alloc: Global,
+    client: &mut Client<Global, H>,
+    link: &mut L,
+    time: &mut T,
+    path: &Path,
+    options: &AskOptions,
+    word: u64,
+    out: &mut W,
+) -> Result<Outcome, Stop>
+    ensures { IfOk result (λ outcome. (server : EndpointSpec) (sizes : Sizes) (w : ℕ)
+        → Led server sizes w [] client.old → ObserveBecomes server sizes w path.now options.now outcome) }
+{
+    let begin = time.now()?;
+    match register(client, begin, path)? {
+        Ok(id) => {
+            let report = reported(alloc, client, link, time, id, begin, options, word, out)?;
+            Ok(Outcome::Reported(report))
+        }
+        Err(refusal) => Ok(Outcome::Refused(refusal)),
+    }
+}
+
+// Says how an observation ended.
+fn tell<E: Write>(alloc: Global, outcome: &Outcome, err: &mut E) -> Result<Status, Stop>
+    ensures { IfOk result (λ status. status ≡ observed_status outcome.now) }
+{
+    let text = outcome_text(alloc, outcome)?;
+    let _ = writeln!(err, "{text}");
+    if let Outcome::Reported(Report::Cancelled) = outcome {
+        return Ok(Status::Done);
+    }
+    Ok(Status::Refused)
+}
+
+// Observes, and says how it ended.
+fn observe_and_tell<H: BuildHasher, L: Link, T: Timekeeper, O: Write, E: Write>(
+    alloc: Global,
+    client: &mut Client<Global, H>,
+    link: &mut L,
+    time: &mut T,
+    path: &Path,
+    options: &AskOptions,
+    word: u64,
+    writers: (&mut O, &mut E),
+) -> Result<Status, Stop>
+    ensures { IfOk result (λ status. (server : EndpointSpec) (sizes : Sizes) (w : ℕ)
+        → Led server sizes w [] client.old → Observes server sizes w path.now options.now status) }
+{
+    let (out, err) = writers;
+    let outcome = outcome_of(alloc, client, link, time, path, options, word, out)?;
+    tell(alloc, &outcome, err)
+}
+
+/// Observes what a server holds at a path, and prints each value on a line of `out`, and on `err` how it
+/// ended. It ends after as many values, or seconds, as the options say, and with neither when the server
+/// ends it. The client begins with this word, and takes bodies up to the limit of the options.
+pub fn observe_over<L: Link, T: Timekeeper, H: BuildHasher + Drop, O: Write, E: Write>(
+    alloc: Global,
+    link: &mut L,
+    server: Endpoint,
+    time: &mut T,
+    hasher: H,
+    path: &Path,
+    options: &AskOptions,
+    word: u64,
+    writers: (&mut O, &mut E),
+) -> Result<Status, Stop>
+    // A client of this server was called to observe the path, and then only to cancel that, once it was over by the options; the
+    // status is 0 where it was reported last that it is cancelled, and else 1.
+    ensures { IfOk result (Observes server (client_sizes options.now.limit) word path.now options.now) }
+{
+    let mut client = fresh_client(alloc, server, word, options.limit, hasher);
+    let ended = observe_and_tell(alloc, &mut client, link, time, path, options, word, writers);
+    put_away(client);
+    ended
+}
+
+/// Observes what the server at a port of 127.0.0.1 holds at a path.
+pub(crate) fn observe<R: AllocGlobal + Net + Clock + RandomSource, O: Write, E: Write>(
+    rt: &R,
+    port: u16,
+    path: &Path,
+    options: &AskOptions,
+    writers: (&mut O, &mut E),
+) -> Result<Status, Stop>
+    ensures { IfOk result (IsObserved port path.now options.now) }
+{
+    let word = word_of(rt, options.word)?;
+    let mut time = ProgramTime::begin(rt)?;
+    let mut link = UdpLink::bind(rt, ANY_PORT)?;
+    let server = Endpoint {
+        port,
+        ..link.address()
+    };
+    let hasher = RandomState::new(rt)?;
+    observe_over(
+        rt.alloc(),
+        &mut link,
+        server,
+        &mut time,
+        hasher,
+        path,
+        options,
+        word,
+        writers,
+    )
+}
