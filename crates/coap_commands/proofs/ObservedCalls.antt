@@ -1,5 +1,5 @@
 -- What becomes of an observation, from the calls of its client to how it ends.
-use Rattle.std.proofs.Common.{◌≡◌, ◌≤◌, ◌+◌, ◌++◌, ◌∷◌, [], ℕ, List, Option, Some, None, Result, Ok, Err, true, false}
+use Rattle.std.proofs.Common.{◌≡◌, ◌≤◌, ◌+◌, ◌++◌, ◌∷◌, [], ℕ, List, Option, Some, None, Result, Ok, Err, IfOk, true, false}
 use Rattle.std.proofs.Common.{inl, inr, refl, subst, arith}
 use Rattle.std.specs.declared.alloc.Global.{Global}
 use Rattle.coap_types.specs.declared.endpoint.Endpoint.{Endpoint}
@@ -14,9 +14,13 @@ use Rattle.coap_client.specs.declared.refusals.CallRefusal.{CallRefusal}
 use Rattle.coap_client.specs.declared.refusals.CancelRefusal.{CancelRefusal}
 use Rattle.coap_client.proofs.Facts.EachCall.{led_client}
 use Rattle.coap_words.specs.declared.orders.AskOptions.{AskOptions}
+use Rattle.coap_commands.specs.Asked.{IsObserved, IsWord}
 use Rattle.coap_commands.specs.Asks.{AsksNothing, Chain, Each, Turned, takes_report}
-use Rattle.coap_commands.specs.Observes.{AllObserving, HasAll, IsOver, ObserveBecomes, Observed, Observing, value_in, values_in}
+use Rattle.coap_commands.specs.Ends.{client_sizes}
+use Rattle.coap_commands.specs.Observes.{AllObserving, HasAll, IsOver, ObserveBecomes, Observed, Observes, Observing, value_in, values_in}
 use Rattle.coap_commands.specs.declared.calling.Outcome.TheVariants.{Refused, Reported}
+use Rattle.coap_commands.specs.declared.status.Status.{Status}
+use Rattle.coap_commands.specs.declared.status.Stop.{Stop}
 use Rattle.coap_commands.proofs.TurnCalls.{chain_join}
 use Rattle.coap_commands.proofs.WhatBecomes.{led_on}
 
@@ -129,3 +133,10 @@ module _ (server : Endpoint) (sizes : Sizes) (word : ℕ) (options : AskOptions)
     s,
     subst (λ (a : Result CallId CallRefusal). Led server sizes word (observes now path (number_of a) ∷ []) s) is led,
   )
+
+-- of the path and the options that the words say
+pub observed_by : (server : Endpoint) (word : ℕ) (path : List (List ℕ)) (options : AskOptions) (ended : Result Status Stop)
+    → IsWord options.word word → IfOk ended (Observes server (client_sizes options.limit) word path options)
+    → IfOk ended (IsObserved server.port path options)
+observed_by server word path options (Ok s) is_word is = (server, refl, word, is_word, is)
+observed_by server word path options (Err stop) is_word is = tt

@@ -33,7 +33,10 @@ use std::random::RandomSource;
 use std::rt::{Clock, Files};
 
 /// Takes the next report; what it is, where it is of this call.
-pub(crate) fn next_report_of<H: BuildHasher>(client: &mut Client<Global, H>, id: CallId) -> Option<Report>
+pub(crate) fn next_report_of<H: BuildHasher>(
+    client: &mut Client<Global, H>,
+    id: CallId,
+) -> Option<Report>
     ensures some { IfSome result (λ report. Step client.old
         (NextReport (Some (record { number = id.0; report = shown_report report }))) client.new) }
     ensures none { IfNone result (Turned AsksNothing client.old client.new) }
@@ -208,7 +211,7 @@ pub(crate) fn ask<R: AllocGlobal + Files + Net + Clock + RandomSource, O: Write,
     options: &AskOptions,
     writers: (&mut O, &mut E),
 ) -> Result<Status, Stop>
-    ensures { IfOk result (IsAsked port path.now what options.now) }
+    ensures { IfOk result (IsAsked port path.now what.entry options.now) }
 {
     let (out, err) = writers;
     match what {

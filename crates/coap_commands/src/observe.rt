@@ -1,10 +1,11 @@
 //! Observing a resource, and printing its values (RFC 7641).
-ghost use Rattle.std.specs.Prelude.{◌≡◌, ◌+◌, ◌≤◌, ◌×◌, ℕ, [], true, false, IfNone, IfOk, IfSome};
+ghost use Rattle.std.specs.Prelude.{◌≡◌, ◌+◌, ◌≤◌, ◌∷◌, ℕ, List, [], true, false, IfNone, IfOk, IfSome};
 ghost use Rattle.coap_types.specs.declared.endpoint.Endpoint.{Endpoint as EndpointSpec};
 ghost use Rattle.coap_block.specs.Sizes.{Sizes};
 ghost use Rattle.coap_client.specs.Led.{Led, State, Step};
-ghost use Rattle.coap_client.specs.Object.Shown.{shown_report};
-ghost use Rattle.coap_client.specs.Trace.{is_value};
+ghost use Rattle.coap_client.specs.Object.Shown.{number_of, shown_report};
+ghost use Rattle.coap_client.specs.Trace.{Call, is_value};
+ghost use Rattle.coap_client.specs.Trace.{Observes as observes};
 ghost use Rattle.coap_words.specs.declared.orders.AskOptions.{AskOptions as OptionsSpec};
 ghost use Rattle.coap_commands.specs.Asked.{IsObserved};
 ghost use Rattle.coap_commands.specs.Asks.{takes_report};
@@ -171,9 +172,15 @@ fn reported<H: BuildHasher, L: Link, T: Timekeeper, W: Write>(
         let now = time.now()?;
         get_turn(client, link, now, &mut tally);
         let is_over = is_over(options, begin, values, now);
-        if let Some(report) =
-            last_report(alloc, client, id, &mut values, is_over, options.hex, out)?
-        {
+        if let Some(report) = last_report(
+            alloc,
+            client,
+            id,
+            &mut values,
+            is_over,
+            options.hex,
+            out,
+        )? {
             send_all(client, link);
             return Ok(report);
         }
@@ -181,6 +188,23 @@ fn reported<H: BuildHasher, L: Link, T: Timekeeper, W: Write>(
         bear(link, &tally)?;
     }
     Err(Stop::Failed)
+}
+
+// Hands a client the observation of a path: its number, or the refusal where the client does not take it.
+fn register<H: BuildHasher>(
+    client: &mut Client<Global, H>,
+    now: Moment,
+    path: &Path,
+) -> Result<Result<CallId, CallRefusal>, Stop>
+    ensures { IfOk result (λ answer. (server : EndpointSpec) (sizes : Sizes) (w : ℕ) (t : List Call)
+        → Led server sizes w t client.old
+        → Led server sizes w (observes now.0 path.now (number_of answer) ∷ t) client.new) }
+{
+    match client.observe(now, path.clone()?) {
+        Ok(id) => Ok(Ok(id)),
+        Err(CallRefusal::Memory) => Err(Stop::Memory),
+        Err(refusal) => Ok(Err(refusal)),
+    }
 }
 
 // What becomes of an observation, where the client was asked for nothing before.
@@ -198,12 +222,11 @@ fn outcome_of<H: BuildHasher, L: Link, T: Timekeeper, W: Write>(
         → Led server sizes w [] client.old → ObserveBecomes server sizes w path.now options.now outcome) }
 {
     let begin = time.now()?;
-    match client.observe(begin, path.clone()?) {
+    match register(client, begin, path)? {
         Ok(id) => {
             let report = reported(alloc, client, link, time, id, begin, options, word, out)?;
             Ok(Outcome::Reported(report))
         }
-        Err(CallRefusal::Memory) => Err(Stop::Memory),
         Err(refusal) => Ok(Outcome::Refused(refusal)),
     }
 }
