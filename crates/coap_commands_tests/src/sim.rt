@@ -135,14 +135,7 @@ fn check_plain_case(rt: &impl Abort, alloc: Global, case: &str) -> Result<(), Fa
     assert!(rt; !printed.as_str().contains(" memory\n"));
     let ending = (status_of(printed.as_str()), printed.as_bytes());
     let plains = [path_of_text(alloc, "t")?];
-    check_script_with(
-        rt,
-        alloc,
-        name_of(case),
-        script.as_bytes(),
-        &plains,
-        ending,
-    );
+    check_script_with(rt, alloc, name_of(case), script.as_bytes(), &plains, ending);
     Ok(())
 }
 
