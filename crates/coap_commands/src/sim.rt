@@ -33,7 +33,8 @@ pub fn sim_to<A: Allocator + Copy, R: Read, W: Write>(
     // A script is run with status 0, 1 or 2, or stops.
     ensures { IfOk result IsOfScript }
 {
-    sim_with(alloc, script, StoreKind::Map, &[], out)
+    let no_path: [Path<A>; 0] = [];
+    sim_with(alloc, script, StoreKind::Map, &no_path, out)
 }
 
 /// Runs a script as [`sim_to`] does, over a server with such a store, which tells the observers of these
