@@ -276,8 +276,8 @@ pub fn observe_over<L: Link, T: Timekeeper, H: BuildHasher + Drop, O: Write, E: 
     word: u64,
     writers: (&mut O, &mut E),
 ) -> Result<Status, Stop>
-    // A client of this server was called to observe the path, and then only to cancel that, once there were as many values or
-    // as many seconds had passed as the options say; the status is 0 where that it is cancelled was reported last, and else 1.
+    // A client of this server was called to observe the path, and then only to cancel that, once it was over by the options; the
+    // status is 0 where it was reported last that it is cancelled, and else 1.
     ensures { IfOk result (Observes server (client_sizes options.now.limit) word path.now options.now) }
 {
     let mut client = fresh_client(alloc, server, word, options.limit, hasher);
