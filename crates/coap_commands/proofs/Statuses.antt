@@ -22,10 +22,12 @@ use Rattle.coap_commands.specs.Statuses.{status_number, status_of}
 use Rattle.coap_words.specs.Asking.{AreTagTexts, AsksChange, HasContent, HasNoContent, HasNoTags, HasOptionalNumber, HasTags, IsAsk}
 use Rattle.coap_words.specs.Asking.{IsTagText, IsWhat, SendsBody, tags_argument_of, texts_of}
 use Rattle.coap_words.specs.Numbers.{IsNumber, argument_of, least_of, most_of}
+use Rattle.coap_words.specs.Plains.{HasPlains}
 use Rattle.coap_words.specs.Taking.{MakesEnd, TakesNumber, TakesPath, TakesTags}
 use Rattle.coap_words.specs.Values.{Enters, HasBytes, HasLimit, HasNoBytes, HasNoNumber, HasNoPath, HasNoStore}
 use Rattle.coap_words.specs.Values.{HasNoWord, HasNumber, HasPath, HasStore, HasWord, IsChoice, IsValue, store_name}
 use Rattle.coap_words.specs.Words.{AsksFor, AsksForIn, EntersWrong, IsPathFine, IsRefusedBy, IsWrong, IsWrongIn}
+use Rattle.coap_words.proofs.Facts.NamedPaths.{each_is_one, not_too_many}
 use Rattle.coap_commands.specs.declared.status.Status.{Status}
 use Rattle.coap_commands.specs.declared.status.Status.TheVariants as status
 use Rattle.coap_commands.specs.declared.status.Stop.{Stop}
@@ -44,7 +46,8 @@ use Rattle.coap_words.specs.declared.orders.What.{What}
 use Rattle.coap_words.specs.declared.orders.What.TheVariants.{Get, Put, Post, Delete, Observe}
 use Rattle.coap_words.specs.declared.orders.WordChoice.{WordChoice}
 use Rattle.coap_words.specs.declared.orders.Wrong.{Wrong}
-use Rattle.coap_words.specs.declared.orders.Wrong.TheVariants.{Words, Path, Number, Word, Tags, Body, Store, Hex, Memory}
+use Rattle.coap_words.specs.declared.orders.Wrong.TheVariants.{Words, Path, Number, Word, Tags, Body, Store, Plains}
+use Rattle.coap_words.specs.declared.orders.Wrong.TheVariants.{Hex, Memory}
 use Rattle.coap_types.specs.declared.path.PathRefusal.{PathRefusal}
 use Rattle.coap_types.specs.declared.path.TheConstants.{MAX_SEGMENT_LEN as max_segment_len}
 use Rattle.coap_types.specs.declared.path.TheConstants.{MAX_SEGMENTS as max_segments}
@@ -199,13 +202,32 @@ has_path name v (Pair path body word limit) takes h = (path, h.1, h.2)
 has_path name v (Serve port count word limit) takes h =
     absurd (takes_none (codes "serve") name serve_asks_none refl refl h.0 takes)
 has_path name v (Ask port path what options) takes h = (path, h.2, h.3)
-has_path name v (Sim file store) takes h = absurd (takes_none (codes "sim") name sim_asks_none refl refl h.0 takes)
+has_path name v (Sim file store plains) takes h = absurd (takes_none (codes "sim") name sim_asks_none refl refl h.0 takes)
+
+-- the order of `sim`, which alone takes plain paths
+has_plains : (name : Text) (v : List Row) (order : Order) → name ≡ codes "sim" → AsksForIn name v order
+    → (plains : List (List (List ℕ))) × HasPlains v plains
+has_plains name v (Show datagram) sim h = absurd (differ (codes "show") (codes "sim") name refl h.0 sim)
+has_plains name v (Answer path body datagram) sim h = absurd (differ (codes "answer") (codes "sim") name refl h.0 sim)
+has_plains name v (Pair path body word limit) sim h = absurd (differ (codes "pair") (codes "sim") name refl h.0 sim)
+has_plains name v (Serve port count word limit) sim h = absurd (differ (codes "serve") (codes "sim") name refl h.0 sim)
+has_plains name v (Ask port path what options) sim h =
+    absurd (asks_none (codes "sim") name sim_asks_none sim (what_asks name v what h.0))
+has_plains name v (Sim file store plains) sim h = (plains.items, h.3)
+
+not_plains : (order : Order) (name : Text) (v : List Row) → AsksForIn name v order → IsWrongIn name v Plains → ⊥
+not_plains order name v asks (sim, many) =
+    let p = has_plains name v order sim asks in
+    not_too_many v p.0 p.1 many
 
 not_path : (order : Order) (why : PathRefusal) (name : Text) (v : List Row) → AsksForIn name v order
     → IsWrongIn name v (Path why) → ⊥
-not_path order why name v asks (takes, none) =
-    let p = has_path name v order takes asks in
-    path_or_not v p.0 why p.1 p.2 none
+not_path order why name v asks (inl wrong) =
+    let p = has_path name v order wrong.0 asks in
+    path_or_not v p.0 why p.1 p.2 wrong.1
+not_path order why name v asks (inr wrong) =
+    let p = has_plains name v order wrong.0 asks in
+    each_is_one v p.0 why p.1 wrong.1
 
 -- the argument has a number, or it has no value
 abbrev MayHave : NumberRefusal → List Row → Type 0
@@ -253,7 +275,7 @@ has_number name v (Ask port path what options) Limit takes h = of_limit v option
 has_number name v (Ask port path what options) Format takes h = of_optional v Format options.format h.4.format
 has_number name v (Ask port path what options) Times takes h = of_optional v Times options.times h.4.times
 has_number name v (Ask port path what options) Seconds takes h = of_optional v Seconds options.seconds h.4.seconds
-has_number name v (Sim file store) why takes h =
+has_number name v (Sim file store plains) why takes h =
     absurd (counts_none (codes "sim") name why sim_asks_none refl refl h.0 takes)
 
 number_or_not : (v : List Row) (why : NumberRefusal) → MayHave why v → HasNoNumber why v → ⊥
@@ -285,7 +307,7 @@ not_word (Answer path body datagram) name v h (takes, none) =
 not_word (Pair path body word limit) name v h (takes, none) = word_or_not v _ word h.4 none
 not_word (Serve port count word limit) name v h (takes, none) = word_or_not v _ word h.3 none
 not_word (Ask port path what options) name v h (takes, none) = word_or_not v _ options.word h.4.word none
-not_word (Sim file store) name v h (takes, none) =
+not_word (Sim file store plains) name v h (takes, none) =
     absurd (makes_none (codes "sim") name sim_asks_none refl refl h.0 takes)
 
 same_length : (texts : List Text) (tags : List (List ℕ)) → AreTagTexts texts tags → length tags ≡ length texts
@@ -321,7 +343,7 @@ not_tags (Serve port count word limit) why name v h (takes, none) =
     absurd (tags_none (codes "serve") name why serve_asks_none h.0 takes)
 not_tags (Ask port path what options) IfMatch name v h (takes, none) =
     tags_or_not v IfMatch options.if_match h.4.if_match none
-not_tags (Sim file store) why name v h (takes, none) =
+not_tags (Sim file store plains) why name v h (takes, none) =
     absurd (tags_none (codes "sim") name why sim_asks_none h.0 takes)
 
 content_or_not : (v : List Row) (content : Content) → HasContent v content → HasNoContent v → ⊥
@@ -343,7 +365,7 @@ not_body (Answer path body datagram) name v h (sends, none) = sends_none (codes 
 not_body (Pair path body word limit) name v h (sends, none) = sends_none (codes "pair") name refl refl h.0 sends
 not_body (Serve port count word limit) name v h (sends, none) = sends_none (codes "serve") name refl refl h.0 sends
 not_body (Ask port path what options) name v h (sends, none) = body_of_what v what name h.0 sends none
-not_body (Sim file store) name v h (sends, none) = sends_none (codes "sim") name refl refl h.0 sends
+not_body (Sim file store plains) name v h (sends, none) = sends_none (codes "sim") name refl refl h.0 sends
 
 store_or_not : (v : List Row) (store : StoreKind) → HasStore v store → HasNoStore v → ⊥
 store_or_not v store (inl none) q = absurd (cc (sym none.0 ∙ q.1))
@@ -357,7 +379,7 @@ has_store name v (Pair path body word limit) sim h = absurd (differ (codes "pair
 has_store name v (Serve port count word limit) sim h = absurd (differ (codes "serve") (codes "sim") name refl h.0 sim)
 has_store name v (Ask port path what options) sim h =
     absurd (asks_none (codes "sim") name sim_asks_none sim (what_asks name v what h.0))
-has_store name v (Sim file store) sim h = (store, h.2)
+has_store name v (Sim file store plains) sim h = (store, h.2)
 
 not_store : (order : Order) (name : Text) (v : List Row) → AsksForIn name v order → IsWrongIn name v Store → ⊥
 not_store order name v asks (sim, none) =
@@ -371,7 +393,7 @@ has_bytes name v (Answer path body datagram) h fine = (datagram.items, h.4)
 has_bytes name v (Pair path body word limit) h fine = absurd (hexless (codes "pair") name v refl refl h.0 fine)
 has_bytes name v (Serve port count word limit) h fine = absurd (hexless (codes "serve") name v refl refl h.0 fine)
 has_bytes name v (Ask port path what options) h fine = absurd (asks_hexless name v (what_asks name v what h.0) fine)
-has_bytes name v (Sim file store) h fine = absurd (hexless (codes "sim") name v refl refl h.0 fine)
+has_bytes name v (Sim file store plains) h fine = absurd (hexless (codes "sim") name v refl refl h.0 fine)
 
 not_hex : (order : Order) (name : Text) (v : List Row) → AsksForIn name v order → IsWrongIn name v Hex → ⊥
 not_hex order name v asks (fine, none) =
@@ -384,10 +406,11 @@ not_hex order name v asks (fine, none) =
 not_both : (wrong : Wrong) (name : Text) (v : List Row) → IsWrongIn name v Hex → IsWrongIn name v wrong
     → (wrong ≡ Hex) ⊎ (wrong ≡ Memory)
 not_both (Words error) name v bad is = absurd is
-not_both (Path why) name v (fine, none) (takes, not_path) = elim fine [
-  | inl shows ↦ absurd (takes_none (codes "show") name show_asks_none refl refl shows takes)
-  | inr h ↦ absurd (path_or_not v h.1 why h.2 h.3 not_path)
+not_both (Path why) name v (fine, none) (inl wrong) = elim fine [
+  | inl shows ↦ absurd (takes_none (codes "show") name show_asks_none refl refl shows wrong.0)
+  | inr h ↦ absurd (path_or_not v h.1 why h.2 h.3 wrong.1)
 ]
+not_both (Path why) name v (fine, none) (inr wrong) = absurd (hexless (codes "sim") name v refl refl wrong.0 fine)
 not_both (Number why) name v (fine, none) (takes, other) = elim fine [
   | inl shows ↦ absurd (counts_none (codes "show") name why show_asks_none refl refl shows takes)
   | inr h ↦ absurd (counts_none (codes "answer") name why answer_asks_none refl refl h.0 takes)
@@ -408,6 +431,7 @@ not_both Store name v (fine, none) (sim, other) = elim fine [
   | inl shows ↦ absurd (differ (codes "sim") (codes "show") name refl sim shows)
   | inr h ↦ absurd (differ (codes "sim") (codes "answer") name refl sim h.0)
 ]
+not_both Plains name v (fine, none) (sim, other) = absurd (hexless (codes "sim") name v refl refl sim fine)
 not_both Hex name v bad is = inl refl
 not_both Memory name v bad is = inr refl
 
@@ -439,6 +463,7 @@ with_2 Word n is = inl is
 with_2 (Tags why) n is = inl is
 with_2 Body n is = inl is
 with_2 Store n is = inl is
+with_2 Plains n is = inl is
 with_2 Hex n is = inl is
 with_2 Memory n is = tt
 
@@ -450,6 +475,7 @@ with_4 Word n is = inr is
 with_4 (Tags why) n is = inr is
 with_4 Body n is = inr is
 with_4 Store n is = inr is
+with_4 Plains n is = inr is
 with_4 Hex n is = inr (inr is)
 with_4 Memory n is = tt
 
@@ -470,6 +496,7 @@ with_3 words Word n bad is three = hex_alone words Word n bad is three
 with_3 words (Tags why) n bad is three = hex_alone words (Tags why) n bad is three
 with_3 words Body n bad is three = hex_alone words Body n bad is three
 with_3 words Store n bad is three = hex_alone words Store n bad is three
+with_3 words Plains n bad is three = hex_alone words Plains n bad is three
 with_3 words Hex n bad is three = inr (inl three)
 with_3 words Memory n bad is three = tt
 
@@ -483,6 +510,7 @@ order_answered words order Word n asks is = absurd (none_wrong words order Word 
 order_answered words order (Tags why) n asks is = absurd (none_wrong words order (Tags why) (not_tags order why) asks is)
 order_answered words order Body n asks is = absurd (none_wrong words order Body (not_body order) asks is)
 order_answered words order Store n asks is = absurd (none_wrong words order Store (not_store order) asks is)
+order_answered words order Plains n asks is = absurd (none_wrong words order Plains (not_plains order) asks is)
 order_answered words order Hex n asks is = absurd (none_wrong words order Hex (not_hex order) asks is)
 order_answered words order Memory n asks is = tt
 
@@ -495,6 +523,7 @@ wrong_answered words ended Word wrong own told is = with_2 wrong _ (ap number to
 wrong_answered words ended (Tags why) wrong own told is = with_2 wrong _ (ap number told)
 wrong_answered words ended Body wrong own told is = with_2 wrong _ (ap number told)
 wrong_answered words ended Store wrong own told is = with_2 wrong _ (ap number told)
+wrong_answered words ended Plains wrong own told is = with_2 wrong _ (ap number told)
 wrong_answered words ended Hex wrong own (inl told) is = with_2 wrong _ (ap number told)
 wrong_answered words ended Hex wrong own (inr told) is = with_3 words wrong _ own is (ap number told)
 wrong_answered words ended Memory wrong own told is = with_4 wrong _ (ap number told)
@@ -520,6 +549,7 @@ of_words words ended Word is told h = (Word, is, λ e. cc e)
 of_words words ended (Tags why) is told h = (Tags why, is, λ e. cc e)
 of_words words ended Body is told h = (Body, is, λ e. cc e)
 of_words words ended Store is told h = (Store, is, λ e. cc e)
+of_words words ended Plains is told h = (Plains, is, λ e. cc e)
 of_words words ended Hex is told h = (Hex, is, λ e. cc e)
 of_words words ended Memory is told h = absurd (let n : 4 ≡ 2 = sym (ap number told) ∙ h in omega (arith, n))
 
@@ -582,7 +612,7 @@ script_only (Answer path body datagram) ended c h = absurd (carried_out ended c 
 script_only (Pair path body word limit) ended c h = absurd (carried_out ended c h)
 script_only (Serve port count word limit) ended c h = absurd (carried_out ended c h)
 script_only (Ask port path what options) ended c h = absurd (carried_out ended (asked_carried ended port path what options c) h)
-script_only (Sim file store) ended c h = tt
+script_only (Sim file store plains) ended c h = tt
 
 -- 2 says that something is wrong in the words, or that they run a script
 pub wrong_words : (words : List Text) (ended : Result Status Stop) → Ends words ended → number ended ≡ 2
@@ -599,6 +629,7 @@ told_more ended Word told h = absurd (let n : number ended ≡ 2 = ap number tol
 told_more ended (Tags why) told h = absurd (let n : number ended ≡ 2 = ap number told in omega (arith, n, h))
 told_more ended Body told h = absurd (let n : number ended ≡ 2 = ap number told in omega (arith, n, h))
 told_more ended Store told h = absurd (let n : number ended ≡ 2 = ap number told in omega (arith, n, h))
+told_more ended Plains told h = absurd (let n : number ended ≡ 2 = ap number told in omega (arith, n, h))
 told_more ended Hex (inl told) h = absurd (let n : number ended ≡ 2 = ap number told in omega (arith, n, h))
 told_more ended Hex (inr told) h = absurd (let n : number ended ≡ 3 = ap number told in omega (arith, n, h))
 told_more ended Memory told h = absurd (let n : number ended ≡ 4 = ap number told in omega (arith, n, h))

@@ -10,7 +10,8 @@ use Rattle.coap_commands.specs.declared.status.Stop.TheVariants as stop
 use Rattle.coap_words.specs.declared.orders.Order.{Order}
 use Rattle.coap_words.specs.declared.orders.Order.TheVariants.{Ask, Sim}
 use Rattle.coap_words.specs.declared.orders.Wrong.{Wrong}
-use Rattle.coap_words.specs.declared.orders.Wrong.TheVariants.{Words, Path, Number, Word, Tags, Body, Store, Hex, Memory}
+use Rattle.coap_words.specs.declared.orders.Wrong.TheVariants.{Words, Path, Number, Word, Tags, Body, Store, Plains}
+use Rattle.coap_words.specs.declared.orders.Wrong.TheVariants.{Hex, Memory}
 
 abbrev pub status_number : Status → ℕ
 status_number status.Done = 0
@@ -35,12 +36,12 @@ IsOfScript s = (s ≡ status.Done) ⊎ ((s ≡ status.Refused) ⊎ (s ≡ status
 
 -- the order runs a script
 abbrev pub RunsScript : Order → Type 0
-RunsScript (Sim file store) = ⊤
+RunsScript (Sim file store plains) = ⊤
 RunsScript _ = ⊥
 
 -- what this order comes to, carried out to its end
 abbrev pub CarriesOut : Order → Status → Type 0
-CarriesOut (Sim file store) s = IsOfScript s
+CarriesOut (Sim file store plains) s = IsOfScript s
 CarriesOut (Ask port path what options) s = IsAsked port path what options s
 CarriesOut _ s = IsCarriedOut s
 
@@ -53,6 +54,7 @@ IsTold Word ended = ended ≡ Ok status.Words
 IsTold (Tags refusal) ended = ended ≡ Ok status.Words
 IsTold Body ended = ended ≡ Ok status.Words
 IsTold Store ended = ended ≡ Ok status.Words
+IsTold Plains ended = ended ≡ Ok status.Words
 IsTold Hex ended = (ended ≡ Ok status.Words) ⊎ (ended ≡ Err stop.Failed)
 IsTold Memory ended = ended ≡ Err stop.Memory
 
@@ -66,6 +68,7 @@ IsAnswered Word n = (n ≡ 2) ⊎ (n ≡ 4)
 IsAnswered (Tags refusal) n = (n ≡ 2) ⊎ (n ≡ 4)
 IsAnswered Body n = (n ≡ 2) ⊎ (n ≡ 4)
 IsAnswered Store n = (n ≡ 2) ⊎ (n ≡ 4)
+IsAnswered Plains n = (n ≡ 2) ⊎ (n ≡ 4)
 IsAnswered Hex n = (n ≡ 2) ⊎ ((n ≡ 3) ⊎ (n ≡ 4))
 IsAnswered Memory n = ⊤
 

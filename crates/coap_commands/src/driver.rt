@@ -58,7 +58,11 @@ fn perform<R: AllocGlobal + Files + Net + Clock + RandomSource, O: Write, E: Wri
             what,
             options,
         } => ask(rt, *port, path, *what, options, (out, err)),
-        Order::Sim { file, store } => sim(rt, file, *store, out),
+        Order::Sim {
+            file,
+            store,
+            plains,
+        } => sim(rt, file, *store, plains.as_slice(), out),
     }
 }
 
@@ -79,7 +83,8 @@ pub fn refuse<O: Write, E: Write>(wrong: Wrong, out: &mut O, err: &mut E) -> Res
         | Wrong::Word
         | Wrong::Tags(_)
         | Wrong::Body
-        | Wrong::Store => {
+        | Wrong::Store
+        | Wrong::Plains => {
             let _ = writeln!(err, "{wrong}");
             Ok(Status::Words)
         }

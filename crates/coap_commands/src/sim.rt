@@ -5,7 +5,9 @@ use crate::ends::largest_szx;
 use crate::script::{ScriptRefusal, events_of};
 use crate::status::{Status, Stop, stop_of};
 use crate::telling::tell;
+use coap_ends::{MAX_PLAINS, PlainRefusal};
 use coap_resource::{ListStore, MAX_CHANGES_PER_WINDOW, MapStore};
+use coap_types::Path;
 use coap_words::StoreKind;
 use coap_world::{Event, RunRefusal, WorldConfig, run_with};
 use std::alloc::Allocator;
@@ -18,8 +20,11 @@ const WORD: u64 = 0;
 
 const _: () = prove!(WORD == 0);
 
-/// Runs a script over a client and a server, which keeps its resources in a map, and prints what
-/// comes of it.
+// What the words take is what the server takes.
+const _: () = prove!(coap_words::MAX_PLAINS == MAX_PLAINS);
+
+/// Runs a script over a client and a server, which keeps its resources in a map and tells observers in
+/// Confirmable messages, and prints what comes of it.
 pub fn sim_to<A: Allocator + Copy, R: Read, W: Write>(
     alloc: A,
     script: &mut R,
@@ -28,14 +33,18 @@ pub fn sim_to<A: Allocator + Copy, R: Read, W: Write>(
     // A script is run with status 0, 1 or 2, or stops.
     ensures { IfOk result IsOfScript }
 {
-    sim_with(alloc, script, StoreKind::Map, out)
+    let no_path: [Path<A>; 0] = [];
+    sim_with(alloc, script, StoreKind::Map, &no_path, out)
 }
 
-/// Runs a script as [`sim_to`] does, over a server with such a store.
+/// Runs a script as [`sim_to`] does, over a server with such a store, which tells the observers of these
+/// paths in Non-confirmable messages where it may. With more than `MAX_PLAINS` different ones nothing
+/// is run: these are wrong words.
 pub fn sim_with<A: Allocator + Copy, R: Read, W: Write>(
     alloc: A,
     script: &mut R,
     store: StoreKind,
+    plains: &[Path<A>],
     out: &mut W,
 ) -> Result<Status, Stop>
     // A script is run over either store with status 0, 1 or 2, or stops.
@@ -46,7 +55,7 @@ pub fn sim_with<A: Allocator + Copy, R: Read, W: Write>(
         return Err(stop_of(&error));
     }
     match events_of(alloc, text.as_slice()) {
-        Ok(events) => run_events(alloc, events.as_slice(), store, out),
+        Ok(events) => run_events(alloc, events.as_slice(), store, plains, out),
         Err(ScriptRefusal::Line(number)) => {
             writeln!(out, "bad line {number}")?;
             Ok(Status::Words)
@@ -55,8 +64,9 @@ pub fn sim_with<A: Allocator + Copy, R: Read, W: Write>(
     }
 }
 
-// With what a run begins: both ends have the largest blocks, and no path is answered later.
-fn plain_config<A: Allocator + Copy>(alloc: A) -> WorldConfig<A> {
+// With what a run begins: both ends have the largest blocks, no path is answered later, and observers
+// are told in Confirmable messages.
+fn usual_config<A: Allocator + Copy>(alloc: A) -> WorldConfig<A> {
     let szx = largest_szx();
     match WorldConfig::new(alloc, WORD, WORD, szx, szx, MAX_CHANGES_PER_WINDOW) {
         Some(config) => config,
@@ -64,16 +74,33 @@ fn plain_config<A: Allocator + Copy>(alloc: A) -> WorldConfig<A> {
     }
 }
 
+// The same, but for the observers of these paths.
+fn config_with<A: Allocator + Copy>(
+    alloc: A,
+    plains: &[Path<A>],
+) -> Result<WorldConfig<A>, PlainRefusal> {
+    let mut config = usual_config(alloc);
+    for path in plains {
+        config.plain(path)?;
+    }
+    Ok(config)
+}
+
 // Runs the events, and prints what comes of them, or which one is not legal.
 fn run_events<A: Allocator + Copy, W: Write>(
     alloc: A,
     events: &[Event<A>],
     store: StoreKind,
+    plains: &[Path<A>],
     out: &mut W,
 ) -> Result<Status, Stop>
     ensures { IfOk result IsOfScript }
 {
-    let config = plain_config(alloc);
+    let config = match config_with(alloc, plains) {
+        Ok(config) => config,
+        Err(PlainRefusal::Full) => return Ok(Status::Words),
+        Err(PlainRefusal::Memory) => return Err(Stop::Memory),
+    };
     let ran = match store {
         StoreKind::List => run_with::<ListStore<A>, A>(events, &config),
         StoreKind::Map => run_with::<MapStore<A>, A>(events, &config),
@@ -91,17 +118,18 @@ fn run_events<A: Allocator + Copy, W: Write>(
     }
 }
 
-/// Runs the script in a file, over a server with such a store.
+/// Runs the script in a file, over a server with such a store and such plain paths.
 pub fn sim<R: AllocGlobal + Files, W: Write>(
     rt: &R,
     file: &str,
     store: StoreKind,
+    plains: &[Path],
     out: &mut W,
 ) -> Result<Status, Stop>
     ensures { IfOk result IsOfScript }
 {
     match fs::open(rt, file) {
-        Ok(mut script) => sim_with(rt.alloc(), &mut script, store, out),
+        Ok(mut script) => sim_with(rt.alloc(), &mut script, store, plains, out),
         Err(error) => Err(stop_of(&error)),
     }
 }

@@ -119,7 +119,7 @@ fn check_wrong<R: Abort + AllocGlobal + Files + Net + Clock + RandomSource>(
 
 #[test]
 fn wrong_words(rt: HostRuntime) -> Result<(), Fail> {
-    let cases: [&[&str]; 32] = [
+    let cases: [&[&str]; 34] = [
         &["pair"],
         &["pair", "t"],
         &["pair", "t", "hi", "--word"],
@@ -143,6 +143,13 @@ fn wrong_words(rt: HostRuntime) -> Result<(), Fail> {
         &["sim", "ping.sim", "--store", "Map"],
         &["sim", "ping.sim", "--store", ""],
         &["sim", "ping.sim", "--store", "list", "--store", "list"],
+        &["sim", "ping.sim", "--plain"],
+        &[
+            "sim",
+            "ping.sim",
+            "--plain",
+            "1/2/3/4/5/6/7/8/9/10/11/12/13/14/15/16/17",
+        ],
         &[],
         &["--help"],
         &["fetch"],

@@ -7,13 +7,15 @@ mod calls;
 mod examples;
 mod legality;
 mod observations;
+mod plain_paths;
 mod refused_growths;
 mod strangers;
 mod uploads;
 
 use crate::rows::words_of;
 use coap_commands::{close, command, sim_to, sim_with};
-use coap_words::StoreKind;
+use coap_types::Path;
+use coap_words::{StoreKind, path_of_text};
 use std::alloc::{AllocError, Global};
 use std::io::{ErrorKind, Read};
 use std::process::Abort;
@@ -25,15 +27,30 @@ type Ending<'a> = (u8, &'a [u8]);
 
 // Runs one script over each store, where the map is the one that is not named. Both runs end so.
 fn check_script(rt: &impl Abort, alloc: Global, name: &str, script: &[u8], ending: Ending<'_>) {
+    let mut out = Vec::new(alloc);
+    let mut err = Vec::new(alloc);
+    let mut reader = script;
+    let ended = sim_to(alloc, &mut reader, &mut out);
+    assert_eq!(rt; out.as_slice(), ending.1, "at {name}");
+    assert_eq!(rt; close(ended, &mut err).number(), ending.0, "at {name}");
+    check_script_with(rt, alloc, name, script, &[], ending);
+}
+
+// The same, with these plain paths.
+fn check_script_with(
+    rt: &impl Abort,
+    alloc: Global,
+    name: &str,
+    script: &[u8],
+    plains: &[Path],
+    ending: Ending<'_>,
+) {
     let (status, printed) = ending;
-    for store in [None, Some(StoreKind::List)] {
+    for store in [StoreKind::Map, StoreKind::List] {
         let mut out = Vec::new(alloc);
         let mut err = Vec::new(alloc);
         let mut reader = script;
-        let ended = match store {
-            None => sim_to(alloc, &mut reader, &mut out),
-            Some(store) => sim_with(alloc, &mut reader, store, &mut out),
-        };
+        let ended = sim_with(alloc, &mut reader, store, plains, &mut out);
         assert_eq!(rt; out.as_slice(), printed, "at {name} over {store:?}");
         assert_eq!(rt;
             close(ended, &mut err).number(),
@@ -109,6 +126,24 @@ fn check_case(rt: &impl Abort, alloc: Global, case: &str) -> Result<(), Fail> {
     assert!(rt; !printed.as_str().contains(" memory\n"));
     let ending = (status_of(printed.as_str()), printed.as_bytes());
     check_script(rt, alloc, name_of(case), script.as_bytes(), ending);
+    Ok(())
+}
+
+// The same, where observers of `t` are told in NONs.
+fn check_plain_case(rt: &impl Abort, alloc: Global, case: &str) -> Result<(), Fail> {
+    let (script, printed) = parts_of(alloc, case)?;
+    assert!(rt; !printed.as_str().contains(" memory\n"));
+    let ending = (status_of(printed.as_str()), printed.as_bytes());
+    let plains = [path_of_text(alloc, "t")?];
+    check_script_with(rt, alloc, name_of(case), script.as_bytes(), &plains, ending);
+    Ok(())
+}
+
+#[test]
+fn scripts_with_a_plain_path(rt: HostRuntime) -> Result<(), Fail> {
+    for case in plain_paths::SCRIPTS.split("\n== ").skip(1) {
+        check_plain_case(&rt, rt.alloc(), case)?;
+    }
     Ok(())
 }
 

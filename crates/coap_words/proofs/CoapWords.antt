@@ -25,7 +25,8 @@ use Rattle.coap_words.specs.declared.orders.Order.{Order}
 use Rattle.coap_words.specs.declared.orders.TagsRefusal.{TagsRefusal}
 use Rattle.coap_words.specs.declared.orders.TagsRefusal.TheVariants.{IfMatch}
 use Rattle.coap_words.specs.declared.orders.Wrong.{Wrong}
-use Rattle.coap_words.specs.declared.orders.Wrong.TheVariants.{Words, Path, Number, Word, Tags, Body, Store, Hex, Memory}
+use Rattle.coap_words.specs.declared.orders.Wrong.TheVariants.{Words, Path, Number, Word, Tags, Body, Store, Plains}
+use Rattle.coap_words.specs.declared.orders.Wrong.TheVariants.{Hex, Memory}
 use Rattle.coap_words.proofs.Entered.{enters}
 use Rattle.coap_words.proofs.GivenWords.{asks, required_word}
 use Rattle.coap_words.proofs.OwnRows.{lacks, taken_or_not}
@@ -281,6 +282,7 @@ value_wrong name rows (Tags refusal) own h = elim (own.tags refusal) [
 ]
 value_wrong name rows Body own h = absurd h
 value_wrong name rows Store own h = absurd h
+value_wrong name rows Plains own h = absurd h
 value_wrong name rows Hex own h = absurd h
 value_wrong name rows Memory own h = tt
 
@@ -326,6 +328,7 @@ wrong_in words name rows Word e h = (name, rows, e, h)
 wrong_in words name rows (Tags refusal) e h = (name, rows, e, h)
 wrong_in words name rows Body e h = (name, rows, e, h)
 wrong_in words name rows Store e h = (name, rows, e, h)
+wrong_in words name rows Plains e h = (name, rows, e, h)
 wrong_in words name rows Hex e h = (name, rows, e, h)
 wrong_in words name rows Memory e h = tt
 
@@ -347,6 +350,7 @@ wrong_of_clap words faults e Word same h kind = absurd h
 wrong_of_clap words faults e (Tags refusal) same h kind = absurd h
 wrong_of_clap words faults e Body same h kind = absurd h
 wrong_of_clap words faults e Store same h kind = absurd h
+wrong_of_clap words faults e Plains same h kind = absurd h
 wrong_of_clap words faults e Hex same h kind = absurd h
 wrong_of_clap words faults e Memory same h kind = tt
 

@@ -3,5 +3,6 @@ pub mod Entered
 pub mod Facts
 pub mod FilledRows
 pub mod GivenWords
+pub mod NamingPaths
 pub mod OwnRows
 pub mod Tags

@@ -75,9 +75,10 @@ abbrev pub observe_app : App
 observe_app = leaf (codes "observe")
     (asking (option_of (codes "count") ∷ option_of (codes "seconds") ∷ flag_of (codes "hex") ∷ of_an_end))
 
--- `coap sim FILE --store list|map`
+-- `coap sim FILE --store list|map`, and `--plain PATH`, again and again
 abbrev pub sim_app : App
-sim_app = leaf (codes "sim") (required_word (codes "FILE") ∷ option_of (codes "store") ∷ [])
+sim_app = leaf (codes "sim")
+    (required_word (codes "FILE") ∷ option_of (codes "store") ∷ repeated_of (codes "plain") ∷ [])
 
 -- the program, without its subcommands
 abbrev pub base_app : App

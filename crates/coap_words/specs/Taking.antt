@@ -9,7 +9,8 @@ use Rattle.coap_words.specs.declared.orders.NumberRefusal.TheVariants.{Port, Cou
 use Rattle.coap_words.specs.declared.orders.TagsRefusal.{TagsRefusal}
 use Rattle.coap_words.specs.declared.orders.TagsRefusal.TheVariants.{IfMatch}
 use Rattle.coap_words.specs.declared.orders.Wrong.{Wrong}
-use Rattle.coap_words.specs.declared.orders.Wrong.TheVariants.{Words, Path, Number, Word, Tags, Body, Store, Hex, Memory}
+use Rattle.coap_words.specs.declared.orders.Wrong.TheVariants.{Words, Path, Number, Word, Tags, Body, Store, Plains}
+use Rattle.coap_words.specs.declared.orders.Wrong.TheVariants.{Hex, Memory}
 
 -- the subcommand takes a PATH
 abbrev pub TakesPath : Text → Type 0
@@ -47,5 +48,6 @@ IsWrongOption values Word = HasNoWord values
 IsWrongOption values (Tags refusal) = HasNoTags refusal values
 IsWrongOption values Body = ⊥
 IsWrongOption values Store = ⊥
+IsWrongOption values Plains = ⊥
 IsWrongOption values Hex = ⊥
 IsWrongOption values Memory = ⊤

@@ -7,6 +7,7 @@ use Rattle.coap_types.specs.declared.path.TheConstants.{MAX_SEGMENT_LEN as max_s
 use Rattle.coap_types.specs.declared.path.TheConstants.{MAX_SEGMENTS as max_segments}
 use Rattle.coap_words.specs.Asking.{HasNoContent, HasNoTags, HasOptions, IsWhat, SendsBody, usual_word}
 use Rattle.coap_words.specs.CommandLine.{coap_app}
+use Rattle.coap_words.specs.Plains.{HasNoPlain, HasPlains, HasTooManyPlains}
 use Rattle.coap_words.specs.Taking.{MakesEnd, TakesNumber, TakesPath, TakesTags}
 use Rattle.coap_words.specs.Values.{Enters, HasBytes, HasLimit, HasNoBytes, HasNoNumber, HasNoPath, HasNoStore}
 use Rattle.coap_words.specs.Values.{HasNoWord, HasNumber, HasPath, HasStore, HasWord, IsValue}
@@ -16,7 +17,8 @@ use Rattle.coap_words.specs.declared.orders.NumberRefusal.TheVariants.{Port, Cou
 use Rattle.coap_words.specs.declared.orders.TheConstants.{DEFAULT_WORD as default_word}
 use Rattle.coap_words.specs.declared.orders.WordChoice.TheVariants.{Given}
 use Rattle.coap_words.specs.declared.orders.Wrong.{Wrong}
-use Rattle.coap_words.specs.declared.orders.Wrong.TheVariants.{Words, Path, Number, Word, Tags, Body, Store, Hex, Memory}
+use Rattle.coap_words.specs.declared.orders.Wrong.TheVariants.{Words, Path, Number, Word, Tags, Body, Store, Plains}
+use Rattle.coap_words.specs.declared.orders.Wrong.TheVariants.{Hex, Memory}
 
 -- the subcommand with these values says this order
 abbrev pub AsksForIn : Text → List Row → Order → Type 0
@@ -33,8 +35,9 @@ AsksForIn subcommand values (Serve port count word limit) =
 AsksForIn subcommand values (Ask port path what options) =
     IsWhat subcommand values what × HasNumber Port values port × HasPath values path
     × HoldsAtMost max_segments max_segment_len path × HasOptions (usual_word what) values options
-AsksForIn subcommand values (Sim file store) =
+AsksForIn subcommand values (Sim file store plains) =
     (subcommand ≡ codes "sim") × IsValue (codes "FILE") values file.now × HasStore values store
+    × HasPlains values plains.items
 
 -- the words say this order
 abbrev pub AsksFor : List Text → Order → Type 0
@@ -54,8 +57,9 @@ IsRefusedBy error words = IsAmong (kind_of error) (fault_of coap_app words)
 -- this is wrong in the values of the subcommand; of memory that is refused they say nothing
 abbrev pub IsWrongIn : Text → List Row → Wrong → Type 0
 IsWrongIn subcommand values (Words error) = ⊥
--- the PATH is a text of no path, for this reason
-IsWrongIn subcommand values (Path refusal) = TakesPath subcommand × HasNoPath values refusal
+-- the PATH, or a value of `--plain`, is a text of no path, for this reason
+IsWrongIn subcommand values (Path refusal) = (TakesPath subcommand × HasNoPath values refusal)
+    ⊎ ((subcommand ≡ codes "sim") × HasNoPlain values refusal)
 -- this argument is no number in its range
 IsWrongIn subcommand values (Number refusal) = TakesNumber refusal subcommand × HasNoNumber refusal values
 -- `--word` is no choice of a word
@@ -66,6 +70,8 @@ IsWrongIn subcommand values (Tags refusal) = TakesTags refusal subcommand × Has
 IsWrongIn subcommand values Body = SendsBody subcommand × HasNoContent values
 -- `--store` names no store
 IsWrongIn subcommand values Store = (subcommand ≡ codes "sim") × HasNoStore values
+-- `--plain` names more paths than a server takes
+IsWrongIn subcommand values Plains = (subcommand ≡ codes "sim") × HasTooManyPlains values
 -- a PATH is a text of a path, and HEX is the hex of no list of bytes
 IsWrongIn subcommand values Hex = IsPathFine subcommand values × HasNoBytes values
 IsWrongIn subcommand values Memory = ⊤
@@ -84,5 +90,6 @@ IsWrong words Word = EntersWrong words Word
 IsWrong words (Tags refusal) = EntersWrong words (Tags refusal)
 IsWrong words Body = EntersWrong words Body
 IsWrong words Store = EntersWrong words Store
+IsWrong words Plains = EntersWrong words Plains
 IsWrong words Hex = EntersWrong words Hex
 IsWrong words Memory = ⊤

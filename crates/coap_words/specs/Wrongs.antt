@@ -8,7 +8,8 @@ use Rattle.coap_types.specs.declared.path.PathRefusal.TheVariants as refusal
 use Rattle.hex.specs.declared.FromHexError.{FromHexError}
 use Rattle.hex.specs.declared.FromHexError.TheVariants as hex
 use Rattle.coap_words.specs.declared.orders.Wrong.{Wrong}
-use Rattle.coap_words.specs.declared.orders.Wrong.TheVariants.{Words, Path, Number, Word, Tags, Body, Store, Hex, Memory}
+use Rattle.coap_words.specs.declared.orders.Wrong.TheVariants.{Words, Path, Number, Word, Tags, Body, Store, Plains}
+use Rattle.coap_words.specs.declared.orders.Wrong.TheVariants.{Hex, Memory}
 
 -- the number of a refusal: that of the words has a text for each cause
 abbrev pub wrong_number : Wrong → ℕ
@@ -19,6 +20,7 @@ wrong_number Word = 1
 wrong_number (Tags refusal) = 1
 wrong_number Body = 1
 wrong_number Store = 1
+wrong_number Plains = 1
 wrong_number Hex = 2
 wrong_number Memory = 3
 
@@ -32,6 +34,7 @@ IsWrongOfClap error Word = ⊥
 IsWrongOfClap error (Tags refusal) = ⊥
 IsWrongOfClap error Body = ⊥
 IsWrongOfClap error Store = ⊥
+IsWrongOfClap error Plains = ⊥
 IsWrongOfClap error Hex = ⊥
 
 abbrev pub wrong_path : PathRefusal → Wrong

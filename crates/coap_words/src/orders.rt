@@ -66,6 +66,9 @@ pub enum Order<'a> {
         file: &'a str,
         /// What its server keeps its resources in.
         store: StoreKind,
+        /// The paths whose observers are told in Non-confirmable messages where they may be: at most
+        /// `MAX_PLAINS`, each once, in the order in which they are named first.
+        plains: Vec<Path>,
     },
 }
 
@@ -152,6 +155,11 @@ pub const DEFAULT_WORD: u64 = 1;
 
 const _: () = prove!(DEFAULT_WORD == 1);
 
+/// How many paths a server has at most whose observers are told in Non-confirmable messages.
+pub const MAX_PLAINS: usize = 16;
+
+const _: () = prove!(MAX_PLAINS == 16);
+
 /// Which argument is no number in its range.
 #[derive(Clone, Copy, Debug, PartialEq, Eq, Error)]
 pub enum NumberRefusal {
@@ -210,15 +218,15 @@ impl TagsRefusal {
     }
 }
 
-/// Why the words give no order. `Words`, `Path`, `Number`, `Word`, `Tags`, `Body` and `Store` are one
-/// refusal, that of wrong words, with a text of its own for each. The refusals are tested in the order
-/// of their numbers.
+/// Why the words give no order. `Words`, `Path`, `Number`, `Word`, `Tags`, `Body`, `Store` and `Plains`
+/// are one refusal, that of wrong words, with a text of its own for each. The refusals are tested in the
+/// order of their numbers.
 #[derive(Debug, Drop, Error)]
 pub enum Wrong {
     /// The words are no command line of the program, or ask for help.
     #[error("{0}")]
     Words(clap::Error),
-    /// PATH is no path.
+    /// PATH, or the value of `--plain`, is no path.
     #[error("PATH is no path: {0}")]
     Path(PathRefusal),
     /// A number is out of its range.
@@ -236,6 +244,9 @@ pub enum Wrong {
     /// `--store` names no store.
     #[error("--store is neither list nor map")]
     Store,
+    /// `--plain` names over `MAX_PLAINS` paths.
+    #[error("--plain names more than 16 paths")]
+    Plains,
     /// HEX is not the hex of any list of bytes.
     #[error("bad hex")]
     Hex,
@@ -257,7 +268,8 @@ impl Wrong {
             | Wrong::Word
             | Wrong::Tags(_)
             | Wrong::Body
-            | Wrong::Store => 1,
+            | Wrong::Store
+            | Wrong::Plains => 1,
             Wrong::Hex => 2,
             Wrong::Memory => 3,
         }

@@ -135,6 +135,12 @@ const STORE: Argument = Argument {
     help: "what the server keeps its resources in, a list or a map; the map where it is left out",
 };
 
+const PLAIN: Argument = Argument {
+    form: Form::Repeated { value_name: "PATH" },
+    name: "plain",
+    help: "tells observers of PATH in Non-confirmable messages where it may, and so of each other path that is given; at most 16",
+};
+
 /// The subcommands, in the order in which help lists them.
 pub(crate) static SUBCOMMANDS: [Subcommand; 10] = [
     Subcommand {
@@ -212,6 +218,6 @@ pub(crate) static SUBCOMMANDS: [Subcommand; 10] = [
     Subcommand {
         name: "sim",
         about: "Runs a script over a client and a server, and prints what comes of it",
-        arguments: &[FILE, STORE],
+        arguments: &[FILE, STORE, PLAIN],
     },
 ];

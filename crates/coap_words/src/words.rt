@@ -15,6 +15,7 @@ use crate::asking::{content_of, options_of};
 use crate::command_line::coap_command;
 use crate::orders::{DEFAULT_WORD, NumberRefusal, Order, StoreKind, What, WordChoice, Wrong};
 use crate::path_text::path_of_text;
+use crate::plains::plains_of;
 use clap::ArgMatches;
 use coap_types::BodyLimit;
 use std::alloc::Global;
@@ -26,12 +27,13 @@ pub fn order<'a>(alloc: Global, words: &'a [String]) -> Result<Order<'a>, Wrong>
     // The order is the one that the words say.
     ensures ok { IfOk result (AsksFor (map string_bytes words.now)) }
     // What is called wrong is wrong. `Words`: clap refuses the words, with an error of a kind that
-    // they call for. `Path`: clap takes them, and PATH is no path, for the reason that is given.
+    // they call for. `Path`: clap takes them, and PATH or a value of `--plain` is no path, for the reason that is given.
     // `Number`: clap takes them, and an argument is no number in its range.
     // `Word`: clap takes them, and `--word` is no choice of a word.
     // `Tags`: clap takes them, and an argument is no entity-tag, or given more than four times.
     // `Body`: clap takes them, and both of BODY and `--file` are there, or neither.
     // `Store`: clap takes them, and `--store` names no store.
+    // `Plains`: clap takes them, and `--plain` names more than 16 paths.
     // `Hex`: clap takes them, PATH is a path where there is one, and HEX is the hex of no bytes.
     // `Memory` says nothing of the words.
     ensures wrong { IfErr result (IsWrong (map string_bytes words.now)) }
@@ -45,7 +47,7 @@ pub fn order<'a>(alloc: Global, words: &'a [String]) -> Result<Order<'a>, Wrong>
         "answer" => answer_order(alloc, given),
         "pair" => pair_order(alloc, given),
         "serve" => serve_order(given),
-        "sim" => sim_order(given),
+        "sim" => sim_order(alloc, given),
         _ => ask_order(alloc, subcommand, given),
     }
 }
@@ -180,7 +182,7 @@ fn what_of<'a>(subcommand: &str, given: &ArgMatches<'a>) -> Result<What<'a>, Wro
 }
 
 // `coap sim FILE`
-fn sim_order<'a>(given: &ArgMatches<'a>) -> Result<Order<'a>, Wrong>
+fn sim_order<'a>(alloc: Global, given: &ArgMatches<'a>) -> Result<Order<'a>, Wrong>
     requires { IsGiven (codes "FILE") (rows_of (found_of given.now)) }
     ensures { MatchResult result (AsksForIn (codes "sim") (rows_of (found_of given.now)))
         (IsWrongIn (codes "sim") (rows_of (found_of given.now))) }
@@ -188,8 +190,13 @@ fn sim_order<'a>(given: &ArgMatches<'a>) -> Result<Order<'a>, Wrong>
     let Some(store) = store(given) else {
         return Err(Wrong::Store);
     };
+    let plains = plains_of(alloc, given)?;
     let file = value(given, "FILE");
-    Ok(Order::Sim { file, store })
+    Ok(Order::Sim {
+        file,
+        store,
+        plains,
+    })
 }
 
 // A number of 64 bits.

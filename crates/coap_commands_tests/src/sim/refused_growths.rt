@@ -1,7 +1,9 @@
 //! Each growth of a script refused in turn: an input that meets that inside an end counts as lost, and
 //! elsewhere the script ends for want of memory.
-use super::{calls, name_of, observations, parts_of, strangers};
-use coap_commands::{close, sim_to};
+use super::{calls, name_of, observations, parts_of, plain_paths, strangers};
+use coap_commands::{Stop, close, sim_with};
+use coap_types::Path;
+use coap_words::StoreKind;
 use failing::Failing;
 use std::alloc::{Allocator, Global};
 use std::test::Fail;
@@ -22,16 +24,34 @@ struct Ended {
 #[test]
 fn each_growth_is_refused(rt: HostRuntime) -> Result<(), Fail> {
     let alloc = rt.alloc();
-    let cases = [
-        (calls::SCRIPTS, "a_get"),
-        (calls::SCRIPTS, "a_post_that_comes_twice"),
-        (observations::SCRIPTS, "an_observation"),
-        (observations::SCRIPTS, "an_observed_path_that_is_removed"),
-        (strangers::SCRIPTS, "a_ping"),
-        (strangers::SCRIPTS, "the_token_of_a_call_from_elsewhere"),
+    let cases: [(&str, &str, &[&str]); 8] = [
+        (calls::SCRIPTS, "a_get", &[]),
+        (calls::SCRIPTS, "a_post_that_comes_twice", &[]),
+        (observations::SCRIPTS, "an_observation", &[]),
+        (
+            observations::SCRIPTS,
+            "an_observed_path_that_is_removed",
+            &[],
+        ),
+        (
+            plain_paths::SCRIPTS,
+            "an_observation_of_a_plain_path",
+            &["t"],
+        ),
+        (
+            plain_paths::SCRIPTS,
+            "a_reset_of_a_notification_by_non",
+            &["u", "t"],
+        ),
+        (strangers::SCRIPTS, "a_ping", &[]),
+        (
+            strangers::SCRIPTS,
+            "the_token_of_a_call_from_elsewhere",
+            &[],
+        ),
     ];
-    for (scripts, name) in cases {
-        refuse_each(alloc, script_of(alloc, scripts, name)?.as_str())?;
+    for (scripts, name, plains) in cases {
+        refuse_each(alloc, script_of(alloc, scripts, name)?.as_str(), plains)?;
     }
     Ok(())
 }
@@ -48,12 +68,12 @@ fn script_of(alloc: Global, scripts: &str, name: &str) -> Result<String, Fail> {
 
 // Refuses the growths of the script one after the other, each in a run of its own, until there is no
 // further one.
-fn refuse_each(alloc: Global, script: &str) -> Result<(), Fail> {
-    let whole = ended_over(alloc, alloc, script);
-    let lost = each_lost(alloc, script)?;
+fn refuse_each(alloc: Global, script: &str, plains: &[&str]) -> Result<(), Fail> {
+    let whole = ended_over(alloc, alloc, script, plains);
+    let lost = each_lost(alloc, script, plains)?;
     for number in 1..MANY {
         let memory = Failing::new(alloc, number);
-        let ended = ended_over(alloc, &memory, script);
+        let ended = ended_over(alloc, &memory, script, plains);
         if memory.left() != 0 {
             return is_right(number, is_same(&ended, &whole));
         }
@@ -77,12 +97,37 @@ fn is_same(ended: &Ended, other: &Ended) -> bool {
     ended.status == other.status && ended.printed == other.printed
 }
 
-// How the script ends that takes its memory there.
-fn ended_over<A: Allocator + Copy>(alloc: Global, memory: A, script: &str) -> Ended {
+// The paths of one segment each.
+fn paths_of<A: Allocator + Copy>(memory: A, segments: &[&str]) -> Result<Vec<Path<A>, A>, Stop> {
+    let mut paths = Vec::new(memory);
+    for segment in segments {
+        let mut path = Path::new(memory);
+        path.push(segment.as_bytes()).map_err(|_| Stop::Memory)?;
+        paths.push(path).map_err(|_| Stop::Memory)?;
+    }
+    Ok(paths)
+}
+
+// How the script ends that takes its memory there, with these plain paths.
+fn ended_over<A: Allocator + Copy>(
+    alloc: Global,
+    memory: A,
+    script: &str,
+    plains: &[&str],
+) -> Ended {
     let mut printed = Vec::new(alloc);
     let mut err = Vec::new(alloc);
     let mut reader = script.as_bytes();
-    let ended = sim_to(memory, &mut reader, &mut printed);
+    let ended = match paths_of(memory, plains) {
+        Ok(paths) => sim_with(
+            memory,
+            &mut reader,
+            StoreKind::Map,
+            paths.as_slice(),
+            &mut printed,
+        ),
+        Err(stop) => Err(stop),
+    };
     Ended {
         status: close(ended, &mut err).number(),
         printed,
@@ -91,17 +136,17 @@ fn ended_over<A: Allocator + Copy>(alloc: Global, memory: A, script: &str) -> En
 
 // How the script ends where the first of its inputs is lost for want of memory, where the second is,
 // and so on.
-fn each_lost(alloc: Global, script: &str) -> Result<Vec<Ended>, Fail> {
+fn each_lost(alloc: Global, script: &str, plains: &[&str]) -> Result<Vec<Ended>, Fail> {
     let mut each = Vec::new(alloc);
     for number in 0..script.lines().count() {
-        each.push(one_lost(alloc, script, number)?)?;
+        each.push(one_lost(alloc, script, number, plains)?)?;
     }
     Ok(each)
 }
 
 // The input of this number is lost: nothing that never was is forgotten in its place, which prints
 // nothing, and behind what is printed before it stands that memory was wanting.
-fn one_lost(alloc: Global, script: &str, number: usize) -> Result<Ended, Fail> {
+fn one_lost(alloc: Global, script: &str, number: usize, plains: &[&str]) -> Result<Ended, Fail> {
     let mut before = String::new(alloc);
     let mut with_loss = String::new(alloc);
     let mut told = String::new(alloc);
@@ -119,11 +164,11 @@ fn one_lost(alloc: Global, script: &str, number: usize) -> Result<Ended, Fail> {
             with_loss.push('\n')?;
         }
     }
-    let ended = ended_over(alloc, alloc, with_loss.as_str());
+    let ended = ended_over(alloc, alloc, with_loss.as_str(), plains);
     if ended.status != 0 {
         return Ok(ended);
     }
-    let before = ended_over(alloc, alloc, before.as_str());
+    let before = ended_over(alloc, alloc, before.as_str(), plains);
     let Some(after) = ended
         .printed
         .as_slice()
