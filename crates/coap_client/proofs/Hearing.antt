@@ -3,4 +3,5 @@ pub mod HandedUp
 pub mod HeardOnce
 pub mod HeardRuns
 pub mod Noted
+pub mod NotedAt
 pub mod Types

@@ -4,7 +4,7 @@ ghost use Rattle.coap_block.specs.Sizes.{Sizes};
 ghost use Rattle.coap_client.specs.Law.{ClientLaw};
 ghost use Rattle.coap_client.specs.Trace.{Call};
 ghost use Rattle.coap_client.specs.Follows.Ended.{AreOver};
-ghost use Rattle.coap_client.specs.Follows.Noted.{AreNoted};
+ghost use Rattle.coap_client.specs.Follows.Noted.{AreNoted, AreNotedAt};
 ghost use Rattle.coap_client.specs.Follows.Notified.{AreTaken};
 ghost use Rattle.coap_client.specs.Follows.OfObservations.{AreOfObservations};
 ghost use Rattle.coap_client.specs.Follows.Rising.{ValuesRise};
@@ -23,6 +23,10 @@ pub fn client_values_law()
     // What comes as a notification its message layer handed up in that very call, as it came from the server.
     ensures noted { (server : Endpoint) (sizes : Sizes) (word : ℕ) (t : List Call) → ClientLaw server sizes word t
         → AreNoted server sizes word t }
+    // The mark of a notification that is taken has the moment at which its message layer handed it up (RFC 7641,
+    // section 3.4).
+    ensures noted_at { (server : Endpoint) (sizes : Sizes) (word : ℕ) (t : List Call) → ClientLaw server sizes word t
+        → AreNotedAt server sizes word t }
     // A value is whole by the newest notification and what was fetched for that, by requests that were sent since then,
     // under one ETag where there are several parts (RFC 7959, section 2.6).
     ensures values { (server : Endpoint) (sizes : Sizes) (word : ℕ) (t : List Call) → ClientLaw server sizes word t

@@ -4,6 +4,7 @@ pub mod CurrentLists
 pub mod EndsObservation
 pub mod LastRegistered
 pub mod LatestRegistration
+pub mod LivesOn
 pub mod MarksStay
 pub mod ObservationEnds
 pub mod ObservationStays
@@ -12,6 +13,8 @@ pub mod OneRegistration
 pub mod Outcomes
 pub mod ServedObservers
 pub mod StoreChanges
+pub mod StoreSteps
+pub mod ToldAt
 pub mod ToldInOrder
 pub mod UnmarkedAreCurrent
 pub mod VersionsRise

@@ -13,6 +13,7 @@ pub use Rattle.coap_client.proofs.Exact.Exactly.{stripped}
 pub use Rattle.coap_client.proofs.Places.GivesAll.{all_wait}
 pub use Rattle.coap_client.proofs.Progress.GoesOn.{goes_on}
 pub use Rattle.coap_client.proofs.Hearing.Noted.{are_noted}
+pub use Rattle.coap_client.proofs.Hearing.NotedAt.{are_noted_at}
 pub use Rattle.coap_client.proofs.Observing.Notified.{are_taken}
 pub use Rattle.coap_client.proofs.Observing.OfObservations.{are_of_observations}
 pub use Rattle.coap_client.proofs.Queueing.OneByOne.{asks_runs}

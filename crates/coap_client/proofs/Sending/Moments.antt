@@ -1,7 +1,7 @@
--- The entries that a call of a client adds to its message layer are no later than the call, and a CON begins no
--- earlier.
+-- The entries that a call of a client adds to its message layer are no later than the call, and neither an arrival nor
+-- the begin of a CON is earlier.
 use Rattle.std.proofs.Common.{◌≡◌, ◌≤◌, inl, inr, ℕ, max, Bool, true, false, Option, Some, None, List, [], ◌∷◌, ◌++◌}
-use Rattle.std.proofs.Common.{refl, ap, ◌∙◌, arith, Result, Ok, Err}
+use Rattle.std.proofs.Common.{refl, ap, sym, subst, ◌∙◌, arith, Result, Ok, Err}
 use Rattle.coap_types.specs.Past.{Ever}
 use Rattle.coap_types.specs.declared.endpoint.Endpoint.{Endpoint}
 use Rattle.coap_layer.specs.Machine.State.{State, start, usual, made, moment as moment_at}
@@ -49,11 +49,30 @@ not_after s now (L.Room to) t h k = omega (arith, h, k)
 not_after s now L.AsksFree t h k = omega (arith, h, k)
 not_after s now L.Pass t h k = omega (arith, h, k)
 
+-- an arrival, and what begins a CON, have the moment that they are handed, where the clock isn't past it
+
+abbrev IsTimed : L.Call → Type 0
+IsTimed (L.Receive from bytes) = Unit {0}
+IsTimed (L.Confirm to content word) = Unit {0}
+IsTimed _ = ⊥
+
+timed : (s : State) (now : ℕ) (call : L.Call) → IsTimed call → now ≤ moment_at s now call
+timed s now (L.Receive from bytes) h = omega arith
+timed s now (L.Confirm to content word) h = omega arith
+timed s now L.Ticks h = absurd h
+timed s now (L.Reply to id bytes) h = absurd h
+timed s now (L.Plain to content) h = absurd h
+timed s now (L.Settle to id) h = absurd h
+timed s now L.Take h = absurd h
+timed s now (L.Room to) h = absurd h
+timed s now L.AsksFree h = absurd h
+timed s now L.Pass h = absurd h
+
 module _ (m : ℕ) where
-  -- no later than this moment, and what begins a CON at it
+  -- no later than this moment, and an arrival and what begins a CON at it
   pub record AskedAt (a : Asked) : Type 0 where
     pub by : a.now ≤ m
-    pub begins : (to : Endpoint) (content : L.Content) (word : ℕ) → a.call ≡ L.Confirm to content word → m ≤ a.now
+    pub from : IsTimed a.call → m ≤ a.now
 
   abbrev pub Timed : E.Call → Type 0
   Timed (E.Ask now r word below answer) = now ≡ m
@@ -63,23 +82,17 @@ module _ (m : ℕ) where
   Timed (E.Release token answer) = Unit {0}
   Timed (E.Take answer) = Unit {0}
 
-  other : (now : ℕ) (call : L.Call) (answer : L.Answer) → now ≤ m
-      → ((to : Endpoint) (content : L.Content) (word : ℕ) → call ≡ L.Confirm to content word → ⊥)
-      → AskedAt (Q.asked now call answer)
-  other now call answer h f = record { by = h; begins = λ to content word is. absurd (f to content word is) }
-
   replies : (from : Endpoint) (id : ℕ) (o : Option (List ℕ)) → Every AskedAt (R.replying from id o)
   replies from id None = tt
   replies from id (Some bytes) = (
-    other 0 (L.Reply from id bytes) L.Nothing (omega arith) (λ to content word is. cc is),
+    record { by = omega arith; from = λ k. absurd k },
     tt,
   )
 
   settles : (b : Bool) (server : Endpoint) (o : Option Exchange) (settled : Bool)
       → Every AskedAt (R.settling b server o settled)
   settles true server (Some x) settled = (
-    other 0 (L.Settle server x.id.0) (L.Is settled) (omega arith)
-        (λ to content word is. cc is),
+    record { by = omega arith; from = λ k. absurd k },
     tt,
   )
   settles true server None settled = tt
@@ -87,12 +100,9 @@ module _ (m : ℕ) where
 
   beneath_at : (now : ℕ) (o : Opening) (server : Endpoint) (content : L.Content) (word : ℕ) (sent : L.Answer) → now ≡ m
       → AskedAt (Q.asked now (Q.beneath o server content word) sent)
-  beneath_at now Running server content word sent h =
-      record { by = omega (arith, h); begins = λ to k w is. omega (arith, h) }
-  beneath_at now Spent server content word sent h =
-      record { by = omega (arith, h); begins = λ to k w is. omega (arith, h) }
-  beneath_at now Sends server content word sent h =
-      record { by = omega (arith, h); begins = λ to k w is. omega (arith, h) }
+  beneath_at now Running server content word sent h = record { by = omega (arith, h); from = λ k. omega (arith, h) }
+  beneath_at now Spent server content word sent h = record { by = omega (arith, h); from = λ k. omega (arith, h) }
+  beneath_at now Sends server content word sent h = record { by = omega (arith, h); from = λ k. omega (arith, h) }
 
   lower_at : (s : E.Own) (c : E.Call) → Timed c → Every AskedAt (P.lower s c)
   lower_at s (E.Ask now r word below answer) h =
@@ -102,14 +112,11 @@ module _ (m : ℕ) where
       every_join AskedAt (R.acts s from up settled v) (Q.asked now (L.Receive from bytes) up ∷ [])
       (every_join AskedAt (R.settling (R.settles v) s.server s.running settled) _
       (settles (R.settles v) s.server s.running settled) (replies from (R.id_in up) (R.reply_by v (R.id_in up))))
-      (other now (L.Receive from bytes) up (omega (arith, h)) (λ to content word is. cc is), tt)
-  lower_at s (E.Ticks now below answer) h = (
-    other now L.Ticks below (omega (arith, h)) (λ to content word is. cc is),
-    tt,
-  )
+      (record { by = omega (arith, h); from = λ k. omega (arith, h) }, tt)
+  lower_at s (E.Ticks now below answer) h = (record { by = omega (arith, h); from = λ k. absurd k }, tt)
   lower_at s (E.Keep token answer) h = tt
   lower_at s (E.Release token answer) h = tt
-  lower_at s (E.Take answer) h = (other 0 L.Take (L.Gives answer) (omega arith) (λ to content word is. cc is), tt)
+  lower_at s (E.Take answer) h = (record { by = omega arith; from = λ k. absurd k }, tt)
 
   asked_at : (server : Endpoint) (word : ℕ) (past later : List E.Call) → Every Timed later
       → Every AskedAt (asked_by_client server word past later)
@@ -153,10 +160,24 @@ module _ (m : ℕ) where
   begun_from old (a ∷ earlier) con w (inl h) =
       let s : State = left_after old earlier in
       let b = begins_of (made s a.now a.call) con h in
-      let from = (w.0).begins con.to b.content b.word b.call_is in
-      let at : moment_at s a.now a.call ≡ max s.clock a.now = ap (moment_at s a.now) b.call_is ∙ refl in
+      let is = subst IsTimed (sym b.call_is) tt in
+      let from = (w.0).from is in
+      let at = timed s a.now a.call is in
       let first = b.first_is in
       omega (arith, from, at, first)
+
+  arrived_from : (old : State) (calls : List Asked) → Every AskedAt calls
+      → Every (λ (e : L.Entry). (from : Endpoint) (bytes : List ℕ) → e.call ≡ L.Receive from bytes → m ≤ e.at)
+      (entries old calls)
+  arrived_from old [] w = tt
+  arrived_from old (a ∷ earlier) w = (
+    λ source bytes call_is. (
+        let is = subst IsTimed (sym call_is) tt in
+        let from = (w.0).from is in
+        let at = timed (left_after old earlier) a.now a.call is in
+        omega (arith, from, at)),
+    arrived_from old earlier w.1,
+  )
 
 lower_timed : (s : Own) (c : Call) → Every (Timed (moment s c)) (lower s c)
 lower_timed s (Calls now r answer) = tt
@@ -245,3 +266,9 @@ module _ (server : Endpoint) (sizes : Sizes) (word : ℕ) where
   begins_from t c con h = begun_from (moment (own_of sizes t) c)
       (left_after (start (usual word)) (all_asked server sizes word t))
       (call_asks server sizes word t c) con (asks_at t c) h
+
+  pub arrives_from : (t : List Call) (c : Call)
+      → Every (λ (e : L.Entry). (from : Endpoint) (bytes : List ℕ) → e.call ≡ L.Receive from bytes
+      → moment (own_of sizes t) c ≤ e.at) (call_adds server sizes word t c)
+  arrives_from t c = arrived_from (moment (own_of sizes t) c)
+      (left_after (start (usual word)) (all_asked server sizes word t)) (call_asks server sizes word t c) (asks_at t c)

@@ -104,52 +104,52 @@ yes_code : (reply : Reply) (code offset : ℕ) → reply ≡ bare code offset �
     → is_applied reply.code ≡ true
 yes_code reply code offset is good = ap (λ (r : Reply). is_applied r.code) is ∙ good
 
-abbrev pub KeptOr : Content → Content → Reply → Type 0
-KeptOr old left reply = IsKept old left ⊎ (is_applied reply.code ≡ true)
+abbrev pub KeptOr : ℕ → Content → Content → Reply → Type 0
+KeptOr at old left reply = IsKept at old left ⊎ (is_applied reply.code ≡ true)
 
 put_code : (b : Bool) → is_applied (cond b 68 65) ≡ true
 put_code true = refl
 put_code false = refl
 
 put_or : (o : Option StoreRefusal) (old : Content) (at : ℕ) (q : Question) (reply : Reply) (left : Content)
-    → PutBy o old at q reply left → KeptOr old left reply
+    → PutBy o old at q reply left → KeptOr at old left reply
 put_or (Some why) old at q reply left h = inl (unchanged_by old left at h.1)
 put_or None old at q reply left h = inr (yes_code reply _ 0 h.0 (put_code (is_some (old.holds q.path))))
 
 join_or : (o : Option StoreRefusal) (held : Held) (old : Content) (at : ℕ) (q : Question) (reply : Reply)
-    (left : Content) → JoinBy o held old at q reply left → KeptOr old left reply
+    (left : Content) → JoinBy o held old at q reply left → KeptOr at old left reply
 join_or (Some why) held old at q reply left h = inl (unchanged_by old left at h.1)
 join_or None held old at q reply left h = inr (yes_code reply 68 0 h.0 refl)
 
 post_or : (o : Option Held) (old : Content) (at : ℕ) (q : Question) (reply : Reply) (left : Content)
-    → PostBy o old at q reply left → KeptOr old left reply
+    → PostBy o old at q reply left → KeptOr at old left reply
 post_or None old at q reply left h = inl (unchanged_by old left at h.1)
 post_or (Some held) old at q reply left h = join_or
     (append_refusal old at held (length q.body)) held old at q reply left h
 
 remove_or : (o : Option StoreRefusal) (old : Content) (at : ℕ) (q : Question) (reply : Reply) (left : Content)
-    → RemoveBy o old at q reply left → KeptOr old left reply
+    → RemoveBy o old at q reply left → KeptOr at old left reply
 remove_or (Some why) old at q reply left h = inl (unchanged_by old left at h.1)
 remove_or None old at q reply left h = inr (yes_code reply 66 0 h.0 refl)
 
 delete_or : (o : Option Held) (old : Content) (at : ℕ) (q : Question) (reply : Reply) (left : Content)
-    → DeleteBy o old at q reply left → KeptOr old left reply
+    → DeleteBy o old at q reply left → KeptOr at old left reply
 delete_or None old at q reply left h = inl (unchanged_by old left at h.1)
 delete_or (Some held) old at q reply left h = remove_or (rate_refusal old.tally at) old at q reply left h
 
 method_or : (m : Method) (old : Content) (at : ℕ) (q : Question) (reply : Reply) (left : Content)
-    → ServesMethod m old at q reply left → KeptOr old left reply
-method_or Get old at q reply left h = inl (kept_by old left h.1)
+    → ServesMethod m old at q reply left → KeptOr at old left reply
+method_or Get old at q reply left h = inl (kept_by at old left h.1)
 method_or Post old at q reply left h = post_or (old.holds q.path) old at q reply left h
 method_or Put old at q reply left h = put_or (put_refusal old at q.path (length q.body)) old at q reply left h
 method_or Delete old at q reply left h = delete_or (old.holds q.path) old at q reply left h
 
 unless_or : (b : Bool) (old : Content) (at : ℕ) (q : Question) (reply : Reply) (left : Content)
-    → ServesUnless b old at q reply left → KeptOr old left reply
-unless_or true old at q reply left h = inl (kept_by old left h.1)
+    → ServesUnless b old at q reply left → KeptOr at old left reply
+unless_or true old at q reply left h = inl (kept_by at old left h.1)
 unless_or false old at q reply left h = method_or q.method old at q reply left h
 
 pub kept_or_applied : (old : Content) (at : ℕ) (q : Question) (reply : Reply) (left : Content)
-    → R.Serves old at q reply left → KeptOr old left reply
+    → R.Serves old at q reply left → KeptOr at old left reply
 kept_or_applied old at q reply left h = unless_or
     (precondition_fails (old.holds q.path) q.options) old at q reply left h

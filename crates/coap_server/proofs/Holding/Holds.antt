@@ -25,7 +25,7 @@ use Rattle.coap_server.specs.Follows.Holds.{changes, held_at, HoldsChanges, AllS
 use Rattle.coap_server.proofs.Observing.StoreChanges.{Effect, IsKept, IsChanged, served_effect, sets_effect}
 use Rattle.coap_server.proofs.Observing.StoreChanges.{removes_effect}
 use Rattle.coap_server.proofs.Observing.Outcomes.{serves_came, serves_waited}
-use Rattle.coap_server.proofs.Observing.VersionsRise.{next_serves}
+use Rattle.coap_server.proofs.Observing.StoreSteps.{next_serves}
 use Rattle.coap_server.proofs.Holding.AppliedWhole.{applied_whole, kept_or_applied}
 
 -- a call that serves does so by the store's table
@@ -33,19 +33,19 @@ pub serves_right : (s : Own) (c : Call) → IsRight s c → (x : Serving) → se
     → (at : ℕ) × (x.old ≡ s.store) × R.Serves x.old at x.question x.reply x.left
 serves_right s (Feeds now from bytes word up (Some p) (Serves q reply left) below) right x h =
     let w : Own = heard s now (incoming s now from bytes up (Some p)) in
-    let same : ◌≡◌ {A = Serving} (serving_of w p.0 q reply left) x = cc h in
-    let k = serves_came w p q reply left right in (
-      k.0,
+    let same : ◌≡◌ {A = Serving} (serving_of w p.0 q reply left) x = cc h in (
+      w.clock,
       sym (ap (λ (y : Serving). y.old) same),
-      subst (λ (y : Serving). R.Serves y.old k.0 y.question y.reply y.left) same k.1,
+      subst (λ (y : Serving). R.Serves y.old w.clock y.question y.reply y.left) same
+          (serves_came w p q reply left right),
     )
 serves_right s (Ticks now word below room (due.Ready a) passed (Serves q reply left) id answer) right x h =
     let w : Own = heard s now (ticking s now below room (due.Ready a)) in
-    let same : ◌≡◌ {A = Serving} (serving_of w a q reply left) x = cc h in
-    let k = serves_waited (question_of w.clock a w.waiting) w.store w.clock q reply left right.0 in (
-      k.0,
+    let same : ◌≡◌ {A = Serving} (serving_of w a q reply left) x = cc h in (
+      w.clock,
       sym (ap (λ (y : Serving). y.old) same),
-      subst (λ (y : Serving). R.Serves y.old k.0 y.question y.reply y.left) same k.1,
+      subst (λ (y : Serving). R.Serves y.old w.clock y.question y.reply y.left) same
+          (serves_waited (question_of w.clock a w.waiting) w.store w.clock q reply left right.0),
     )
 serves_right s (Feeds now from bytes word up None h below) right x e = absurd (cc e)
 serves_right s (Feeds now from bytes word up (Some p) Silent below) right x e = absurd (cc e)
@@ -78,13 +78,13 @@ is_next n m false h k = refl
 abbrev some_change : List (List ℕ) → Content → Change
 some_change path left = record { path = path; version = left.tally.version; held = left.holds path }
 
-none_kept : (path : List (List ℕ)) (old left : Content) → IsKept old left → change_of path old left ≡ None
-none_kept path old left k = ap (λ b. cond b None (Some (some_change path left)))
+none_kept : (path : List (List ℕ)) (at : ℕ) (old left : Content) → IsKept at old left → change_of path old left ≡ None
+none_kept path at old left k = ap (λ b. cond b None (Some (some_change path left)))
     (ap (λ v. v == old.tally.version) k.version ∙ is_same old.tally.version)
 
-one_changed : (path : List (List ℕ)) (old left : Content) → IsChanged path old left
+one_changed : (path : List (List ℕ)) (at : ℕ) (old left : Content) → IsChanged path at old left
     → change_of path old left ≡ Some (some_change path left)
-one_changed path old left k = ap (λ b. cond b None (Some (some_change path left)))
+one_changed path at old left k = ap (λ b. cond b None (Some (some_change path left)))
     (is_next left.tally.version old.tally.version (left.tally.version == old.tally.version) refl k.version)
 
 -- the change that a call makes of the store, and what is held then
@@ -94,28 +94,28 @@ pub record Moves (old left : Content) (x : Option Change) : Type 0 where
   pub held : (path : List (List ℕ)) → left.holds path ≡ held_then path x (old.holds path)
   pub new : (y : Change) → x ≡ Some y → y.version ≡ old.tally.version + 1
 
-held_by : (path other : List (List ℕ)) (old left : Content) → IsChanged path old left → (b : Bool)
+held_by : (path other : List (List ℕ)) (at : ℕ) (old left : Content) → IsChanged path at old left → (b : Bool)
     → same_path path other ≡ b → left.holds other ≡ cond b (left.holds path) (old.holds other)
-held_by path other old left k true h = ap left.holds (sym ((same_path-decides path other).0 h))
-held_by path other old left k false h = k.others other
+held_by path other at old left k true h = ap left.holds (sym ((same_path-decides path other).0 h))
+held_by path other at old left k false h = k.others other
     (λ e. let same : same_path path other ≡ true = (same_path-decides path other).1 (sym e) in cc (same, h))
 
-pub moves : (path : List (List ℕ)) (old left : Content) → Effect path old left
+pub moves : (path : List (List ℕ)) (at : ℕ) (old left : Content) → Effect path at old left
     → Moves old left (change_of path old left)
-moves path old left (inl k) =
-    subst (Moves old left) (sym (none_kept path old left k))
+moves path at old left (inl k) =
+    subst (Moves old left) (sym (none_kept path at old left k))
     (record {
       version = (let v = k.version in omega (arith, v));
       limits = k.limits;
       held = λ p. ap (λ f. f p) k.holds;
       new = λ y h. absurd (cc h);
     })
-moves path old left (inr k) =
-    subst (Moves old left) (sym (one_changed path old left k)) (
+moves path at old left (inr k) =
+    subst (Moves old left) (sym (one_changed path at old left k)) (
     record {
       version = (let v = k.version in omega (arith, v));
       limits = k.limits;
-      held = λ p. held_by path p old left k (same_path path p) refl;
+      held = λ p. held_by path p at old left k (same_path path p) refl;
       new = λ y h. (let same : ◌≡◌ {A = Change} (some_change path left) y = cc h in let e : left.tally.version
           ≡ y.version = ap (λ (z : Change). z.version) same in let v = k.version in omega (arith, e, v));
     })
@@ -125,16 +125,16 @@ stays s = record { version = omega arith; limits = refl; held = λ path. refl; n
 
 serving_moves : (s : Own) (c : Call) → IsRight s c → (x : Serving) → serving s c ≡ Some x
     → Moves x.old x.left (change_of x.question.path x.old x.left)
-serving_moves s c right x h = let k = serves_right s c right x h in moves x.question.path x.old x.left
+serving_moves s c right x h = let k = serves_right s c right x h in moves x.question.path k.0 x.old x.left
     (served_effect x.old k.0 x.question x.reply x.left k.2)
 
 pub moves_by : (s : Own) (c : Call) → IsRight s c → Moves s.store (after s c).store (change s c)
 moves_by s (Sets now path format body answer left) right =
-    moves path s.store left (sets_effect (put_refusal s.store (max s.clock now) path (length body)) s.store
-    (max s.clock now) path format body answer left right)
+    moves path (max s.clock now) s.store left (sets_effect (put_refusal s.store (max s.clock now) path (length body)) s.store
+    (max s.clock now) path format body answer left refl right)
 moves_by s (Removes now path answer left) right =
-    moves path s.store left (removes_effect (s.store.holds path) (rate_refusal s.store.tally (max s.clock now)) s.store
-    (max s.clock now) path answer left right)
+    moves path (max s.clock now) s.store left (removes_effect (s.store.holds path) (rate_refusal s.store.tally (max s.clock now)) s.store
+    (max s.clock now) path answer left refl right)
 moves_by s (Delays path ms answer) right = stays s
 moves_by s (Gets path answer) right = stays s
 moves_by s (TellsApplied answer) right = stays s
@@ -221,7 +221,7 @@ applied_by : (s : Own) (c : Call) → IsRight s c → (x : Serving) (y : Change)
 applied_by s c right x y h k =
     let r = serves_right s c right x h in
     elim (kept_or_applied x.old r.0 x.question x.reply x.left r.2) [
-      | inl kept ↦ (let e = none_kept x.question.path x.old x.left kept in let f =
+      | inl kept ↦ (let e = none_kept x.question.path r.0 x.old x.left kept in let f =
           served_changes s c x y h k in absurd (cc (e, f)))
       | inr good ↦ good
     ]

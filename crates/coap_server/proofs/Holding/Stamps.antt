@@ -35,8 +35,8 @@ pub record IsStamp (path : List (List ℕ)) (old left : Content) : Type 0 where
   pub room : old.tally.version ≡ greatest → ⊥
   pub held : (held : Held) → left.holds path ≡ Some held → held.version ≡ left.tally.version
 
-abbrev pub Stamps : List (List ℕ) → Content → Content → Type 0
-Stamps path old left = IsKept old left ⊎ IsStamp path old left
+abbrev pub Stamps : List (List ℕ) → ℕ → Content → Content → Type 0
+Stamps path at old left = IsKept at old left ⊎ IsStamp path old left
 
 -- the tests that a change passes
 rate_room : (old : Content) (at : ℕ) → rate_refusal old.tally at ≡ None → old.tally.version ≡ greatest → ⊥
@@ -84,7 +84,7 @@ version_in (Some held) n = held.version
 -- a request
 
 put_stamps : (o : Option StoreRefusal) (old : Content) (at : ℕ) (q : Question) (reply : Reply) (left : Content)
-    → put_refusal old at q.path (length q.body) ≡ o → PutBy o old at q reply left → Stamps q.path old left
+    → put_refusal old at q.path (length q.body) ≡ o → PutBy o old at q reply left → Stamps q.path at old left
 put_stamps (Some why) old at q reply left is h = inl (unchanged_by old left at h.1)
 put_stamps None old at q reply left is h =
     inr (changed_stamp old left at q.path _ h.1 (put_room old at q.path (length q.body) is)
@@ -92,44 +92,44 @@ put_stamps None old at q reply left is h =
 
 join_stamps : (o : Option StoreRefusal) (was : Held) (old : Content) (at : ℕ) (q : Question) (reply : Reply)
     (left : Content) → append_refusal old at was (length q.body) ≡ o → JoinBy o was old at q reply left
-    → Stamps q.path old left
+    → Stamps q.path at old left
 join_stamps (Some why) was old at q reply left is h = inl (unchanged_by old left at h.1)
 join_stamps None was old at q reply left is h =
     inr (changed_stamp old left at q.path _ h.1 (append_room old at was (length q.body) is)
     (λ held e. sym (ap (λ (o : Option Held). version_in o (old.tally.version + 1)) e)))
 
 post_stamps : (o : Option Held) (old : Content) (at : ℕ) (q : Question) (reply : Reply) (left : Content)
-    → PostBy o old at q reply left → Stamps q.path old left
+    → PostBy o old at q reply left → Stamps q.path at old left
 post_stamps None old at q reply left h = inl (unchanged_by old left at h.1)
 post_stamps (Some was) old at q reply left h =
     join_stamps (append_refusal old at was (length q.body)) was old at q reply left refl h
 
 remove_stamps : (o : Option StoreRefusal) (old : Content) (at : ℕ) (q : Question) (reply : Reply) (left : Content)
-    → rate_refusal old.tally at ≡ o → RemoveBy o old at q reply left → Stamps q.path old left
+    → rate_refusal old.tally at ≡ o → RemoveBy o old at q reply left → Stamps q.path at old left
 remove_stamps (Some why) old at q reply left is h = inl (unchanged_by old left at h.1)
 remove_stamps None old at q reply left is h =
     inr (changed_stamp old left at q.path _ h.1 (rate_room old at is) (λ held e. absurd (cc e)))
 
 delete_stamps : (o : Option Held) (old : Content) (at : ℕ) (q : Question) (reply : Reply) (left : Content)
-    → DeleteBy o old at q reply left → Stamps q.path old left
+    → DeleteBy o old at q reply left → Stamps q.path at old left
 delete_stamps None old at q reply left h = inl (unchanged_by old left at h.1)
 delete_stamps (Some was) old at q reply left h = remove_stamps (rate_refusal old.tally at) old at q reply left refl h
 
 method_stamps : (m : Method) (old : Content) (at : ℕ) (q : Question) (reply : Reply) (left : Content)
-    → ServesMethod m old at q reply left → Stamps q.path old left
-method_stamps Get old at q reply left h = inl (kept_by old left h.1)
+    → ServesMethod m old at q reply left → Stamps q.path at old left
+method_stamps Get old at q reply left h = inl (kept_by at old left h.1)
 method_stamps Post old at q reply left h = post_stamps (old.holds q.path) old at q reply left h
 method_stamps Put old at q reply left h = put_stamps
     (put_refusal old at q.path (length q.body)) old at q reply left refl h
 method_stamps Delete old at q reply left h = delete_stamps (old.holds q.path) old at q reply left h
 
 unless_stamps : (b : Bool) (old : Content) (at : ℕ) (q : Question) (reply : Reply) (left : Content)
-    → ServesUnless b old at q reply left → Stamps q.path old left
-unless_stamps true old at q reply left h = inl (kept_by old left h.1)
+    → ServesUnless b old at q reply left → Stamps q.path at old left
+unless_stamps true old at q reply left h = inl (kept_by at old left h.1)
 unless_stamps false old at q reply left h = method_stamps q.method old at q reply left h
 
 served_stamps : (old : Content) (at : ℕ) (q : Question) (reply : Reply) (left : Content) → R.Serves old at q reply left
-    → Stamps q.path old left
+    → Stamps q.path at old left
 served_stamps old at q reply left h = unless_stamps
     (precondition_fails (old.holds q.path) q.options) old at q reply left h
 
@@ -138,7 +138,7 @@ served_stamps old at q reply left h = unless_stamps
 sets_stamps : (o : Option StoreRefusal) (old : Content) (at : ℕ) (path : List (List ℕ)) (format : Option ℕ)
     (body : List ℕ) (answer : Result ℕ StoreRefusal) (left : Content) → put_refusal old at path (length body) ≡ o
     → SetsBy o old at path format body answer left
-    → Stamps path old left
+    → Stamps path at old left
 sets_stamps (Some why) old at path format body answer left is h = inl (unchanged_by old left at h.1)
 sets_stamps None old at path format body answer left is h =
     inr (changed_stamp old left at path _ h.1 (put_room old at path (length body) is)
@@ -146,7 +146,7 @@ sets_stamps None old at path format body answer left is h =
 
 removes_stamps : (o : Option Held) (why : Option StoreRefusal) (old : Content) (at : ℕ) (path : List (List ℕ))
     (answer : Result Bool StoreRefusal) (left : Content) → rate_refusal old.tally at ≡ why
-    → RemovesBy o why old at path answer left → Stamps path old left
+    → RemovesBy o why old at path answer left → Stamps path at old left
 removes_stamps None why old at path answer left is h = inl (unchanged_by old left at h.1)
 removes_stamps (Some was) (Some why) old at path answer left is h = inl (unchanged_by old left at h.1)
 removes_stamps (Some was) None old at path answer left is h =
@@ -158,9 +158,9 @@ pub record IsStampOf (s : Own) (x : Change) : Type 0 where
   pub room : s.store.tally.version ≡ greatest → ⊥
   pub held : (held : Held) → x.held ≡ Some held → held.version ≡ x.version
 
-kept_none : (path : List (List ℕ)) (old left : Content) (x : Change) → IsKept old left
+kept_none : (path : List (List ℕ)) (at : ℕ) (old left : Content) (x : Change) → IsKept at old left
     → change_of path old left ≡ Some x → ⊥
-kept_none path old left x k h = by (left.tally.version == old.tally.version)
+kept_none path at old left x k h = by (left.tally.version == old.tally.version)
     ((unsigned_Decides left.tally.version old.tally.version).1 k.version) h
   where
     by : (b : Bool) → b ≡ true → cond b None (Some
@@ -177,10 +177,10 @@ change_is path old left x h = by (left.tally.version == old.tally.version) h
     by true e = absurd (cc e)
     by false e = cc e
 
-stamp_of : (s : Own) (path : List (List ℕ)) (old left : Content) (x : Change) → old ≡ s.store → Stamps path old left
-    → change_of path old left ≡ Some x → IsStampOf s x
-stamp_of s path old left x is (inl k) h = absurd (kept_none path old left x k h)
-stamp_of s path old left x is (inr k) h =
+stamp_of : (s : Own) (path : List (List ℕ)) (at : ℕ) (old left : Content) (x : Change) → old ≡ s.store
+    → Stamps path at old left → change_of path old left ≡ Some x → IsStampOf s x
+stamp_of s path at old left x is (inl k) h = absurd (kept_none path at old left x k h)
+stamp_of s path at old left x is (inr k) h =
     let same = change_is path old left x h in
     record {
       room = λ e. k.room (ap (λ (c : Content). c.tally.version) is ∙ e);
@@ -192,15 +192,15 @@ served_stamp : (s : Own) (c : Call) (x : Change) (o : Option Serving) → IsRigh
     → changed_by o ≡ Some x → IsStampOf s x
 served_stamp s c x None right is h = absurd (cc h)
 served_stamp s c x (Some y) right is h = let k =
-    serves_right s c right y is in stamp_of s y.question.path y.old y.left x k.1
+    serves_right s c right y is in stamp_of s y.question.path k.0 y.old y.left x k.1
     (served_stamps y.old k.0 y.question y.reply y.left k.2) h
 
 stamps : (s : Own) (c : Call) (x : Change) → IsRight s c → change s c ≡ Some x → IsStampOf s x
 stamps s (Sets now path format body answer left) x right h =
-    stamp_of s path s.store left x refl (sets_stamps (put_refusal s.store (max s.clock now) path (length body)) s.store
+    stamp_of s path (max s.clock now) s.store left x refl (sets_stamps (put_refusal s.store (max s.clock now) path (length body)) s.store
     (max s.clock now) path format body answer left refl right) h
 stamps s (Removes now path answer left) x right h =
-    stamp_of s path s.store left x refl (removes_stamps (s.store.holds path)
+    stamp_of s path (max s.clock now) s.store left x refl (removes_stamps (s.store.holds path)
     (rate_refusal s.store.tally (max s.clock now)) s.store (max s.clock now) path answer left refl right) h
 stamps s (Delays path ms answer) x right h = absurd (cc h)
 stamps s (Gets path answer) x right h = absurd (cc h)

@@ -72,7 +72,7 @@ module _ (limits : Limits) (szx word : ℕ) where
       by : (b : Bool) → is_get y.question.method ≡ b → Marked t c x
       by true e =
           let none = unchanged y.question.path y.old y.left
-          (get_same y.old s.serves.0 y.question y.reply y.left e s.serves.1) in
+          (get_same y.old (own (c ∷ t)).clock y.question y.reply y.left e s.serves) in
           absurd (let z : None ≡ Some x = sym none ∙ h in cc z)
       by false e =
           let at : ℕ = (own (c ∷ t)).clock in

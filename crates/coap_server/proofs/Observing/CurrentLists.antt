@@ -22,7 +22,7 @@ use Rattle.coap_exchange.specs.declared.answerer.Ended.{Ended}
 use Rattle.coap_server.specs.Observers.{marked_if, unless_ended}
 use Rattle.coap_server.specs.Notifying.{notified}
 use Rattle.coap_server.specs.Follows.Current.{told_then}
-use Rattle.coap_server.specs.Follows.Tells.{Telling, tells}
+use Rattle.coap_server.specs.Follows.Tells.{Telling, Way, telling_of, tells}
 use Rattle.coap_server.proofs.Observing.ObservationStays.{is_pair}
 use Rattle.coap_server.proofs.Observing.StoreChanges.{Effect}
 
@@ -36,25 +36,11 @@ pub none_or : {X Y : Type 0} {x : X} → None ≡ Some x → Y
 none_or h = absurd (cc h)
 
 -- what a notification tells, and the answer that registers
-abbrev notice_of : Observer → ℕ → Held → Telling
-notice_of o id held = record {
-  to = o.to;
-  token = o.token;
-  path = o.path;
-  version = held.version;
-  con = Some id;
-  registers = false;
-}
+abbrev notice_of : Observer → Way → ℕ → Held → Telling
+notice_of o way at held = telling_of o.to o.token o.path way at false held
 
-abbrev answer_of : Asked → Question → Option ℕ → Held → Telling
-answer_of a q con held = record {
-  to = a.from;
-  token = a.token;
-  path = q.path;
-  version = held.version;
-  con = con;
-  registers = true;
-}
+abbrev answer_of : Asked → Question → Way → ℕ → Held → Telling
+answer_of a q way at held = telling_of a.from a.token q.path way at true held
 
 module _ (to : Endpoint) (token : List ℕ) where
   -- the path holds what was told last
@@ -135,10 +121,10 @@ module _ (to : Endpoint) (token : List ℕ) where
   all_good last holds then os e g o h m = held_on last holds then o.path (ap (λ f. f o.path) e) (g o h m)
 
   pub marked_good : (at : ℕ) (last : Option Telling) (path : List (List ℕ)) (old left : Content) (os : List Observer)
-      → Effect path old left → Good last old.holds os → Good last left.holds (marked_if at path old left os)
+      → Effect path at old left → Good last old.holds os → Good last left.holds (marked_if at path old left os)
   marked_good at last path old left os effect g = by (left.tally.version == old.tally.version) refl effect
     where
-      by : (b : Bool) → (left.tally.version == old.tally.version) ≡ b → Effect path old left
+      by : (b : Bool) → (left.tally.version == old.tally.version) ≡ b → Effect path at old left
           → Good last left.holds (cond b os (changed_at at path os))
       by true is (inl k) = all_good last old.holds left.holds os k.holds g
       by true is (inr k) =
@@ -176,12 +162,12 @@ module _ (to : Endpoint) (token : List ℕ) where
   last_good last then holds os e g = subst (λ z. Good z holds os) (sym e) g
 
   -- a notification
-  pub notified_good : (at : ℕ) (last : Option Telling) (store : Content) (o : Observer) (id : ℕ) (os : List Observer)
+  pub notified_good : (at : ℕ) (last : Option Telling) (store : Content) (o : Observer) (way : Way) (os : List Observer)
       → AreDistinct os → registration o.to o.token os ≡ Some o → Good last store.holds os → (held : Option Held)
       → store.holds o.path ≡ held
-      → Good (told_then to token (tells o.to o.token o.path (Some id) false held) last) store.holds (notified at held o os)
-  notified_good at last store o id os distinct there g None is = removed_good last store.holds o.to o.token os g
-  notified_good at last store o id os distinct there g (Some held) is = elim (is_pair to token o.to o.token) [
+      → Good (told_then to token (tells o.to o.token o.path way at false held) last) store.holds (notified at held o os)
+  notified_good at last store o way os distinct there g None is = removed_good last store.holds o.to o.token os g
+  notified_good at last store o way os distinct there g (Some held) is = elim (is_pair to token o.to o.token) [
     | inl p ↦ (λ y h m. (
         let swap : registration to token (sent_to at o.to o.token true os)
         ≡ registration to token (sent_to at to token true os) =
@@ -194,26 +180,26 @@ module _ (to : Endpoint) (token : List ℕ) where
         let same : k.0 ≡ o = one_some k.0 o (sym k.1 ∙ mine) in
         let path : y.path ≡ o.path = ap (λ (z : Observer). z.path) (sym k.2) ∙ ap (λ (z : Observer). z.path) same in
         record {
-          told = notice_of o id held;
-          last_is = told_it (notice_of o id held) last p;
+          told = notice_of o way at held;
+          last_is = told_it (notice_of o way at held) last p;
           path_is = sym path;
           held = held;
           is_held = ap store.holds path ∙ is;
           version = refl;
         }))
     | inr other ↦ last_good last _ store.holds (sent_to at o.to o.token true os)
-        (told_other (notice_of o id held) last other)
+        (told_other (notice_of o way at held) last other)
         (moved last store.holds os (sent_to at o.to o.token true os)
         ((others_stay to token o.to o.token os other).sent_stay at true) g)
   ]
 
   -- a request that is served
 
-  pub registered_good : (at : ℕ) (last : Option Telling) (store : Content) (a : Asked) (q : Question) (con : Option ℕ) (size : ℕ)
+  pub registered_good : (at : ℕ) (last : Option Telling) (store : Content) (a : Asked) (q : Question) (way : Way) (size : ℕ)
       (held : Held) (os : List Observer) → store.holds q.path ≡ Some held → Good last store.holds os
-      → Good (told_then to token (tells a.from a.token q.path con true (Some held)) last) store.holds
+      → Good (told_then to token (tells a.from a.token q.path way at true (Some held)) last) store.holds
       (registered at a.from a.token q.path size os)
-  registered_good at last store a q con size held os is g = elim (is_pair to token a.from a.token) [
+  registered_good at last store a q way size held os is g = elim (is_pair to token a.from a.token) [
     | inl p ↦ (λ y h m. (
         let swap : registration to token (registered at a.from a.token q.path size os)
         ≡ registration to token (registered at to token q.path size os) =
@@ -224,15 +210,15 @@ module _ (to : Endpoint) (token : List ℕ) where
         (sym (registration-registered at to token q.path size os) ∙ (sym swap ∙ h)) in
         let path : y.path ≡ q.path = ap (λ (z : Observer). z.path) (sym same) in
         record {
-          told = answer_of a q con held;
-          last_is = told_it (answer_of a q con held) last p;
+          told = answer_of a q way at held;
+          last_is = told_it (answer_of a q way at held) last p;
           path_is = sym path;
           held = held;
           is_held = ap store.holds path ∙ is;
           version = refl;
         }))
     | inr other ↦ last_good last _ store.holds (registered at a.from a.token q.path size os)
-        (told_other (answer_of a q con held) last other)
+        (told_other (answer_of a q way at held) last other)
         (moved last store.holds os (registered at a.from a.token q.path size os)
         ((others_stay to token a.from a.token os other).registered_stay at q.path size) g)
   ]

@@ -145,16 +145,16 @@ module _ (limits : Limits) (szx word : ℕ) where
 
   -- what is served, the store served
   pub serves_right : (t : List Call) (c : Call) → ServerLaw limits szx word (c ∷ t) → (x : Serving)
-      → serving (own t) c ≡ Some x → (at : ℕ) × R.Serves x.old at x.question x.reply x.left
+      → serving (own t) c ≡ Some x → R.Serves x.old (own (c ∷ t)).clock x.question x.reply x.left
   serves_right t (Feeds now from bytes w up (Some p) (Serves q reply left) below) law x h =
       let s : Own = heard (own t) now (incoming (own t) now from bytes up (Some p)) in
       let same : ◌≡◌ {A = Serving} (serving_of s p.0 q reply left) x = cc h in
-      subst (λ (y : Serving). (at : ℕ) × R.Serves y.old at y.question y.reply y.left) same
+      subst (λ (y : Serving). R.Serves y.old s.clock y.question y.reply y.left) same
       (serves_came s p q reply left law.rows.0)
   serves_right t (Ticks now w below room (due.Ready a) passed (Serves q reply left) id answer) law x h =
       let s : Own = heard (own t) now (ticking (own t) now below room (due.Ready a)) in
       let same : ◌≡◌ {A = Serving} (serving_of s a q reply left) x = cc h in
-      subst (λ (y : Serving). (at : ℕ) × R.Serves y.old at y.question y.reply y.left) same
+      subst (λ (y : Serving). R.Serves y.old s.clock y.question y.reply y.left) same
       (serves_waited (question_of s.clock a s.waiting) s.store s.clock q reply left law.rows.0.0)
   serves_right t (Feeds now from bytes w up None h below) law x e = absurd (cc e)
   serves_right t (Feeds now from bytes w up (Some p) Silent below) law x e = absurd (cc e)
@@ -178,6 +178,6 @@ module _ (limits : Limits) (szx word : ℕ) where
   pub none_continues : (t : List Call) → ServerLaw limits szx word t → NoneContinues limits szx t
   none_continues [] law = tt
   none_continues (c ∷ t) law = (
-    λ x is. (let k = serves_right t c law x is in never_continues x.old k.0 x.question x.reply x.left k.1),
+    λ x is. never_continues x.old (own (c ∷ t)).clock x.question x.reply x.left (serves_right t c law x is),
     none_continues t (server_back limits szx word c t law),
   )

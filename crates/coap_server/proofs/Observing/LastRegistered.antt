@@ -51,7 +51,7 @@ module _ (limits : Limits) (szx word : ℕ) where
   here t c law x is can =
       let s : ServesAt limits szx word t c x = served_at limits szx word t c law x is in
       let so = registers_here t x can in
-      let same = get_same x.old s.serves.0 x.question x.reply x.left (a_get 0 x.question can.observe) s.serves.1 in
+      let same = get_same x.old (own (c ∷ t)).clock x.question x.reply x.left (a_get 0 x.question can.observe) s.serves in
       record {
         registers = s.registers_so ∙ ap (λ b. pair_if b x.asked) so;
         last =

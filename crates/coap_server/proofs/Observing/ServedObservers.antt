@@ -19,15 +19,10 @@ use Rattle.coap_server.specs.Observers.{registers, sequence_if, unless_ended}
 use Rattle.coap_server.specs.Serving.{observers_served}
 use Rattle.coap_server.specs.Law.{ServerLaw, own_of, lower_of}
 use Rattle.coap_server.specs.Follows.Serves.{Serving, serving, serving_of}
-use Rattle.coap_server.specs.Follows.Tells.{Pair, registering, registers_by, telling, tells, tells_if}
+use Rattle.coap_server.specs.Follows.Tells.{InCon, InReply, Pair, Way, registering, registers_by, telling}
+use Rattle.coap_server.specs.Follows.Tells.{tells_if}
 use Rattle.coap_server.proofs.Observing.EndsObservation.{first_row, serves_right}
 use Rattle.coap_server.proofs.Serving.FoundReady.{found_ready}
-
-tells_same : (b : Bool) (s r : Own) (a : Asked) (q : Question) (con : Option ℕ) → s.store ≡ r.store
-    → tells_if b s a q con ≡ tells_if b r a q con
-tells_same true s r a q con e =
-    ap (λ (z : Content). tells a.from a.token q.path con true (z.holds q.path)) e
-tells_same false s r a q con e = refl
 
 abbrev pub pair_if : Bool → Asked → Option Pair
 pair_if b a = cond b (Some (record { to = a.from; token = a.token })) None
@@ -48,17 +43,20 @@ module _ (limits : Limits) (szx word : ℕ) where
     pub registers_so : registering (own t) c
         ≡ pair_if (registers x.asked x.question x.reply (own t).observers) x.asked
     pub tells_so :
-        (con : Option ℕ)
+        (way : Way)
         × (telling (own t) c
-        ≡ tells_if (registers x.asked x.question x.reply (own t).observers) (own t) x.asked x.question con)
-    pub serves : (at : ℕ) × R.Serves x.old at x.question x.reply x.left
+        ≡ tells_if (registers x.asked x.question x.reply (own t).observers) (own (c ∷ t)).clock (own t).store x.asked
+        x.question way)
+    pub serves : R.Serves x.old (own (c ∷ t)).clock x.question x.reply x.left
 
   staged : (t : List Call) (c : Call) (s : Own) (a : Asked) (q : Question) (reply : Reply) (left : Content)
       → s.observers ≡ (own t).observers → s.store ≡ (own t).store
       → (own (c ∷ t)).observers ≡ observers_served (own (c ∷ t)).clock s.store a q reply left s.observers
       → registering (own t) c ≡ registers_by s a q reply
-      → (con : Option ℕ) × (telling (own t) c ≡ tells_if (registers a q reply s.observers) (own t) a q con)
-      → (at : ℕ) × R.Serves s.store at q reply left → ServesAt t c (serving_of s a q reply left)
+      → (way : Way)
+      × (telling (own t) c
+      ≡ tells_if (registers a q reply s.observers) (own (c ∷ t)).clock (own t).store a q way)
+      → R.Serves s.store (own (c ∷ t)).clock q reply left → ServesAt t c (serving_of s a q reply left)
   staged t c s a q reply left os store observers registers_is tells serves =
       record {
         old = store;
@@ -67,7 +65,11 @@ module _ (limits : Limits) (szx word : ℕ) where
         says = ap (λ z. sequence_if (registers a q reply z) (s.store.holds q.path)) os
             ∙ ap (λ (z : Content). sequence_if (registers a q reply (own t).observers) (z.holds q.path)) store;
         registers_so = registers_is ∙ ap (λ z. pair_if (registers a q reply z) a) os;
-        tells_so = (tells.0, tells.1 ∙ ap (λ z. tells_if (registers a q reply z) (own t) a q tells.0) os);
+        tells_so = (
+          tells.0,
+          tells.1
+              ∙ ap (λ z. tells_if (registers a q reply z) (own (c ∷ t)).clock (own t).store a q tells.0) os,
+        );
         serves = serves;
       }
 
@@ -83,7 +85,7 @@ module _ (limits : Limits) (szx word : ℕ) where
       let c : Call = Feeds now from bytes w up (Some p) (Serves q reply left) below in
       subst (ServesAt t c) same
       (staged t c s p.0 q reply left (ap (λ e. unless_ended e (own t).observers) none) refl refl refl
-      (None, tells_same (registers p.0 q reply s.observers) s (own t) p.0 q None refl)
+      (InReply, refl)
       (serves_right limits szx word t c law (serving_of s p.0 q reply left) refl))
   served_at t (Ticks now w below room (due.Ready a) passed (Serves q reply left) id answer) law x h =
       let first : E.Call = ticking (own t) now below room (due.Ready a) in
@@ -97,7 +99,7 @@ module _ (limits : Limits) (szx word : ℕ) where
       subst (ServesAt t c) same
       (staged t c s a q reply left
       (ap (λ u. unless_ended (P.failed_by u (own t).exchanges.separate) (own t).observers) idle) refl refl refl
-      (Some id, tells_same (registers a q reply s.observers) s (own t) a q (Some id) refl)
+      (InCon id, refl)
       (serves_right limits szx word t c law (serving_of s a q reply left) refl))
   served_at t (Feeds now from bytes w up None h below) law x e = absurd (cc e)
   served_at t (Feeds now from bytes w up (Some p) Silent below) law x e = absurd (cc e)

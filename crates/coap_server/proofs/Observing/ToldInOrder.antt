@@ -3,7 +3,7 @@ use Rattle.coap_types.specs.declared.option_number.TheConstants.{OBSERVE as obse
 use Rattle.coap_types.specs.OptionValues.{uint_at}
 use Rattle.coap_observe.specs.declared.observers.TheConstants.{MAX_OBSERVERS as max_observers}
 use Rattle.std.proofs.Common.{◌≡◌, ◌<◌, inl, inr, ℕ, ◌==◌, ◌&&◌, nat_lt, Bool, true, false, Option, Some, None, List}
-use Rattle.std.proofs.Common.{[], ◌∷◌, ◌++◌, length, option_map, refl, ap, sym, subst, ◌∙◌, cond}
+use Rattle.std.proofs.Common.{[], ◌∷◌, ◌++◌, length, option_map, refl, ap, sym, subst, ◌∙◌, cond, ◌≤◌, ◌+◌, ◌*◌, arith}
 use Rattle.coap_types.specs.Past.{Ever}
 use Rattle.coap_types.specs.Recognised.{has_number}
 use Rattle.coap_types.specs.declared.endpoint.Endpoint.{Endpoint}
@@ -38,17 +38,23 @@ use Rattle.coap_server.specs.Notifying.{marked, behind, readies, notification, n
 use Rattle.coap_server.specs.Handling.{incoming, ticking, heard}
 use Rattle.coap_server.specs.Steps.{exchanges_after}
 use Rattle.coap_server.specs.Law.{ServerLaw, own_of, lower_of}
-use Rattle.coap_server.specs.Follows.Tells.{Telling, tells, tells_if, telling, HearsAck, FollowsOn}
-use Rattle.coap_server.specs.Follows.Tells.{Follows}
+use Rattle.coap_server.specs.Follows.Tells.{FollowsOn, HearsAck, InCon, InNon, InReply, Telling, Way, telling}
+use Rattle.coap_server.specs.Follows.Tells.{Follows, telling_of, tells, tells_if}
 use Rattle.coap_server.proofs.Observing.StoreChanges.{kept_by, get_same}
-use Rattle.coap_server.proofs.Observing.OneRegistration.{marked_turn, LivesAt, Lives, turned}
-use Rattle.coap_server.proofs.Observing.OneRegistration as T
+use Rattle.coap_server.proofs.Observing.OneRegistration.{marked_turn}
+use Rattle.coap_server.proofs.Observing.LivesOn.{Lives, LivesAt, turned}
+use Rattle.coap_server.proofs.Observing.StoreSteps.{AreLow, are_low, clocks_rise, store_timed}
+use Rattle.coap_server.proofs.Observing.ToldAt.{told_at}
+use Rattle.coap_server.proofs.Holding.Holds.{limits_are}
+use Rattle.coap_resource.proofs.Facts.Since.{rises_little}
+use Rattle.coap_observe.specs.Registrations.{told_by}
+use Rattle.coap_types.specs.declared.transmission.TheConstants.{MAX_LATENCY_MS as max_latency}
 use Rattle.coap_server.proofs.Observing.Outcomes.{serves_came, serves_waited}
 use Rattle.coap_server.proofs.Observing.ConsAreAcknowledged.{alone, alone_later, later, begins, not_flying}
 use Rattle.coap_server.proofs.Exact.Leads.{exchanges_kept, kept_behind}
 use Rattle.coap_server.proofs.Observing.ObserversWereMade.{good_ended, good}
 use Rattle.coap_server.proofs.Serving.Brought.{server_back}
-use Rattle.coap_server.proofs.Observing.VersionsRise.{AreLow, are_low, FlightOf, At, observe_there}
+use Rattle.coap_server.proofs.Observing.VersionsRise.{FlightOf, At, observe_there}
 use Rattle.coap_server.proofs.Observing.VersionsRise.{behind_there, marked_there, there_is, next_is}
 use Rattle.coap_server.proofs.Observing.VersionsRise.{readies_later, heard_ticked, steps}
 
@@ -56,15 +62,8 @@ one : (a b : Telling) → Some a ≡ Some b → a ≡ b
 one a b e = cc e
 
 -- what the answer that registers leaves
-abbrev answer_of : (s : Own) (a : Asked) (q : Question) (held : Held) (con : Option ℕ) → Telling
-answer_of s a q held con = record {
-  to = a.from;
-  token = a.token;
-  path = q.path;
-  version = held.version;
-  con = con;
-  registers = true;
-}
+abbrev answer_of : (s : Own) (a : Asked) (q : Question) (held : Held) (way : Way) → Telling
+answer_of s a q held way = telling_of a.from a.token q.path way s.clock true held
 
 get_of : (a : Asked) (q : Question) (reply : Reply) (os : List Observer) → registers a q reply os ≡ true
     → is_get q.method ≡ true
@@ -73,13 +72,13 @@ get_of a q reply os e =
     && ((reply.offset == 0) && nat_lt (length (removed a.from a.token os)) max_observers)) e in
     (and_parts (is_get q.method) (is_number 0 (uint_at observe q.options)) k.0).0
 
-module _ (s : Own) (a : Asked) (q : Question) (reply : Reply) (left : Content) (held : Held) (con : Option ℕ)
+module _ (s : Own) (a : Asked) (q : Question) (reply : Reply) (left : Content) (held : Held) (way : Way)
     (F : Type 0) where
   registered_lives : registers a q reply s.observers ≡ true → s.store.holds q.path ≡ Some held
-      → (at : ℕ) × R.Serves s.store at q reply left → AreLow s.store → F
-      → Lives (answer_of s a q held con) F left (observers_served s.clock s.store a q reply left s.observers)
-  registered_lives e is k low f =
-      let y : Telling = answer_of s a q held con in
+      → R.Serves s.store s.clock q reply left → s.store.tally.clock ≤ s.clock → AreLow s.store
+      → (way ≡ InNon → ⊥) → F → Lives (answer_of s a q held way) F left (observers_served s.clock s.store a q reply left s.observers)
+  registered_lives e is k timed low no_non f =
+      let y : Telling = answer_of s a q held way in
       let szx : ℕ = szx_by (block_of q.options) q.szx in
       let new : List Observer = registered s.clock a.from a.token q.path szx s.observers in
       let os : List Observer = observers_with s.clock a q reply s.observers in
@@ -91,11 +90,14 @@ module _ (s : Own) (a : Asked) (q : Question) (reply : Reply) (left : Content) (
         path = refl;
         low = low q.path held is;
         fresh = λ m h z. absurd (cc m);
+        dated = λ m h z. absurd (cc m);
+        young = λ w. absurd (no_non w);
         flies = f;
       } in
       turned y F s.store left os (marked_if s.clock q.path s.store left os)
       (marked_turn a.from a.token s.clock q.path s.store left os
-      (inl (kept_by s.store left (get_same s.store k.0 q reply left (get_of a q reply s.observers e) k.1))))
+      (inl (kept_by s.clock s.store left (get_same s.store s.clock q reply left (get_of a q reply s.observers e) k)))
+      timed)
       (subst (Lives y F s.store) (sym same) (inr first))
 
 -- the response has Observe then
@@ -156,14 +158,7 @@ module _ (limits : Limits) (szx word : ℕ) where
         ∙ alone word stage.clock o.to o.token (notification stage.store o reply) w id calls law.exchanges
 
     abbrev notice : Held → Telling
-    notice held = record {
-      to = o.to;
-      token = o.token;
-      path = o.path;
-      version = held.version;
-      con = Some id;
-      registers = false;
-    }
+    notice held = telling_of o.to o.token o.path (InCon id) stage.clock false held
 
   module _ (older : List Call) (x : Telling) where
     abbrev Begins : Call → Type 0
@@ -180,18 +175,24 @@ module _ (limits : Limits) (szx word : ℕ) where
         s : Own
         s = heard (own older) now (incoming (own older) now from bytes up (Some p))
 
+        past_law : ServerLaw limits szx word older
+        past_law = server_back limits szx word (Feeds now from bytes w up (Some p) (Serves q reply left) below) older law
+
+        timed : (own older).store.tally.clock ≤ (own older).clock
+        timed = store_timed limits szx word older past_law
+
         held_by : registers p.0 q reply s.observers ≡ true → (o : Option Held) → s.store.holds q.path ≡ o
-            → tells p.0.from p.0.token q.path None true o ≡ Some x
+            → tells p.0.from p.0.token q.path InReply s.clock true o ≡ Some x
             → Begins (Feeds now from bytes w up (Some p) (Serves q reply left) below)
         held_by e None is k = absurd (cc k)
         held_by e (Some held) is k =
-            let same : answer_of s p.0 q held None ≡ x = one _ x k in
+            let same : answer_of s p.0 q held InReply ≡ x = one _ x k in
             subst (λ (y : Telling). At y limits szx word
             (Feeds now from bytes w up (Some p) (Serves q reply left) below ∷ older) []) same
-            (registered_lives s p.0 q reply left held None (Unit {0}) e is (serves_came s p q reply left law.rows.0)
-            (are_low limits szx word older (server_back limits szx word _ older law)) tt)
+            (registered_lives s p.0 q reply left held InReply (Unit {0}) e is (serves_came s p q reply left law.rows.0)
+            (omega (arith, timed)) (are_low limits szx word older past_law) (λ w. cc w) tt)
 
-        by : (b : Bool) → registers p.0 q reply s.observers ≡ b → tells_if b s p.0 q None ≡ Some x
+        by : (b : Bool) → registers p.0 q reply s.observers ≡ b → tells_if b s.clock s.store p.0 q InReply ≡ Some x
             → Begins (Feeds now from bytes w up (Some p) (Serves q reply left) below)
         by true e k = held_by e (s.store.holds q.path) refl k
         by false e k = absurd (cc k)
@@ -207,6 +208,13 @@ module _ (limits : Limits) (szx word : ℕ) where
         s : Own
         s = heard (own older) now (ticking (own older) now below room (due.Ready a))
 
+        past_law : ServerLaw limits szx word older
+        past_law = server_back limits szx word
+            (Ticks now w below room (due.Ready a) passed (Serves q reply left) id answer) older law
+
+        timed : (own older).store.tally.clock ≤ (own older).clock
+        timed = store_timed limits szx word older past_law
+
         r : E.Response
         r = response_to s.store s.observers a q reply
 
@@ -217,20 +225,20 @@ module _ (limits : Limits) (szx word : ℕ) where
             ∙ alone_later word s.clock a r w id (first ∷ lower_of limits szx older) law.exchanges
 
         held_by : registers a q reply s.observers ≡ true → (o : Option Held) → s.store.holds q.path ≡ o
-            → tells a.from a.token q.path (Some id) true o ≡ Some x
+            → tells a.from a.token q.path (InCon id) s.clock true o ≡ Some x
             → Begins (Ticks now w below room (due.Ready a) passed (Serves q reply left) id answer)
         held_by e None is k = absurd (cc k)
         held_by e (Some held) is k =
-            let same : answer_of s a q held (Some id) ≡ x = one _ x k in
+            let same : answer_of s a q held (InCon id) ≡ x = one _ x k in
             subst (λ (y : Telling). At y limits szx word
             (Ticks now w below room (due.Ready a) passed (Serves q reply left) id answer ∷ older) []) same
-            (registered_lives s a q reply left held (Some id) _ e is
+            (registered_lives s a q reply left held (InCon id) _ e is
             (serves_waited (question_of s.clock a s.waiting) s.store s.clock q reply left law.rows.0.0)
-            (are_low limits szx word older (server_back limits szx word _ older law))
+            (omega (arith, timed)) (are_low limits szx word older past_law) (λ w. cc w)
             (inl (begins a.from id a.token s.exchanges.separate r idle
             (ends_as a.from id a.token r (response_observes s a q reply held e is)))))
 
-        by : (b : Bool) → registers a q reply s.observers ≡ b → tells_if b s a q (Some id) ≡ Some x
+        by : (b : Bool) → registers a q reply s.observers ≡ b → tells_if b s.clock s.store a q (InCon id) ≡ Some x
             → Begins (Ticks now w below room (due.Ready a) passed (Serves q reply left) id answer)
         by true e k = held_by e (s.store.holds q.path) refl k
         by false e k = absurd (cc k)
@@ -250,7 +258,7 @@ module _ (limits : Limits) (szx word : ℕ) where
         s = stage older now w below room passed id answer o reply
 
         by : (held : Option Held) → s.store.holds o.path ≡ held
-            → tells o.to o.token o.path (Some id) false held ≡ Some x → Begins c
+            → tells o.to o.token o.path (InCon id) s.clock false held ≡ Some x → Begins c
         by None is k = absurd (cc k)
         by (Some held) is k =
             let same : notice older now w below room passed id answer o reply held ≡ x = one _ x k in
@@ -261,19 +269,21 @@ module _ (limits : Limits) (szx word : ℕ) where
             let y : Telling = notice older now w below room passed id answer o reply held in
             let left : notified s.clock (s.store.holds o.path) o s.observers
             ≡ sent_to s.clock o.to o.token true s.observers = ap (λ z. notified s.clock z o s.observers) is in
-            let first : LivesAt y (FlightOf y (Some id) (xs ++ separate_of o.to id o.token r ∷ []) []) s.store
+            let first : LivesAt y (FlightOf y (InCon id) (xs ++ separate_of o.to id o.token r ∷ []) []) s.store
             (sent_to s.clock o.to o.token true s.observers) = record {
-              entry = T.told o.to o.token s.clock o;
+              entry = told_by s.clock true o;
               is = registration-sent_to s.clock o.to o.token true s.observers
-                  ∙ ap (option_map (T.told o.to o.token s.clock)) told.is;
+                  ∙ ap (option_map (told_by s.clock true)) told.is;
               path = refl;
               low = are_low limits szx word older (server_back limits szx word _ older law) o.path held is;
               fresh = λ m z e. absurd (cc m);
+              dated = λ m z e. absurd (cc m);
+              young = λ w. absurd (cc w);
               flies = inl (begins o.to id o.token xs r (free older now w below room passed id answer o reply law)
                   (ends_as o.to id o.token r (notification_observes s.store o reply held is)));
             } in
             subst (λ (z : Telling). At z limits szx word (c ∷ older) []) same
-            (subst (Lives y (FlightOf y (Some id) (xs ++ separate_of o.to id o.token r ∷ []) []) s.store) (sym left)
+            (subst (Lives y (FlightOf y (InCon id) (xs ++ separate_of o.to id o.token r ∷ []) []) s.store) (sym left)
             (inr first))
 
     begins_at : (c : Call) → ServerLaw limits szx word (c ∷ older) → telling (own older) c ≡ Some x → Begins c
@@ -307,11 +317,11 @@ module _ (limits : Limits) (szx word : ℕ) where
 
   -- the later of the two
   module _ (t after : List Call) (x y : Telling) (lives : At x limits szx word t after) (to : y.to ≡ x.to)
-      (token : y.token ≡ x.token) where
+      (token : y.token ≡ x.token) (before : x.at ≤ (own t).clock) where
     next : (now w : ℕ) (below : L.Answer) (room : Bool) (passed id : ℕ) (answer : Bool) (o : Observer) (reply : Reply)
         → ServerLaw limits szx word (Ticks now w below room due.Idle passed (Notifies o reply) id answer ∷ t)
         → telling (own t) (Ticks now w below room due.Idle passed (Notifies o reply) id answer) ≡ Some y
-        → FollowsOn after x y
+        → FollowsOn limits.changes after x y
     next now w below room passed id answer o reply law h =
         by (s.store.holds o.path) refl h (heard_ticked x limits szx word t after now w below room passed id answer
         due.Idle lives)
@@ -322,21 +332,39 @@ module _ (limits : Limits) (szx word : ℕ) where
         told : Told t s o
         told = told_here t now w below room passed id answer o reply law
 
-        grounded : (c : Option ℕ) (n : ℕ) → c ≡ Some n → o.to ≡ x.to → FlightOf x c s.exchanges.separate after
+        grounded : (way : Way) (n : ℕ) → way ≡ InCon n → o.to ≡ x.to → FlightOf x way s.exchanges.separate after
             → Ever (HearsAck x.to n) after
-        grounded None n e there f = absurd (cc e)
-        grounded (Some m) n e there (inr k) = let same : m
+        grounded InReply n e there f = absurd (cc e)
+        grounded InNon n e there f = absurd (cc e)
+        grounded (InCon m) n e there (inr k) = let same : m
             ≡ n = cc e in subst (λ z. Ever (HearsAck x.to z) after) same k
-        grounded (Some m) n e there (inl f) =
+        grounded (InCon m) n e there (inl f) =
             let cs : List E.Call = asks t now w below room passed id answer o reply in
             let idle = ap (λ z. is_waited_for z (exchanges_after s.exchanges cs).separate) (sym there)
             ∙ free t now w below room passed id answer o reply law in
             absurd (not_flying x.to m x.token (exchanges_after s.exchanges cs).separate idle
             (later x.to m x.token s.exchanges cs (readies_later x m s.clock passed (marked s.observers)) f))
 
+        past_law : ServerLaw limits szx word t
+        past_law = server_back limits szx word
+            (Ticks now w below room due.Idle passed (Notifies o reply) id answer) t law
+
+        -- within the window of its making and the next one the store made no more versions than two windows take
+        near_by : (a : LivesAt x (FlightOf x x.way s.exchanges.separate after) s.store s.observers) (held : Held)
+            → s.store.holds o.path ≡ Some held → x.way ≡ InNon → s.clock ≤ x.at + max_latency
+            → held.version ≤ x.version + 2 * limits.changes
+        near_by a held is w soon =
+            let f = a.young w in
+            let young = f.young in
+            let timed = store_timed limits szx word t past_law in
+            let most = rises_little x.version f.made s.store.tally f.since (omega (arith, timed, soon, young)) in
+            let size = ap (λ (z : Limits). z.changes) (limits_are limits szx t past_law.rows) in
+            let low = are_low limits szx word t past_law o.path held is in
+            omega (arith, most, size, low)
+
         by : (held : Option Held) → s.store.holds o.path ≡ held
-            → tells o.to o.token o.path (Some id) false held ≡ Some y
-            → Lives x (FlightOf x x.con s.exchanges.separate after) s.store s.observers → FollowsOn after x y
+            → tells o.to o.token o.path (InCon id) s.clock false held ≡ Some y
+            → Lives x (FlightOf x x.way s.exchanges.separate after) s.store s.observers → FollowsOn limits.changes after x y
         by None is k l = absurd (cc k)
         by (Some held) is k l =
             let same : notice t now w below room passed id answer o reply held ≡ y = one _ y k in
@@ -350,46 +378,42 @@ module _ (limits : Limits) (szx word : ℕ) where
               | inr a ↦ (
                   let entry : a.entry ≡ o = (let i = a.is in cc (i, found)) in
                   let path : o.path ≡ x.path = ap (λ (z : Observer). z.path) (sym entry) ∙ a.path in
-                  record {
-                    path = ap (λ (z : Telling). z.path) (sym same) ∙ path;
-                    version = subst (λ (z : Telling). x.version < z.version) same
-                        (a.fresh (ap (λ (z : Observer). z.marked) entry ∙ told.marked_is) held
-                        (ap s.store.holds (sym path) ∙ is));
-                    acknowledged = λ n e. grounded x.con n e there a.flies;
-                  }
+                  let marked_is = ap (λ (z : Observer). z.marked) entry ∙ told.marked_is in
+                  let at_path = ap s.store.holds (sym path) ∙ is in
+                  subst (FollowsOn limits.changes after x) same
+                  (record {
+                    path = path;
+                    version = a.fresh marked_is held at_path;
+                    later = omega (arith, before);
+                    acknowledged = λ n e. grounded x.way n e there a.flies;
+                    near = λ w soon. near_by a held is w soon;
+                  })
                   )
             ]
 
-    not_held : y.registers ≡ false → (a : Asked) (q : Question) (con : Option ℕ) (o : Option Held)
-        → tells a.from a.token q.path con true o ≡ Some y → ⊥
-    not_held first a q con None e = cc e
-    not_held first a q con (Some held) e =
-        let same : ◌≡◌ {A = Telling} (record {
-          to = a.from;
-          token = a.token;
-          path = q.path;
-          version = held.version;
-          con = con;
-          registers = true;
-        }) y = cc e in
+    not_held : y.registers ≡ false → (a : Asked) (q : Question) (way : Way) (at : ℕ) (o : Option Held)
+        → tells a.from a.token q.path way at true o ≡ Some y → ⊥
+    not_held first a q way at None e = cc e
+    not_held first a q way at (Some held) e =
+        let same : telling_of a.from a.token q.path way at true held ≡ y = cc e in
         let z : true ≡ false = ap (λ (k : Telling). k.registers) same ∙ first in
         cc z
 
-    not_first : y.registers ≡ false → (b : Bool) (s : Own) (a : Asked) (q : Question) (con : Option ℕ)
-        → tells_if b s a q con ≡ Some y → ⊥
-    not_first first true s a q con e = not_held first a q con (s.store.holds q.path) e
-    not_first first false s a q con e = cc e
+    not_first : y.registers ≡ false → (b : Bool) (s : Own) (a : Asked) (q : Question) (way : Way)
+        → tells_if b s.clock s.store a q way ≡ Some y → ⊥
+    not_first first true s a q way e = not_held first a q way s.clock (s.store.holds q.path) e
+    not_first first false s a q way e = cc e
 
     follows_at : (d : Call) → ServerLaw limits szx word (d ∷ t) → telling (own t) d ≡ Some y → y.registers ≡ false
-        → FollowsOn after x y
+        → FollowsOn limits.changes after x y
     follows_at (Ticks now w below room due.Idle passed (Notifies o reply) id answer) law h first =
         next now w below room passed id answer o reply law h
     follows_at (Feeds now from bytes w up (Some p) (Serves q reply left) below) law h first =
         let s : Own = heard (own t) now (incoming (own t) now from bytes up (Some p)) in absurd
-        (not_first first (registers p.0 q reply s.observers) s p.0 q None h)
+        (not_first first (registers p.0 q reply s.observers) s p.0 q InReply h)
     follows_at (Ticks now w below room (due.Ready a) passed (Serves q reply left) id answer) law h first =
         let s : Own = heard (own t) now (ticking (own t) now below room (due.Ready a)) in absurd
-        (not_first first (registers a q reply s.observers) s a q (Some id) h)
+        (not_first first (registers a q reply s.observers) s a q (InCon id) h)
     follows_at (Feeds now from bytes w up None h below) law e first = absurd (cc e)
     follows_at (Feeds now from bytes w up (Some p) Silent below) law e first = absurd (cc e)
     follows_at (Feeds now from bytes w up (Some p) (Replies r) below) law e first = absurd (cc e)
@@ -421,5 +445,7 @@ module _ (limits : Limits) (szx word : ℕ) where
       let here : ServerLaw limits szx word (d ∷ (after ++ c ∷ older)) = subst (ServerLaw limits szx word) split law in
       let past = server_back limits szx word d (after ++ c ∷ older) here in
       let first = begins_at older x c (behind_back after (c ∷ older) past) is in
-      follows_at (after ++ c ∷ older) after x y (steps x limits szx word after (c ∷ older) past none first) to token d
-      here next_is later
+      let at = told_at limits szx older c x is in
+      let more = clocks_rise limits szx after (c ∷ older) in
+      follows_at (after ++ c ∷ older) after x y (steps x limits szx word after (c ∷ older) past none first) to token
+      (omega (arith, at, more)) d here next_is later

@@ -27,7 +27,7 @@ use Rattle.coap_server.specs.Handling.{incoming, ticking, heard}
 use Rattle.coap_server.specs.Law.{ServerLaw, own_of}
 use Rattle.coap_server.specs.Follows.Current.{told_then, told_last, AreCurrent}
 use Rattle.coap_server.specs.Follows.Serves.{Serving, serving, serving_of}
-use Rattle.coap_server.specs.Follows.Tells.{Telling, tells, tells_if}
+use Rattle.coap_server.specs.Follows.Tells.{InCon, Telling, tells, tells_if}
 use Rattle.coap_server.proofs.Answering.TickTurns.{next_notifies, next_is}
 use Rattle.coap_server.proofs.Holding.Holds.{held_is}
 use Rattle.coap_server.proofs.Observing.LastRegistered.{unmarked}
@@ -72,12 +72,15 @@ module _ (to : Endpoint) (token : List ℕ) (limits : Limits) (szx word : ℕ) w
       s : ServesAt limits szx word t c x
       s = served_at limits szx word t c law x is
 
-      effect : Effect x.question.path (own t).store x.left
-      effect = subst (λ z. Effect x.question.path z x.left) s.old
-          (served_effect x.old s.serves.0 x.question x.reply x.left s.serves.1)
+      at : ℕ
+      at = (own (c ∷ t)).clock
+
+      effect : Effect x.question.path at (own t).store x.left
+      effect = subst (λ z. Effect x.question.path at z x.left) s.old
+          (served_effect x.old at x.question x.reply x.left s.serves)
 
       by : (r : Bool) → registers x.asked x.question x.reply (obs t) ≡ r → (m : Bool)
-          → Good to token (told_then to token (tells_if r (own t) x.asked x.question s.tells_so.0) (last_of t))
+          → Good to token (told_then to token (tells_if r at (own t).store x.asked x.question s.tells_so.0) (last_of t))
           x.left.holds
           (marked_if (own (c ∷ t)).clock x.question.path (own t).store x.left
           (cond r (registered (own (c ∷ t)).clock x.asked.from x.asked.token x.question.path (size_of x) (obs t))
@@ -89,13 +92,13 @@ module _ (to : Endpoint) (token : List ℕ) (limits : Limits) (szx word : ℕ) w
           let code = (unsigned_Decides x.reply.code content).0 (and_parts (x.reply.code == content)
           ((x.reply.offset == 0) && nat_lt (length (removed x.asked.from x.asked.token (obs t))) max_observers)
           parts.1).0 in
-          let told = content_law x.old x.left s.serves.0 x.question x.reply s.serves.1 code in
+          let told = content_law x.old x.left at x.question x.reply s.serves code in
           let there : (own t).store.holds x.question.path ≡ Some told.held =
           ap (λ (z : Content). z.holds x.question.path) (sym s.old) ∙ told.is_held in
           marked_good to token (own (c ∷ t)).clock _ x.question.path (own t).store x.left
           (registered (own (c ∷ t)).clock x.asked.from x.asked.token x.question.path (size_of x) (obs t)) effect
           (subst (λ z. Good to token (told_then to token
-          (tells x.asked.from x.asked.token x.question.path s.tells_so.0 true z) (last_of t)) (own t).store.holds
+          (tells x.asked.from x.asked.token x.question.path s.tells_so.0 at true z) (last_of t)) (own t).store.holds
           (registered (own (c ∷ t)).clock x.asked.from x.asked.token x.question.path (size_of x) (obs t))) (sym there)
           (registered_good to token (own (c ∷ t)).clock (last_of t) (own t).store x.asked x.question s.tells_so.0 (size_of x) told.held
           (obs t) there g))
@@ -147,7 +150,7 @@ module _ (to : Endpoint) (token : List ℕ) (limits : Limits) (szx word : ℕ) w
       let distinct = (good_ended limits szx t
       (P.after (own t).exchanges (ticking (own t) now below room due.Idle)).ended (own t).observers
       (good limits szx t)).registrations.distinct in
-      notified_good to token s.clock (last_of t) (own t).store o id s.observers distinct (there_is s.observers o distinct there)
+      notified_good to token s.clock (last_of t) (own t).store o (InCon id) s.observers distinct (there_is s.observers o distinct there)
       (ended_good to token (last_of t) (own t).store.holds _ (own t).observers g) ((own t).store.holds o.path) refl
 
   ticked : (t : List Call) (now w : ℕ) (below : L.Answer) (room : Bool) (d : Due) (passed : ℕ) (h : Handling)
@@ -193,11 +196,11 @@ module _ (to : Endpoint) (token : List ℕ) (limits : Limits) (szx word : ℕ) w
       on (Sets now path format body answer left) law g =
           marked_good to token (max (own t).clock now) (last_of t) path (own t).store left (own t).observers
           (sets_effect (put_refusal (own t).store (max (own t).clock now) path (length body)) (own t).store
-          (max (own t).clock now) path format body answer left law.rows.0) g
+          (max (own t).clock now) path format body answer left refl law.rows.0) g
       on (Removes now path answer left) law g =
           marked_good to token (max (own t).clock now) (last_of t) path (own t).store left (own t).observers
           (removes_effect ((own t).store.holds path) (rate_refusal (own t).store.tally (max (own t).clock now))
-          (own t).store (max (own t).clock now) path answer left law.rows.0) g
+          (own t).store (max (own t).clock now) path answer left refl law.rows.0) g
       on (Delays path ms answer) law g = g
       on (Gets path answer) law g = g
       on (TellsApplied answer) law g = g

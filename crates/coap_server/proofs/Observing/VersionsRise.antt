@@ -36,98 +36,25 @@ use Rattle.coap_server.specs.Handling.{incoming, ticking, heard, HandlesCame}
 use Rattle.coap_server.specs.Asks.{answering, responding}
 use Rattle.coap_server.specs.Steps.{exchanges_after}
 use Rattle.coap_server.specs.Law.{ServerLaw, own_of}
-use Rattle.coap_server.specs.Follows.Tells.{Pair, Telling, registers_by, registering, HearsAck}
-use Rattle.coap_server.specs.Follows.Tells.{NoneMade}
-use Rattle.coap_server.proofs.Observing.StoreChanges.{Effect, served_effect, sets_effect, removes_effect}
+use Rattle.coap_server.specs.Follows.Tells.{HearsAck, InCon, InNon, InReply, Pair, Telling, Way, registering}
+use Rattle.coap_server.specs.Follows.Tells.{NoneMade, registers_by}
+use Rattle.coap_server.proofs.Observing.StoreChanges.{served_effect, sets_effect, removes_effect}
 use Rattle.coap_server.proofs.Observing.OneRegistration.{Turn, removed_turn, sent_turn, registered_turn}
-use Rattle.coap_server.proofs.Observing.OneRegistration.{marked_turn, same_turn, Lives, turned}
+use Rattle.coap_server.proofs.Observing.OneRegistration.{marked_turn, same_turn}
+use Rattle.coap_server.proofs.Observing.LivesOn.{Lives, LivesAt, turned}
+use Rattle.coap_server.proofs.Observing.StoreSteps.{next_serves, store_timed}
 use Rattle.coap_server.proofs.Observing.Outcomes.{serves_came, never_notifies, serves_waited}
 use Rattle.coap_server.proofs.Observing.Outcomes.{never_notifies_ready}
 use Rattle.coap_server.proofs.Observing.ConsAreAcknowledged.{Flying, arrival, turn, IsLater, later}
 use Rattle.coap_server.proofs.Serving.Brought.{server_back}
-
--- what a store holds has a version that was counted
-abbrev pub AreLow : Content → Type 0
-AreLow s = (path : List (List ℕ)) (held : Held) → s.holds path ≡ Some held → held.version ≤ s.tally.version
-
-low_by : (path : List (List ℕ)) (old left : Content) → Effect path old left
-    → ((other : List (List ℕ)) → (other ≡ path) ⊎ (other ≡ path → ⊥)) → AreLow old → AreLow left
-low_by path old left (inl k) d low other held h =
-    subst (λ n. held.version ≤ n) (sym k.version) (low other held (ap (λ f. f other) (sym k.holds) ∙ h))
-low_by path old left (inr c) d low other held h =
-    elim (d other) [
-      | inl e ↦ (let s = c.stamp held (ap left.holds (sym e) ∙ h) in let v = c.version in omega (arith, s, v))
-      | inr n ↦ (let k = low other held (sym (c.others other n) ∙ h) in let v = c.version in omega (arith, k, v))
-    ]
-
-path_or : (path other : List (List ℕ)) → (other ≡ path) ⊎ (other ≡ path → ⊥)
-path_or path other = by (same_path other path) refl
-  where
-    by : (b : Bool) → same_path other path ≡ b → (other ≡ path) ⊎ (other ≡ path → ⊥)
-    by true e = inl ((same_path-decides other path).0 e)
-    by false e = inr (λ k. let z = (same_path-decides other path).1 k in cc (z, e))
-
-pub next_serves : (o : Option Observer) (s : Content) (q : Question) (reply : Reply) (left : Content)
-    → NotifiesNext o s (Serves q reply left) → ⊥
-next_serves None s q reply left h = cc h
-next_serves (Some x) s q reply left h = cc h
 
 pub next_is : (o : Option Observer) (s : Content) (x : Observer) (reply : Reply) → NotifiesNext o s (Notifies x reply)
     → o ≡ Some x
 next_is None s x reply h = absurd (cc h)
 next_is (Some y) s x reply h = let e : y ≡ x = cc h in ap (λ z. Some z) e
 
-module _ (limits : Limits) (szx : ℕ) where
-  abbrev own : List Call → Own
-  own t = own_of limits szx t
-
-  serve_low : (old : Content) (q : Question) (reply : Reply) (left : Content) → (at : ℕ) × R.Serves old at q reply left
-      → AreLow old → AreLow left
-  serve_low old q reply left k low = low_by q.path old left (served_effect old k.0 q reply left k.1)
-      (path_or q.path) low
-
-  low_after : (word : ℕ) (t : List Call) (c : Call) → ServerLaw limits szx word (c ∷ t) → AreLow (own t).store
-      → AreLow (own (c ∷ t)).store
-  low_after word t (Sets now path format body answer left) law low =
-      let at : ℕ = max (own t).clock now in
-      low_by path (own t).store left (sets_effect (put_refusal (own t).store at path _)
-      (own t).store at path format body answer left law.rows.0) (path_or path) low
-  low_after word t (Removes now path answer left) law low =
-      let at : ℕ = max (own t).clock now in
-      low_by path (own t).store left (removes_effect ((own t).store.holds path) (rate_refusal (own t).store.tally at)
-      (own t).store at path answer left law.rows.0) (path_or path) low
-  low_after word t (Delays path ms answer) law low = low
-  low_after word t (Gets path answer) law low = low
-  low_after word t (TellsApplied answer) law low = low
-  low_after word t (NextOut answer) law low = low
-  low_after word t (Feeds now from bytes w up None (Serves q reply left) below) law low = let e =
-      law.rows.0 in absurd (cc e)
-  low_after word t (Feeds now from bytes w up (Some p) (Serves q reply left) below) law low =
-      serve_low (own t).store q reply left (serves_came
-      (heard (own t) now (incoming (own t) now from bytes up (Some p))) p q reply left law.rows.0) low
-  low_after word t (Feeds now from bytes w up came Silent below) law low = low
-  low_after word t (Feeds now from bytes w up came (Replies r) below) law low = low
-  low_after word t (Feeds now from bytes w up came (Waits q d) below) law low = low
-  low_after word t (Feeds now from bytes w up came (Notifies o reply) below) law low = low
-  low_after word t (Ticks now w below room (due.Ready a) passed (Serves q reply left) id answer) law low =
-      let s : Own = heard (own t) now (ticking (own t) now below room (due.Ready a)) in
-      serve_low (own t).store q reply left (serves_waited
-      (question_of s.clock a s.waiting) s.store s.clock q reply left law.rows.0.0) low
-  low_after word t (Ticks now w below room due.Idle passed (Serves q reply left) id answer) law low =
-      let s : Own = heard (own t) now (ticking (own t) now below room due.Idle) in absurd
-      (next_serves (behind passed (marked s.observers)) s.store q reply left law.rows.0.0)
-  low_after word t (Ticks now w below room due.Copied passed (Serves q reply left) id answer) law low = let e =
-      law.rows.0.0 in absurd (cc e)
-  low_after word t (Ticks now w below room due.Expired passed (Serves q reply left) id answer) law low = let e =
-      law.rows.0.0 in absurd (cc e)
-  low_after word t (Ticks now w below room d passed Silent id answer) law low = low
-  low_after word t (Ticks now w below room d passed (Replies r) id answer) law low = low
-  low_after word t (Ticks now w below room d passed (Waits q e) id answer) law low = low
-  low_after word t (Ticks now w below room d passed (Notifies o reply) id answer) law low = low
-
-  pub are_low : (word : ℕ) (t : List Call) → ServerLaw limits szx word t → AreLow (own t).store
-  are_low word [] law = λ path held h. absurd (cc h)
-  are_low word (c ∷ t) law = low_after word t c law (are_low word t (server_back limits szx word c t law))
+abbrev own : Limits → ℕ → List Call → Own
+own limits szx t = own_of limits szx t
 
 -- members
 
@@ -180,20 +107,26 @@ module _ (x : Telling) where
   abbrev E1 : Ended
   E1 = record { to = x.to; token = x.token; observe = true }
 
-  abbrev pub FlightOf : Option ℕ → List Separate → List Call → Type 0
-  FlightOf None xs after = Unit {0}
-  FlightOf (Some id) xs after = Flying x.to id x.token xs ⊎ Ever (HearsAck x.to id) after
+  -- its CON is outstanding, or was acknowledged
+  abbrev pub FlightOf : Way → List Separate → List Call → Type 0
+  FlightOf (InCon id) xs after = Flying x.to id x.token xs ⊎ Ever (HearsAck x.to id) after
+  FlightOf _ xs after = Unit {0}
 
-  map_lives : {F G : Type 0} (s : Content) (os : List Observer) → (F → G) → Lives x F s os → Lives x G s os
-  map_lives s os f (inl n) = inl n
-  map_lives s os f (inr l) = inr (record {
+  flying : {F G : Type 0} (s : Content) (os : List Observer) → (F → G) → LivesAt x F s os → LivesAt x G s os
+  flying s os f l = record {
     entry = l.entry;
     is = l.is;
     path = l.path;
     low = l.low;
     fresh = l.fresh;
+    dated = l.dated;
+    young = l.young;
     flies = f l.flies;
-  })
+  }
+
+  map_lives : {F G : Type 0} (s : Content) (os : List Observer) → (F → G) → Lives x F s os → Lives x G s os
+  map_lives s os f (inl n) = inl n
+  map_lives s os f (inr l) = inr (flying s os f l)
 
   -- what is told to have ended
   ended_turn : (e : Option Ended) (s : Content) (os : List Observer) → Turn x.to x.token s s os (unless_ended e os)
@@ -209,41 +142,44 @@ module _ (x : Telling) where
   heard_lives {F} {G} e s os f (inl n) = turned x G s s os (unless_ended e os) (ended_turn e s os) (inl n)
   heard_lives {F} {G} e s os f (inr l) =
       elim (f l.flies) [
-        | inl g ↦ turned x G s s os (unless_ended e os) (ended_turn e s os)
-            (inr (record { entry = l.entry; is = l.is; path = l.path; low = l.low; fresh = l.fresh; flies = g }))
+        | inl g ↦ turned x G s s os (unless_ended e os) (ended_turn e s os) (inr (flying s os (λ f. g) l))
         | inr k ↦ inl (ap (λ z. registration x.to x.token (unless_ended z os)) k ∙ registration-removed x.to x.token os)
       ]
 
-  flight_fed : (o : Option ℕ) (from : Endpoint) (up : L.Answer) (xs : List Separate) (after : List Call) (c : Call)
-      → ((id : ℕ) → from ≡ x.to → up ≡ L.Becomes (L.Acked id) → HearsAck x.to id c) → FlightOf o xs after
-      → FlightOf o (separate_after from up xs) (c ∷ after) ⊎ (reset_by from up xs ≡ Some E1)
-  flight_fed None from up xs after c h f = inl tt
-  flight_fed (Some id) from up xs after c h (inr k) = inl (inr (inr k))
-  flight_fed (Some id) from up xs after c h (inl f) =
+  flight_fed : (way : Way) (from : Endpoint) (up : L.Answer) (xs : List Separate) (after : List Call) (c : Call)
+      → ((id : ℕ) → from ≡ x.to → up ≡ L.Becomes (L.Acked id) → HearsAck x.to id c) → FlightOf way xs after
+      → FlightOf way (separate_after from up xs) (c ∷ after) ⊎ (reset_by from up xs ≡ Some E1)
+  flight_fed InReply from up xs after c h f = inl tt
+  flight_fed InNon from up xs after c h f = inl tt
+  flight_fed (InCon id) from up xs after c h (inr k) = inl (inr (inr k))
+  flight_fed (InCon id) from up xs after c h (inl f) =
       elim (arrival x.to id x.token from up xs f) [
         | inl g ↦ inl (inl g)
         | inr k ↦ elim k [ inl a ↦ inl (inr (inl (h id a.0 a.1))) | inr e ↦ inr e ]
       ]
 
-  flight_ticked : (o : Option ℕ) (below : L.Answer) (xs : List Separate) (after : List Call) → FlightOf o xs after
-      → FlightOf o (separate_unless below xs) after ⊎ (failed_by below xs ≡ Some E1)
-  flight_ticked None below xs after f = inl tt
-  flight_ticked (Some id) below xs after (inr k) = inl (inr k)
-  flight_ticked (Some id) below xs after (inl f) =
+  flight_ticked : (way : Way) (below : L.Answer) (xs : List Separate) (after : List Call) → FlightOf way xs after
+      → FlightOf way (separate_unless below xs) after ⊎ (failed_by below xs ≡ Some E1)
+  flight_ticked InReply below xs after f = inl tt
+  flight_ticked InNon below xs after f = inl tt
+  flight_ticked (InCon id) below xs after (inr k) = inl (inr k)
+  flight_ticked (InCon id) below xs after (inl f) =
       elim (turn x.to id x.token below xs f) [ inl g ↦ inl (inl g) | inr e ↦ inr e ]
 
-  flight_later : (o : Option ℕ) (s : E.Own) (cs : List E.Call) (after : List Call)
-      → ((id : ℕ) → Each (IsLater x.to id x.token) cs) → FlightOf o s.separate after
-      → FlightOf o (exchanges_after s cs).separate after
-  flight_later None s cs after l f = tt
-  flight_later (Some id) s cs after l (inr k) = inr k
-  flight_later (Some id) s cs after l (inl f) = inl (later x.to id x.token s cs (l id) f)
+  flight_later : (way : Way) (s : E.Own) (cs : List E.Call) (after : List Call)
+      → ((id : ℕ) → Each (IsLater x.to id x.token) cs) → FlightOf way s.separate after
+      → FlightOf way (exchanges_after s cs).separate after
+  flight_later InReply s cs after l f = tt
+  flight_later InNon s cs after l f = tt
+  flight_later (InCon id) s cs after l (inr k) = inr k
+  flight_later (InCon id) s cs after l (inl f) = inl (later x.to id x.token s cs (l id) f)
 
-  flight_more : (o : Option ℕ) (xs : List Separate) (after : List Call) (c : Call) → FlightOf o xs after
-      → FlightOf o xs (c ∷ after)
-  flight_more None xs after c f = tt
-  flight_more (Some id) xs after c (inl f) = inl f
-  flight_more (Some id) xs after c (inr k) = inr (inr k)
+  flight_more : (way : Way) (xs : List Separate) (after : List Call) (c : Call) → FlightOf way xs after
+      → FlightOf way xs (c ∷ after)
+  flight_more InReply xs after c f = tt
+  flight_more InNon xs after c f = tt
+  flight_more (InCon id) xs after c (inl f) = inl f
+  flight_more (InCon id) xs after c (inr k) = inr (inr k)
 
   -- what is asked of the exchanges behind an arrival, and behind a tick
   module _ (id : ℕ) where
@@ -295,27 +231,31 @@ module _ (x : Telling) where
       by false false f = same_turn x.to x.token s os
 
   served_lives : {F : Type 0} (s : Own) (a : Asked) (q : Question) (reply : Reply) (left : Content)
-      → (at : ℕ) × R.Serves s.store at q reply left
+      → R.Serves s.store s.clock q reply left → s.store.tally.clock ≤ s.clock
       → (registers_by s a q reply ≡ Some (record { to = x.to; token = x.token }) → ⊥)
       → Lives x F s.store s.observers → Lives x F left (observers_served s.clock s.store a q reply left s.observers)
-  served_lives {F} s a q reply left k none l =
+  served_lives {F} s a q reply left k timed none l =
       let os : List Observer = observers_with s.clock a q reply s.observers in
       turned x F s.store left os (marked_if s.clock q.path s.store left os)
-      (marked_turn x.to x.token s.clock q.path s.store left os (served_effect s.store k.0 q reply left k.1))
+      (marked_turn x.to x.token s.clock q.path s.store left os (served_effect s.store s.clock q reply left k) timed)
       (turned x F s.store s.store s.observers os (with_turn s.store s.clock a q reply s.observers s refl none) l)
 
   notified_turn : (at : ℕ) (held : Option Held) (s : Content) (o : Observer) (os : List Observer)
       → Turn x.to x.token s s os (notified at held o os)
   notified_turn at None s o os = removed_turn x.to x.token s o.to o.token os
-  notified_turn at (Some h) s o os = sent_turn x.to x.token s at o.to o.token os
+  notified_turn at (Some h) s o os = sent_turn x.to x.token s at true o.to o.token os
 
   module _ (limits : Limits) (szx word : ℕ) where
     abbrev pub At : List Call → List Call → Type 0
-    At t after = Lives x (FlightOf x.con (own_of limits szx t).exchanges.separate after) (own_of limits szx t).store
+    At t after = Lives x (FlightOf x.way (own_of limits szx t).exchanges.separate after) (own_of limits szx t).store
         (own_of limits szx t).observers
 
     abbrev NotNew : List Call → Call → Type 0
     NotNew t c = registering (own_of limits szx t) c ≡ Some (record { to = x.to; token = x.token }) → ⊥
+
+    timed_before : (t : List Call) (c : Call) → ServerLaw limits szx word (c ∷ t)
+        → (own limits szx t).store.tally.clock ≤ (own limits szx t).clock
+    timed_before t c law = store_timed limits szx word t (server_back limits szx word c t law)
 
     -- an arrival
     module _ (t after : List Call) (now : ℕ) (from : Endpoint) (bytes : List ℕ) (w : ℕ) (up : L.Answer)
@@ -327,12 +267,12 @@ module _ (x : Telling) where
       fed_stage came = heard (own limits szx t) now (incoming (own limits szx t) now from bytes up came)
 
       heard_fed : (came : Option (Asked × Message)) (h : Handling) → At t after
-          → Lives x (FlightOf x.con (fed_stage came).exchanges.separate (fed_call came h ∷ after))
+          → Lives x (FlightOf x.way (fed_stage came).exchanges.separate (fed_call came h ∷ after))
           (fed_stage came).store (fed_stage came).observers
       heard_fed came h l =
           let s : Own = own limits szx t in
           heard_lives (reset_by from up s.exchanges.separate) s.store s.observers
-          (flight_fed x.con from up s.exchanges.separate after (fed_call came h)
+          (flight_fed x.way from up s.exchanges.separate after (fed_call came h)
           (λ id e k. record {
             now = now;
             bytes = bytes;
@@ -345,28 +285,29 @@ module _ (x : Telling) where
           })) l
 
       asked_lives : (p : Asked × Message) (h : Handling) (s : Content) (os : List Observer)
-          → Lives x (FlightOf x.con (fed_stage (Some p)).exchanges.separate (fed_call (Some p) h ∷ after)) s os
-          → Lives x (FlightOf x.con (exchanges_after (fed_stage (Some p)).exchanges
+          → Lives x (FlightOf x.way (fed_stage (Some p)).exchanges.separate (fed_call (Some p) h ∷ after)) s os
+          → Lives x (FlightOf x.way (exchanges_after (fed_stage (Some p)).exchanges
           (answering (fed_stage (Some p)) (Some p) h below)).separate (fed_call (Some p) h ∷ after)) s os
       asked_lives p h s os l =
-          map_lives s os (flight_later x.con (fed_stage (Some p)).exchanges
+          map_lives s os (flight_later x.way (fed_stage (Some p)).exchanges
           (answering (fed_stage (Some p)) (Some p) h below) (fed_call (Some p) h ∷ after)
           (λ id. answering_later id (fed_stage (Some p)) p h below)) l
 
       fed_step : (came : Option (Asked × Message)) (h : Handling) → HandlesCame (fed_stage came) came h
-          → NotNew t (fed_call came h) → At t after → At (fed_call came h ∷ t) (fed_call came h ∷ after)
-      fed_step None Silent right none l = heard_fed None Silent l
-      fed_step None (Replies r) right none l = absurd (cc right)
-      fed_step None (Serves q reply left) right none l = absurd (cc right)
-      fed_step None (Waits q d) right none l = absurd (cc right)
-      fed_step None (Notifies o reply) right none l = absurd (cc right)
-      fed_step (Some p) Silent right none l = heard_fed (Some p) Silent l
-      fed_step (Some p) (Replies r) right none l = asked_lives p (Replies r) _ _ (heard_fed (Some p) (Replies r) l)
-      fed_step (Some p) (Waits q d) right none l = asked_lives p (Waits q d) _ _ (heard_fed (Some p) (Waits q d) l)
-      fed_step (Some p) (Notifies o reply) right none l = absurd (never_notifies (fed_stage (Some p)) p o reply right)
-      fed_step (Some p) (Serves q reply left) right none l =
+          → (own limits szx t).store.tally.clock ≤ (own limits szx t).clock → NotNew t (fed_call came h) → At t after
+          → At (fed_call came h ∷ t) (fed_call came h ∷ after)
+      fed_step None Silent right timed none l = heard_fed None Silent l
+      fed_step None (Replies r) right timed none l = absurd (cc right)
+      fed_step None (Serves q reply left) right timed none l = absurd (cc right)
+      fed_step None (Waits q d) right timed none l = absurd (cc right)
+      fed_step None (Notifies o reply) right timed none l = absurd (cc right)
+      fed_step (Some p) Silent right timed none l = heard_fed (Some p) Silent l
+      fed_step (Some p) (Replies r) right timed none l = asked_lives p (Replies r) _ _ (heard_fed (Some p) (Replies r) l)
+      fed_step (Some p) (Waits q d) right timed none l = asked_lives p (Waits q d) _ _ (heard_fed (Some p) (Waits q d) l)
+      fed_step (Some p) (Notifies o reply) right timed none l = absurd (never_notifies (fed_stage (Some p)) p o reply right)
+      fed_step (Some p) (Serves q reply left) right timed none l =
           let s : Own = fed_stage (Some p) in
-          served_lives s p.0 q reply left (serves_came s p q reply left right) none
+          served_lives s p.0 q reply left (serves_came s p q reply left right) (omega (arith, timed)) none
           (asked_lives p (Serves q reply left) s.store s.observers (heard_fed (Some p) (Serves q reply left) l))
 
     -- time passes
@@ -377,29 +318,29 @@ module _ (x : Telling) where
       abbrev tick_stage : Due → Own
       tick_stage d = heard (own limits szx t) now (ticking (own limits szx t) now below room d)
 
-      pub heard_ticked : (d : Due) → At t after → Lives x (FlightOf x.con (tick_stage d).exchanges.separate after)
+      pub heard_ticked : (d : Due) → At t after → Lives x (FlightOf x.way (tick_stage d).exchanges.separate after)
           (tick_stage d).store (tick_stage d).observers
       heard_ticked d l =
           let s : Own = own limits szx t in
           heard_lives (failed_by below s.exchanges.separate) s.store s.observers
-          (flight_ticked x.con below s.exchanges.separate after) l
+          (flight_ticked x.way below s.exchanges.separate after) l
 
       tock : (d : Due) (h : Handling) → At t after
-          → Lives x (FlightOf x.con (tick_stage d).exchanges.separate (tick_call d h ∷ after)) (tick_stage d).store
+          → Lives x (FlightOf x.way (tick_stage d).exchanges.separate (tick_call d h ∷ after)) (tick_stage d).store
           (tick_stage d).observers
-      tock d h l = map_lives _ _ (flight_more x.con (tick_stage d).exchanges.separate after (tick_call d h))
+      tock d h l = map_lives _ _ (flight_more x.way (tick_stage d).exchanges.separate after (tick_call d h))
           (heard_ticked d l)
 
       with_asks : (d : Due) (h : Handling) (cs : List E.Call) (s : Content) (os : List Observer)
-          → ((n : ℕ) → Later n cs) → Lives x (FlightOf x.con (tick_stage d).exchanges.separate (tick_call d h ∷ after))
+          → ((n : ℕ) → Later n cs) → Lives x (FlightOf x.way (tick_stage d).exchanges.separate (tick_call d h ∷ after))
           s os
-          → Lives x (FlightOf x.con (exchanges_after (tick_stage d).exchanges cs).separate (tick_call d h ∷ after)) s os
-      with_asks d h cs s os k l = map_lives s os (flight_later x.con (tick_stage d).exchanges cs
+          → Lives x (FlightOf x.way (exchanges_after (tick_stage d).exchanges cs).separate (tick_call d h ∷ after)) s os
+      with_asks d h cs s os k l = map_lives s os (flight_later x.way (tick_stage d).exchanges cs
           (tick_call d h ∷ after) k) l
 
       idle_asks : (h : Handling) (s : Content) (os : List Observer)
-          → Lives x (FlightOf x.con (tick_stage due.Idle).exchanges.separate (tick_call due.Idle h ∷ after)) s os
-          → Lives x (FlightOf x.con (exchanges_after (tick_stage due.Idle).exchanges
+          → Lives x (FlightOf x.way (tick_stage due.Idle).exchanges.separate (tick_call due.Idle h ∷ after)) s os
+          → Lives x (FlightOf x.way (exchanges_after (tick_stage due.Idle).exchanges
           (readies (tick_stage due.Idle).clock passed (marked (tick_stage due.Idle).observers))).separate
           (tick_call due.Idle h ∷ after)) s os
       idle_asks h s os l =
@@ -428,7 +369,7 @@ module _ (x : Telling) where
       tick_step due.Idle (Notifies o reply) law none l =
           let s : Own = tick_stage due.Idle in
           let cs : List E.Call = responding s due.Idle passed (Notifies o reply) w id in
-          turned x (FlightOf x.con (exchanges_after s.exchanges cs).separate
+          turned x (FlightOf x.way (exchanges_after s.exchanges cs).separate
           (tick_call due.Idle (Notifies o reply) ∷ after)) s.store s.store s.observers
           (notified s.clock (s.store.holds o.path) o s.observers)
           (notified_turn s.clock (s.store.holds o.path) s.store o s.observers)
@@ -443,8 +384,9 @@ module _ (x : Telling) where
       tick_step (due.Ready a) (Serves q reply left) law none l =
           let s : Own = tick_stage (due.Ready a) in
           let cs : List E.Call = responding s (due.Ready a) passed (Serves q reply left) w id in
+          let timed = timed_before t (tick_call (due.Ready a) (Serves q reply left)) law in
           served_lives s a q reply left (serves_waited
-          (question_of s.clock a s.waiting) s.store s.clock q reply left law.rows.0.0) none
+          (question_of s.clock a s.waiting) s.store s.clock q reply left law.rows.0.0) (omega (arith, timed)) none
           (with_asks (due.Ready a) (Serves q reply left) cs s.store s.observers (λ n. (tt, tt))
           (tock (due.Ready a) (Serves q reply left) l))
 
@@ -453,29 +395,33 @@ module _ (x : Telling) where
     step t after (Sets now path format body answer left) law none l =
         let s : Own = own limits szx t in
         let at : ℕ = max s.clock now in
+        let timed = timed_before t (Sets now path format body answer left) law in
         turned x _ s.store left s.observers (marked_if at path s.store left s.observers)
         (marked_turn x.to x.token at path s.store left s.observers
-        (sets_effect (put_refusal s.store at path _) s.store at path format body answer left law.rows.0))
-        (map_lives s.store s.observers (flight_more x.con s.exchanges.separate after
+        (sets_effect (put_refusal s.store at path _) s.store at path format body answer left refl law.rows.0)
+        (omega (arith, timed)))
+        (map_lives s.store s.observers (flight_more x.way s.exchanges.separate after
         (Sets now path format body answer left)) l)
     step t after (Removes now path answer left) law none l =
         let s : Own = own limits szx t in
         let at : ℕ = max s.clock now in
+        let timed = timed_before t (Removes now path answer left) law in
         turned x _ s.store left s.observers (marked_if at path s.store left s.observers)
         (marked_turn x.to x.token at path s.store left s.observers
-        (removes_effect (s.store.holds path) (rate_refusal s.store.tally at) s.store at path answer left
-        law.rows.0))
-        (map_lives s.store s.observers (flight_more x.con s.exchanges.separate after (Removes now path answer left)) l)
+        (removes_effect (s.store.holds path) (rate_refusal s.store.tally at) s.store at path answer left refl
+        law.rows.0) (omega (arith, timed)))
+        (map_lives s.store s.observers (flight_more x.way s.exchanges.separate after (Removes now path answer left)) l)
     step t after (Delays path ms answer) law none l =
-        map_lives _ _ (flight_more x.con (own limits szx t).exchanges.separate after (Delays path ms answer)) l
+        map_lives _ _ (flight_more x.way (own limits szx t).exchanges.separate after (Delays path ms answer)) l
     step t after (Gets path answer) law none l =
-        map_lives _ _ (flight_more x.con (own limits szx t).exchanges.separate after (Gets path answer)) l
+        map_lives _ _ (flight_more x.way (own limits szx t).exchanges.separate after (Gets path answer)) l
     step t after (TellsApplied answer) law none l =
-        map_lives _ _ (flight_more x.con (own limits szx t).exchanges.separate after (TellsApplied answer)) l
+        map_lives _ _ (flight_more x.way (own limits szx t).exchanges.separate after (TellsApplied answer)) l
     step t after (NextOut answer) law none l = map_lives _ _
-        (flight_more x.con (own limits szx t).exchanges.separate after (NextOut answer)) l
+        (flight_more x.way (own limits szx t).exchanges.separate after (NextOut answer)) l
     step t after (Feeds now from bytes w up came h below) law none l =
-        fed_step t after now from bytes w up below came h law.rows.0 none l
+        fed_step t after now from bytes w up below came h law.rows.0
+        (timed_before t (Feeds now from bytes w up came h below) law) none l
     step t after (Ticks now w below room d passed h id answer) law none l =
         tick_step t after now w below room passed id answer d h law none l
 

@@ -16,7 +16,7 @@ use Rattle.coap_server.specs.Law.{own_of, ServerRows}
 use Rattle.coap_server.proofs.Progress.StoreCountsPaths.{AreCounted, Moves, stays, moves, counted_by, served_moves}
 use Rattle.coap_server.proofs.Progress.StoreCountsPaths.{unchanged_moves}
 use Rattle.coap_server.proofs.Observing.Outcomes.{serves_came, serves_waited}
-use Rattle.coap_server.proofs.Observing.VersionsRise.{next_serves}
+use Rattle.coap_server.proofs.Observing.StoreSteps.{next_serves}
 
 sets_moves : (o : Option StoreRefusal) (old : Content) (at : ℕ) (path : List (List ℕ)) (format : Option ℕ)
     (body : List ℕ) (answer : Result ℕ StoreRefusal) (left : Content) → SetsBy o old at path format body answer left
@@ -45,12 +45,12 @@ moves_by s (NextOut answer) right = kept s
 moves_by s (Gets path answer) right = kept s
 moves_by s (TellsApplied answer) right = kept s
 moves_by s (Feeds now from bytes word up (Some p) (Serves q reply left) below) right =
-    let k = serves_came (heard s now (incoming s now from bytes up (Some p))) p q reply left right in
-    served_moves s.store k.0 q reply left k.1
+    let w : Own = heard s now (incoming s now from bytes up (Some p)) in
+    served_moves s.store w.clock q reply left (serves_came w p q reply left right)
 moves_by s (Ticks now word below room (due.Ready a) passed (Serves q reply left) id answer) right =
     let w : Own = heard s now (ticking s now below room (due.Ready a)) in
-    let k = serves_waited (question_of w.clock a w.waiting) w.store w.clock q reply left right.0 in
-    served_moves s.store k.0 q reply left k.1
+    served_moves s.store w.clock q reply left
+    (serves_waited (question_of w.clock a w.waiting) w.store w.clock q reply left right.0)
 moves_by s (Feeds now from bytes word up None (Serves q reply left) below) right = absurd (cc right)
 moves_by s (Feeds now from bytes word up None Silent below) right = kept s
 moves_by s (Feeds now from bytes word up None (Replies r) below) right = kept s

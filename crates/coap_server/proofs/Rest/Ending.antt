@@ -40,7 +40,7 @@ use Rattle.coap_server.proofs.Exact.Asked.{joined, back}
 use Rattle.coap_server.proofs.Serving.Brought.{server_back}
 use Rattle.coap_server.proofs.Observing.ObserversWereMade.{are_observers}
 use Rattle.coap_server.proofs.Observing.VersionsRise.{IsThere, behind_there, marked_there, next_is}
-use Rattle.coap_server.proofs.Observing.VersionsRise.{next_serves}
+use Rattle.coap_server.proofs.Observing.StoreSteps.{next_serves}
 use Rattle.coap_server.proofs.Serving.Waiting.{ready_are_served}
 use Rattle.coap_common.specs.StepsDue.{due_count}
 use Rattle.coap_common.proofs.Facts.StepsDue.{is_step, ticks_least, ticks_fewer, confirm_least, room_same}

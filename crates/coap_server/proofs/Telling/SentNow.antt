@@ -49,7 +49,8 @@ use Rattle.coap_server.specs.Law.{ServerLaw, own_of}
 use Rattle.coap_server.specs.Follows.Holds.{Change, change, held_then, held_at}
 use Rattle.coap_server.specs.Follows.Serves.{Serving, serving, serving_of}
 use Rattle.coap_server.specs.Follows.Tags.{AreStamped}
-use Rattle.coap_server.specs.Follows.Tells.{Telling, tells, tells_if, answer_tells, telling}
+use Rattle.coap_server.specs.Follows.Tells.{InCon, InReply, Telling, Way, answer_tells, notice_tells}
+use Rattle.coap_server.specs.Follows.Tells.{telling, telling_of, tells, tells_if}
 use Rattle.coap_server.proofs.Facts.Laws as facts
 use Rattle.coap_server.proofs.Observing.Outcomes.{serves_came, serves_waited}
 use Rattle.coap_server.proofs.Replying.ResponsesHaveRequests.{next_told}
@@ -115,11 +116,11 @@ module _ (limits : Limits) (szx : ℕ) where
       by (Some x) is k f = placed x is (same_path x.path path) k f
 
   -- the call tells what the response says
-  pub record Says (past : List Call) (c : Call) (con : Option ℕ) (to : Endpoint) (token : List ℕ)
+  pub record Says (past : List Call) (c : Call) (way : Way) (to : Endpoint) (token : List ℕ)
       (r : E.Response) : Type 0 where
     pub told_here : Telling
     pub here : telling (own_of limits szx past) c ≡ Some told_here
-    pub con_is : told_here.con ≡ con
+    pub way_is : told_here.way ≡ way
     pub to_is : told_here.to ≡ to
     pub token_is : told_here.token ≡ token
     pub tag_is : value_of etag (recognised Response r.options) ≡ Some (tag_of told_here.version)
@@ -139,22 +140,15 @@ module _ (limits : Limits) (szx : ℕ) where
         ap (λ g. value_of etag (recognised Response (option_with etag g ++ rest))) e
         ∙ tag_recognised (tag_of held.version) rest refl
 
-    said : (to : Endpoint) (token : List ℕ) (path : List (List ℕ)) (con : Option ℕ) (first : Bool) (reply : Reply)
+    said : (to : Endpoint) (token : List ℕ) (path : List (List ℕ)) (way : Way) (at : ℕ) (first : Bool) (reply : Reply)
         (seq last : Option ℕ) (held : Held) → (own_of limits szx t).store.holds path ≡ Some held
-        → telling (own_of limits szx t) c ≡ tells to token path con first (Some held)
-        → reply.tag ≡ Some (tag_of held.version) → Says t c con to token (response_with reply seq last)
-    said to token path con first reply seq last held there is tag =
+        → telling (own_of limits szx t) c ≡ tells to token path way at first (Some held)
+        → reply.tag ≡ Some (tag_of held.version) → Says t c way to token (response_with reply seq last)
+    said to token path way at first reply seq last held there is tag =
         record {
-          told_here = record {
-            to = to;
-            token = token;
-            path = path;
-            version = held.version;
-            con = con;
-            registers = first;
-          };
+          told_here = telling_of to token path way at first held;
           here = is;
-          con_is = refl;
+          way_is = refl;
           to_is = refl;
           token_is = refl;
           tag_is = shows_tag reply seq last held tag;
@@ -163,45 +157,44 @@ module _ (limits : Limits) (szx : ℕ) where
 
     -- .. of a request that is served
     served : (s : Own) → s.store ≡ (own_of limits szx t).store
-        → (a : Asked) (q : Question) (reply : Reply) (left : Content) (con : Option ℕ)
-        → telling (own_of limits szx t) c ≡ answer_tells s a q reply con
-        → (at : ℕ) × R.Serves s.store at q reply left → Notes (response_to s.store s.observers a q reply)
-        → Says t c con a.from a.token (response_to s.store s.observers a q reply)
-    served s same a q reply left con is serves n = by (registers a q reply s.observers) (s.store.holds q.path) refl is n
+        → (a : Asked) (q : Question) (reply : Reply) (left : Content) (way : Way)
+        → telling (own_of limits szx t) c ≡ answer_tells s a q reply way
+        → R.Serves s.store s.clock q reply left → Notes (response_to s.store s.observers a q reply)
+        → Says t c way a.from a.token (response_to s.store s.observers a q reply)
+    served s same a q reply left way is serves n = by (registers a q reply s.observers) (s.store.holds q.path) refl is n
       where
         by : (b : Bool) (h : Option Held) → s.store.holds q.path ≡ h
-            → telling (own_of limits szx t) c ≡ tells_if b s a q con
+            → telling (own_of limits szx t) c ≡ tells_if b s.clock s.store a q way
             → Notes (response_with reply (sequence_if b (s.store.holds q.path)) (last_block q))
-            → Says t c con a.from a.token (response_with reply (sequence_if b (s.store.holds q.path)) (last_block q))
+            → Says t c way a.from a.token (response_with reply (sequence_if b (s.store.holds q.path)) (last_block q))
         by false h e tell k = silent _ (response_with reply None (last_block q)) (unobserved reply (last_block q)) k
         by true None e tell k = silent _ (response_with reply (sequence (s.store.holds q.path)) (last_block q))
             (ap (λ z. value_of observe (response_with reply (sequence z) (last_block q)).options) e
             ∙ unobserved reply (last_block q)) k
         by true (Some held) e tell k =
-            let w = content_law s.store left serves.0 q reply serves.1 k.code in
+            let w = content_law s.store left s.clock q reply serves k.code in
             let one : w.held ≡ held = one_held w.held held (sym w.is_held ∙ e) in
-            said a.from a.token q.path con true reply (sequence (s.store.holds q.path)) (last_block q) held
+            said a.from a.token q.path way s.clock true reply (sequence (s.store.holds q.path)) (last_block q) held
             (ap (λ (z : Content). z.holds q.path) (sym same) ∙ e)
-            (tell ∙ ap (tells a.from a.token q.path con true) e)
+            (tell ∙ ap (tells a.from a.token q.path way s.clock true) e)
             (ap (λ (x : Reply). x.tag) w.is ∙ ap (λ (x : Held). Some (tag_of x.version)) one)
 
     -- .. and of a notification
-    noticed : (s : Own) → s.store ≡ (own_of limits szx t).store → (o : Observer) (reply : Reply) (id : ℕ)
-        → telling (own_of limits szx t) c ≡ tells o.to o.token o.path (Some id) false (s.store.holds o.path)
-        → reply ≡ told s.store o
-        → Notes (notification s.store o reply) → Says t c (Some id) o.to o.token (notification s.store o reply)
-    noticed s same o reply id is so n = by (s.store.holds o.path) refl is n
+    noticed : (s : Own) → s.store ≡ (own_of limits szx t).store → (o : Observer) (reply : Reply) (way : Way)
+        → telling (own_of limits szx t) c ≡ notice_tells s o way → reply ≡ told s.store o
+        → Notes (notification s.store o reply) → Says t c way o.to o.token (notification s.store o reply)
+    noticed s same o reply way is so n = by (s.store.holds o.path) refl is n
       where
         by : (h : Option Held) → s.store.holds o.path ≡ h
-            → telling (own_of limits szx t) c ≡ tells o.to o.token o.path (Some id) false (s.store.holds o.path)
+            → telling (own_of limits szx t) c ≡ notice_tells s o way
             → Notes (response_with reply (sequence (s.store.holds o.path)) None)
-            → Says t c (Some id) o.to o.token (response_with reply (sequence (s.store.holds o.path)) None)
+            → Says t c way o.to o.token (response_with reply (sequence (s.store.holds o.path)) None)
         by None e tell k = silent _ (response_with reply (sequence (s.store.holds o.path)) None)
             (ap (λ z. value_of observe (response_with reply (sequence z) None).options) e ∙ unobserved reply None) k
         by (Some held) e tell k =
-            said o.to o.token o.path (Some id) false reply (sequence (s.store.holds o.path)) None held
+            said o.to o.token o.path way s.clock false reply (sequence (s.store.holds o.path)) None held
             (ap (λ (z : Content). z.holds o.path) (sym same) ∙ e)
-            (tell ∙ ap (tells o.to o.token o.path (Some id) false) e)
+            (tell ∙ ap (tells o.to o.token o.path way s.clock false) e)
             (ap (λ (x : Reply). x.tag) so ∙ ap (λ z. (got z (asks_for o)).tag) e)
 
 -- A response without the store has no Observe.
@@ -240,9 +233,9 @@ module _ (limits : Limits) (szx : ℕ) (t : List Call) (c : Call) where
   Serving_of a = (y : Serving) × (serving (own_of limits szx t) c ≡ Some y) × (y.asked ≡ a)
 
   abbrev pub Means : E.Call → Type 0
-  Means (E.Answers a r below) = Notes r → Says limits szx t c None a.from a.token r × Serving_of a
-  Means (E.Responds now a r word id) = Notes r → Says limits szx t c (Some id) a.from a.token r
-  Means (E.Notifies now to token r word id) = Notes r → Says limits szx t c (Some id) to token r
+  Means (E.Answers a r below) = Notes r → Says limits szx t c InReply a.from a.token r × Serving_of a
+  Means (E.Responds now a r word id) = Notes r → Says limits szx t c (InCon id) a.from a.token r
+  Means (E.Notifies now to token r word id) = Notes r → Says limits szx t c (InCon id) to token r
   Means (E.NotifiesPlain now to token r id) = ⊥
   Means _ = Unit {0}
 
@@ -298,7 +291,7 @@ module _ (limits : Limits) (szx word : ℕ) (t : List Call) where
       let s : Own = heard own now (incoming own now from bytes up (Some p)) in
       let c : Call = Feeds now from bytes w up (Some p) (Serves q reply left) below in (
         λ n. (
-          served limits szx t c (stamped c law) (kept c law) s refl p.0 q reply left None refl
+          served limits szx t c (stamped c law) (kept c law) s refl p.0 q reply left InReply refl
               (serves_came s p q reply left law.rows.0) n,
           (serving_of s p.0 q reply left, refl, refl),
         ),
@@ -312,7 +305,7 @@ module _ (limits : Limits) (szx word : ℕ) (t : List Call) where
   ticked now w below room (due.Ready a) passed (Serves q reply left) id answer law =
       let s : Own = heard own now (ticking own now below room (due.Ready a)) in
       let c : Call = Ticks now w below room (due.Ready a) passed (Serves q reply left) id answer in (
-        λ n. served limits szx t c (stamped c law) (kept c law) s refl a q reply left (Some id) refl
+        λ n. served limits szx t c (stamped c law) (kept c law) s refl a q reply left (InCon id) refl
             (serves_waited (question_of s.clock a s.waiting) s.store s.clock q reply left law.rows.0.0) n,
         tt,
       )
@@ -325,7 +318,7 @@ module _ (limits : Limits) (szx word : ℕ) (t : List Call) where
   ticked now w below room due.Idle passed (Notifies o reply) id answer law =
       let s : Own = heard own now (ticking own now below room due.Idle) in
       let c : Call = Ticks now w below room due.Idle passed (Notifies o reply) id answer in (
-        λ n. noticed limits szx t c (stamped c law) (kept c law) s refl o reply id refl
+        λ n. noticed limits szx t c (stamped c law) (kept c law) s refl o reply (InCon id) refl
             (next_told (behind passed (marked s.observers)) s.store o reply law.rows.0.0) n,
         readies_mean limits szx t c s.clock passed (marked s.observers),
       )

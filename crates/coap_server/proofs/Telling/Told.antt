@@ -41,7 +41,7 @@ use Rattle.coap_server.specs.Trace.{Own, Call}
 use Rattle.coap_server.specs.Handling.{incoming, heard}
 use Rattle.coap_server.specs.Asks.{lower, answering}
 use Rattle.coap_server.specs.Law.{ServerLaw, own_of, lower_of, layer_of}
-use Rattle.coap_server.specs.Follows.Tells.{HearsAck}
+use Rattle.coap_server.specs.Follows.Tells.{HearsAck, InCon, InReply, Way}
 use Rattle.coap_server.proofs.Facts.Laws as facts
 use Rattle.coap_common.proofs.Facts.AskerReplies.{empty_of, ack_spells, reset_spells}
 use Rattle.coap_common.proofs.Facts.ComesUp.{entry_of}
@@ -49,7 +49,7 @@ use Rattle.coap_server.proofs.Serving.Brought.{server_back}
 use Rattle.coap_server.specs.Follows.Adds.{call_asks, call_adds}
 use Rattle.coap_server.specs.Follows.Told.{TakesAck, TellsIn, ServesNon, TellsSent, AllTellSent}
 use Rattle.coap_server.specs.Follows.Told.{AcksArrive}
-use Rattle.coap_server.proofs.Telling.LayerCalls.{Origin, empties, answers, responds, notifies, IsOfSending}
+use Rattle.coap_server.proofs.Telling.LayerCalls.{Origin, empties, answers, responds, notifies, plains, IsOfSending}
 use Rattle.coap_server.proofs.Telling.LayerCalls.{Given, given_here, layer_next}
 use Rattle.coap_server.proofs.Telling.LayerCalls.{steps_here}
 use Rattle.coap_server.proofs.Telling.OneConACall.{one_con}
@@ -84,13 +84,12 @@ module _ (kind : Kind) (id : ℕ) (token : List ℕ) (r : E.Response) (bytes : L
   notes h = noted m r (ap (λ (x : Message). x.code) same) (ap (λ (x : Message). x.options) same) h
 
   module _ (limits : Limits) (szx : ℕ) (past : List Call) (c : Call) where
-    tells_so : (con : Option ℕ) (to : Endpoint) → Says limits szx past c con to token r
-        → TellsIn limits szx con to m past c
-    tells_so con to s =
+    tells_so : (way : Way) (to : Endpoint) → Says limits szx past c way to token r → TellsIn limits szx way to m past c
+    tells_so way to s =
         record {
           told = s.told_here;
           here = s.here;
-          con_is = s.con_is;
+          way_is = s.way_is;
           conveys = record {
             to_is = s.to_is;
             token_is = s.token_is ∙ sym (ap (λ (x : Message). x.token) same);
@@ -151,7 +150,7 @@ module _ (limits : Limits) (szx word : ℕ) (past : List Call) (c : Call)
       (spells : Spells con.bytes m) (note : is_notification m ≡ true) where
     con_says : (id : ℕ) (to : Endpoint) (token : List ℕ) (r : E.Response) (w : ℕ)
         → Confirms con (L.Confirm to (P.content_with token r) w) (L.Sent id) → IsSpelled (P.content_with token r)
-        → (Notes r → Says limits szx past c (Some id) to token r) → TellsIn limits szx (Some con.id) con.to m past c
+        → (Notes r → Says limits szx past c (InCon id) to token r) → TellsIn limits szx (InCon con.id) con.to m past c
     con_says id to token r w k spelled f =
         let call = k.2 in
         let sent = k.3 in
@@ -161,12 +160,12 @@ module _ (limits : Limits) (szx word : ℕ) (past : List Call) (c : Call)
         let there = subst (λ b. Spells b (with_head Con con.id (P.content_with token r)))
         (ap (λ z. message_bytes (with_head Con con.id z)) x ∙ sym k.4) (spelled Con con.id (con_small con h)) in
         let said = f (notes Con con.id token r con.bytes m are spells there note) in
-        tells_so Con con.id token r con.bytes m are spells there limits szx past c (Some con.id) con.to
-        (subst (λ z. Says limits szx past c (Some con.id) z token r) place
-        (subst (λ z. Says limits szx past c (Some z) to token r) number said))
+        tells_so Con con.id token r con.bytes m are spells there limits szx past c (InCon con.id) con.to
+        (subst (λ z. Says limits szx past c (InCon con.id) z token r) place
+        (subst (λ z. Says limits szx past c (InCon z) to token r) number said))
 
     begun_so : (g : Given (Confirms con) (lower (own_of limits szx past) c))
-        → Origin (Confirms con) (W.own_of g.before) g.call → TellsIn limits szx (Some con.id) con.to m past c
+        → Origin (Confirms con) (W.own_of g.before) g.call → TellsIn limits szx (InCon con.id) con.to m past c
     begun_so g (empties to id (inl k)) = let z = k.2 in absurd (cc z)
     begun_so g (empties to id (inr k)) = let z = k.2 in absurd (cc z)
     begun_so g (answers a r below is k) = absurd (no_confirm con (W.own_of g.before) a.kind a r below k)
@@ -176,7 +175,7 @@ module _ (limits : Limits) (szx word : ℕ) (past : List Call) (c : Call)
         means (Confirms con) g (E.Notifies now to token r w id) is in con_says id to token r w k z.1.spelled z.0
     begun_so g (plains now to token r id is k) = let z = k.2 in absurd (cc z)
 
-    begun_tells : TellsIn limits szx (Some con.id) con.to m past c
+    begun_tells : TellsIn limits szx (InCon con.id) con.to m past c
     begun_tells =
         let g = given_here limits szx word (Confirms con) (confirming con) past c law
         (Ever_map (λ b. begun b ≡ Some con) (λ (e : L.Entry). Confirms con e.call e.answer) (begins_so con) adds h)
@@ -204,8 +203,8 @@ module _ (limits : Limits) (szx word : ℕ) (past : List Call) (c : Call)
 
     ack_says : (s : E.Own) (kind : Kind) (a : Asked) (r : E.Response) (below : L.Answer)
         → Replies (P.answering s kind a r) below → P.IsResponse a r
-        → (Notes r → Says limits szx past c None a.from a.token r)
-        → TellsIn limits szx None to m past c
+        → (Notes r → Says limits szx past c InReply a.from a.token r)
+        → TellsIn limits szx InReply to m past c
     ack_says s Con a r below k is f =
         let place : a.from ≡ to = cc k in
         let number : a.id.0 ≡ m.id = cc k in
@@ -213,15 +212,15 @@ module _ (limits : Limits) (szx word : ℕ) (past : List Call) (c : Call)
         let low = small_id in
         let there = subst (λ b. Spells b (with_head Ack a.id.0 (P.content_of a r))) given
         (is.spelled Ack a.id.0 (omega (arith, number, low))) in
-        tells_so Ack a.id.0 a.token r bytes m are spells there limits szx past c None to
-        (subst (λ z. Says limits szx past c None z a.token r) place
+        tells_so Ack a.id.0 a.token r bytes m are spells there limits szx past c InReply to
+        (subst (λ z. Says limits szx past c InReply z a.token r) place
         (f (notes Ack a.id.0 a.token r bytes m are spells there note)))
     ack_says s Non a r below k is f = absurd (cc k)
     ack_says s Ack a r below k is f = absurd (cc k)
     ack_says s Rst a r below k is f = absurd (cc k)
 
     replied_so : (g : Given Replies (lower (own_of limits szx past) c)) → Origin Replies (W.own_of g.before) g.call
-        → TellsIn limits szx None to m past c
+        → TellsIn limits szx InReply to m past c
     replied_so g (empties there id (inl k)) =
         let number : id ≡ m.id = cc k in
         let given : ack_bytes id ≡ bytes = cc k in
@@ -241,7 +240,7 @@ module _ (limits : Limits) (szx word : ℕ) (past : List Call) (c : Call)
     replied_so g (notifies now there token r w id is k) = absurd (cc k)
     replied_so g (plains now there token r id is k) = absurd (cc k)
 
-    replied_tells : Ever (λ (b : L.Entry). b.call ≡ L.Reply to m.id bytes) adds → TellsIn limits szx None to m past c
+    replied_tells : Ever (λ (b : L.Entry). b.call ≡ L.Reply to m.id bytes) adds → TellsIn limits szx InReply to m past c
     replied_tells h = let g = given_here limits szx word Replies replying_so past c law h in replied_so g g.from
 
     -- a NON
@@ -259,7 +258,7 @@ module _ (limits : Limits) (szx word : ℕ) (past : List Call) (c : Call)
     }
 
     abbrev TellsPlainly : Type 0
-    TellsPlainly = TellsIn limits szx None to m past c × ServesNon limits szx to past c
+    TellsPlainly = TellsIn limits szx InReply to m past c × ServesNon limits szx to past c
 
     serves_non : (a : Asked) → Serving_of limits szx past c a → a.from ≡ to → (a.kind ≡ Con → ⊥)
         → ServesNon limits szx to past c
@@ -271,21 +270,21 @@ module _ (limits : Limits) (szx word : ℕ) (past : List Call) (c : Call)
     }
 
     non_by : (a : Asked) (r : E.Response) → Plainly (L.Plain a.from (P.content_of a r)) L.Nothing → (a.kind ≡ Con → ⊥)
-        → (Notes r → Says limits szx past c None a.from a.token r × Serving_of limits szx past c a) → TellsPlainly
+        → (Notes r → Says limits szx past c InReply a.from a.token r × Serving_of limits szx past c a) → TellsPlainly
     non_by a r k none f =
         let call = k.2 in
         let place : a.from ≡ to = cc call in
         let same_x : P.content_of a r ≡ k.0 = cc call in
         let there = subst (λ z. Spells bytes (with_head Non k.1 z)) (sym same_x) k.3 in
         let said = f (notes Non k.1 a.token r bytes m are spells there note) in (
-          tells_so Non k.1 a.token r bytes m are spells there limits szx past c None to
-              (subst (λ z. Says limits szx past c None z a.token r) place said.0),
+          tells_so Non k.1 a.token r bytes m are spells there limits szx past c InReply to
+              (subst (λ z. Says limits szx past c InReply z a.token r) place said.0),
           serves_non a said.1 place none,
         )
 
     non_says : (s : E.Own) (kind : Kind) (a : Asked) (r : E.Response) (below : L.Answer) → a.kind ≡ kind
         → Plainly (P.answering s kind a r) below → (Notes r
-        → Says limits szx past c None a.from a.token r × Serving_of limits szx past c a)
+        → Says limits szx past c InReply a.from a.token r × Serving_of limits szx past c a)
         → TellsPlainly
     non_says s Con a r below is k f = let z = k.2 in absurd (cc z)
     non_says s Non a r below is k f = non_by a r k (λ e. (let z : Non ≡ Con = sym is ∙ e in absurd (cc z))) f

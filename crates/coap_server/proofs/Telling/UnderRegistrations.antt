@@ -20,8 +20,8 @@ use Rattle.coap_server.specs.Handling.{incoming, ticking, heard}
 use Rattle.coap_server.specs.Law.{ServerLaw, own_of}
 use Rattle.coap_server.specs.Follows.Observes.{MadeWith, WasMade}
 use Rattle.coap_server.specs.Follows.Serves.{serving, serving_of}
-use Rattle.coap_server.specs.Follows.Tells.{Pair, registers_by, registering, Telling, tells, tells_if}
-use Rattle.coap_server.specs.Follows.Tells.{answer_tells}
+use Rattle.coap_server.specs.Follows.Tells.{InCon, InReply, Pair, Telling, Way, answer_tells, registering}
+use Rattle.coap_server.specs.Follows.Tells.{registers_by, telling_of, tells, tells_if}
 use Rattle.coap_server.proofs.Observing.ObserversWereMade.{good_ended, good}
 use Rattle.coap_server.proofs.Observing.VersionsRise.{IsThere, behind_there, marked_there, next_is}
 use Rattle.coap_server.proofs.Serving.Brought.{server_back}
@@ -41,25 +41,18 @@ module _ (limits : Limits) (szx word : ℕ) (t : List Call) where
       ⊎ ((z.registers ≡ false) × Sometime (ServesPair limits szx (pair_of limits szx z)) t)
 
   -- the answer that registers
-  answered : (c : Call) (s : Own) (a : Asked) (q : Question) (reply : Reply) (left : Content) (con : Option ℕ)
+  answered : (c : Call) (s : Own) (a : Asked) (q : Question) (reply : Reply) (left : Content) (way : Way)
       → registering own c ≡ registers_by s a q reply → serving own c ≡ Some (serving_of s a q reply left)
-      → (x : Telling) → answer_tells s a q reply con ≡ Some x → Under c x
-  answered c s a q reply left con is here x h = by (registers a q reply s.observers) (s.store.holds q.path) refl refl h
+      → (x : Telling) → answer_tells s a q reply way ≡ Some x → Under c x
+  answered c s a q reply left way is here x h = by (registers a q reply s.observers) (s.store.holds q.path) refl refl h
     where
       by : (b : Bool) (o : Option Held) → registers a q reply s.observers ≡ b → s.store.holds q.path ≡ o
-          → tells_if b s a q con ≡ Some x → Under c x
+          → tells_if b s.clock s.store a q way ≡ Some x → Under c x
       by false o so e k = absurd (cc k)
-      by true None so e k = let z = ap (tells a.from a.token q.path con true) (sym e) ∙ k in absurd (cc z)
+      by true None so e k = let z = ap (tells a.from a.token q.path way s.clock true) (sym e) ∙ k in absurd (cc z)
       by true (Some held) so e k =
-          let y : Telling = record {
-            to = a.from;
-            token = a.token;
-            path = q.path;
-            version = held.version;
-            con = con;
-            registers = true;
-          } in
-          let z : Some y ≡ Some x = ap (tells a.from a.token q.path con true) (sym e) ∙ k in
+          let y : Telling = telling_of a.from a.token q.path way s.clock true held in
+          let z : Some y ≡ Some x = ap (tells a.from a.token q.path way s.clock true) (sym e) ∙ k in
           let same : y ≡ x = cc z in
           subst (Under c) same (inl (
             refl,
@@ -79,18 +72,11 @@ module _ (limits : Limits) (szx word : ℕ) (t : List Call) where
       { registers = m.registers; request = m.request; here = m.here; from = m.from; token_is = m.token_is }
 
   -- a notification
-  notified : (c : Call) (o : Observer) (id : ℕ) (held : Option Held) → WasMade limits szx t o → (x : Telling)
-      → tells o.to o.token o.path (Some id) false held ≡ Some x → Under c x
-  notified c o id None made x k = absurd (cc k)
-  notified c o id (Some held) made x k =
-      let y : Telling = record {
-        to = o.to;
-        token = o.token;
-        path = o.path;
-        version = held.version;
-        con = Some id;
-        registers = false;
-      } in
+  notified : (c : Call) (o : Observer) (way : Way) (at : ℕ) (held : Option Held) → WasMade limits szx t o
+      → (x : Telling) → tells o.to o.token o.path way at false held ≡ Some x → Under c x
+  notified c o way at None made x k = absurd (cc k)
+  notified c o way at (Some held) made x k =
+      let y : Telling = telling_of o.to o.token o.path way at false held in
       let same : y ≡ x = cc k in
       subst (Under c) same (inr (
         refl,
@@ -101,17 +87,17 @@ module _ (limits : Limits) (szx word : ℕ) (t : List Call) where
   told_under : (c : Call) → ServerLaw limits szx word (c ∷ t) → IsUnder limits szx t c
   told_under (Feeds now from bytes w up (Some p) (Serves q reply left) below) law x h =
       answered (Feeds now from bytes w up (Some p) (Serves q reply left) below)
-      (heard own now (incoming own now from bytes up (Some p))) p.0 q reply left None refl refl x h
+      (heard own now (incoming own now from bytes up (Some p))) p.0 q reply left InReply refl refl x h
   told_under (Ticks now w below room (due.Ready a) passed (Serves q reply left) id answer) law x h =
       answered (Ticks now w below room (due.Ready a) passed (Serves q reply left) id answer)
-      (heard own now (ticking own now below room (due.Ready a))) a q reply left (Some id) refl refl x h
+      (heard own now (ticking own now below room (due.Ready a))) a q reply left (InCon id) refl refl x h
   told_under (Ticks now w below room due.Idle passed (Notifies o reply) id answer) law x h =
       let s : Own = heard own now (ticking own now below room due.Idle) in
       let is = next_is (behind passed (marked s.observers)) s.store o reply law.rows.0.0 in
       let there = (marked_there s.observers o (behind_there passed (marked s.observers) o is)).0 in
       let g = good_ended limits szx t (P.after own.exchanges (ticking own now below room due.Idle)).ended own.observers
       (good limits szx t) in
-      notified (Ticks now w below room due.Idle passed (Notifies o reply) id answer) o id (s.store.holds o.path)
+      notified (Ticks now w below room due.Idle passed (Notifies o reply) id answer) o (InCon id) s.clock (s.store.holds o.path)
       (each_there (WasMade limits szx t) s.observers o g.made there) x h
   told_under (Feeds now from bytes w up None h below) law x e = absurd (cc e)
   told_under (Feeds now from bytes w up (Some p) Silent below) law x e = absurd (cc e)

@@ -5,7 +5,7 @@ use Rattle.coap_layer.specs.Trace as L
 use Rattle.coap_exchange.specs.declared.answerer.Due.TheVariants as due
 use Rattle.coap_server.specs.Trace.{Serves, Notifies, Call, Sets, Feeds, Ticks, NextOut}
 use Rattle.coap_server.specs.Law.{own_of}
-use Rattle.coap_server.specs.Follows.Tells.{telling, NoneMade}
+use Rattle.coap_server.specs.Follows.Tells.{InCon, InReply, NoneMade, telling}
 use Rattle.coap_server.specs.Examples.Observation.{limits, client, token, path, get, request, asked, question}
 use Rattle.coap_server.specs.Examples.Observation.{content_of, observer, a, b, response, sends}
 
@@ -24,7 +24,7 @@ next = Ticks 3 0 L.Idle false due.Idle 0 (Notifies observer (content_of 2 (codes
 
 pub record IsTold : Type 0 where
   pub told_first : telling (own_of limits 6 older) first
-      ≡ Some (record { to = client; token = token; path = path; version = 1; con = None; registers = true })
+      ≡ Some (record { to = client; token = token; path = path; version = 1; way = InReply; at = 1; registers = true })
   pub told_next : telling (own_of limits 6 (between ++ first ∷ older)) next
-      ≡ Some (record { to = client; token = token; path = path; version = 2; con = Some 0; registers = false })
+      ≡ Some (record { to = client; token = token; path = path; version = 2; way = InCon 0; at = 3; registers = false })
   pub none_made : NoneMade limits 6 client token between (first ∷ older)

@@ -14,7 +14,7 @@ use Rattle.coap_common.specs.Notifications.{is_notification, tag_in}
 use Rattle.coap_server.specs.Trace.{Call}
 use Rattle.coap_server.specs.Law.{own_of}
 use Rattle.coap_server.specs.Follows.Serves.{Serving, serving}
-use Rattle.coap_server.specs.Follows.Tells.{Pair, Telling, telling, registering, HearsAck}
+use Rattle.coap_server.specs.Follows.Tells.{HearsAck, InCon, InReply, Pair, Telling, Way, registering, telling}
 use Rattle.coap_server.specs.Follows.Adds.{call_adds}
 
 -- The message tells this there: under its token, with the entity-tag of its version.
@@ -31,11 +31,11 @@ pub record TakesAck (to : Endpoint) (id : ℕ) (e : L.Entry) : Type 0 where
   pub answer : e.answer ≡ L.Becomes (L.Acked id)
 
 module _ (limits : Limits) (szx : ℕ) where
-  -- the call tells what the message says: in a CON with this Message ID, or else in an acknowledgement or a NON
-  pub record TellsIn (con : Option ℕ) (to : Endpoint) (m : Message) (past : List Call) (c : Call) : Type 0 where
+  -- the call tells what the message says, in this way
+  pub record TellsIn (way : Way) (to : Endpoint) (m : Message) (past : List Call) (c : Call) : Type 0 where
     pub told : Telling
     pub here : telling (own_of limits szx past) c ≡ Some told
-    pub con_is : told.con ≡ con
+    pub way_is : told.way ≡ way
     pub conveys : Conveys told to m
 
   -- a request from there that came in no CON is served
@@ -49,17 +49,17 @@ module _ (limits : Limits) (szx : ℕ) where
   pub record TellsSent (word : ℕ) (past : List Call) (c : Call) : Type 0 where
     pub begun_now : (con : Open) (m : Message) → Ever (λ b. begun b ≡ Some con) (call_adds limits szx word past c)
         → AreBytes con.bytes → Spells con.bytes m → is_notification m ≡ true
-        → TellsIn (Some con.id) con.to m past c
+        → TellsIn (InCon con.id) con.to m past c
     pub replied : (to : Endpoint) (bytes : List ℕ) (m : Message)
         → Ever (λ b. b.call ≡ L.Reply to m.id bytes) (call_adds limits szx word past c) → AreBytes bytes
         → Spells bytes m
         → is_notification m ≡ true
-        → TellsIn None to m past c
+        → TellsIn InReply to m past c
     -- It is in a NON where the request was no CON.
     pub plain : (to : Endpoint) (bytes : List ℕ) (m : Message)
         → Ever (λ b. PlainOut b (record { to = to; bytes = bytes })) (call_adds limits szx word past c) → AreBytes bytes
         → Spells bytes m
-        → is_notification m ≡ true → TellsIn None to m past c × ServesNon to past c
+        → is_notification m ≡ true → TellsIn InReply to m past c × ServesNon to past c
     -- One CON begins in a call at most.
     pub one : (a b : Open) → Ever (λ e. begun e ≡ Some a) (call_adds limits szx word past c)
         → Ever (λ e. begun e ≡ Some b) (call_adds limits szx word past c) → a ≡ b

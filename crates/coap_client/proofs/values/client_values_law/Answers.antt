@@ -1,5 +1,6 @@
 use Rattle.coap_client.proofs.Observing.OfObservations.{are_of_observations}
 use Rattle.coap_client.proofs.Hearing.Noted.{are_noted}
+use Rattle.coap_client.proofs.Hearing.NotedAt.{are_noted_at}
 use Rattle.coap_client.proofs.Observing.Ended.{are_over}
 use Rattle.coap_client.proofs.Observing.Notified.{are_taken}
 use Rattle.coap_client.proofs.Observing.Rising.{values_rise}
@@ -20,6 +21,9 @@ returns-clause-ended c server sizes word t law = are_over sizes server word t la
 
 pub returns-clause-noted : goal.returns-clause-noted
 returns-clause-noted c = are_noted
+
+pub returns-clause-noted_at : goal.returns-clause-noted_at
+returns-clause-noted_at c = are_noted_at
 
 pub returns-clause-of_observations : goal.returns-clause-of_observations
 returns-clause-of_observations c server sizes word t law = are_of_observations sizes server word t law
