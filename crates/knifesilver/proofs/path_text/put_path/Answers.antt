@@ -20,6 +20,6 @@ loop-segment-preserved c =
     let at = segment_at c.segments-segment-items.result.now path so_far.segment-index c.segment-item.result segment
     c.segments-segment-items.ensures.segments c.loop-segment-test.true (sym c.segment-item.is) c.deref.ensures.value in (
       one_more path so_far.segment-index segment so_far.room c.put_segment.new.room so_far.len c.in_ok-len.len at.0 at.1
-      so_far.invariant.0.1 c.in_ok-len.ensures.put.0 c.in_ok-len.ensures.put.1,
+          so_far.invariant.0.1 c.in_ok-len.ensures.put.0 c.in_ok-len.ensures.put.1,
       c.put_segment.ensures.whole ∙ so_far.invariant.1,
     )
