@@ -3,6 +3,7 @@ ghost use Rattle.std.specs.Prelude.{◌≡◌, ◌≢◌, Some};
 ghost use Rattle.knifesilver.specs.Answers.{IsAnswered, IsRefused};
 ghost use Rattle.knifesilver.specs.ClientCalls.{IsNextOut};
 ghost use Rattle.knifesilver.specs.ClientHeld.{HoldsClient, IsClient, Made};
+ghost use Rattle.knifesilver.specs.Reports.{beside};
 
 use crate::answers::{NOT_LIVE, SMALL_ROOM};
 use crate::crossing::KsAddress;
@@ -17,6 +18,7 @@ fn next_out(held: &mut Held, to: &mut KsAddress, room: &mut [u8], len: &mut usiz
     ensures led { IsAnswered result
         → Made (IsNextOut result to.new room.new len.new) (Some held.old) (Some held.new) }
     ensures kept { IsRefused result → held.new ≡ held.old }
+    ensures beside { beside (Some held.new) ≡ beside (Some held.old) }
     ensures live { IsClient held.old → result ≢ NOT_LIVE }
 {
     match held {
@@ -45,6 +47,8 @@ pub extern "C" fn ks_client_next_out(
         → Made (IsNextOut result to.new room.new len.new) handle.old.held handle.new.held }
     // Where a client gives out nothing, or the room is too small, the handle holds the very client that it held.
     ensures kept { IsRefused result → handle.new.held ≡ handle.old.held }
+    // To take a datagram leaves the report that waits beside the client.
+    ensures beside { beside handle.new.held ≡ beside handle.old.held }
     // `next_out` never says of a handle with a client that it holds none.
     ensures live { HoldsClient handle.old.held → result ≢ NOT_LIVE }
 {
