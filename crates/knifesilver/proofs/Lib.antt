@@ -3,3 +3,4 @@ pub mod HandleValues
 pub mod PathParts
 pub mod ReleasedValues
 pub mod Walking
+pub mod WrittenPaths

@@ -13,14 +13,16 @@ use Rattle.coap_client.specs.declared.refusals.CallRefusal.{CallRefusal}
 use Rattle.coap_client.specs.declared.refusals.CancelRefusal.{CancelRefusal}
 use Rattle.coap_client.specs.Led.{State}
 use Rattle.coap_client.specs.RefusalNumbers.{call_refusal_number, cancel_refusal_number}
-use Rattle.coap_client.specs.Trace.{Call, Calls, Cancels, Feeds, Forgets, Observes, Request, Ticks}
+use Rattle.coap_client.specs.Trace.{Call, Calls, Cancels, Feeds, Forgets, NextOut, Observes, Request, Ticks}
 use Rattle.coap_client.specs.Turns.Due.{TicksDo, latest}
 use Rattle.knifesilver.specs.declared.client.calls.KsRequest.{KsRequest}
 use Rattle.knifesilver.specs.declared.client.calls.KsTag.{KsTag}
+use Rattle.knifesilver.specs.declared.crossing.KsAddress.{KsAddress}
 use Rattle.knifesilver.specs.declared.held.Held.{Held}
 use Rattle.knifesilver.specs.Answers.{told}
 use Rattle.knifesilver.specs.ClientHeld.{Made}
 use Rattle.knifesilver.specs.Formats.{format_in}
+use Rattle.knifesilver.specs.Outgoing.{OutAnswers}
 
 -- a datagram is fed
 abbrev pub IsFeed : ℕ → Endpoint → List ℕ → ℕ → Call → Type 0
@@ -89,3 +91,8 @@ IsCancel now id answer c =
 -- an observation is forgotten, and the answer says whether it was
 abbrev pub IsForget : ℕ → ℤ → Call → Type 0
 IsForget id answer c = (kept : Bool) × (did : Bool) × (answer ≡ told did) × (c ≡ Forgets id kept did)
+
+-- a datagram is taken to be sent, and is told
+abbrev pub IsNextOut : ℤ → KsAddress → (room : List ℕ) (len : ℕ) → Call → Type 0
+IsNextOut answer to room len c =
+    (next : Option below.Packet) × OutAnswers answer to room len next × (c ≡ NextOut next)

@@ -1,5 +1,5 @@
 -- An end to which nothing has happened, with the numbers of its configuration.
-use Rattle.std.specs.Prelude.{◌≡◌, ◌+◌, ◌^◌, ℕ, [], Option}
+use Rattle.std.specs.Prelude.{◌≡◌, ◌+◌, ◌^◌, ℕ, [], Option, None}
 use Rattle.coap_types.specs.declared.body_limit.TheConstants.{DEFAULT_BODY_LIMIT as default_limit}
 use Rattle.coap_types.specs.declared.endpoint.Endpoint.{Endpoint}
 use Rattle.coap_resource.specs.declared.tally.TheConstants.{MAX_CHANGES_PER_WINDOW as max_changes}
@@ -8,6 +8,7 @@ use Rattle.knifesilver.specs.declared.config.TheConstants.{USUAL_BLOCK as usual_
 use Rattle.knifesilver.specs.declared.held.Held.{Held}
 use Rattle.knifesilver.specs.ClientHeld as client
 use Rattle.knifesilver.specs.Configs.{chosen}
+use Rattle.knifesilver.specs.Reports.{beside}
 use Rattle.knifesilver.specs.ServerHeld as server
 
 -- a server, whose blocks have so many bytes (RFC 7959, section 2.2)
@@ -18,7 +19,7 @@ IsFreshServer config word held = (szx : ℕ) × (2 ^ (szx + 4) ≡ chosen usual_
       body = chosen default_limit config.body_limit;
     }) szx word [] held
 
--- a client of that server, likewise
+-- a client of that server, likewise, and no report waits beside it
 abbrev pub IsFreshClient : Endpoint → KsConfig → (word : ℕ) → Option Held → Type 0
-IsFreshClient of config word held = (szx : ℕ) × (2 ^ (szx + 4) ≡ chosen usual_block config.block_size)
+IsFreshClient of config word held = (beside held ≡ None) × (szx : ℕ) × (2 ^ (szx + 4) ≡ chosen usual_block config.block_size)
     × client.HoldsLed of (record { szx = szx; limit = chosen default_limit config.body_limit }) word [] held

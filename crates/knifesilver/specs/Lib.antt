@@ -1,10 +1,14 @@
 pub mod Answers
+pub mod Applied
 pub mod ClientCalls
 pub mod ClientHeld
 pub mod Configs
 pub mod Formats
 pub mod Fresh
+pub mod Outgoing
 pub mod Owned
 pub mod PathTexts
+pub mod Reports
 pub mod ServerCalls
 pub mod ServerHeld
+pub mod ShortBytes

@@ -1,6 +1,7 @@
--- The path that a text says: its segments, with `/` (47) between each two; one `/` in front is left out.
-use Rattle.std.specs.Prelude.{◌≡◌, ◌≢◌, ◌==◌, ℕ, Bool, All, List, [], ◌∷◌, ◌++◌, if◌then◌else◌}
-use Rattle.std.specs.List.{slice_split}
+-- The path that a text says: its segments, with `/` (47) between each two; one `/` in front is left out. And the text
+-- of a path that is told.
+use Rattle.std.specs.Prelude.{◌≡◌, ◌≢◌, ◌==◌, ℕ, Bool, All, List, [], ◌∷◌, ◌++◌, length, take, if◌then◌else◌}
+use Rattle.std.specs.List.{flat_map, slice_split}
 
 abbrev pub is_slash : ℕ → Bool
 is_slash b = b == 47
@@ -26,3 +27,11 @@ segments_in (b ∷ bs) = parts (b ∷ bs)
 
 abbrev pub spelled : List ℕ → List (List ℕ)
 spelled text = segments_in (without_slash text)
+
+-- a path as it is told: each segment behind a `/`
+abbrev pub text_of : List (List ℕ) → List ℕ
+text_of path = flat_map (λ segment. 47 ∷ segment) path
+
+-- that text stands at the front of the room, and has so many bytes
+abbrev pub IsText : List (List ℕ) → (room : List ℕ) (len : ℕ) → Type 0
+IsText path room len = (len ≡ length (text_of path)) × (take len room ≡ text_of path)

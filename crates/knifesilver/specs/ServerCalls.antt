@@ -10,12 +10,16 @@ use Rattle.coap_resource.specs.declared.refusal.StoreRefusal.{StoreRefusal}
 use Rattle.coap_exchange.specs.declared.answerer.Asked.{Asked}
 use Rattle.coap_exchange.specs.declared.answerer.Due.{Due}
 use Rattle.coap_server.specs.Led.{State}
-use Rattle.coap_server.specs.Trace.{Call, Delays, Feeds, Handling, Removes, Sets, Ticks}
+use Rattle.coap_server.specs.Trace.{Applied, Call, Delays, Feeds, Handling, NextOut, Removes, Sets, TellsApplied, Ticks}
 use Rattle.coap_server.specs.Turns.WhenDue.{TicksDo, latest}
+use Rattle.knifesilver.specs.declared.crossing.KsAddress.{KsAddress}
 use Rattle.knifesilver.specs.declared.held.Held.{Held}
 use Rattle.knifesilver.specs.declared.server.local.KsRepresentation.{KsRepresentation}
+use Rattle.knifesilver.specs.declared.server.out.KsApplied.{KsApplied}
 use Rattle.knifesilver.specs.Answers.{told}
+use Rattle.knifesilver.specs.Applied.{AppliedAnswers, IsLongPath}
 use Rattle.knifesilver.specs.Formats.{number_of}
+use Rattle.knifesilver.specs.Outgoing.{OutAnswers}
 use Rattle.knifesilver.specs.ServerHeld.{HoldsServerIn, Made}
 
 -- a datagram is fed
@@ -90,3 +94,17 @@ IsLong shown room (Some held) = (shown ≡ representation_of held) × (room < le
 
 abbrev pub IsTooLong : List (List ℕ) → KsRepresentation → ℕ → State → Type 0
 IsTooLong path shown room s = IsLong shown room (s.own.store.holds path)
+
+-- a datagram is taken to be sent, and is told
+abbrev pub IsNextOut : ℤ → KsAddress → (room : List ℕ) (len : ℕ) → Call → Type 0
+IsNextOut answer to room len call =
+    (next : Option below.Packet) × OutAnswers answer to room len next × (call ≡ NextOut next)
+
+-- what was applied last is asked for, and is told
+abbrev pub IsApplied : ℤ → KsApplied → (room : List ℕ) → Call → Type 0
+IsApplied answer told room call =
+    (done : List Applied) × AppliedAnswers answer told room done × (call ≡ TellsApplied done)
+
+-- .. or its path is longer than the room
+abbrev pub IsAppliedLong : (room : ℕ) → Call → Type 0
+IsAppliedLong room call = (done : List Applied) × IsLongPath room done × (call ≡ TellsApplied done)

@@ -1,6 +1,7 @@
 //! What crosses to C beside numbers: addresses, formats, tokens, bytes.
-ghost use Rattle.std.specs.Prelude.{◌≡◌, ◌<◌, true, false, length, take};
+ghost use Rattle.std.specs.Prelude.{◌≡◌, ◌<◌, ◌≤◌, true, false, length, take};
 ghost use Rattle.knifesilver.specs.Formats.{format_in, number_of};
+ghost use Rattle.knifesilver.specs.ShortBytes.{AreIn};
 
 use coap_types::{Endpoint, Tag, Token};
 
@@ -72,22 +73,25 @@ pub(crate) fn copy_out(room: &mut [u8], bytes: &[u8]) -> bool
 }
 
 /// At most 8 bytes in 8, and how many of them count.
-pub(crate) fn short_bytes(given: &[u8]) -> ([u8; 8], u8) {
+pub(crate) fn short_bytes(given: &[u8]) -> ([u8; 8], u8)
+    requires few { length given.now ≤ 8 }
+    ensures { AreIn given.now result.0 result.1 }
+{
     let mut bytes = [0; 8];
-    let mut len = 0u8;
-    for (place, byte) in bytes.iter_mut().zip(given) {
-        *place = *byte;
-        len = len.saturating_add(1);
-    }
-    (bytes, len)
+    bytes[..given.len()].copy_from_slice(given);
+    (bytes, given.len() as u8)
 }
 
 /// A token in 8 bytes, and how many of them count.
-pub(crate) fn token_of(token: &Token) -> ([u8; 8], u8) {
+pub(crate) fn token_of(token: &Token) -> ([u8; 8], u8)
+    ensures { AreIn token.now result.0 result.1 }
+{
     short_bytes(token.as_slice())
 }
 
 /// An entity-tag, likewise.
-pub(crate) fn tag_of(tag: &Tag) -> ([u8; 8], u8) {
+pub(crate) fn tag_of(tag: &Tag) -> ([u8; 8], u8)
+    ensures { AreIn tag.now result.0 result.1 }
+{
     short_bytes(tag.as_slice())
 }

@@ -9,6 +9,7 @@ mod config;
 mod crossing;
 mod handle;
 mod held;
+mod outgoing;
 mod path_text;
 mod peek;
 mod released;

@@ -1,7 +1,7 @@
 //! The text of a path: its segments, with `/` between each two.
-ghost use Rattle.std.specs.Prelude.{◌≡◌, ◌≢◌, IfOk, IfErr, IfSome, IfNone};
+ghost use Rattle.std.specs.Prelude.{◌≡◌, ◌≢◌, ◌<◌, ◌+◌, ◌++◌, ◌∷◌, length, take, IfOk, IfErr, IfSome, IfNone};
 ghost use Rattle.knifesilver.specs.Answers.{IsRefused};
-ghost use Rattle.knifesilver.specs.PathTexts.{HasNoSlash, IsCut, spelled, without_slash};
+ghost use Rattle.knifesilver.specs.PathTexts.{HasNoSlash, IsCut, IsText, spelled, text_of, without_slash};
 
 use crate::answers::{BAD_PATH, NO_MEMORY, NOT_LIVE, SMALL_ROOM};
 use crate::crossing::copy_out;
@@ -66,19 +66,29 @@ pub(crate) fn path_of(alloc: Global, text: &[u8]) -> Result<Path, i32>
 
 /// Writes a segment behind the first bytes of the room, with a `/` before it: how many bytes are written then. None
 /// where they do not fit.
-pub(crate) fn put_segment(room: &mut [u8], len: usize, segment: &[u8]) -> Option<usize> {
-    let place = room.get_mut(len..)?;
-    let (slash, rest) = place.split_first_mut()?;
-    *slash = SLASH;
-    if !copy_out(rest, segment) {
+pub(crate) fn put_segment(room: &mut [u8], len: usize, segment: &[u8]) -> Option<usize>
+    ensures put { IfSome result (λ end. (end ≡ length (take len room.old ++ 47 ∷ segment.now))
+        × (take end room.new ≡ take len room.old ++ 47 ∷ segment.now)) }
+    ensures none { IfNone result (length room.old < len + (1 + length segment.now)) }
+    ensures whole { length room.new ≡ length room.old }
+{
+    let left = room.len().checked_sub(len)?;
+    if left <= segment.len() {
         return None;
     }
-    len.checked_add(1)?.checked_add(segment.len())
+    let start = len + 1;
+    let end = start + segment.len();
+    room[len] = SLASH;
+    room[start..end].copy_from_slice(segment);
+    Some(end)
 }
 
 /// Writes the path to the front of the room, with a `/` before each segment: how many bytes it has. None where they do
 /// not fit.
-pub(crate) fn put_path(path: &Path, room: &mut [u8]) -> Option<usize> {
+pub(crate) fn put_path(path: &Path, room: &mut [u8]) -> Option<usize>
+    ensures put { IfSome result (λ len. IsText path.now room.new len) }
+    ensures none { IfNone result (length room.old < length (text_of path.now)) }
+{
     let mut len = 0usize;
     for segment in path.segments() {
         len = put_segment(room, len, segment)?;

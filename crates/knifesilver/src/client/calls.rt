@@ -9,6 +9,7 @@ ghost use Rattle.knifesilver.specs.ClientCalls.{CallsThat, IsCall, IsCancel, IsF
 ghost use Rattle.knifesilver.specs.ClientCalls.{tag_bytes};
 ghost use Rattle.knifesilver.specs.ClientHeld.{HoldsClient, IsClient, Made};
 ghost use Rattle.knifesilver.specs.PathTexts.{spelled};
+ghost use Rattle.knifesilver.specs.Reports.{beside};
 
 use crate::answers::{BAD_ARGUMENT, DONE, NO_MEMORY, NOT_LIVE, NOTHING};
 use crate::crossing::format_of;
@@ -124,6 +125,7 @@ fn call(held: &mut Held, now: u64, request: Request, id: &mut u64) -> i32
     ensures led { IsAnswered result
         → Made (IsCall now (shown_request request) result id.new) (Some held.old) (Some held.new) }
     ensures kept { IsRefused result → held.new ≡ held.old }
+    ensures beside { beside (Some held.new) ≡ beside (Some held.old) }
     ensures live { IsClient held.old → result ≢ NOT_LIVE }
 {
     match held {
@@ -152,6 +154,8 @@ pub extern "C" fn ks_client_call(
         handle.old.held handle.new.held }
     // A call that is refused leaves the very client in the handle.
     ensures kept { IsRefused result → handle.new.held ≡ handle.old.held }
+    // A call leaves the report that waits beside the client.
+    ensures beside { beside handle.new.held ≡ beside handle.old.held }
     // `call` never says of a handle with a client that it holds none.
     ensures live { HoldsClient handle.old.held → result ≢ NOT_LIVE }
 {
@@ -175,6 +179,7 @@ pub extern "C" fn ks_client_call(
 fn observe(held: &mut Held, now: u64, path: Path, id: &mut u64) -> i32
     ensures led { IsAnswered result → Made (IsObserve now path result id.new) (Some held.old) (Some held.new) }
     ensures kept { IsRefused result → held.new ≡ held.old }
+    ensures beside { beside (Some held.new) ≡ beside (Some held.old) }
     ensures live { IsClient held.old → result ≢ NOT_LIVE }
 {
     match held {
@@ -197,6 +202,8 @@ pub extern "C" fn ks_client_observe(
         → Made (IsObserve now (spelled path.now) result id.new) handle.old.held handle.new.held }
     // An observation that is refused leaves the very client in the handle.
     ensures kept { IsRefused result → handle.new.held ≡ handle.old.held }
+    // An observation leaves the report that waits beside the client.
+    ensures beside { beside handle.new.held ≡ beside handle.old.held }
     // `observe` never says of a handle with a client that it holds none.
     ensures live { HoldsClient handle.old.held → result ≢ NOT_LIVE }
 {
@@ -216,6 +223,7 @@ pub extern "C" fn ks_client_observe(
 fn cancel(held: &mut Held, now: u64, id: u64) -> i32
     ensures led { IsAnswered result → Made (IsCancel now id result) (Some held.old) (Some held.new) }
     ensures kept { IsRefused result → held.new ≡ held.old }
+    ensures beside { beside (Some held.new) ≡ beside (Some held.old) }
     ensures live { IsClient held.old → result ≢ NOT_LIVE }
 {
     match held {
@@ -234,6 +242,8 @@ pub extern "C" fn ks_client_cancel(alloc: Global, handle: &mut KsHandle, now: u6
     ensures led { IsAnswered result → Made (IsCancel now id result) handle.old.held handle.new.held }
     // A cancel that is refused leaves the very client in the handle.
     ensures kept { IsRefused result → handle.new.held ≡ handle.old.held }
+    // A cancel leaves the report that waits beside the client.
+    ensures beside { beside handle.new.held ≡ beside handle.old.held }
     // `cancel` never says of a handle with a client that it holds none.
     ensures live { HoldsClient handle.old.held → result ≢ NOT_LIVE }
 {
@@ -249,6 +259,7 @@ pub extern "C" fn ks_client_cancel(alloc: Global, handle: &mut KsHandle, now: u6
 fn forget(held: &mut Held, id: u64) -> i32
     ensures led { IsAnswered result → Made (IsForget id result) (Some held.old) (Some held.new) }
     ensures kept { IsRefused result → held.new ≡ held.old }
+    ensures beside { beside (Some held.new) ≡ beside (Some held.old) }
     ensures live { IsClient held.old → result ≢ NOT_LIVE }
 {
     match held {
@@ -270,6 +281,8 @@ pub extern "C" fn ks_client_forget(alloc: Global, handle: &mut KsHandle, id: u64
     ensures led { IsAnswered result → Made (IsForget id result) handle.old.held handle.new.held }
     // An end of an observation that is refused leaves the very client in the handle.
     ensures kept { IsRefused result → handle.new.held ≡ handle.old.held }
+    // To forget an observation leaves the report that waits beside the client.
+    ensures beside { beside handle.new.held ≡ beside handle.old.held }
     // `forget` never says of a handle with a client that it holds none.
     ensures live { HoldsClient handle.old.held → result ≢ NOT_LIVE }
 {

@@ -1,35 +1,35 @@
 //! The datagrams that a client hands out.
-ghost use Rattle.std.specs.Prelude.{◌≡◌, ◌≢◌};
-ghost use Rattle.knifesilver.specs.Answers.{IsRefused};
-ghost use Rattle.knifesilver.specs.ClientHeld.{HoldsClient, IsClient};
+ghost use Rattle.std.specs.Prelude.{◌≡◌, ◌≢◌, Some};
+ghost use Rattle.knifesilver.specs.Answers.{IsAnswered, IsRefused};
+ghost use Rattle.knifesilver.specs.ClientCalls.{IsNextOut};
+ghost use Rattle.knifesilver.specs.ClientHeld.{HoldsClient, IsClient, Made};
+ghost use Rattle.knifesilver.specs.Reports.{beside};
 
-use crate::answers::{DONE, NOT_LIVE, NOTHING, SMALL_ROOM, TOO_LONG};
-use crate::crossing::{KsAddress, address, copy_out};
+use crate::answers::{NOT_LIVE, SMALL_ROOM};
+use crate::crossing::KsAddress;
 use crate::handle::KsHandle;
 use crate::held::Held;
+use crate::outgoing::give;
 use coap_types::limits::MAX_MESSAGE_LEN;
 use std::alloc::Global;
 
 // Takes the datagram that is to be sent next.
 fn next_out(held: &mut Held, to: &mut KsAddress, room: &mut [u8], len: &mut usize) -> i32
+    ensures led { IsAnswered result
+        → Made (IsNextOut result to.new room.new len.new) (Some held.old) (Some held.new) }
     ensures kept { IsRefused result → held.new ≡ held.old }
+    ensures beside { beside (Some held.new) ≡ beside (Some held.old) }
     ensures live { IsClient held.old → result ≢ NOT_LIVE }
 {
-    let Held::Client(client) = held else {
-        return NOT_LIVE;
-    };
-    if room.len() < MAX_MESSAGE_LEN {
-        return SMALL_ROOM;
-    }
-    let Some(datagram) = client.client.next_out() else {
-        return NOTHING;
-    };
-    *to = address(datagram.to());
-    *len = datagram.bytes().len();
-    if copy_out(room, datagram.bytes()) {
-        DONE
-    } else {
-        TOO_LONG
+    match held {
+        Held::Client(client) => {
+            if room.len() < MAX_MESSAGE_LEN {
+                SMALL_ROOM
+            } else {
+                give(client.client.next_out(), to, room, len)
+            }
+        }
+        Held::Server(_) => NOT_LIVE,
     }
 }
 
@@ -42,8 +42,13 @@ pub extern "C" fn ks_client_next_out(
     room: &mut [u8],
     len: &mut usize,
 ) -> i32
+    // A datagram that is given out is the one by which the client in the handle answers just that call, byte for byte.
+    ensures led { IsAnswered result
+        → Made (IsNextOut result to.new room.new len.new) handle.old.held handle.new.held }
     // Where a client gives out nothing, or the room is too small, the handle holds the very client that it held.
     ensures kept { IsRefused result → handle.new.held ≡ handle.old.held }
+    // To take a datagram leaves the report that waits beside the client.
+    ensures beside { beside handle.new.held ≡ beside handle.old.held }
     // `next_out` never says of a handle with a client that it holds none.
     ensures live { HoldsClient handle.old.held → result ≢ NOT_LIVE }
 {

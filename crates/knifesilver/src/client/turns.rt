@@ -3,6 +3,7 @@ ghost use Rattle.std.specs.Prelude.{◌≡◌, ◌≢◌, Some};
 ghost use Rattle.knifesilver.specs.Answers.{IsAnswered, IsRefused};
 ghost use Rattle.knifesilver.specs.ClientCalls.{IsDue, IsFeed, IsTick};
 ghost use Rattle.knifesilver.specs.ClientHeld.{HoldsClient, HoldsClientIn, IsClient, IsClientIn, Made};
+ghost use Rattle.knifesilver.specs.Reports.{beside};
 
 use crate::answers::{DONE, NO_MEMORY, NOT_LIVE, NOTHING};
 use crate::crossing::{KsAddress, endpoint};
@@ -15,6 +16,7 @@ use std::alloc::Global;
 fn feed(held: &mut Held, now: u64, from: Endpoint, datagram: &[u8], word: u64) -> i32
     ensures led { IsAnswered result → Made (IsFeed now from datagram.now word) (Some held.old) (Some held.new) }
     ensures kept { IsRefused result → held.new ≡ held.old }
+    ensures beside { beside (Some held.new) ≡ beside (Some held.old) }
     ensures live { IsClient held.old → result ≢ NOT_LIVE }
 {
     match held {
@@ -42,6 +44,8 @@ pub extern "C" fn ks_client_feed(
         handle.new.held }
     // A feed that is refused leaves the very client in the handle.
     ensures kept { IsRefused result → handle.new.held ≡ handle.old.held }
+    // A datagram that is fed leaves the report that waits beside the client.
+    ensures beside { beside handle.new.held ≡ beside handle.old.held }
     // `feed` never says of a handle with a client that it holds none.
     ensures live { HoldsClient handle.old.held → result ≢ NOT_LIVE }
 {
@@ -57,6 +61,7 @@ pub extern "C" fn ks_client_feed(
 fn tick(held: &mut Held, now: u64, word: u64) -> i32
     ensures led { IsAnswered result → Made (IsTick now word result) (Some held.old) (Some held.new) }
     ensures kept { IsRefused result → held.new ≡ held.old }
+    ensures beside { beside (Some held.new) ≡ beside (Some held.old) }
     ensures live { IsClient held.old → result ≢ NOT_LIVE }
 {
     match held {
@@ -76,6 +81,8 @@ pub extern "C" fn ks_client_tick(alloc: Global, handle: &mut KsHandle, now: u64,
     ensures led { IsAnswered result → Made (IsTick now word result) handle.old.held handle.new.held }
     // A tick that is refused leaves the very client in the handle.
     ensures kept { IsRefused result → handle.new.held ≡ handle.old.held }
+    // A tick leaves the report that waits beside the client.
+    ensures beside { beside handle.new.held ≡ beside handle.old.held }
     // `tick` never says of a handle with a client that it holds none.
     ensures live { HoldsClient handle.old.held → result ≢ NOT_LIVE }
 {

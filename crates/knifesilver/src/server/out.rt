@@ -1,36 +1,37 @@
 //! What a server hands out: datagrams, and what a client had it do.
-ghost use Rattle.std.specs.Prelude.{◌≡◌, ◌≢◌};
-ghost use Rattle.knifesilver.specs.Answers.{IsRefused};
-ghost use Rattle.knifesilver.specs.ServerHeld.{HoldsServer, IsServer};
+ghost use Rattle.std.specs.Prelude.{◌≡◌, ◌≢◌, ◌∷◌, [], length, Some};
+ghost use Rattle.coap_server.specs.Object.Shown.{applied_as};
+ghost use Rattle.knifesilver.specs.Answers.{IsAnswered, IsRefused};
+ghost use Rattle.knifesilver.specs.Applied.{AppliedAnswers, IsLongPath};
+ghost use Rattle.knifesilver.specs.ServerCalls.{IsApplied, IsAppliedLong, IsNextOut};
+ghost use Rattle.knifesilver.specs.ServerHeld.{HoldsServer, IsServer, Made};
 
-use crate::answers::{DONE, NOT_LIVE, NOTHING, SMALL_ROOM, TOO_LONG};
-use crate::crossing::{KsAddress, address, copy_out, token_of};
+use crate::answers::{DONE, NOT_LIVE, NOTHING, SMALL_ROOM};
+use crate::crossing::{KsAddress, address, token_of};
 use crate::handle::KsHandle;
-use crate::held::{Held, OurServer};
+use crate::held::Held;
+use crate::outgoing::give;
 use crate::path_text::put_path;
+use coap_ends::Applied;
 use coap_types::limits::MAX_MESSAGE_LEN;
 use std::alloc::Global;
 
 // Takes the datagram that is to be sent next.
 fn next_out(held: &mut Held, to: &mut KsAddress, room: &mut [u8], len: &mut usize) -> i32
+    ensures led { IsAnswered result
+        → Made (IsNextOut result to.new room.new len.new) (Some held.old) (Some held.new) }
     ensures kept { IsRefused result → held.new ≡ held.old }
     ensures live { IsServer held.old → result ≢ NOT_LIVE }
 {
-    let Held::Server(server) = held else {
-        return NOT_LIVE;
-    };
-    if room.len() < MAX_MESSAGE_LEN {
-        return SMALL_ROOM;
-    }
-    let Some(datagram) = server.next_out() else {
-        return NOTHING;
-    };
-    *to = address(datagram.to());
-    *len = datagram.bytes().len();
-    if copy_out(room, datagram.bytes()) {
-        DONE
-    } else {
-        TOO_LONG
+    match held {
+        Held::Server(server) => {
+            if room.len() < MAX_MESSAGE_LEN {
+                SMALL_ROOM
+            } else {
+                give(server.next_out(), to, room, len)
+            }
+        }
+        Held::Client(_) => NOT_LIVE,
     }
 }
 
@@ -43,6 +44,9 @@ pub extern "C" fn ks_server_next_out(
     room: &mut [u8],
     len: &mut usize,
 ) -> i32
+    // A datagram that is given out is the one by which the server in the handle answers just that call, byte for byte.
+    ensures led { IsAnswered result
+        → Made (IsNextOut result to.new room.new len.new) handle.old.held handle.new.held }
     // Where a server gives out nothing, or the room is too small, the handle holds the very server that it held.
     ensures kept { IsRefused result → handle.new.held ≡ handle.old.held }
     // `next_out` never says of a handle with a server that it holds none.
@@ -74,24 +78,43 @@ pub struct KsApplied {
     pub token: [u8; 8],
 }
 
-fn applied(server: &OurServer, applied: &mut KsApplied, room: &mut [u8]) -> i32 {
-    let Some(done) = server.applied() else {
-        return NOTHING;
-    };
-    let (token, token_len) = token_of(&done.token);
-    let Some(path_len) = put_path(&done.path, room) else {
+// Tells what was applied.
+fn tell(applied: &Applied<Global>, told: &mut KsApplied, room: &mut [u8]) -> i32
+    ensures told { IsAnswered result → AppliedAnswers result told.new room.new (applied_as applied.now ∷ []) }
+    ensures long { result ≡ SMALL_ROOM → IsLongPath (length room.old) (applied_as applied.now ∷ []) }
+    ensures live { result ≢ NOT_LIVE }
+{
+    let (token, token_len) = token_of(&applied.token);
+    let Some(path_len) = put_path(&applied.path, room) else {
         return SMALL_ROOM;
     };
-    let from = address(done.from);
-    *applied = KsApplied {
-        version: done.version,
+    let from = address(applied.from);
+    *told = KsApplied {
+        version: applied.version,
         path_len,
         from,
-        method: done.method.code().0,
+        method: applied.method.code().0,
         token_len,
         token,
     };
     DONE
+}
+
+// What the last feed or tick applied.
+fn applied(held: &Held, told: &mut KsApplied, room: &mut [u8]) -> i32
+    ensures led { IsAnswered result
+        → Made (IsApplied result told.new room.new) (Some held.now) (Some held.now) }
+    ensures long { result ≡ SMALL_ROOM
+        → Made (IsAppliedLong (length room.old)) (Some held.now) (Some held.now) }
+    ensures live { IsServer held.now → result ≢ NOT_LIVE }
+{
+    match held {
+        Held::Server(server) => match server.applied() {
+            Some(applied) => tell(applied, told, room),
+            None => NOTHING,
+        },
+        Held::Client(_) => NOT_LIVE,
+    }
 }
 
 /// What the last feed or tick applied, with its path as text: 1, or 0 where it applied nothing.
@@ -102,16 +125,21 @@ pub extern "C" fn ks_server_applied(
     done: &mut KsApplied,
     room: &mut [u8],
 ) -> i32
+    // What is told to be applied last is what the server in the handle answers to just that call.
+    ensures led { IsAnswered result
+        → Made (IsApplied result done.new room.new) handle.old.held handle.new.held }
+    // Where the room is too small, the path of what the server answers to that call is longer.
+    ensures long { result ≡ SMALL_ROOM
+        → Made (IsAppliedLong (length room.old)) handle.old.held handle.new.held }
     // To ask what was applied leaves the very server in the handle.
     ensures kept { handle.new.held ≡ handle.old.held }
+    // `applied` never says of a handle with a server that it holds none.
+    ensures live { HoldsServer handle.old.held → result ≢ NOT_LIVE }
 {
     let Some(held) = handle.take(alloc) else {
         return NOT_LIVE;
     };
-    let answer = match held.as_ref() {
-        Held::Server(server) => applied(server, done, room),
-        Held::Client(_) => NOT_LIVE,
-    };
+    let answer = applied(held.as_ref(), done, room);
     handle.put(held);
     answer
 }

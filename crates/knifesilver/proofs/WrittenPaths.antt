@@ -1,0 +1,57 @@
+-- The text of a path as it is written, one segment behind the other.
+use Rattle.std.proofs.Common.{◌≡◌, ◌≤◌, ◌<◌, ◌+◌, ◌∙◌, ap, sym, refl, subst, ℕ, List, [], ◌∷◌, ◌++◌, length, map, take, drop, set, get_or, arith, Vec}
+use Rattle.std.proofs.lemmas.Grind.{flat_map-append}
+use Rattle.std.proofs.lemmas.List.{append_assoc, append-nil, get_or-map, length-append, length-map, length-set, length-take-le, take_more, take_more_set}
+use Rattle.std.proofs.lemmas.List.Folds.{length-flat_map-take}
+use Rattle.std.proofs.lemmas.Slice.{take-put_mid}
+use borrow.Rule.Slice.PartMut.{put_mid}
+use Rattle.coap_types.specs.Path.{segments_of}
+use Rattle.knifesilver.specs.PathTexts.{IsText, text_of}
+
+-- a slash and the segment, behind the first bytes
+pub written : (room segment copy : List ℕ) (len k : ℕ) → len < length room → copy ≡ segment
+    → take (len + 1 + length segment) (put_mid (len + 1) k (set room len 47) copy) ≡ take len room ++ 47 ∷ segment
+written room segment copy len k fits same =
+    take-put_mid (len + 1) k (set room len 47) copy _ (ap (λ l. len + 1 + length l) (sym same)) (omega (arith, length-set room len 47))
+    ∙ ap (λ l. l ++ copy) (take_more_set room len 47 fits)
+    ∙ append_assoc (take len room) (47 ∷ []) copy
+    ∙ ap (λ l. take len room ++ 47 ∷ l) same
+
+pub length-written : (room segment : List ℕ) (len : ℕ) → len < length room
+    → len + 1 + length segment ≡ length (take len room ++ 47 ∷ segment)
+length-written room segment len fits =
+    omega (arith, length-append (take len room) (47 ∷ segment), length-take-le len room (omega arith))
+
+-- the text of one segment more
+text_more : (path : List (List ℕ)) (i : ℕ) (segment : List ℕ) → i < length path → get_or path i [] ≡ segment
+    → text_of (take (i + 1) path) ≡ text_of (take i path) ++ 47 ∷ segment
+text_more path i segment lt is =
+    ap text_of (take_more path i [] lt ∙ ap (λ s. take i path ++ s ∷ []) is)
+    ∙ flat_map-append (λ s. 47 ∷ s) (take i path) (segment ∷ [])
+    ∙ ap (λ l. text_of (take i path) ++ l) (append-nil (47 ∷ segment))
+
+-- .. which is written behind those before it
+pub one_more : (path : List (List ℕ)) (i : ℕ) (segment room new : List ℕ) (len end : ℕ) → i < length path
+    → get_or path i [] ≡ segment → take len room ≡ text_of (take i path)
+    → end ≡ length (take len room ++ 47 ∷ segment) → take end new ≡ take len room ++ 47 ∷ segment
+    → IsText (take (i + 1) path) new end
+one_more path i segment room new len end lt is so far put =
+    let now : take len room ++ 47 ∷ segment ≡ text_of (take (i + 1) path) =
+    ap (λ l. l ++ 47 ∷ segment) so ∙ sym (text_more path i segment lt is) in (far ∙ ap length now, put ∙ now)
+
+-- .. and where that does not fit, the whole does not
+pub too_long : (path : List (List ℕ)) (i : ℕ) (segment : List ℕ) (room len : ℕ) → i < length path
+    → get_or path i [] ≡ segment → len ≡ length (text_of (take i path)) → room < len + (1 + length segment)
+    → room < length (text_of path)
+too_long path i segment room len lt is far short =
+    omega (arith, length-flat_map-take (λ s. 47 ∷ s) path i [] lt, ap length is)
+
+-- a segment of a path, where it lies
+pub segment_at : {Z : Type 0} (items : List (Vec ℕ Z)) (path : List (List ℕ)) (i : ℕ) (item : Vec ℕ Z) (lent : List ℕ)
+    → segments_of items ≡ path → i < length items → get_or items i item ≡ item → lent ≡ item.items
+    → (i < length path) × (get_or path i [] ≡ lent)
+segment_at items path i item lent are lt is same = (
+  subst (λ p. i < length p) are (omega (arith, length-map items (λ (s : Vec ℕ _). s.items))),
+  ap (λ p. get_or p i []) (sym are) ∙ get_or-map (λ (s : Vec ℕ _). s.items) items i item [] lt
+      ∙ ap (λ (s : Vec ℕ _). s.items) is ∙ sym same,
+)
