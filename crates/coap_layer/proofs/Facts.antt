@@ -4,6 +4,7 @@ pub mod Calls
 pub mod CallsOfLayer
 pub mod HandedUp
 pub mod Hops
+pub mod IdsApart
 pub mod Laws
 pub mod FirstMoments
 pub mod Sendable
