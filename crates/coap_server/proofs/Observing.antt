@@ -7,6 +7,7 @@ pub mod LastRegistered
 pub mod LatestRegistration
 pub mod LivesOn
 pub mod MarksStay
+pub mod NonsApart
 pub mod NoticesGoSo
 pub mod ObservationEnds
 pub mod ObservationStays

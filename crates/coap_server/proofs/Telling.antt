@@ -1,4 +1,5 @@
 pub mod LayerCalls
+pub mod NotAfter
 pub mod NotedOptions
 pub mod OneConACall
 pub mod ResponsesGoOut

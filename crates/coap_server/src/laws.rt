@@ -228,8 +228,8 @@ pub fn server_must_law()
     // than a day old, and the last change of its path at most 100 s (RFC 7641, sections 4.3 and 4.5).
     ensures ways { (limits : Limits) (szx word : ℕ) (t : List Call) → ServerLaw limits szx word t
         → WaysAre limits szx t }
-    // A Reset of the last NON of a registration of that endpoint, while it can come, ends one, and one that was told last
-    // in that very NON (RFC 7641, section 3.6).
+    // A Reset of the last NON of a registration of that endpoint, while it can come, ends that registration, and what it
+    // ends was told last in that very NON (RFC 7641, section 3.6).
     ensures ends_on_reset { (limits : Limits) (szx word : ℕ) (t : List Call) → ServerLaw limits szx word t
         → EndsOnReset limits szx t }
     // A path has the delay that a call gave it, until a call gives another (RFC 7252, section 5.2.2).

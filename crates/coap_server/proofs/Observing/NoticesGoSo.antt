@@ -39,6 +39,8 @@ use Rattle.coap_server.proofs.Observing.ObserversWereMade.{good}
 use Rattle.coap_server.proofs.Observing.RejectedNons.{none_rejected, none_reset}
 use Rattle.coap_server.proofs.Observing.TellsBegin.{told_here}
 use Rattle.coap_server.proofs.Observing.VersionsRise.{IsThere, there_is}
+use Rattle.coap_server.proofs.Observing.NonsApart.{nons_apart, was_issued}
+use Rattle.coap_server.proofs.Observing.OneRegistration.{pair_of}
 use Rattle.coap_server.proofs.Observing.WaysKept.{fits, ticked_back}
 use Rattle.coap_server.proofs.Observing.WaysSteps.{FitsOf}
 use Rattle.coap_server.proofs.Observing.YoungNons.{young_is}
@@ -365,9 +367,21 @@ module _ (limits : Limits) (szx word : ℕ) (t : List Call) (now : ℕ) (from : 
         },
       )
 
+  -- only one of them has that last NON
+  same_token : (p q : List ℕ) → LastNon limits szx x.to p x.id clk t → LastNon limits szx x.to q x.id clk t → p ≡ q
+  same_token p q k l = elim (pair_of x.to p x.to q) [
+    | inl e ↦ e.1
+    | inr other ↦ (
+        let apart = nons_apart limits szx word t before x.to p q other k.non l.non k.last l.last (k.id_is ∙ sym l.id_is) in
+        let m = (was_issued limits szx word t before x.to p k.non k.last).till in
+        let n = (was_issued limits szx word t before x.to q l.non l.last).till in
+        let a = k.young in
+        let b = l.young in
+        absurd (elim apart [ inl far ↦ omega (arith, far, m, n, a, b) | inr far ↦ omega (arith, far, m, n, a, b) ]))
+  ]
+
   ends_so : (token : List ℕ) → LastNon limits szx x.to token x.id clk t
-      → (ended : List ℕ) × LastNon limits szx x.to ended x.id clk t
-      × (registration x.to ended (own_of limits szx (call ∷ t)).observers ≡ None)
+      → registration x.to token (own_of limits szx (call ∷ t)).observers ≡ None
   ends_so token l =
       let f = fits limits szx word x.to token t before l.observer l.there in
       let k = find_is (is_of x.to token) mine.observers l.observer l.there in
@@ -377,13 +391,11 @@ module _ (limits : Limits) (szx word : ℕ) (t : List Call) (now : ℕ) (from : 
       (ap (is_noted clk x.id) (f.non ∙ l.last) ∙ is_noted_by clk x.id l.non l.id_is l.young)
       ((same_endpoint-decides l.observer.to x.to).1 pair.0) in
       let some = find_some (is_noted_at clk x.to x.id) mine.observers l.observer k.0 noted in
-      let r = rejects_so some.0 some.1 in (
-        (some.0).token,
-        r.1,
-        ap (registration x.to (some.0).token) left_is
-            ∙ (ap (λ z. registration z (some.0).token (reset_at clk x.to x.id mine.observers)) (sym r.0)
-            ∙ (reset_takes clk x.to x.id mine.observers some.0 some.1).1),
-      )
+      let r = rejects_so some.0 some.1 in
+      ap (registration x.to token) left_is
+      ∙ (ap (λ z. registration x.to z (reset_at clk x.to x.id mine.observers)) (same_token token (some.0).token l r.1)
+      ∙ (ap (λ z. registration z (some.0).token (reset_at clk x.to x.id mine.observers)) (sym r.0)
+      ∙ (reset_takes clk x.to x.id mine.observers some.0 some.1).1))
 
   reset_ends : ResetEnds limits szx t call x
   reset_ends = record { ends = ends_so; rejects = rejects_so }

@@ -57,6 +57,12 @@ is_pair_other to token by bytes other = go (is_pair to token by bytes) refl
         let k = and_parts (same_endpoint by to) (pointwise nat_eq bytes token) e in
         absurd (other (sym ((same_endpoint-decides by to).0 k.0), sym ((bytes_decides bytes token).0 k.1)))
 
+pub pair_is : (to : Endpoint) (token : List ℕ) (by : Endpoint) (bytes : List ℕ) → is_pair to token by bytes ≡ true
+    → (to ≡ by) × (token ≡ bytes)
+pair_is to token by bytes e =
+    let k = and_parts (same_endpoint by to) (pointwise nat_eq bytes token) e in
+    (sym ((same_endpoint-decides by to).0 k.0), sym ((bytes_decides bytes token).0 k.1))
+
 -- what a change of nothing marks
 pub none_marked : (at : ℕ) (path : List (List ℕ)) (old left : Content) (os : List Observer)
     → change_of path old left ≡ None → marked_if at path old left os ≡ os

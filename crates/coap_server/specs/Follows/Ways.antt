@@ -118,11 +118,10 @@ module _ (limits : Limits) (szx : ℕ) where
     pub id_is : non.id ≡ id
     pub young : at ≤ non.at + exchange_lifetime
 
-  -- A Reset of the last NON of a registration of that endpoint ends one; and what it ends, it rejects.
+  -- A Reset of the last NON of a registration of that endpoint ends it; and what it ends, it rejects.
   pub record ResetEnds (past : List Call) (c : Call) (x : Sending) : Type 0 where
     pub ends : (token : List ℕ) → LastNon x.to token x.id (clock_at (c ∷ past)) past
-        → (ended : List ℕ) × LastNon x.to ended x.id (clock_at (c ∷ past)) past
-        × (registration x.to ended (own_of limits szx (c ∷ past)).observers ≡ None)
+        → registration x.to token (own_of limits szx (c ∷ past)).observers ≡ None
     pub rejects : (o : Observer)
         → rejected (clock_at (c ∷ past)) x.to x.id (own_of limits szx past).observers ≡ Some o
         → (o.to ≡ x.to) × LastNon x.to o.token x.id (clock_at (c ∷ past)) past
