@@ -2,8 +2,7 @@
 use Rattle.std.specs.Prelude.{List}
 use Rattle.coap_layer.specs.Follows.{IdsApart}
 use Rattle.coap_layer.specs.Rows.{LayerLaw}
-use Rattle.coap_layer.specs.Trace.{Entry}
-use Rattle.coap_layer.specs.declared.setup.Setup.{Setup}
+use Rattle.coap_layer.specs.Trace.{Entry, Setup}
 use Rattle.coap_layer.proofs.Copies.CopiesInTime as copies
 
 pub ids_apart : (setup : Setup) (t : List Entry) → LayerLaw setup t → IdsApart t

@@ -10,7 +10,7 @@ use Rattle.coap_layer.specs.Trace.{Receive, Entry}
 use Rattle.coap_layer.specs.Words.{Open, begun}
 use Rattle.coap_layer.specs.Rows.{LayerLaw}
 use Rattle.coap_layer.specs.Apart.{ConsApart}
-use Rattle.coap_layer.specs.Follows.{HandedUpOnce, CopiesInTime, IdsApart, OneOutstanding, ResponsesSpelled}
+use Rattle.coap_layer.specs.Follows.{HandedUpOnce, CopiesInTime, OneOutstanding, ResponsesSpelled}
 use Rattle.coap_layer.specs.Sends.{Begins, ConsSpelled, SpellsCon, EachGoesOut, TakenSince}
 use Rattle.coap_layer.specs.Channel.{Hop, Far, near_of, HandedAsSpelled, AcksHeard, ChannelLaw, BegunAs, NonsSent}
 use Rattle.coap_layer.specs.Channel.{HandedOnce, AcksReplied, AcksTaken, OnlyThatCon}
@@ -33,10 +33,6 @@ handed_up_once = copies.handed_up_once
 
 pub copies_in_time : (setup : Setup) (t : List Entry) → LayerLaw setup t → CopiesInTime t
 copies_in_time = copies.copies_in_time
-
--- two Message IDs that the layer gave are equal only if they were given long apart
-pub ids_apart : (setup : Setup) (t : List Entry) → LayerLaw setup t → IdsApart t
-ids_apart = copies.ids_apart
 
 pub one_outstanding : (setup : Setup) (t : List Entry) → LayerLaw setup t → OneOutstanding t
 one_outstanding = copies.one_outstanding

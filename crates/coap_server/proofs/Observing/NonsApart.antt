@@ -11,7 +11,7 @@ use Rattle.coap_layer.specs.Machine.Steps.{entries, left_after}
 use Rattle.coap_layer.specs.Trace as L
 use Rattle.coap_layer.specs.Words.{issued, issued_by, numbers}
 use Rattle.coap_layer.proofs.Facts.Calls.{steps_left}
-use Rattle.coap_layer.proofs.Facts.Laws.{ids_apart}
+use Rattle.coap_layer.proofs.Facts.IdsApart.{ids_apart}
 use Rattle.coap_observe.specs.Observers.{Noted, Observer}
 use Rattle.coap_observe.specs.Registrations.{IsOther}
 use Rattle.coap_resource.specs.Content.{Content, Held}
