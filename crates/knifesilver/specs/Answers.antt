@@ -1,5 +1,5 @@
 -- What calls answer: a number, below 0 where the call itself refused, and nothing was done.
-use Rattle.std.specs.Prelude.{ℕ, ℤ, pos, negsuc, Bool, true, false, ⊤}
+use Rattle.std.specs.Prelude.{ℤ, pos, negsuc, Bool, true, false, ⊤}
 
 -- nothing was done
 abbrev pub IsRefused : ℤ → Type 0

@@ -1,5 +1,5 @@
 -- `into_released`: by the flag, the pointer with what it owns, or nothing.
-use Rattle.knifesilver.proofs.Walking.{◌≡◌, List, [], ◌∷◌, ◌++◌, refl, sym, subst, ◌∙◌, lit<, Bool, true, false}
+use Rattle.knifesilver.proofs.Walking.{◌≡◌, List, [], ◌∷◌, ◌++◌, refl, sym, subst, ◌∙◌, lit<, true, false}
 use Rattle.knifesilver.proofs.Walking.{Val, vptr, vbool, vcons, vnil, SProp, ent, emp, id⊢, WpFn}
 use Rattle.knifesilver.proofs.Walking.{‵, raw, ◌⊛◌, at_ret, ◌$◌, ◌∵◌, !, qed, by, move, keep, split, fsplit, fjoin, suffices, use0, use1}
 use Rattle.knifesilver.proofs.Walking.{stop, fld, lit, of_opd, no_more, and_then, first, branches, exec, returns, enter}

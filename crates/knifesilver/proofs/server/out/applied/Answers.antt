@@ -1,4 +1,4 @@
-use Rattle.std.proofs.Common.{◌≡◌, ◌∷◌, [], length, refl, sym, ap, subst, w32}
+use Rattle.std.proofs.Common.{◌≡◌, ◌∷◌, [], refl, sym, subst, w32}
 use Rattle.std.proofs.Math.Facts.{to_z-of_z}
 use Rattle.coap_server.specs.Led.{Led}
 use Rattle.coap_server.specs.Object.Shown.{applied_as}
