@@ -15,7 +15,7 @@ use Rattle.coap_client.specs.declared.refusals.CancelRefusal.{CancelRefusal}
 use Rattle.coap_client.proofs.Facts.EachCall.{led_client}
 use Rattle.coap_words.specs.declared.orders.AskOptions.{AskOptions}
 use Rattle.coap_commands.specs.Asked.{IsObserved, IsWord}
-use Rattle.coap_commands.specs.Asks.{AsksNothing, Chain, Each, Turned, takes_report}
+use Rattle.coap_commands.specs.Asks.{AsksNothing, Each, Turned, takes_report}
 use Rattle.coap_commands.specs.Ends.{client_sizes}
 use Rattle.coap_commands.specs.Observes.{AllObserving, HasAll, IsOver, ObserveBecomes, Observed, Observes, Observing, value_in, values_in}
 use Rattle.coap_commands.specs.declared.calling.Outcome.TheVariants.{Refused, Reported}

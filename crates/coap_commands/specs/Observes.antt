@@ -5,7 +5,7 @@ use Rattle.std.specs.Prelude.{None, Some, Ok, Err, if◌then◌else◌}
 use Rattle.std.specs.declared.alloc.Global.{Global}
 use Rattle.coap_types.specs.declared.endpoint.Endpoint.{Endpoint}
 use Rattle.coap_block.specs.Sizes.{Sizes}
-use Rattle.coap_client.specs.Led.{Led, State, Step}
+use Rattle.coap_client.specs.Led.{Led, State}
 use Rattle.coap_client.specs.Object.Shown.{shown_report}
 use Rattle.coap_client.specs.Trace.{Call, Cancels, Feeds, NextOut, NextReport, Reported, Ticks, is_value}
 use Rattle.coap_client.specs.Trace.{Observes as observes}
