@@ -137,6 +137,12 @@ enum ks_delay_refusal { KS_DELAY_FULL = 1 };    /* 16 other paths have a delay *
  * KS_OK; ks_delay_refusal; KS_BAD_PATH, KS_NO_MEMORY, KS_NOT_LIVE. */
 int32_t ks_server_set_delay(ks_server *handle, const char *path, size_t path_len, uint64_t ms);
 
+enum ks_plain_refusal { KS_PLAIN_FULL = 1 };    /* 16 other paths are plain */
+
+/* Has the notifications of the path go in Non-confirmable messages, but for one a day, a state that is older than 100 s, and
+ * the 4.04 of a path that is gone. There is no way back. KS_OK; ks_plain_refusal; KS_BAD_PATH, KS_NO_MEMORY, KS_NOT_LIVE. */
+int32_t ks_server_set_plain(ks_server *handle, const char *path, size_t path_len);
+
 /* Takes a datagram that arrived. KS_OK; KS_NO_MEMORY, after which it counts as lost; KS_NOT_LIVE. Then ask
  * ks_server_applied, and send what is out. */
 int32_t ks_server_feed(ks_server *handle, uint64_t now, const ks_address *from, const void *datagram,

@@ -196,6 +196,12 @@ static void the_servers_own_side(void) {
         IS(ks_server_set_delay(&server, p, 2, 5000), KS_OK);
     }
     IS(ks_server_set_delay(&server, P("pC"), 1), KS_DELAY_FULL);
+    for (int i = 0; i < 16; i++) {
+        char p[2] = {'q', (char)('A' + i)};
+        IS(ks_server_set_plain(&server, p, 2), KS_OK);
+    }
+    IS(ks_server_set_plain(&server, P("qB")), KS_OK);
+    IS(ks_server_set_plain(&server, P("pC")), KS_PLAIN_FULL);
     end();
 }
 

@@ -67,6 +67,16 @@ errors! {
         Full = "16 other paths have a delay",
     }
 
+    /// Why a path is not made plain.
+    PlainError {
+        /// An allocation was refused.
+        Memory = "out of memory",
+        /// The path has over 16 segments, or one of over 255 bytes.
+        BadPath = "over 16 segments, or one of over 255 bytes",
+        /// 16 other paths are plain.
+        Full = "16 other paths are plain",
+    }
+
     /// Why a call or an observation is not taken.
     CallError {
         /// An allocation was refused.
@@ -161,6 +171,15 @@ pub(crate) fn delayed(answer: i32) -> Result<(), DelayError> {
         1 => Err(DelayError::Full),
         raw::KS_BAD_PATH => Err(DelayError::BadPath),
         _ => Err(DelayError::Memory),
+    }
+}
+
+pub(crate) fn made_plain(answer: i32) -> Result<(), PlainError> {
+    match answer {
+        raw::KS_OK => Ok(()),
+        1 => Err(PlainError::Full),
+        raw::KS_BAD_PATH => Err(PlainError::BadPath),
+        _ => Err(PlainError::Memory),
     }
 }
 

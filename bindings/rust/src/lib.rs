@@ -49,7 +49,7 @@ mod server;
 mod setting;
 
 pub use client::{CallId, Client, Fetched, Report, Request};
-pub use errors::{CallError, CancelError, DelayError, NewError, OutOfMemory, PeekError, SetError};
+pub use errors::{CallError, CancelError, DelayError, NewError, OutOfMemory, PeekError, PlainError, SetError};
 pub use message::{peek, Code, Kind, Message, Method, Tag};
 pub use server::{Applied, Representation, Server};
 pub use setting::{Config, Transmit};

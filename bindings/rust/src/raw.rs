@@ -135,6 +135,7 @@ extern "C" {
     fn ks_server_remove(handle: *mut ks_server, now: u64, path: *const c_char, path_len: usize) -> i32;
     fn ks_server_get(handle: *mut ks_server, path: *const c_char, path_len: usize, shown: *mut ks_representation, room: *mut c_void, room_len: usize) -> i32;
     fn ks_server_set_delay(handle: *mut ks_server, path: *const c_char, path_len: usize, ms: u64) -> i32;
+    fn ks_server_set_plain(handle: *mut ks_server, path: *const c_char, path_len: usize) -> i32;
     fn ks_server_feed(handle: *mut ks_server, now: u64, from: *const ks_address, datagram: *const c_void, datagram_len: usize, word: u64) -> i32;
     fn ks_server_tick(handle: *mut ks_server, now: u64, word: u64) -> i32;
     fn ks_server_due(handle: *mut ks_server, at: *mut u64) -> i32;
@@ -210,6 +211,10 @@ impl Server {
 
     pub fn set_delay(&mut self, path: &str, ms: u64) -> i32 {
         unsafe { ks_server_set_delay(self.0.get_mut(), path.as_ptr().cast(), path.len(), ms) }
+    }
+
+    pub fn set_plain(&mut self, path: &str) -> i32 {
+        unsafe { ks_server_set_plain(self.0.get_mut(), path.as_ptr().cast(), path.len()) }
     }
 
     pub fn feed(&mut self, now: u64, from: &ks_address, datagram: &[u8], word: u64) -> i32 {

@@ -1,6 +1,6 @@
 //! A server.
 
-use crate::errors::{changed, delayed, made, ticked, DelayError, NewError, OutOfMemory, SetError};
+use crate::errors::{changed, delayed, made, made_plain, ticked, DelayError, NewError, OutOfMemory, PlainError, SetError};
 use crate::message::{Code, Method};
 use crate::raw;
 use crate::setting::{address, format_number, format_of, socket_address, Config, Surroundings, Transmit};
@@ -117,6 +117,12 @@ impl Server {
     pub fn set_delay(&mut self, path: &str, delay: Duration) -> Result<(), DelayError> {
         let ms = u64::try_from(delay.as_millis()).unwrap_or(u64::MAX);
         delayed(self.raw.set_delay(path, ms))
+    }
+
+    /// Has the notifications of the path go in Non-confirmable messages, but for one a day, a state that is older than 100 s, and
+    /// the end (RFC 7641, section 4.5).
+    pub fn set_plain(&mut self, path: &str) -> Result<(), PlainError> {
+        made_plain(self.raw.set_plain(path))
     }
 
     /// Takes a datagram that arrived.

@@ -75,6 +75,17 @@ fn delays_are_refused() {
 }
 
 #[test]
+fn plain_paths_are_refused() {
+    let (mut server, _) = server();
+    for number in 0..16 {
+        server.set_plain(&number.to_string()).unwrap();
+    }
+    assert_eq!(server.set_plain("more"), Err(PlainError::Full));
+    assert_eq!(server.set_plain("7"), Ok(()));
+    assert_eq!(server.set_plain(&"a".repeat(256)), Err(PlainError::BadPath));
+}
+
+#[test]
 fn calls_are_refused() {
     let (mut client, now) = client();
     let put = |body| Request::put("t", None, body);

@@ -10,7 +10,7 @@ use Rattle.coap_resource.specs.declared.refusal.StoreRefusal.{StoreRefusal}
 use Rattle.coap_exchange.specs.declared.answerer.Asked.{Asked}
 use Rattle.coap_exchange.specs.declared.answerer.Due.{Due}
 use Rattle.coap_server.specs.Led.{State}
-use Rattle.coap_server.specs.Trace.{Applied, Call, Delays, Feeds, Handling, NextOut, Removes, Sets, TellsApplied, Ticks}
+use Rattle.coap_server.specs.Trace.{Applied, Call, Delays, Feeds, Handling, NextOut, Plains, Removes, Sets, TellsApplied, Ticks}
 use Rattle.coap_server.specs.Turns.WhenDue.{TicksDo, latest}
 use Rattle.knifesilver.specs.declared.crossing.KsAddress.{KsAddress}
 use Rattle.knifesilver.specs.declared.held.Held.{Held}
@@ -72,6 +72,11 @@ IsRemove now path answer call = (removed : Result Bool StoreRefusal) × (left : 
 -- the requests of the path are to wait (RFC 7252, section 5.2.2); the answer is 1 where too many other paths have a delay
 abbrev pub IsDelay : List (List ℕ) → ℕ → ℤ → Call → Type 0
 IsDelay path ms answer call = (given : Bool) × (answer ≡ told (not given)) × (call ≡ Delays path ms given)
+
+-- the notifications of the path are to go in NONs (RFC 7641, section 4.5); the answer is 1 where too many other paths are
+-- plain
+abbrev pub IsPlain : List (List ℕ) → ℤ → Call → Type 0
+IsPlain path answer call = (given : Bool) × (answer ≡ told (not given)) × (call ≡ Plains path given)
 
 -- what is told of what a path holds
 abbrev pub representation_of : resource.Held → KsRepresentation

@@ -2,4 +2,5 @@
 mod local;
 mod made;
 mod out;
+mod plain;
 mod turns;
