@@ -11,7 +11,7 @@ pub use coap_client::{
     client_witness,
 };
 pub use coap_server::{
-    Applied, Delay, DelayRefusal, MAX_DELAYS, MAX_PLAINS, PlainRefusal, Server, give_delay, give_plain, server_law, server_must_law,
-    server_runs,
+    Applied, Delay, DelayRefusal, MAX_DELAYS, MAX_PLAINS, PlainRefusal, Server, give_delay,
+    give_plain, server_law, server_must_law, server_runs,
 };
 pub use end::End;

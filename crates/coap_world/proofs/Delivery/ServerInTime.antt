@@ -107,9 +107,10 @@ module _ (t : ℕ) (F : Endpoint → List ℕ → Type 0) where
   responding_asks s (due.Ready a) passed (Replies response) word id k = tt
   responding_asks s (due.Ready a) passed (Waits q delay) word id k = tt
   responding_asks s (due.Ready a) passed (Notifies o reply) word id k = tt
-  responding_asks s due.Idle passed (Notifies o reply) word id k =
-      (notifying_asks (by_plain s o) s.clock o (notification s.store o reply) word id k,
-      readies_asks s.clock passed (marked s.observers) k)
+  responding_asks s due.Idle passed (Notifies o reply) word id k = (
+    notifying_asks (by_plain s o) s.clock o (notification s.store o reply) word id k,
+    readies_asks s.clock passed (marked s.observers) k,
+  )
   responding_asks s due.Idle passed (Serves q reply left) word id k = readies_asks s.clock passed (marked s.observers) k
   responding_asks s due.Idle passed Silent word id k = readies_asks s.clock passed (marked s.observers) k
   responding_asks s due.Idle passed (Replies response) word id k = readies_asks s.clock passed (marked s.observers) k
