@@ -2,7 +2,7 @@
 -- observation is the current representation (RFC 7641, sections 1.3, 3.4 and 4.4; the bound is a profile).
 use Rattle.std.specs.Prelude.{◌≡◌, ◌⊎◌, ◌≤◌, ℕ, ◌+◌, ◌^◌, ◌==◌, Bool, true, false, Option, Some, None, List, [], ◌∷◌}
 use Rattle.std.specs.Prelude.{length, if◌then◌else◌, Ok}
-use Rattle.coap_types.specs.Past.{Sometime, Always}
+use Rattle.coap_types.specs.Past.{Always}
 use Rattle.coap_observe.specs.Versions.{sequence_number}
 use Rattle.coap_resource.specs.Content.{Held}
 use Rattle.coap_resource.specs.RequestOptions.{tag_of}
@@ -12,7 +12,7 @@ use Rattle.coap_client.specs.Steps.{reports}
 use Rattle.coap_client.specs.Trace as C
 use Rattle.coap_client.specs.Trace.{Report, Reported, Value, is_value}
 use Rattle.coap_world.specs.Events.{Config}
-use Rattle.coap_world.specs.Record.{Entry, OfClient, OfServer, Turn, entries_of, client_of}
+use Rattle.coap_world.specs.Record.{Entry, Turn, entries_of, client_of}
 use Rattle.coap_world.specs.Words.{ReportsAt, holds_at}
 
 -- after how long the last value is the current one, at most

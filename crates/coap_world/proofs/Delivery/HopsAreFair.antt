@@ -1,6 +1,6 @@
 -- The hops of a legal run are fair: what comes from an end's address was sent by that end's layer, at most 100,000 ms
 -- before.
-use Rattle.std.proofs.Common.{◌≡◌, ◌⊎◌, inl, inr, ◌≤◌, ℕ, List, [], ◌∷◌, ◌++◌, refl, ap, sym, subst, ◌∙◌, arith, true}
+use Rattle.std.proofs.Common.{◌≡◌, ◌⊎◌, inl, inr, ◌≤◌, ℕ, List, [], ◌∷◌, ◌++◌, refl, ap, sym, subst, ◌∙◌, arith}
 use Rattle.std.proofs.Common.{map}
 use Rattle.coap_types.specs.Past.{Ever, Always, all_of}
 use Rattle.coap_types.proofs.Facts.Traces.{Ever_back, Ever_map, Ever_append}
@@ -21,7 +21,6 @@ use Rattle.coap_world.proofs.Delivery.OneEndATurn.{ClientTurn, ServerTurn, side}
 use Rattle.coap_layer.specs.Trace as L
 use Rattle.coap_layer.specs.Machine.State.{usual}
 use Rattle.coap_world.specs.Delivery as D
-use Rattle.coap_server.specs.Trace as S
 use Rattle.coap_server.specs.Law as server_law
 use Rattle.coap_exchange.specs.AnswererLaw as answerer
 use Rattle.coap_world.proofs.Delivery.ClientInTime as client

@@ -1,5 +1,5 @@
 -- A CON that was acknowledged, or handed up, isn't handed up again.
-use Rattle.std.proofs.Common.{◌≡◌, ◌≤◌, inl, inr, ℕ, ◌+◌, true, Some, List, [], ◌∷◌, ◌++◌, map, refl, sym, subst, ◌∙◌}
+use Rattle.std.proofs.Common.{◌≡◌, ◌≤◌, inl, inr, ℕ, ◌+◌, Some, List, [], ◌∷◌, ◌++◌, map, refl, sym, subst, ◌∙◌}
 use Rattle.std.proofs.Common.{arith}
 use Rattle.coap_types.specs.Past.{Ever, Sometime}
 use Rattle.coap_types.proofs.Facts.Traces.{Ever_map, Ever_back}

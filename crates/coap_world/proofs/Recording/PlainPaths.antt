@@ -60,7 +60,7 @@ pub next_plain : (ps : List (List (List ℕ))) (ds : List S.Delay) (n left : ℕ
 next_plain ps ds n left p is within there =
     ap (λ m. S.Plains p true ∷ begins_with (drop m ps) ds) is
     ∙ ap (λ x. S.Plains x true ∷ begins_with (drop (n + 1) ps) ds) there
-    ∙ ap (λ l. begins_with l ds) (drop_more ps n p within)
+    ∙ sym (ap (λ l. begins_with l ds) (drop_more ps n p within))
 
 pub none_yet : (ps : List (List (List ℕ))) (ds : List S.Delay) (n : ℕ) → n ≡ length ps
     → (n ≤ length ps) × (gives ds ≡ begins_with (drop n ps) ds)
@@ -72,7 +72,7 @@ few_left ps left some within few = let long = length-drop left ps in omega (arit
 
 -- a path in range leaves the configuration in range
 
-module _ {A X : Type 0} (cw : ℕ) (cs : Sizes) (sw ss : ℕ) (limits : Limits) (ds : List (PathDelay A)) where
+module _ {A : Type 0} (cw : ℕ) (cs : Sizes) (sw ss : ℕ) (limits : Limits) (ds : List (PathDelay A)) where
   with_paths : (old new : List (List (List ℕ))) → IsConfig (config_of cw cs sw ss limits ds old) → All IsPath new
       → length new ≤ max_plains → IsConfig (config_of cw cs sw ss limits ds new)
   with_paths old new is all few = record {
@@ -90,7 +90,7 @@ module _ {A X : Type 0} (cw : ℕ) (cs : Sizes) (sw ss : ℕ) (limits : Limits) 
     few_plains = few;
   }
 
-  pub still_plain : (old new : List (List (List ℕ))) (path : List (List ℕ)) (r : Result Bool X)
+  pub still_plain : {X : Type 0} (old new : List (List (List ℕ))) (path : List (List ℕ)) (r : Result Bool X)
       → IsConfig (config_of cw cs sw ss limits ds old) → IsPath path
       → IfOk r (λ given. (given ≡ may_be_plain path old) × (new ≡ plains_with path given old)) → OnErr r (new ≡ old)
       → IsConfig (config_of cw cs sw ss limits ds new)

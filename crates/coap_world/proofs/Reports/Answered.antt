@@ -1,5 +1,5 @@
 -- What a client takes as an answer the server made before, for it, under that token.
-use Rattle.std.proofs.Common.{◌≡◌, inl, inr, ℕ, true, Some, List, [], ◌∷◌, map, refl, ap, sym, subst, ◌∙◌}
+use Rattle.std.proofs.Common.{◌≡◌, inl, inr, ℕ, Some, List, [], ◌∷◌, map, refl, ap, sym, subst, ◌∙◌}
 use Rattle.coap_types.specs.Past.{Ever, Sometime}
 use Rattle.coap_types.proofs.Facts.Traces.{Ever_front}
 use Rattle.coap_types.specs.Roles.{role_of}
@@ -19,7 +19,6 @@ use Rattle.coap_client.specs.Trace as C
 use Rattle.coap_client.specs.Follows.Words.{hears}
 use Rattle.coap_server.specs.Follows.Gives.{Carries, IsEmpty, CarriesResponse}
 use Rattle.coap_server.specs.Follows.Observes.{WasMade}
-use Rattle.coap_server.specs.Trace as S
 use Rattle.coap_client.proofs.Facts.Laws as client_facts
 use Rattle.coap_server.proofs.Facts.Laws as server_facts
 use Rattle.coap_world.specs.Answers.{IsResponse, replies, continues, refuses, notifies, AnswersAt}

@@ -1,5 +1,5 @@
 -- Which request of the client it is that is served, or that registered an observer, and what it asks.
-use Rattle.std.proofs.Common.{◌≡◌, ◌≤◌, inl, inr, ℕ, min, true, Option, Some, None, List, [], ◌∷◌, map, ap, sym, subst}
+use Rattle.std.proofs.Common.{◌≡◌, ◌≤◌, inl, inr, ℕ, min, Option, Some, None, List, [], ◌∷◌, map, ap, sym, subst}
 use Rattle.std.proofs.Common.{◌∙◌, arith}
 use Rattle.coap_types.specs.Recognised.{recognised}
 use Rattle.coap_types.specs.RequestPath.{path_of}

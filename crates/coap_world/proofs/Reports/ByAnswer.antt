@@ -1,6 +1,6 @@
 -- Where each exchange ends by an answer, each request is sent and nothing is observed, what is reported is the answer to
 -- the request that was sent last.
-use Rattle.std.proofs.Common.{◌≡◌, inl, inr, ℕ, Bool, true, false, Option, Some, None, List, [], ◌∷◌, refl, ap, sym, subst}
+use Rattle.std.proofs.Common.{◌≡◌, inl, inr, ℕ, true, false, Option, Some, None, List, [], ◌∷◌, refl, ap, sym}
 use Rattle.std.proofs.Common.{◌∙◌}
 use Rattle.coap_types.specs.Past.{Always}
 use Rattle.coap_codec.specs.Message.{Message}
@@ -10,7 +10,6 @@ use Rattle.coap_client.specs.Follows.Begins.{WasSent}
 use Rattle.coap_client.specs.Follows.CallsAlone.{NoneIsTaken}
 use Rattle.coap_client.specs.Follows.Ends.{ends_as, Unsent, unsent}
 use Rattle.coap_client.specs.Follows.OfAnswers.{is_by_answer, MayReport, IsByAnswer}
-use Rattle.coap_client.specs.Follows.OfCalls.{CarriesBody}
 use Rattle.coap_client.specs.Follows.Order.{call_of}
 use Rattle.coap_client.specs.Follows.Words.{Sending, hears, last_sent, sends}
 use Rattle.coap_client.specs.Law.{ClientLaw, own_of}

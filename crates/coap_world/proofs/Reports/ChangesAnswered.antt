@@ -1,9 +1,9 @@
 -- Where each exchange ends by an answer and each request is sent, what is reported of a call that is no GET is the code of
 -- a response that the server made to it.
-use Rattle.std.proofs.Common.{◌≡◌, ◌≢◌, ◌≤◌, ◌⊎◌, inl, inr, ℕ, ◌==◌, nat_le, nat_lt, Bool, true, false, Option, Some}
-use Rattle.std.proofs.Common.{None, List, [], ◌∷◌, length, refl, ap, sym, subst, ◌∙◌, cond, arith, Result, Ok, Err}
+use Rattle.std.proofs.Common.{◌≡◌, ◌≢◌, ◌≤◌, ◌⊎◌, inl, inr, ℕ, nat_le, nat_lt, Bool, true, false, Some}
+use Rattle.std.proofs.Common.{List, [], ◌∷◌, length, refl, ap, sym, subst, ◌∙◌, cond, arith, Result, Ok, Err}
 use Rattle.std.proofs.lemmas.Bool.Decides.{nat_tests}
-use Rattle.coap_types.specs.Past.{Sometime, Always}
+use Rattle.coap_types.specs.Past.{Always}
 use Rattle.coap_types.specs.declared.request.Method.{Method}
 use Rattle.coap_types.specs.declared.request.Method.TheVariants.{Get, Post, Put, Delete}
 use Rattle.coap_codec.specs.Message.{Message}
@@ -23,22 +23,19 @@ use Rattle.coap_client.specs.declared.refusals.CallRefusal.{CallRefusal}
 use Rattle.coap_client.specs.declared.refusals.CallRefusal.TheVariants.{QueueFull, BodyTooLarge, BadPath}
 use Rattle.coap_client.proofs.Facts.EachCall.{all_taken}
 use Rattle.coap_client.proofs.Facts.Laws as client_facts
-use Rattle.coap_server.specs.Serving.{is_applied}
-use Rattle.coap_world.specs.Answers.{AnswersAt, AllAnswered}
 use Rattle.coap_world.specs.Events.{server_end, Config}
 use Rattle.coap_world.specs.Legal.{IsConfig, IsRequest}
 use Rattle.coap_world.specs.Record.{Entry, OfClient, OfServer, client_of}
 use Rattle.coap_world.specs.SmoothAnswers.{ChangesAnswered, ComesTo}
 use Rattle.coap_world.specs.Words.{ReportsAt, WasCalled}
 use Rattle.coap_world.proofs.Reports.Answered.{all_answered}
-use Rattle.coap_world.proofs.Reports.ByAnswer.{Answering, answering_back, by_answer, HeardSo, heard_so}
+use Rattle.coap_world.proofs.Reports.ByAnswer.{Answering, answering_back, by_answer, heard_so}
 use Rattle.coap_world.proofs.Reports.Located.{LaterAll}
 use Rattle.coap_world.proofs.Reports.NoneBad.{changes_of, none_bad}
 use Rattle.coap_world.proofs.Reports.OnceDone.{applies_in}
 use Rattle.coap_world.proofs.Reports.Understood.{heard_understood}
 use Rattle.coap_world.proofs.Requests.LastRequests.{of_call_at}
 use Rattle.coap_world.proofs.Requests.OfACall.{Lawful, lawful_back, later_back}
-use Rattle.coap_world.proofs.Requests.ReadBack.{Changes}
 use Rattle.coap_world.proofs.Uploads.Pieces.{one_request}
 
 -- a body that is taken is no longer than the client's limit

@@ -1,12 +1,11 @@
 -- What the server answers to the GET of a call, where its path holds one representation, is the part of that which the
 -- request asks for (RFC 7252, section 5.8.1; RFC 7959, section 2.4).
-use Rattle.std.proofs.Common.{◌≡◌, ◌≢◌, ◌≤◌, ◌<◌, inl, inr, ℕ, Bool, true, false, Option, Some, None, is_some, List, []}
-use Rattle.std.proofs.Common.{◌∷◌, ◌++◌, length, refl, ap, sym, subst, ◌∙◌, arith}
+use Rattle.std.proofs.Common.{◌≡◌, ◌≤◌, ◌<◌, inl, inr, ℕ, false, Option, Some, None, is_some, List, []}
+use Rattle.std.proofs.Common.{◌∷◌, ◌++◌, length, ap, sym, subst, ◌∙◌, arith}
 use Rattle.std.specs.Prelude.{IfSome}
 use Rattle.coap_types.specs.MethodCode.{method_code, method_of}
 use Rattle.coap_types.specs.Past.{Sometime}
 use Rattle.coap_types.specs.Path.{HoldsAtMost}
-use Rattle.coap_types.specs.Piece.{offset_of}
 use Rattle.coap_types.specs.Recognised.{lacks_critical, recognised}
 use Rattle.coap_types.specs.RequestPath.{path_of}
 use Rattle.coap_types.specs.declared.direction.Direction.TheVariants as direction
@@ -22,14 +21,12 @@ use Rattle.coap_client.specs.Follows.Order.{call_of}
 use Rattle.coap_client.specs.Follows.Unchanged.{SaysReply, block_asked, reply_to}
 use Rattle.coap_client.specs.Follows.Words.{Taken, WasTaken, Sending}
 use Rattle.coap_client.specs.Requests.{block2_option, path_options}
-use Rattle.coap_client.specs.Responses.{content}
-use Rattle.coap_server.specs.Checks.{Verdict, Asks, Uploads, question, verdict_on}
+use Rattle.coap_server.specs.Checks.{Verdict, Asks, Uploads, question}
 use Rattle.coap_server.specs.Follows.Gives.{refusal_of}
-use Rattle.coap_server.specs.Follows.Serves.{Serving, serving}
+use Rattle.coap_server.specs.Follows.Serves.{Serving}
 use Rattle.coap_server.specs.Law.{own_of}
-use Rattle.coap_server.specs.Observers.{observes, sequence_if}
+use Rattle.coap_server.specs.Observers.{sequence_if}
 use Rattle.coap_server.specs.Responses.{response_with}
-use Rattle.coap_server.specs.Steps.{after}
 use Rattle.coap_server.specs.Trace as S
 use Rattle.coap_server.specs.Uploads.{last_block}
 use Rattle.coap_server.proofs.Facts.Laws as server_facts

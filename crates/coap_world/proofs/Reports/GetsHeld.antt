@@ -1,6 +1,6 @@
 -- Where each exchange ends by an answer and each request is sent, a GET without ETag and Accept reports what its path
 -- holds, if that stays the same since the call.
-use Rattle.std.proofs.Common.{◌≡◌, ◌≤◌, ◌<◌, ◌⊎◌, inl, inr, ℕ, ◌+◌, ◌*◌, false, true, Option, Some, None, List, [], ◌∷◌, ◌++◌, length}
+use Rattle.std.proofs.Common.{◌≡◌, ◌≤◌, ◌<◌, ◌⊎◌, inl, inr, ℕ, ◌+◌, ◌*◌, false, Option, Some, List, [], ◌∷◌, ◌++◌, length}
 use Rattle.std.proofs.Common.{refl, ap, sym, subst, ◌∙◌, arith}
 use Rattle.std.specs.Prelude.{IfSome}
 use Rattle.std.proofs.Math.Nat.{mul-le-mul_left}
@@ -24,7 +24,7 @@ use Rattle.coap_client.specs.Follows.Order.{call_of}
 use Rattle.coap_client.specs.Follows.Unchanged.{FetchesOf, HearsReplies, IsUnchanged, SaysReply, reply_to}
 use Rattle.coap_client.specs.Follows.Words.{Taken, WasTaken, Sending, hears}
 use Rattle.coap_client.specs.Law.{own_of}
-use Rattle.coap_client.specs.Own.{Operation, Transfer, Fetches, Uploads, Single, Calling}
+use Rattle.coap_client.specs.Own.{Transfer, Fetches, Uploads, Single, Calling}
 use Rattle.coap_client.specs.Requests.{block_option, block2_option, options_of, path_options}
 use Rattle.coap_client.specs.Trace as C
 use Rattle.coap_client.specs.Trace.{Report, Body}

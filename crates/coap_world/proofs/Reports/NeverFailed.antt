@@ -30,7 +30,7 @@ use Rattle.coap_server.proofs.Facts.Laws as server_facts
 use Rattle.coap_server.proofs.Facts.EachCall.{szx_is, comes_here}
 use Rattle.coap_world.specs.Answers.{IsAnswer, replies, continues, refuses, notifies, AnswersAt}
 use Rattle.coap_world.specs.CameFrom.{request_of}
-use Rattle.coap_world.specs.Events.{client_end, server_end, Config}
+use Rattle.coap_world.specs.Events.{server_end, Config}
 use Rattle.coap_world.specs.Legal.{IsRequest}
 use Rattle.coap_world.specs.Record.{Entry, OfClient, OfServer, client_of, server_trace}
 use Rattle.coap_world.specs.Words.{ReportsAt}

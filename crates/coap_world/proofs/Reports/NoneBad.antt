@@ -1,12 +1,10 @@
 -- What the server answers to a block of a call is no bad block for the client: a 2.31 fits the block that was sent, and
 -- else it is an error or the answer to the last block (RFC 7959, section 2.5).
-use Rattle.std.proofs.Common.{◌≡◌, ◌≢◌, ◌≤◌, ◌<◌, ◌⊎◌, inl, inr, ℕ, ◌+◌, ◌/◌, ◌==◌, nat_le, nat_lt, Bool, true, false, not}
+use Rattle.std.proofs.Common.{◌≡◌, ◌≢◌, ◌≤◌, ◌<◌, inl, inr, ℕ, ◌+◌, ◌/◌, Bool, true, false, not}
 use Rattle.std.proofs.Common.{◌&&◌, ◌||◌, Option, Some, None, List, [], ◌∷◌, length, map, refl, ap, sym, subst, ◌∙◌}
-use Rattle.std.proofs.Common.{cond, arith, Result, Ok, Err}
-use Rattle.std.specs.Prelude.{IfSome}
+use Rattle.std.proofs.Common.{cond, arith}
 use Rattle.std.proofs.Math.Nat.{div-le_of_le-mul}
 use Rattle.std.proofs.lemmas.Bool.{ltb-true}
-use Rattle.std.proofs.lemmas.Bool.Decides.{nat_tests}
 use Rattle.coap_types.specs.BlockValue.{block_in, block_value}
 use Rattle.coap_types.specs.CoapOption.{CoapOption, option}
 use Rattle.coap_types.specs.MethodCode.{method_code, method_of}
@@ -16,25 +14,20 @@ use Rattle.coap_types.specs.Recognised.{is_recognised, lacks_critical, recognise
 use Rattle.coap_types.specs.Uint.{uint}
 use Rattle.coap_types.specs.declared.block.Block.{Block}
 use Rattle.coap_types.specs.declared.direction.Direction.TheVariants.{Response}
-use Rattle.coap_types.specs.declared.message.TheConstants.Code as codes
 use Rattle.coap_types.specs.declared.option_number.TheConstants.{BLOCK1 as block1}
 use Rattle.coap_types.specs.declared.request.Method.{Method}
 use Rattle.coap_types.specs.declared.request.Method.TheVariants.{Get, Post, Put, Delete}
 use Rattle.coap_codec.specs.Message.{Message}
 use Rattle.coap_block.specs.UploadStep.{UploadState, more_follows, block_to_send, Continues, KeepsSize, number_after}
-use Rattle.coap_observe.specs.Observers.{Observer}
 use Rattle.coap_exchange.specs.declared.answerer.Asked.{Asked}
 use Rattle.coap_client.specs.Follows.Blocks.{Carried, carried}
 use Rattle.coap_client.specs.Follows.OfAnswers.{IsBadFor}
-use Rattle.coap_client.specs.Follows.OfCalls.{IsOfCall}
 use Rattle.coap_client.specs.Follows.Order.{call_of, is_last}
 use Rattle.coap_client.specs.Follows.Words.{Taken, WasTaken, Sending}
-use Rattle.coap_client.specs.Own.{Transfer, Uploads, Calling, Operation}
-use Rattle.coap_client.specs.Requests.{is_longer}
-use Rattle.coap_client.specs.Responses.{continue, block_at, said}
+use Rattle.coap_client.specs.Own.{Uploads, Calling}
+use Rattle.coap_client.specs.Responses.{block_at, said}
 use Rattle.coap_client.specs.Trace as C
 use Rattle.coap_client.proofs.Facts.Laws as client_facts
-use Rattle.coap_server.specs.Checks.{bad_request}
 use Rattle.coap_server.specs.Follows.Continues.{ContinuesFit}
 use Rattle.coap_server.specs.Follows.Serves.{Serving}
 use Rattle.coap_server.specs.Follows.Takes.{Took}
@@ -55,7 +48,7 @@ use Rattle.coap_world.proofs.Reports.Unregistered.{NoneRegisters, none_made}
 use Rattle.coap_world.proofs.Requests.LastRequests.{of_call_at, method_is, is_the_last}
 use Rattle.coap_world.proofs.Requests.OfACall.{Lawful, lawful_back, later_back, one_sending}
 use Rattle.coap_world.proofs.Requests.ReadBack.{Changes}
-use Rattle.coap_world.proofs.Uploads.BlockRead.{ReadsBlock, reads_block}
+use Rattle.coap_world.proofs.Uploads.BlockRead.{reads_block}
 use Rattle.coap_world.proofs.Uploads.NoneContinue.{refusal_not, notice_not}
 use Rattle.coap_world.proofs.Uploads.Pieces.{one_request}
 

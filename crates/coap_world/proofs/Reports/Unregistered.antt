@@ -1,5 +1,5 @@
 -- The request of a call registers nobody.
-use Rattle.std.proofs.Common.{◌≡◌, ◌≤◌, inl, inr, ℕ, true, List, [], ◌∷◌, map, sym, ◌∙◌}
+use Rattle.std.proofs.Common.{◌≡◌, ◌≤◌, inl, inr, ℕ, true, List, [], ◌∷◌, map, ◌∙◌}
 use Rattle.coap_observe.specs.Observers.{Observer}
 use Rattle.coap_client.specs.Follows.Words.{Taken, WasTaken}
 use Rattle.coap_server.specs.Follows.Observes.{WasMade}

@@ -8,7 +8,7 @@ use Rattle.std.proofs.lemmas.Bool.{le-leb}
 use Rattle.std.proofs.lemmas.Bool.Decides.{nat_tests}
 use Rattle.std.proofs.lemmas.List.{append-nil}
 use Rattle.std.proofs.lemmas.List.Elements.{All-head, All-tail}
-use Rattle.coap_types.specs.BlockValue.{block_by, block_value, more_bit}
+use Rattle.coap_types.specs.BlockValue.{block_value, more_bit}
 use Rattle.coap_types.specs.CoapOption.{CoapOption, option}
 use Rattle.coap_types.specs.MethodCode.{method_of}
 use Rattle.coap_types.specs.OptionValues.{has, uint_at, uint_in, uint_option, value_of}
@@ -42,7 +42,7 @@ use Rattle.coap_server.specs.Follows.Table.{HasNoFault}
 use Rattle.coap_server.specs.Observers.{is_get, is_number, observes}
 use Rattle.coap_server.proofs.Facts.Laws as server_facts
 use Rattle.coap_world.proofs.Reports.PathRead.{path_of_fetch}
-use Rattle.coap_world.proofs.Requests.AllRecognised.{NoFormat, KnownElective, all_recognised, critical_known, has_more}
+use Rattle.coap_world.proofs.Requests.AllRecognised.{KnownElective, all_recognised, critical_known, has_more}
 use Rattle.coap_world.proofs.Requests.AllRecognised.{lacking, run_known, zero_least}
 use Rattle.coap_world.proofs.Requests.ReadBack.{value_over}
 

@@ -1,5 +1,5 @@
 -- What the server holds at each path is the last of its changes there.
-use Rattle.std.proofs.Common.{◌≡◌, ℕ, true, None, Some, List, [], ◌∷◌, refl, ap, ◌∙◌, cond, map}
+use Rattle.std.proofs.Common.{◌≡◌, ℕ, None, Some, List, [], ◌∷◌, refl, ap, ◌∙◌, cond, map}
 use Rattle.coap_types.specs.Past.{Always}
 use Rattle.coap_types.proofs.Facts.Paths.{same_path-decides}
 use Rattle.coap_resource.specs.Limits.{Limits}

@@ -1,5 +1,5 @@
 -- Where the request was handed up that is served, and which one of the client it is.
-use Rattle.std.proofs.Common.{◌≡◌, inl, inr, true, Some, List, [], ◌∷◌, ◌++◌, map, sym, subst}
+use Rattle.std.proofs.Common.{◌≡◌, inl, inr, Some, List, [], ◌∷◌, ◌++◌, map, sym, subst}
 use Rattle.coap_types.specs.Past.{Ever, Sometime}
 use Rattle.coap_layer.specs.Channel.{Hop, Near, Far, near_of}
 use Rattle.coap_layer.specs.Trace as T

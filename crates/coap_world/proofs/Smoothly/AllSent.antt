@@ -1,16 +1,13 @@
 -- In a smooth run in which nothing is observed and each exchange ends by an answer, each request is sent.
-use Rattle.std.proofs.Common.{◌≡◌, ◌≤◌, ◌<◌, ℕ, ◌+◌, ◌*◌, ◌^◌, Bool, true, false, cond, Option, Some, None, List, [], ◌∷◌}
-use Rattle.std.proofs.Common.{refl, ap, sym, subst, ◌∙◌, arith, is_some, ◌&&◌}
+use Rattle.std.proofs.Common.{◌≡◌, ℕ, ◌+◌, true, false, cond, Option, Some, None, List, [], ◌∷◌}
+use Rattle.std.proofs.Common.{refl, ap, sym, ◌∙◌, arith, is_some, ◌&&◌}
 use Rattle.coap_types.specs.Past.{Always}
-use Rattle.coap_types.specs.declared.message.TheConstants.{MESSAGE_IDS as message_ids}
 use Rattle.coap_layer.specs.Taking.{is_then}
-use Rattle.coap_codec.specs.Message.{Message}
 use Rattle.coap_exchange.specs.Counts.{count_then}
 use Rattle.coap_exchange.specs.declared.asker.Event.TheVariants as event_of
 use Rattle.coap_client.specs.Follows.CallsAlone.{CallsAlone}
 use Rattle.coap_client.specs.Follows.Free.{clock_of, is_answered, SentWhereAnswered}
 use Rattle.coap_client.specs.Follows.Tokens.{OwnTokens}
-use Rattle.coap_client.specs.Follows.Words.{hears}
 use Rattle.coap_client.specs.Law.{ClientLaw}
 use Rattle.coap_client.specs.Trace as C
 use Rattle.coap_world.specs.EndsSmoothly.{SentByAnswers}

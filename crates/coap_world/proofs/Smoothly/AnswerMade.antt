@@ -1,11 +1,9 @@
 -- An answer is made where the server responds to a request of the client, if nothing is observed.
-use Rattle.std.proofs.Common.{◌≡◌, ◌≢◌, ◌⊎◌, inl, inr, ℕ, max, Bool, true, false, Option, Some, None, List, [], ◌∷◌, ◌++◌}
+use Rattle.std.proofs.Common.{◌≡◌, ◌⊎◌, inl, inr, ℕ, max, true, Option, Some, None, List, [], ◌∷◌}
 use Rattle.std.proofs.Common.{refl, ap, sym, subst, ◌∙◌, append_assoc}
 use Rattle.coap_types.specs.Past.{Ever, Always}
 use Rattle.coap_types.proofs.Facts.Traces.{Always_back}
-use Rattle.coap_types.specs.declared.block.Block.{Block}
 use Rattle.coap_types.specs.declared.endpoint.Endpoint.{Endpoint}
-use Rattle.coap_types.specs.declared.message.Kind.{Kind}
 use Rattle.coap_types.specs.declared.message.Kind.TheVariants.{Con}
 use Rattle.coap_codec.specs.Message.{Message}
 use Rattle.coap_layer.specs.Trace as L
@@ -35,7 +33,7 @@ use Rattle.coap_server.specs.Uploads.{ruling_of}
 use Rattle.coap_server.proofs.Facts.EachCall.{comes_here, szx_is}
 use Rattle.coap_server.proofs.Facts.Laws as server_facts
 use Rattle.coap_world.specs.Answers.{IsAnswer, replies, continues, refuses, notifies}
-use Rattle.coap_world.specs.CameFrom.{CameFrom, request_of}
+use Rattle.coap_world.specs.CameFrom.{CameFrom}
 use Rattle.coap_world.specs.Events.{client_end, Config}
 use Rattle.coap_world.specs.Hops.{hops_at, hops_in}
 use Rattle.coap_world.specs.Record.{Entry, OfServer, client_of, server_trace}

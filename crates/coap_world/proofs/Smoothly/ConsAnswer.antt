@@ -1,6 +1,6 @@
 -- A CON that a server begins in a call carries the response to what it answers in that call, or a notification.
-use Rattle.std.proofs.Common.{◌≡◌, ◌⊎◌, inl, inr, ⊎_elim, ℕ, zero, suc, max, Bool, true, false, Option, Some, None, List, []}
-use Rattle.std.proofs.Common.{◌∷◌, ◌++◌, refl, ap, sym, subst, ◌∙◌}
+use Rattle.std.proofs.Common.{◌≡◌, ◌⊎◌, inl, inr, ⊎_elim, ℕ, zero, suc, Bool, true, false, Option, Some, None, List, []}
+use Rattle.std.proofs.Common.{◌∷◌, ◌++◌, refl, ap}
 use Rattle.coap_types.specs.Past.{Ever}
 use Rattle.coap_types.proofs.Facts.Traces.{Ever_append, Ever_front}
 use Rattle.coap_types.specs.declared.endpoint.Endpoint.{Endpoint}
@@ -22,7 +22,6 @@ use Rattle.coap_common.specs.Adds.{asked_by_server}
 use Rattle.coap_server.specs.Asks.{answering, lower, notifies_by, responding}
 use Rattle.coap_server.specs.Deferring.{deferral_by}
 use Rattle.coap_server.specs.Follows.Adds.{all_asked, call_asks, call_adds}
-use Rattle.coap_server.specs.Follows.Attended.{AnswersIt}
 use Rattle.coap_server.specs.Follows.Observes.{Notice, notice}
 use Rattle.coap_server.specs.Follows.Rests.{IsTick}
 use Rattle.coap_server.specs.Handling.{heard, incoming, ticking}

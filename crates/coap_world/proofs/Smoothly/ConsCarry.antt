@@ -1,19 +1,17 @@
 -- Each Confirmable message of a client carries a request, and each of a server a response.
-use Rattle.std.proofs.Common.{◌≡◌, inl, inr, ℕ, ◌<◌, Bool, true, false, Option, Some, None, List, [], ◌∷◌}
+use Rattle.std.proofs.Common.{◌≡◌, inl, inr, ℕ, ◌<◌, Some, List, [], ◌∷◌}
 use Rattle.std.proofs.Common.{Result, Ok, Err, refl, ap, sym, subst, ◌∙◌, arith}
 use Rattle.coap_types.specs.Past.{Ever}
 use Rattle.coap_types.specs.MethodCode.{method_code}
 use Rattle.coap_types.specs.Roles.{role_of}
 use Rattle.coap_types.specs.declared.endpoint.Endpoint.{Endpoint}
-use Rattle.coap_types.specs.declared.message.Kind.{Kind}
-use Rattle.coap_types.specs.declared.message.Kind.TheVariants.{Con, Non, Ack, Rst}
+use Rattle.coap_types.specs.declared.message.Kind.TheVariants.{Con}
 use Rattle.coap_types.specs.declared.request.Method.{Method}
 use Rattle.coap_types.specs.declared.request.Method.TheVariants.{Get, Post, Put, Delete}
 use Rattle.coap_types.specs.declared.role.Role.TheVariants as role
 use Rattle.coap_codec.specs.Message.{Spells}
 use Rattle.coap_codec.specs.Spelling.{message_bytes}
-use Rattle.coap_layer.specs.Machine.State.{State, start, usual}
-use Rattle.coap_layer.specs.Machine.Steps.{Asked, entries}
+use Rattle.coap_layer.specs.Machine.State.{start, usual}
 use Rattle.coap_layer.specs.Rows.{LayerLaw, Row, IsSpelled, Confirms}
 use Rattle.coap_layer.specs.Sends.{SpellsCon}
 use Rattle.coap_layer.specs.Taking.{IsTold}

@@ -1,21 +1,18 @@
 -- Where nothing is observed and each exchange ends by an answer, a CON that the server begins for the client while an
 -- exchange is open carries the answer to its request.
-use Rattle.std.proofs.Common.{◌≡◌, ◌⊎◌, inl, inr, ⊎_elim, ◌≤◌, ◌<◌, ℕ, ◌+◌, Bool, Some, None, List, [], ◌∷◌, ◌++◌, map, refl}
+use Rattle.std.proofs.Common.{◌≡◌, ◌⊎◌, inl, inr, ⊎_elim, ◌≤◌, ◌<◌, ℕ, Some, None, List, [], ◌∷◌, ◌++◌, map, refl}
 use Rattle.std.proofs.Common.{ap, sym, subst, ◌∙◌, arith, append_assoc}
-use Rattle.coap_types.specs.Past.{Ever, Since, Always}
+use Rattle.coap_types.specs.Past.{Ever, Always}
 use Rattle.coap_types.proofs.Facts.Traces.{Ever_append, Ever_map, Ever_of_Since}
 use Rattle.coap_layer.specs.Trace as L
 use Rattle.coap_layer.specs.Words.{Open, begun}
 use Rattle.coap_layer.proofs.Facts.Laws.{begins_of}
 use Rattle.coap_block.specs.Whole.{Each}
-use Rattle.coap_observe.specs.Observers.{Observer}
-use Rattle.coap_resource.specs.Limits.{Limits}
 use Rattle.coap_client.specs.Follows.Ends.{ends_as}
 use Rattle.coap_client.specs.Follows.OfObservations.{AreOfObservations}
 use Rattle.coap_client.specs.Follows.Open.{HearsOfOpen}
 use Rattle.coap_client.specs.Follows.Words.{Sending}
 use Rattle.coap_client.specs.Trace as C
-use Rattle.coap_server.specs.Follows.Attended.{AnswersIt}
 use Rattle.coap_server.specs.Follows.Begins.{IsNextNotice, CanNotify}
 use Rattle.coap_server.specs.Follows.Observes.{WasMade, AreObservers}
 use Rattle.coap_server.specs.Law.{own_of}

@@ -1,9 +1,8 @@
 -- Between two answers that the client hears, the server's message layer hands up a request: that of the exchange that the
 -- second of them answers.
-use Rattle.std.proofs.Common.{◌≡◌, ◌⊎◌, inl, inr, ℕ, true, Option, Some, None, List, [], ◌∷◌, ◌++◌, map, refl, ap, sym}
+use Rattle.std.proofs.Common.{◌≡◌, ◌⊎◌, inl, inr, ℕ, true, Option, Some, None, List, [], ◌∷◌, map, refl, ap, sym}
 use Rattle.std.proofs.Common.{subst, ◌∙◌, is_some}
 use Rattle.coap_types.specs.Past.{Ever, Sometime, Always}
-use Rattle.coap_types.specs.declared.endpoint.Endpoint.{Endpoint}
 use Rattle.coap_codec.specs.Message.{Message}
 use Rattle.coap_layer.specs.Trace as L
 use Rattle.coap_block.specs.Sizes.{Sizes}
@@ -12,14 +11,13 @@ use Rattle.coap_resource.specs.Serves.{Question}
 use Rattle.coap_exchange.specs.declared.answerer.Asked.{Asked}
 use Rattle.coap_exchange.specs.declared.asker.Event.TheVariants as event_of
 use Rattle.coap_exchange.specs.declared.asker.Exchange.{Exchange}
-use Rattle.coap_exchange.specs.AskerLaw as X
 use Rattle.coap_client.specs.Follows.Answered.{IsSentFor}
 use Rattle.coap_client.specs.Follows.Begins.{WasSent}
 use Rattle.coap_client.specs.Follows.CallsAlone.{CallsAlone, NoneIsTaken, is_call}
 use Rattle.coap_client.specs.Follows.Open.{IsOfOpen}
 use Rattle.coap_client.specs.Follows.Tokens.{OwnTokens, Deregisters}
-use Rattle.coap_client.specs.Follows.Words.{Sending, sends, hears}
-use Rattle.coap_client.specs.Law.{ClientLaw, own_of, lower_of}
+use Rattle.coap_client.specs.Follows.Words.{Sending, hears}
+use Rattle.coap_client.specs.Law.{ClientLaw}
 use Rattle.coap_client.specs.Own.{Operation, Calling, Registering, Fetching, Cancelling, Dropped}
 use Rattle.coap_client.specs.Trace as C
 use Rattle.coap_client.proofs.Facts.Exchanges.{hears_of_open}

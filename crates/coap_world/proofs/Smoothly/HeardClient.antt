@@ -1,10 +1,9 @@
 -- In a smooth run the server hears from the client alone, since there is no stranger, and it sends to the client alone.
-use Rattle.std.proofs.Common.{◌≡◌, ◌⊎◌, inl, inr, ⊎_elim, ℕ, false, Some, None, List, [], ◌∷◌, ◌++◌, map, ap, sym, subst, ◌∙◌}
+use Rattle.std.proofs.Common.{◌≡◌, ◌⊎◌, inl, inr, ℕ, false, Some, None, List, [], ◌∷◌, ◌++◌, map, ap, sym, subst, ◌∙◌}
 use Rattle.std.proofs.Common.{append_assoc, refl}
-use Rattle.coap_types.specs.Past.{Ever, Always, all_of}
+use Rattle.coap_types.specs.Past.{Ever, all_of}
 use Rattle.coap_types.proofs.Facts.Traces.{Ever_of_Sometime}
 use Rattle.coap_types.specs.declared.endpoint.Endpoint.{Endpoint}
-use Rattle.coap_layer.specs.Channel.{OnFar}
 use Rattle.coap_layer.specs.Trace as L
 use Rattle.coap_layer.proofs.Facts.Hops.{far_ever}
 use Rattle.coap_server.specs.Follows.Observes.{AreObservers}

@@ -1,6 +1,6 @@
 -- Where each exchange ends by an answer, that of a request that was sent is open, or its answer was heard.
 use Rattle.std.proofs.Common.{◌≡◌, ◌⊎◌, inl, inr, ℕ, max, Bool, true, false, not, cond, Option, Some, None, List, [], ◌∷◌}
-use Rattle.std.proofs.Common.{Result, refl, ap, sym, subst, ◌∙◌}
+use Rattle.std.proofs.Common.{Result, refl, ap, sym, ◌∙◌}
 use Rattle.coap_types.specs.Past.{Ever, Always}
 use Rattle.coap_types.specs.declared.endpoint.Endpoint.{Endpoint}
 use Rattle.coap_codec.specs.Message.{Message}
@@ -8,18 +8,17 @@ use Rattle.coap_block.specs.Sizes.{Sizes}
 use Rattle.coap_exchange.specs.declared.asker.AskRefusal.{AskRefusal}
 use Rattle.coap_exchange.specs.declared.asker.Event.{Event}
 use Rattle.coap_exchange.specs.declared.asker.Event.TheVariants as event_is
-use Rattle.coap_exchange.specs.declared.asker.Exchange.{Exchange}
 use Rattle.coap_exchange.specs.declared.asker.Turn.{Turn}
 use Rattle.coap_exchange.specs.declared.asker.Turn.TheVariants as turn_is
-use Rattle.coap_client.specs.Deeds.{at, effect}
+use Rattle.coap_client.specs.Deeds.{at}
 use Rattle.coap_client.specs.Effects.{Deed, Rests, Asks, Keeps, Releases, Effect, stays}
 use Rattle.coap_client.specs.Events.{failed, happened, idle, passes}
 use Rattle.coap_client.specs.Follows.Begins.{WasSent}
 use Rattle.coap_client.specs.Follows.Clock.{moment_of}
 use Rattle.coap_client.specs.Follows.Ends.{ends_as}
-use Rattle.coap_client.specs.Follows.Open.{HearsOfOpen, RunsSince}
+use Rattle.coap_client.specs.Follows.Open.{HearsOfOpen}
 use Rattle.coap_client.specs.Follows.Order.{HearsBy}
-use Rattle.coap_client.specs.Follows.Words.{Sending, sends, sent_by, hears, last_sent}
+use Rattle.coap_client.specs.Follows.Words.{Sending, sends, sent_by, hears}
 use Rattle.coap_client.specs.Law.{ClientLaw, own_of}
 use Rattle.coap_client.specs.Observations.{observation_of, observation_with, to_fetch}
 use Rattle.coap_client.specs.Reports.{lapse}

@@ -1,7 +1,7 @@
 -- In a smooth run in which nothing is observed a Message ID is free at each tick of the server.
-use Rattle.std.proofs.Common.{◌≡◌, inl, inr, ◌≤◌, ◌<◌, ℕ, zero, suc, ◌+◌, max, Bool, true, false, cond, ◌&&◌, Option, Some, None, List}
-use Rattle.std.proofs.Common.{[], ◌∷◌, ◌++◌, map, refl, ap, sym, subst, ◌∙◌, arith}
-use Rattle.coap_types.specs.Past.{Ever, Always}
+use Rattle.std.proofs.Common.{◌≡◌, ◌≤◌, ◌<◌, ℕ, zero, suc, ◌+◌, max, Bool, true, false, cond, ◌&&◌, Option, Some, None, List}
+use Rattle.std.proofs.Common.{[], ◌∷◌, ◌++◌, map, refl, ap, subst, ◌∙◌, arith}
+use Rattle.coap_types.specs.Past.{Always}
 use Rattle.coap_types.proofs.Facts.Traces.{Always_back}
 use Rattle.coap_types.specs.declared.endpoint.Endpoint.{Endpoint}
 use Rattle.coap_types.specs.declared.remembered.TheConstants.{DEFAULT_REMEMBERED as max_remembered}
@@ -22,15 +22,14 @@ use Rattle.coap_client.specs.Follows.OfObservations.{AreOfObservations}
 use Rattle.coap_server.specs.Asks.{lower, answering, responding}
 use Rattle.coap_server.specs.Deferring.{deferral_by}
 use Rattle.coap_server.specs.Follows.Attended.{NoId}
-use Rattle.coap_server.specs.Follows.Observes.{Notice, notice, AreObservers}
+use Rattle.coap_server.specs.Follows.Observes.{notice, AreObservers}
 use Rattle.coap_server.specs.Handling.{heard, incoming, ticking}
 use Rattle.coap_server.specs.Law.{ServerLaw, own_of, lower_of}
 use Rattle.coap_server.specs.Notifying.{readies, marked}
 use Rattle.coap_server.specs.Trace as S
 use Rattle.coap_server.proofs.Facts.Laws as server_facts
-use Rattle.coap_world.specs.Events.{Config, TickServer}
+use Rattle.coap_world.specs.Events.{Config}
 use Rattle.coap_world.specs.HasIds.{HasIds}
-use Rattle.coap_world.specs.Hops.{hops_of}
 use Rattle.coap_world.specs.Record.{Entry, OfClient, OfServer, Turn, entries_of, client_of, server_trace}
 use Rattle.coap_world.specs.Record.{Setting, DelayOf, PlainOf, gives_it, settings}
 use Rattle.coap_world.specs.Smooth.{TakesNoObservation}

@@ -12,7 +12,6 @@ use Rattle.coap_types.specs.Uint.{uint}
 use Rattle.coap_types.specs.declared.option_number.TheConstants.{OBSERVE as observe, BLOCK1 as block1}
 use Rattle.coap_types.specs.declared.request.Method.{Method}
 use Rattle.coap_types.specs.declared.request.Method.TheVariants.{Get, Post, Put, Delete}
-use Rattle.coap_block.specs.FetchStep.{FetchState}
 use Rattle.coap_block.specs.UploadStep.{UploadState, block_to_send}
 use Rattle.coap_observe.specs.Observers.{Observer}
 use Rattle.coap_resource.specs.Serves.{Question}
@@ -25,7 +24,6 @@ use Rattle.coap_client.specs.Requests.{block1_option, block_option, options_of, 
 use Rattle.coap_client.specs.Trace.{Request}
 use Rattle.coap_server.specs.Follows.Observes.{WasMade}
 use Rattle.coap_server.specs.Observers.{observes, is_number, is_get}
-use Rattle.coap_server.specs.Trace as S
 use Rattle.coap_world.specs.Events.{client_end, Config}
 use Rattle.coap_world.specs.Record.{Entry, OfClient, OfServer, client_of, server_trace}
 use Rattle.coap_world.specs.Record.{Setting, DelayOf, PlainOf, gives_it, settings}

@@ -59,7 +59,7 @@ soon : (past : List Turn) (when : ℕ) → AllLegal past → Always GoesSmoothly
 soon [] when legal goes old h = h
 soon (t ∷ past) when legal goes old (inr h) =
     inr (soon past when legal.1 goes.1 (old_before t past when legal old h) h)
-soon (t ∷ past) when legal goes old (inl h) = by goes.0.server_ticks
+soon (t ∷ past) when legal goes old (inl h) = by goes.0.server_ticks (soon past when legal.1 goes.1 before)
   where
     before : OldAt when past
     before = elim old [ inl k ↦ absurd (let from = h.1 in omega (arith, from, k)) | inr k ↦ k ]
@@ -69,12 +69,11 @@ soon (t ∷ past) when legal goes old (inl h) = by goes.0.server_ticks
 
     by : Ever (λ (u : Turn). (u.event.what ≡ TickServer) × (t.event.at ≤ u.event.at + max_age)) past
         ⊎ Always (λ older (u : Turn). t.event.at ≤ u.event.at + max_age) past
+        → (Sometime (TicksSince when) past → Sometime (λ older u. TicksThen when u) past)
         → Sometime (λ older u. TicksThen when u) (t ∷ past)
-    by (inr all) = this (young past t.event.at when before all)
-    by (inl e) = elim (last_tick past t.event.at when e) [
-      | inl less ↦ this less
-      | inr k ↦ inr (soon past when legal.1 goes.1 before k)
-    ]
+    by (inr all) sooner = this (young past t.event.at when before all)
+    by (inl e) sooner =
+        elim (last_tick past t.event.at when e) [ inl less ↦ this less | inr k ↦ inr (sooner k) ]
 
 -- a tick from the moment on
 since : (past : List Turn) (at when : ℕ) → when + max_age ≤ at → OldAt when past

@@ -1,12 +1,11 @@
 -- A server that hears from the client alone sends to the client alone, and answers no other.
 use Rattle.std.proofs.Common.{◌≡◌, ◌⊎◌, inl, inr, ⊎_elim, ℕ, zero, suc, Bool, true, false, Option, Some, None, List, [], ◌∷◌, ◌++◌}
 use Rattle.std.proofs.Common.{refl, ap, sym, subst, ◌∙◌}
-use Rattle.coap_types.specs.Past.{Ever, Since, Sometime, Always}
+use Rattle.coap_types.specs.Past.{Ever, Sometime}
 use Rattle.coap_types.proofs.Facts.Traces.{Ever_append, Ever_map, Ever_of_Since, Always_back}
 use Rattle.coap_types.specs.declared.endpoint.Endpoint.{Endpoint}
 use Rattle.coap_codec.specs.Message.{Message}
 use Rattle.coap_layer.specs.Machine.State.{usual}
-use Rattle.coap_layer.specs.Rows.{LayerLaw}
 use Rattle.coap_layer.specs.Sends.{IsIn, GoesOut, EachGoesOut, first, copy, plain as in_non, reply as in_reply, stored, reset}
 use Rattle.coap_layer.specs.Trace as L
 use Rattle.coap_layer.specs.Words.{Open, begun, Awaited, awaited_of, awaits_in, awaits, from_there, handed_by}
@@ -18,10 +17,9 @@ use Rattle.coap_exchange.specs.declared.answerer.Due.{Due}
 use Rattle.coap_exchange.specs.declared.answerer.Due.TheVariants as due
 use Rattle.coap_server.specs.Asks.{answering, lower, notifies_by, responding}
 use Rattle.coap_server.specs.Deferring.{deferral_by}
-use Rattle.coap_server.specs.Follows.Adds.{call_adds}
 use Rattle.coap_server.specs.Follows.Begins.{CanNotify}
 use Rattle.coap_server.specs.Follows.Brings.{HandsUp, Comes, Brings}
-use Rattle.coap_server.specs.Follows.Observes.{Notice, notice, MadeWith, WasMade, AreObservers}
+use Rattle.coap_server.specs.Follows.Observes.{notice, WasMade, AreObservers}
 use Rattle.coap_server.specs.Follows.Serves.{Serving, serving}
 use Rattle.coap_server.specs.Handling as Handling
 use Rattle.coap_server.specs.Handling.{incoming, ticking}

@@ -1,5 +1,5 @@
 -- What waits at a server waited before each call that hands nothing in.
-use Rattle.std.proofs.Common.{◌≡◌, ◌⊎◌, inl, inr, ℕ, max, Bool, true, false, cond, Option, Some, None, List, [], ◌∷◌, ◌++◌}
+use Rattle.std.proofs.Common.{◌≡◌, ◌⊎◌, inl, inr, ℕ, max, Bool, true, false, cond, List, [], ◌∷◌, ◌++◌}
 use Rattle.coap_types.specs.Past.{Ever}
 use Rattle.coap_block.specs.Whole.{Each}
 use Rattle.coap_resource.specs.Limits.{Limits}

@@ -1,6 +1,6 @@
 -- Where at each tick of the server a Message ID is free, and nothing is observed, no exchange of a smooth run is open for
 -- more than 20,000 ms.
-use Rattle.std.proofs.Common.{◌≡◌, ◌⊎◌, inl, inr, ⊎_elim, ◌≤◌, ◌<◌, ℕ, ◌+◌, ◌-◌, max, Bool, true, false, Option, Some, None, List}
+use Rattle.std.proofs.Common.{◌≡◌, ◌⊎◌, inl, inr, ⊎_elim, ◌≤◌, ◌<◌, ℕ, ◌+◌, ◌-◌, max, Bool, true, false, Some, List}
 use Rattle.std.proofs.Common.{[], ◌∷◌, ◌++◌, refl, ap, sym, subst, ◌∙◌, arith, append_assoc}
 use Rattle.std.proofs.Math.Decide.{dec_le}
 use Rattle.std.specs.List.{All}
@@ -35,7 +35,7 @@ use Rattle.coap_server.proofs.Facts.Laws as server_facts
 use Rattle.coap_world.specs.AtOnce.{WaitedIn, LastWaits}
 use Rattle.coap_world.specs.Events.{client_end, server_end, Config, TickServer}
 use Rattle.coap_world.specs.HasIds.{HasIds}
-use Rattle.coap_world.specs.Hops.{hops_at, hops_in, hops_of, server_adds}
+use Rattle.coap_world.specs.Hops.{hops_of, server_adds}
 use Rattle.coap_world.specs.Legal.{IsConfig, AllLegal}
 use Rattle.coap_world.specs.Record.{Entry, OfClient, OfServer, Turn, entries_of, client_of, server_trace}
 use Rattle.coap_world.specs.Separate.{CarriesAnswer}
@@ -54,7 +54,7 @@ use Rattle.coap_world.proofs.Smoothly.RequestOpen.{open_was_begun}
 use Rattle.coap_world.proofs.Smoothly.SeparateEnds.{ends_here}
 use Rattle.coap_world.proofs.Smoothly.Standing.{Stands, before, record_of, ForServer, server_behind}
 use Rattle.coap_world.proofs.Smoothly.TicksAnswer.{ticks_answer}
-use Rattle.coap_world.proofs.Smoothly.TicksInTime.{ticks_in_time, lifted}
+use Rattle.coap_world.proofs.Smoothly.TicksInTime.{ticks_in_time}
 use Rattle.coap_world.proofs.Smoothly.TicksLeave.{ticks_leave}
 use Rattle.coap_world.proofs.Smoothly.WaitedBefore.{waited_before}
 

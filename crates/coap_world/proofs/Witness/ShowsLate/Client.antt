@@ -18,7 +18,7 @@ use Rattle.coap_client.specs.Trace as C
 use Rattle.coap_client.specs.Law.{ClientLaw, ClientRows, lower_of}
 use Rattle.coap_world.specs.Events.{server_end}
 use Rattle.coap_types.proofs.Facts.Bytes.{bytes_are}
-use Rattle.coap_world.specs.LegalRuns.{sizes, token, tag, plain, t, reported, empty_ack}
+use Rattle.coap_world.specs.LegalRuns.{sizes, empty_ack}
 use Rattle.coap_world.specs.ObservationRuns.{observe_bytes, first_bytes, second_bytes}
 use Rattle.coap_world.specs.CurrentRuns.{third_bytes, second_ack}
 use Rattle.coap_world.proofs.Witness.Observed.Client.{content, value, observing, ticked, registered}

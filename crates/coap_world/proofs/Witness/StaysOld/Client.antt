@@ -1,6 +1,6 @@
 -- The client of a run in which a notification is lost: it observes, and has the first value still (RFC 7641, section
 -- 4.5).
-use Rattle.std.proofs.Common.{ℕ, true, false, Some, None, List, [], ◌∷◌, ◌++◌, Ok, refl, arith}
+use Rattle.std.proofs.Common.{List, [], ◌∷◌, ◌++◌, refl, arith}
 use Rattle.std.specs.Prelude.{codes}
 use Rattle.coap_codec.specs.Spelling.{option_bytes, options_bytes}
 use Rattle.coap_codec.specs.Reading.{extended, value_at, nibbles_at, option_at, walk_of, walk, payload_at, frame_fault}
@@ -9,15 +9,14 @@ use Rattle.coap_codec.specs.Decoded.{decoded}
 use Rattle.coap_layer.proofs.Facts.Sendable.{sendable_when_short}
 use Rattle.coap_layer.specs.Machine.State.{start, usual}
 use Rattle.coap_layer.specs.Machine.Steps.{Asked, Steps, left_after}
-use Rattle.coap_layer.specs.Trace as L
 use Rattle.coap_exchange.specs.AskerLaw as asker
 use Rattle.coap_client.specs.Trace as C
 use Rattle.coap_client.specs.Law.{ClientLaw, ClientRows, lower_of}
 use Rattle.coap_world.specs.Events.{server_end}
 use Rattle.coap_types.proofs.Facts.Bytes.{bytes_are}
-use Rattle.coap_world.specs.LegalRuns.{sizes, token, tag, plain, t, reported, empty_ack}
-use Rattle.coap_world.specs.ObservationRuns.{observe_bytes, first_bytes, second_bytes}
-use Rattle.coap_world.proofs.Witness.Observed.Client.{content, value, observing, ticked, registered}
+use Rattle.coap_world.specs.LegalRuns.{sizes}
+use Rattle.coap_world.specs.ObservationRuns.{observe_bytes, first_bytes}
+use Rattle.coap_world.proofs.Witness.Observed.Client.{value, observing, ticked, registered}
 use Rattle.coap_world.proofs.Witness.TurnsMade.{client_turn, to_server, rests}
 
 abbrev pub calls : List C.Call

@@ -1,32 +1,19 @@
 -- The server of a run in which its notification is lost (RFC 7641, section 4.5).
-use Rattle.std.proofs.Common.{ℕ, true, false, Some, None, List, [], ◌∷◌, ◌++◌, Ok, refl, arith}
+use Rattle.std.proofs.Common.{List, [], ◌∷◌, ◌++◌, refl}
 use Rattle.std.specs.Prelude.{codes}
 use Rattle.coap_codec.specs.Spelling.{option_bytes, options_bytes}
 use Rattle.coap_codec.specs.Reading.{extended, value_at, nibbles_at, option_at, walk_of, walk, payload_at, frame_fault}
 use Rattle.coap_codec.specs.Reading.{body_at}
 use Rattle.coap_codec.specs.Decoded.{decoded}
-use Rattle.coap_layer.proofs.Facts.Sendable.{sendable_when_short}
-use Rattle.coap_layer.specs.Rows.{IsSpelled}
 use Rattle.coap_layer.specs.Machine.State.{start, usual}
 use Rattle.coap_layer.specs.Machine.Steps.{Asked, Steps, left_after}
-use Rattle.coap_layer.specs.Trace as L
-use Rattle.coap_resource.specs.Content.{Content, Changes}
-use Rattle.coap_resource.specs.Rate.{counted}
 use Rattle.coap_exchange.specs.AnswererLaw as answerer
-use Rattle.coap_exchange.specs.AnswererSteps.{content_with}
 use Rattle.coap_server.specs.Trace as S
 use Rattle.coap_server.specs.Law.{ServerLaw, ServerRows, lower_of}
 use Rattle.coap_world.specs.LegalRuns.{limits}
-use Rattle.coap_world.specs.Events.{client_end}
 use Rattle.coap_types.proofs.Facts.Bytes.{bytes_are}
-use Rattle.coap_observe.specs.Observers.{Observer}
-use Rattle.coap_exchange.specs.declared.answerer.Due.TheVariants as due
-use Rattle.coap_server.specs.Notifying.{notification}
-use Rattle.coap_world.specs.LegalRuns.{token, plain, t, empty_ack}
 use Rattle.coap_world.specs.ObservationRuns.{observe_bytes, first_bytes, second_bytes}
-use Rattle.coap_world.specs.CurrentRuns.{third_bytes}
-use Rattle.coap_world.proofs.Witness.OneHeld.{one, further}
-use Rattle.coap_world.proofs.Witness.Observed.Server.{held, a, b, content, observer, first_set, fed, second_set, ticked}
+use Rattle.coap_world.proofs.Witness.Observed.Server.{a, content, first_set, fed, second_set, ticked}
 use Rattle.coap_world.proofs.Witness.Observed.Server.{first_change, second, answer_sendable, notice_sendable}
 use Rattle.coap_world.proofs.Witness.TurnsMade.{server_turn, to_client}
 

@@ -1,6 +1,5 @@
 use Rattle.std.proofs.Common.{List}
 use Rattle.coap_world.specs.Events.{Config, Event}
-use Rattle.coap_world.specs.Legal.{Legal}
 use Rattle.coap_world.specs.Record.{Turn, RecordOf, client_of, entries_of}
 use Rattle.coap_world.specs.SmoothAnswers.{AllAnswer}
 use Rattle.coap_world.proofs.Reports.ByAnswer.{Answering}

@@ -1,4 +1,4 @@
-use Rattle.std.proofs.Common.{◌≤◌, ◌-◌, ◌∷◌, Err, length, drop, is_ok, sym, ap, subst, ◌∙◌, arith}
+use Rattle.std.proofs.Common.{◌≤◌, ◌-◌, ◌∷◌, Err, length, drop, get_or, is_ok, sym, ap, subst, ◌∙◌, arith}
 use Rattle.coap_server.specs.Object.Shown.{state_of}
 use Rattle.coap_server.specs.Plain.{may_be_plain}
 use Rattle.coap_server.specs.Led.{Led}
@@ -33,7 +33,8 @@ plains-preserved g c =
       led =
           subst (λ t. Led k.limits k.server_szx k.server_word t (state_of g.S.Store.content c.set_plain.new.self))
           (next_plain k.plains k.delays n c.plains.left c.index.result.now (omega (arith, c.plains-test.true))
-          (omega (arith, long, c.plains.invariant.within, c.plains-test.true)) c.index.ensures)
+          (omega (arith, long, c.plains.invariant.within, c.plains-test.true))
+          (c.index.ensures ∙ ap (λ ps. get_or ps n c.index.result.now) are))
           (subst (λ b. Led k.limits k.server_szx k.server_word
           (Plains c.index.result.now b ∷ begins_with (drop c.plains.left k.plains) k.delays)
           (state_of g.S.Store.content c.set_plain.new.self)) ok
