@@ -221,6 +221,7 @@ impl<A: Allocator + Copy, S: BuildHasher> Answerer<A, S> {
     /// was Non-confirmable: where it came from, and its Message ID (RFC 7641, section 3.6). It takes
     /// no memory.
     pub fn unmatched(&self) -> Option<(Endpoint, Id)>
+        // What is told is what the last arrival was: a Reset of nothing that is outstanding, or nothing.
         ensures { sending_as result ≡ self.now.state.own.unmatched }
     {
         self.unmatched
@@ -530,8 +531,11 @@ impl<A: Allocator + Copy, S: BuildHasher> Answerer<A, S> {
     ) -> Id
         requires may { MayNotify self.old now.0 to }
         requires response { IsAnswerWith token.now response.now }
+        // A notification in a NON, its Message ID, and what it leaves, are a step of the answerer's machine.
         ensures step { Step self.old.state (NotifiesPlain now.0 to token.now response.now result.0) self.new.state }
+        // Every history that led to the answerer leads on with the notification in a NON.
         ensures led { Leads self.old (NotifiesPlain now.0 to token.now response.now result.0) self.new }
+        // A notification in a NON leaves what `undo` takes back as it was.
         ensures before { self.new.before ≡ self.old.before }
     {
         let id = plain(&mut self.layer, now, to, token, response);
