@@ -17,6 +17,7 @@ pub mod ObserversWereMade
 pub mod OneRegistration
 pub mod Outcomes
 pub mod RejectedNons
+pub mod ResetsEnd
 pub mod ServedObservers
 pub mod StoreChanges
 pub mod StoreSteps

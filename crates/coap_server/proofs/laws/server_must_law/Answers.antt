@@ -6,7 +6,8 @@ use Rattle.coap_server.proofs.Holding.BodiesShort.{bodies_short}
 use Rattle.coap_server.proofs.Observing.ChangesMark.{all_mark}
 use Rattle.coap_server.proofs.Observing.LastRegistered.{all_register}
 use Rattle.coap_server.proofs.Observing.MarksStay.{stay_due}
-use Rattle.coap_server.proofs.Observing.NoticesGoSo.{ends_on_reset, plains_stay, ways_are}
+use Rattle.coap_server.proofs.Observing.NoticesGoSo.{plains_stay, ways_are}
+use Rattle.coap_server.proofs.Observing.ResetsEnd.{ends_on_reset}
 use Rattle.coap_server.proofs.Observing.UnmarkedAreCurrent.{are_current}
 use Rattle.coap_server.proofs.Replying.AllRecognised.{all_recognised}
 use Rattle.coap_server.proofs.Replying.BlocksContinued.{all_continues_fit}
