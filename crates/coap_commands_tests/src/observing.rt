@@ -22,14 +22,17 @@ const FAR: Endpoint = Endpoint {
 // A datagram that is dropped, as it is too long.
 const TOO_LONG: [u8; 2_049] = [0; 2_049];
 
-// What an observation of these words prints and says, by a client of word 0 to which these come; and what it sends, in
-// hex: the exit status.
-fn observe_in_memory(
-    alloc: Global,
-    words: &[&str],
-    replies: &[&[u8]],
-    (printed, said, sent): (&mut Vec<u8>, &mut Vec<u8>, &mut Vec<u8>),
-) -> Result<u8, AllocError> {
+// What came of an observation: the exit status, what was printed, what was said, and what was sent, in hex.
+#[derive(Drop)]
+struct Seen {
+    status: u8,
+    printed: Vec<u8>,
+    said: Vec<u8>,
+    sent: Vec<u8>,
+}
+
+// What comes of an observation of these words, by a client of word 0 to which these datagrams come.
+fn observe_in_memory(alloc: Global, words: &[&str], replies: &[&[u8]]) -> Result<Seen, AllocError> {
     let list = words_of(alloc, words)?;
     let Ok(Order::Ask { path, options, .. }) = order(alloc, list.as_slice()) else {
         return Err(AllocError);
@@ -42,6 +45,8 @@ fn observe_in_memory(
     }
     let hasher = BuildHasherDefault::<FoldHasher>::new();
     let mut time = Clock { now: 0 };
+    let mut printed = Vec::new(alloc);
+    let mut said = Vec::new(alloc);
     let ended = observe_over(
         alloc,
         &mut link,
@@ -51,16 +56,29 @@ fn observe_in_memory(
         &path,
         &options,
         0,
-        (printed, said),
+        (&mut printed, &mut said),
     );
+    let status = close(ended, &mut said).number();
+    let sent = sent_by(alloc, &mut link)?;
+    Ok(Seen {
+        status,
+        printed,
+        said,
+        sent,
+    })
+}
+
+// The first datagrams that were handed to a link, each in hex with a space behind it.
+fn sent_by(alloc: Global, link: &mut MemoryLink) -> Result<Vec<u8>, AllocError> {
+    let mut sent = Vec::new(alloc);
     for _ in 0..10 {
         if let Some(datagram) = link.next_handed() {
-            sent.extend_from_slice(hex::encode(alloc, datagram.bytes())?.as_bytes())?;
+            let text = hex::encode(alloc, datagram.bytes())?;
+            sent.extend_from_slice(text.as_bytes())?;
             sent.push(b' ')?;
         }
     }
-    drop(link);
-    Ok(close(ended, said).number())
+    Ok(sent)
 }
 
 const NO_COUNT: &str = "--count is no number from 0 to 18446744073709551615";
@@ -142,22 +160,27 @@ const RESET: &[u8] = b"\x70\0\0\0";
 
 const NOT_FOUND: &[u8] = b"\x68\x84\0\0\0\0\0\0\0\0\0\0";
 
-// The registration: Observe 0. The acknowledgement of the notification. The cancel: Observe 1.
-const REGISTRATION: &str = "48010000000000000000000060\
-                            5174 ";
+// The registration, Observe 0; then the cancel, Observe 1, with an acknowledgement of the notification before it.
+const REGISTERED: &str = "480100000000000000000000605174 ";
+
+const CANCELLED: &str = "480100000000000000000000605174 48010001000000000000000061015174 ";
+
+const ACKNOWLEDGED: &str = "480100000000000000000000605174 60000007 \
+                            48010001000000000000000061015174 ";
+
+// What is observed, what comes, the exit status, what is printed, what is said, and what is sent, where that is looked at.
+type Row<'a> = (&'a [&'a str], &'a [&'a [u8]], u8, &'a str, &'a str, &'a str);
 
 #[test]
 fn what_an_observation_prints_and_sends(rt: HostRuntime) -> Result<(), Fail> {
-    let cancel = "4801000100000000000000006101\
-                  5174 ";
-    let rows: [(&[&str], &[&[u8]], u8, &str, &str, &[&str]); 8] = [
+    let rows: [Row<'_>; 8] = [
         (
             &["observe", "5683", "t", "--count", "2"],
             &[FIRST, SECOND, &TOO_LONG, LAST],
             0,
             "a\nb\n",
             "cancelled\n",
-            &[REGISTRATION, "60000007 ", cancel],
+            ACKNOWLEDGED,
         ),
         (
             &["observe", "5683", "t", "--count", "1", "--hex"],
@@ -165,7 +188,7 @@ fn what_an_observation_prints_and_sends(rt: HostRuntime) -> Result<(), Fail> {
             0,
             "61\n",
             "cancelled\n",
-            &[REGISTRATION, cancel],
+            CANCELLED,
         ),
         // A value that comes when it is over isn't printed.
         (
@@ -174,7 +197,7 @@ fn what_an_observation_prints_and_sends(rt: HostRuntime) -> Result<(), Fail> {
             0,
             "a\n",
             "cancelled\n",
-            &[REGISTRATION, "60000007 ", cancel],
+            ACKNOWLEDGED,
         ),
         // It is over before the registration is answered, and can be cancelled from then on.
         (
@@ -183,7 +206,7 @@ fn what_an_observation_prints_and_sends(rt: HostRuntime) -> Result<(), Fail> {
             0,
             "",
             "cancelled\n",
-            &[REGISTRATION, cancel],
+            CANCELLED,
         ),
         (
             &["observe", "5683", "t", "--seconds", "1"],
@@ -191,7 +214,7 @@ fn what_an_observation_prints_and_sends(rt: HostRuntime) -> Result<(), Fail> {
             1,
             "a\n",
             "timeout\n",
-            &[],
+            "",
         ),
         (
             &["observe", "5683", "t"],
@@ -199,7 +222,7 @@ fn what_an_observation_prints_and_sends(rt: HostRuntime) -> Result<(), Fail> {
             1,
             "",
             "ended 4.04\n",
-            &[REGISTRATION],
+            REGISTERED,
         ),
         (
             &["observe", "5683", "t", "--count", "1"],
@@ -207,23 +230,17 @@ fn what_an_observation_prints_and_sends(rt: HostRuntime) -> Result<(), Fail> {
             1,
             "",
             "reset\n",
-            &[REGISTRATION],
+            REGISTERED,
         ),
-        (&["observe", "5683", "t"], &[], 1, "", "timeout\n", &[]),
+        (&["observe", "5683", "t"], &[], 1, "", "timeout\n", ""),
     ];
-    for (words, replies, status, wanted, text, datagrams) in rows {
-        let alloc = rt.alloc();
-        let (mut printed, mut said, mut sent) = (Vec::new(alloc), Vec::new(alloc), Vec::new(alloc));
-        let ended = observe_in_memory(alloc, words, replies, (&mut printed, &mut said, &mut sent))?;
-        assert_eq!(rt; printed.as_slice(), wanted.as_bytes(), "at {words:?}");
-        assert_eq!(rt; said.as_slice(), text.as_bytes(), "at {words:?}");
-        assert_eq!(rt; ended, status, "at {words:?}");
-        let mut all = Vec::new(alloc);
-        for datagram in datagrams {
-            all.extend_from_slice(datagram.as_bytes())?;
-        }
-        if !datagrams.is_empty() {
-            assert_eq!(rt; sent.as_slice(), all.as_slice(), "at {words:?}");
+    for (words, replies, status, printed, text, sent) in rows {
+        let seen = observe_in_memory(rt.alloc(), words, replies)?;
+        assert_eq!(rt; seen.printed.as_slice(), printed.as_bytes(), "at {words:?}");
+        assert_eq!(rt; seen.said.as_slice(), text.as_bytes(), "at {words:?}");
+        assert_eq!(rt; seen.status, status, "at {words:?}");
+        if !sent.is_empty() {
+            assert_eq!(rt; seen.sent.as_slice(), sent.as_bytes(), "at {words:?}");
         }
     }
     Ok(())
