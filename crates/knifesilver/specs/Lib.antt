@@ -8,6 +8,7 @@ pub mod Fresh
 pub mod Outgoing
 pub mod Owned
 pub mod PathTexts
+pub mod Peeks
 pub mod Reports
 pub mod ServerCalls
 pub mod ServerHeld
