@@ -283,7 +283,7 @@ fn ask_in_memory<R: AllocGlobal + Files>(
 }
 
 // What is sent, in hex; and what is printed, and the exit status, where this comes.
-fn check_ask<R: Abort + AllocGlobal + Files>(
+pub(super) fn check_ask<R: Abort + AllocGlobal + Files>(
     rt: &R,
     words: &[&str],
     wanted: &str,

@@ -10,6 +10,8 @@ mod bodies;
 #[cfg(test)]
 mod buffers;
 #[cfg(test)]
+mod getting;
+#[cfg(test)]
 mod joined_link;
 #[cfg(test)]
 mod observing;

@@ -58,8 +58,9 @@ pair_app = leaf (codes "pair") (required_word (codes "PATH") ∷ required_word (
 abbrev pub serve_app : App
 serve_app = leaf (codes "serve") (required_word (codes "PORT") ∷ required_word (codes "COUNT") ∷ of_an_end)
 
+-- `coap get PORT PATH --accept N --etag HEX`, the latter again and again, and the options of an end
 abbrev pub get_app : App
-get_app = leaf (codes "get") (asking of_an_end)
+get_app = leaf (codes "get") (asking (option_of (codes "accept") ∷ repeated_of (codes "etag") ∷ of_an_end))
 
 abbrev pub put_app : App
 put_app = leaf (codes "put") (asking (with_body (conditions of_an_end)))

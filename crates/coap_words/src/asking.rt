@@ -37,6 +37,8 @@ pub(crate) fn options_of(
         (IsWrongOption (rows_of (found_of given.now))) }
 {
     let format = small_of(given, NumberRefusal::Format)?;
+    let accept = small_of(given, NumberRefusal::Accept)?;
+    let etags = tags_of(alloc, given, TagsRefusal::Etag)?;
     let if_match = tags_of(alloc, given, TagsRefusal::IfMatch)?;
     let if_none_match = is_set(given, "if-none-match");
     let times = number_of(given, NumberRefusal::Times)?;
@@ -50,6 +52,8 @@ pub(crate) fn options_of(
     };
     Ok(AskOptions {
         format,
+        accept,
+        etags,
         if_match,
         if_none_match,
         times,

@@ -112,6 +112,10 @@ pub enum Content<'a> {
 pub struct AskOptions {
     /// The format of the body.
     pub format: Option<u16>,
+    /// The format that is wanted.
+    pub accept: Option<u16>,
+    /// The representations that the client has: one of them that is valid is not sent again.
+    pub etags: Tags,
     /// The representations of which one has to be there; none: no condition.
     pub if_match: Tags,
     /// Whether nothing may be there yet.
@@ -167,6 +171,9 @@ pub enum NumberRefusal {
     /// The format of a body.
     #[error("--format is no number from 0 to 65535")]
     Format,
+    /// The format that is wanted.
+    #[error("--accept is no number from 0 to 65535")]
+    Accept,
     /// After how many values an observation ends.
     #[error("--count is no number from 0 to 18446744073709551615")]
     Times,
@@ -185,6 +192,7 @@ impl NumberRefusal {
             NumberRefusal::Count => "COUNT",
             NumberRefusal::Limit => "limit",
             NumberRefusal::Format => "format",
+            NumberRefusal::Accept => "accept",
             NumberRefusal::Times => "count",
             NumberRefusal::Seconds => "seconds",
         }
@@ -194,6 +202,9 @@ impl NumberRefusal {
 /// Which argument has a value that is no entity-tag, or more than four of them.
 #[derive(Clone, Copy, Debug, PartialEq, Eq, Error)]
 pub enum TagsRefusal {
+    /// The representations that the client has.
+    #[error("--etag is not the hex of 1 to 8 bytes, or is given more than 4 times")]
+    Etag,
     /// The representations of which one has to be there.
     #[error("--if-match is not the hex of 1 to 8 bytes, or is given more than 4 times")]
     IfMatch,
@@ -205,6 +216,7 @@ impl TagsRefusal {
         ensures { result.now ≡ tags_argument_of self }
     {
         match self {
+            TagsRefusal::Etag => "etag",
             TagsRefusal::IfMatch => "if-match",
         }
     }

@@ -72,6 +72,18 @@ const FORMAT: Argument = Argument {
     help: "the format of the body, as 0 for text/plain or 50 for application/json",
 };
 
+const ACCEPT: Argument = Argument {
+    form: Form::Single { value_name: "N" },
+    name: "accept",
+    help: "the format that is wanted, as 0 for text/plain or 50 for application/json",
+};
+
+const ETAG: Argument = Argument {
+    form: Form::Repeated { value_name: "HEX" },
+    name: "etag",
+    help: "the entity-tag of a body that is there already, which is not sent again; at most 4",
+};
+
 const IF_MATCH: Argument = Argument {
     form: Form::Repeated { value_name: "HEX" },
     name: "if-match",
@@ -160,7 +172,7 @@ pub(crate) static SUBCOMMANDS: [Subcommand; 10] = [
     Subcommand {
         name: "get",
         about: "Prints what the server at a port of 127.0.0.1 holds at PATH",
-        arguments: &[SERVER_PORT, PATH, WORD, LIMIT],
+        arguments: &[SERVER_PORT, PATH, ACCEPT, ETAG, WORD, LIMIT],
     },
     Subcommand {
         name: "put",
