@@ -37,7 +37,7 @@ use Rattle.coap_words.specs.declared.orders.AskOptions.{AskOptions}
 use Rattle.coap_words.specs.declared.orders.Content.{Content}
 use Rattle.coap_words.specs.declared.orders.Content.TheVariants as contents
 use Rattle.coap_words.specs.declared.orders.NumberRefusal.{NumberRefusal}
-use Rattle.coap_words.specs.declared.orders.NumberRefusal.TheVariants.{Port, Count, Limit, Format, Accept, Times, Seconds}
+use Rattle.coap_words.specs.declared.orders.NumberRefusal.TheVariants.{Port, Count, Limit, Format, Accept, Times, Seconds, GiveUp}
 use Rattle.coap_words.specs.declared.orders.TagsRefusal.{TagsRefusal}
 use Rattle.coap_words.specs.declared.orders.TagsRefusal.TheVariants.{Etag, IfMatch}
 use Rattle.coap_words.specs.declared.orders.What.{What}
@@ -164,6 +164,7 @@ counts_none known name Format n p s is e = sends_none known name n.put n.post is
 counts_none known name Accept n p s is e = differ known (codes "get") name n.get is e
 counts_none known name Times n p s is e = differ known (codes "observe") name n.observe is e
 counts_none known name Seconds n p s is e = differ known (codes "observe") name n.observe is e
+counts_none known name GiveUp n p s is e = asks_none known name n is e
 
 tags_none : (known name : Text) (why : TagsRefusal) → AsksNone known → name ≡ known → TakesTags why name → ⊥
 tags_none known name Etag n is e = differ known (codes "get") name n.get is e
@@ -240,6 +241,7 @@ has_number name v (Pair path body word limit) Times e h =
     absurd (differ (codes "pair") (codes "observe") name refl h.0 e)
 has_number name v (Pair path body word limit) Seconds e h =
     absurd (differ (codes "pair") (codes "observe") name refl h.0 e)
+has_number name v (Pair path body word limit) GiveUp e h = absurd (asks_none (codes "pair") name pair_asks_none h.0 e)
 has_number name v (Serve port count word limit) Port takes h = inr (port, h.1)
 has_number name v (Serve port count word limit) Count takes h = inr (count, h.2)
 has_number name v (Serve port count word limit) Limit takes h = of_limit v limit h.4
@@ -251,6 +253,7 @@ has_number name v (Serve port count word limit) Times e h =
     absurd (differ (codes "serve") (codes "observe") name refl h.0 e)
 has_number name v (Serve port count word limit) Seconds e h =
     absurd (differ (codes "serve") (codes "observe") name refl h.0 e)
+has_number name v (Serve port count word limit) GiveUp e h = absurd (asks_none (codes "serve") name serve_asks_none h.0 e)
 has_number name v (Ask port path what options) Port takes h = inr (port, h.1)
 has_number name v (Ask port path what options) Count e h =
     absurd (asks_none (codes "serve") name serve_asks_none e (what_asks name v what h.0))
@@ -259,6 +262,7 @@ has_number name v (Ask port path what options) Format takes h = of_optional v Fo
 has_number name v (Ask port path what options) Accept takes h = of_optional v Accept options.accept h.4.accept
 has_number name v (Ask port path what options) Times takes h = of_optional v Times options.times h.4.times
 has_number name v (Ask port path what options) Seconds takes h = of_optional v Seconds options.seconds h.4.seconds
+has_number name v (Ask port path what options) GiveUp takes h = of_optional v GiveUp options.give_up h.4.give_up
 has_number name v (Sim file store) why takes h =
     absurd (counts_none (codes "sim") name why sim_asks_none refl refl h.0 takes)
 
@@ -541,10 +545,12 @@ changed_carried other = inr refl
 got_ends : (o : Outcome) → IsCarriedOut (got_status o)
 got_ends (outcome.Refused why) = inr refl
 got_ends (outcome.Reported r) = got_carried r
+got_ends (outcome.GaveUp seconds) = inr refl
 
 changed_ends : (o : Outcome) → IsCarriedOut (changed_status o)
 changed_ends (outcome.Refused why) = inr refl
 changed_ends (outcome.Reported r) = changed_carried r
+changed_ends (outcome.GaveUp seconds) = inr refl
 
 after_carried : (m : Method) (o : Outcome) → IsCarriedOut (status_after m o)
 after_carried method.Get o = got_ends o
@@ -559,6 +565,7 @@ observed_carried other = inr refl
 observed_ends : (o : Outcome) → IsCarriedOut (observed_status o)
 observed_ends (outcome.Refused why) = inr refl
 observed_ends (outcome.Reported r) = observed_carried r
+observed_ends (outcome.GaveUp seconds) = inr refl
 
 requested_carried : (s : Status) (port : ℕ) (path : List (List ℕ)) (what : What) (options : AskOptions)
     → IsRequested port path what options s → IsCarriedOut s

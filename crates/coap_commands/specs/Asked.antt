@@ -59,7 +59,7 @@ asked_request what path options body =
 abbrev pub IsRequested : ℕ → List (List ℕ) → What → AskOptions → Status → Type 0
 IsRequested port path what options status =
     (server : Endpoint) × (server.port ≡ port) × (word : ℕ) × IsWord options.word word × (body : List ℕ) × IsBody what body
-    × Asks server (client_sizes options.limit) word (asked_request what path options body) status
+    × Asks server (client_sizes options.limit) word options.give_up (asked_request what path options body) status
 
 -- a client observes the path at the server at this port, likewise
 abbrev pub IsObserved : ℕ → List (List ℕ) → AskOptions → Status → Type 0

@@ -12,6 +12,8 @@ mod buffers;
 #[cfg(test)]
 mod getting;
 #[cfg(test)]
+mod giving_up;
+#[cfg(test)]
 mod joined_link;
 #[cfg(test)]
 mod observing;

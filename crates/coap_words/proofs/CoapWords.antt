@@ -20,7 +20,7 @@ use Rattle.coap_words.specs.Values.{Enters, IsGiven, IsValue}
 use Rattle.coap_words.specs.Words.{AsksFor, AsksForIn, IsWrong, IsWrongIn}
 use Rattle.coap_words.specs.Wrongs.{IsWrongOfClap}
 use Rattle.coap_words.specs.declared.orders.NumberRefusal.{NumberRefusal}
-use Rattle.coap_words.specs.declared.orders.NumberRefusal.TheVariants.{Port, Count, Limit, Format, Accept, Times, Seconds}
+use Rattle.coap_words.specs.declared.orders.NumberRefusal.TheVariants.{Port, Count, Limit, Format, Accept, Times, Seconds, GiveUp}
 use Rattle.coap_words.specs.declared.orders.Order.{Order}
 use Rattle.coap_words.specs.declared.orders.TagsRefusal.{TagsRefusal}
 use Rattle.coap_words.specs.declared.orders.TagsRefusal.TheVariants.{Etag, IfMatch}
@@ -227,6 +227,8 @@ takes_number words name rows e Times = taken_by
 takes_number words name rows e Seconds = taken_by
     (λ n. bytes_eq n (codes "observe")) (TakesNumber Seconds) (codes "seconds") words name rows
     (λ n is. is_name n (codes "observe") is) refl e
+takes_number words name rows e GiveUp =
+    taken_by is_ask (TakesNumber GiveUp) (codes "give-up") words name rows one_asks refl e
 
 takes_word : (words : List Text) (name : Text) (rows : List Row) → Enters words name rows
     → (all_of (codes "word") rows ≡ None) ⊎ MakesEnd name

@@ -10,7 +10,7 @@ use Rattle.coap_words.specs.declared.orders.AskOptions.{AskOptions}
 use Rattle.coap_words.specs.declared.orders.Content.{Content}
 use Rattle.coap_words.specs.declared.orders.Content.TheVariants as content
 use Rattle.coap_words.specs.declared.orders.NumberRefusal.{NumberRefusal}
-use Rattle.coap_words.specs.declared.orders.NumberRefusal.TheVariants.{Format, Accept, Times, Seconds}
+use Rattle.coap_words.specs.declared.orders.NumberRefusal.TheVariants.{Format, Accept, Times, Seconds, GiveUp}
 use Rattle.coap_words.specs.declared.orders.TagsRefusal.{TagsRefusal}
 use Rattle.coap_words.specs.declared.orders.TagsRefusal.TheVariants.{Etag, IfMatch}
 use Rattle.coap_words.specs.declared.orders.What.{What}
@@ -112,5 +112,6 @@ pub record HasOptions (usual : WordChoice) (values : List Row) (options : AskOpt
   pub times : HasOptionalNumber Times values options.times
   pub seconds : HasOptionalNumber Seconds values options.seconds
   pub hex : HasFlag (codes "hex") values options.hex
+  pub give_up : HasOptionalNumber GiveUp values options.give_up
   pub word : HasWord usual values options.word
   pub limit : HasLimit values options.limit

@@ -5,7 +5,7 @@ use Rattle.coap_words.specs.Asking.{AsksChange, HasNoTags, IsAsk, SendsBody, tag
 use Rattle.coap_words.specs.Numbers.{argument_of}
 use Rattle.coap_words.specs.Values.{HasNoNumber, HasNoWord}
 use Rattle.coap_words.specs.declared.orders.NumberRefusal.{NumberRefusal}
-use Rattle.coap_words.specs.declared.orders.NumberRefusal.TheVariants.{Port, Count, Limit, Format, Accept, Times, Seconds}
+use Rattle.coap_words.specs.declared.orders.NumberRefusal.TheVariants.{Port, Count, Limit, Format, Accept, Times, Seconds, GiveUp}
 use Rattle.coap_words.specs.declared.orders.TagsRefusal.{TagsRefusal}
 use Rattle.coap_words.specs.declared.orders.TagsRefusal.TheVariants.{Etag, IfMatch}
 use Rattle.coap_words.specs.declared.orders.Wrong.{Wrong}
@@ -28,6 +28,7 @@ TakesNumber Format subcommand = SendsBody subcommand
 TakesNumber Accept subcommand = subcommand ≡ codes "get"
 TakesNumber Times subcommand = subcommand ≡ codes "observe"
 TakesNumber Seconds subcommand = subcommand ≡ codes "observe"
+TakesNumber GiveUp subcommand = IsAsk subcommand
 
 -- the subcommand takes this argument, entity-tags
 abbrev pub TakesTags : TagsRefusal → Text → Type 0

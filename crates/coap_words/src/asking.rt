@@ -44,6 +44,7 @@ pub(crate) fn options_of(
     let times = number_of(given, NumberRefusal::Times)?;
     let seconds = number_of(given, NumberRefusal::Seconds)?;
     let hex = is_set(given, "hex");
+    let give_up = number_of(given, NumberRefusal::GiveUp)?;
     let Some(word) = word(given, usual) else {
         return Err(Wrong::Word);
     };
@@ -59,6 +60,7 @@ pub(crate) fn options_of(
         times,
         seconds,
         hex,
+        give_up,
         word,
         limit,
     })

@@ -126,6 +126,8 @@ pub struct AskOptions {
     pub seconds: Option<u64>,
     /// Whether values are printed in hex.
     pub hex: bool,
+    /// After how many seconds the client gives up.
+    pub give_up: Option<u64>,
     /// The word that the client begins with.
     pub word: WordChoice,
     /// The longest body that the client takes.
@@ -180,6 +182,9 @@ pub enum NumberRefusal {
     /// After how many seconds an observation ends.
     #[error("--seconds is no number from 0 to 18446744073709551615")]
     Seconds,
+    /// After how many seconds a client gives up.
+    #[error("--give-up is no number from 0 to 18446744073709551615")]
+    GiveUp,
 }
 
 impl NumberRefusal {
@@ -195,6 +200,7 @@ impl NumberRefusal {
             NumberRefusal::Accept => "accept",
             NumberRefusal::Times => "count",
             NumberRefusal::Seconds => "seconds",
+            NumberRefusal::GiveUp => "give-up",
         }
     }
 }

@@ -109,6 +109,24 @@ const SECONDS: Argument = Argument {
     help: "ends after so many seconds",
 };
 
+// --give-up of a request.
+const GIVE_UP: Argument = Argument {
+    form: Form::Single {
+        value_name: "SECONDS",
+    },
+    name: "give-up",
+    help: "gives up after so many seconds; the request may still be applied",
+};
+
+// --give-up of an observation.
+const GIVE_UP_OBSERVING: Argument = Argument {
+    form: Form::Single {
+        value_name: "SECONDS",
+    },
+    name: "give-up",
+    help: "gives up where no first value came in so many seconds",
+};
+
 const IN_HEX: Argument = Argument {
     form: Form::Flag,
     name: "hex",
@@ -172,7 +190,7 @@ pub(crate) static SUBCOMMANDS: [Subcommand; 10] = [
     Subcommand {
         name: "get",
         about: "Prints what the server at a port of 127.0.0.1 holds at PATH",
-        arguments: &[SERVER_PORT, PATH, ACCEPT, ETAG, WORD, LIMIT],
+        arguments: &[SERVER_PORT, PATH, ACCEPT, ETAG, GIVE_UP, WORD, LIMIT],
     },
     Subcommand {
         name: "put",
@@ -185,6 +203,7 @@ pub(crate) static SUBCOMMANDS: [Subcommand; 10] = [
             FORMAT,
             IF_MATCH,
             IF_NONE_MATCH,
+            GIVE_UP,
             DRAWN_WORD,
             LIMIT,
         ],
@@ -200,6 +219,7 @@ pub(crate) static SUBCOMMANDS: [Subcommand; 10] = [
             FORMAT,
             IF_MATCH,
             IF_NONE_MATCH,
+            GIVE_UP,
             DRAWN_WORD,
             LIMIT,
         ],
@@ -212,6 +232,7 @@ pub(crate) static SUBCOMMANDS: [Subcommand; 10] = [
             PATH,
             IF_MATCH,
             IF_NONE_MATCH,
+            GIVE_UP,
             DRAWN_WORD,
             LIMIT,
         ],
@@ -219,7 +240,16 @@ pub(crate) static SUBCOMMANDS: [Subcommand; 10] = [
     Subcommand {
         name: "observe",
         about: "Prints what the server at a port of 127.0.0.1 holds at PATH, each time that it changes",
-        arguments: &[SERVER_PORT, PATH, TIMES, SECONDS, IN_HEX, DRAWN_WORD, LIMIT],
+        arguments: &[
+            SERVER_PORT,
+            PATH,
+            TIMES,
+            SECONDS,
+            IN_HEX,
+            GIVE_UP_OBSERVING,
+            DRAWN_WORD,
+            LIMIT,
+        ],
     },
     Subcommand {
         name: "sim",
