@@ -1,7 +1,6 @@
 -- What becomes of an observation, from the calls of its client to how it ends.
 use Rattle.std.proofs.Common.{◌≡◌, ◌≤◌, ◌+◌, ◌++◌, ◌∷◌, [], ℕ, List, Option, Some, None, Result, Ok, Err, IfOk, true, false}
 use Rattle.std.proofs.Common.{inl, inr, refl, subst, arith}
-use Rattle.std.specs.declared.alloc.Global.{Global}
 use Rattle.coap_types.specs.declared.endpoint.Endpoint.{Endpoint}
 use Rattle.coap_block.specs.Sizes.{Sizes}
 use Rattle.coap_client.specs.Led.{Led, State, Step}
@@ -9,7 +8,6 @@ use Rattle.coap_client.specs.Object.Shown.{number_of, shown_report}
 use Rattle.coap_client.specs.Trace.{Asked, Call, Calls, Cancels, Feeds, Forgets, NextOut, NextReport, Report, Ticks, is_value}
 use Rattle.coap_client.specs.Trace.{Observes as observes}
 use Rattle.coap_client.specs.declared.client.report.CallId.{CallId}
-use Rattle.coap_client.specs.declared.client.report.Report as R
 use Rattle.coap_client.specs.declared.refusals.CallRefusal.{CallRefusal}
 use Rattle.coap_client.specs.declared.refusals.CancelRefusal.{CancelRefusal}
 use Rattle.coap_client.proofs.Facts.EachCall.{led_client}
@@ -17,8 +15,9 @@ use Rattle.coap_words.specs.declared.orders.AskOptions.{AskOptions}
 use Rattle.coap_commands.specs.Asked.{IsObserved, IsWord}
 use Rattle.coap_commands.specs.Asks.{AsksNothing, Each, Turned, takes_report}
 use Rattle.coap_commands.specs.Ends.{client_sizes}
-use Rattle.coap_commands.specs.Observes.{AllObserving, HasAll, IsOver, ObserveBecomes, Observed, Observes, Observing, value_in, values_in}
-use Rattle.coap_commands.specs.declared.calling.Outcome.TheVariants.{Refused, Reported}
+use Rattle.coap_commands.specs.Observes.{AllObserving, HasAll, IsOver, ObserveBecomes, ObserveComes, Observed, Observes, Observing, value_in, values_in}
+use Rattle.coap_commands.specs.declared.calling.Outcome.{Outcome}
+use Rattle.coap_commands.specs.declared.calling.Outcome.TheVariants.{GaveUp, Refused, Reported}
 use Rattle.coap_commands.specs.declared.status.Status.{Status}
 use Rattle.coap_commands.specs.declared.status.Stop.{Stop}
 use Rattle.coap_commands.proofs.TurnCalls.{chain_join}
@@ -106,24 +105,26 @@ module _ (options : AskOptions) (begin number : ℕ) where
 -- ---- from the client's beginning
 
 module _ (server : Endpoint) (sizes : Sizes) (word : ℕ) (options : AskOptions) (now : ℕ) (path : List (List ℕ)) where
-  pub taken_observes : (answer : Result CallId CallRefusal) (id : CallId) (report : R.Report Global) (values : ℕ)
-      (s turned taken : State)
-      → answer ≡ Ok id → Led server sizes word (observes now path (number_of answer) ∷ []) s
-      → Observed options now id.0 s values turned → Step turned (takes_report id.0 (shown_report report)) taken
-      → is_value (shown_report report) ≡ false → ObserveBecomes server sizes word path options (Reported report)
-  taken_observes answer id report values s turned taken is led h step last =
-      let first : List Call = observes now path (Ok id.0) ∷ [] in
-      let begun : Led server sizes word first s =
-      subst (λ (a : Result CallId CallRefusal). Led server sizes word (observes now path (number_of a) ∷ []) s) is led in (
+  comes_observes : (number : ℕ) (came : Outcome) (s : State)
+      → Led server sizes word (observes now path (Ok number) ∷ []) s → ObserveComes options now number s came
+      → ObserveBecomes server sizes word path options came
+  comes_observes number (Refused why) s led h = absurd h
+  comes_observes number (Reported report) s led h =
+      let first : List Call = observes now path (Ok number) ∷ [] in
+      let seen = h.3 in (
         now,
-        id.0,
-        h.0,
-        taken,
-        h.1,
-        last,
-        led_client server sizes word (h.0 ++ first) (takes_report id.0 (shown_report report)) turned taken
-            (led_on server sizes word first h.0 s turned begun h.3) step,
+        number,
+        seen.0,
+        h.2,
+        seen.1,
+        h.5,
+        led_client server sizes word (seen.0 ++ first) (takes_report number (shown_report report)) h.0 h.2
+            (led_on server sizes word first seen.0 s h.0 led seen.3) h.4,
       )
+  comes_observes number (GaveUp seconds) s led h =
+      let first : List Call = observes now path (Ok number) ∷ [] in
+      let seen = h.3 in
+      (h.0, now, number, seen.0, h.2, seen.1, led_on server sizes word first seen.0 s h.2 led seen.3)
 
   pub refused_observes : (answer : Result CallId CallRefusal) (why : CallRefusal) (s : State) → answer ≡ Err why
       → Led server sizes word (observes now path (number_of answer) ∷ []) s
@@ -133,6 +134,19 @@ module _ (server : Endpoint) (sizes : Sizes) (word : ℕ) (options : AskOptions)
     s,
     subst (λ (a : Result CallId CallRefusal). Led server sizes word (observes now path (number_of a) ∷ []) s) is led,
   )
+
+pub taken_observes : (Leads : Endpoint → Sizes → ℕ → Type 0) (options : AskOptions) (now : ℕ) (path : List (List ℕ))
+    (answer : Result CallId CallRefusal) (id : CallId) (s : State) (ended : Result Outcome Stop) → answer ≡ Ok id
+    → ((server : Endpoint) (sizes : Sizes) (w : ℕ) → Leads server sizes w
+    → Led server sizes w (observes now path (number_of answer) ∷ []) s)
+    → IfOk ended (ObserveComes options now id.0 s)
+    → IfOk ended (λ came. (server : Endpoint) (sizes : Sizes) (w : ℕ) → Leads server sizes w
+    → ObserveBecomes server sizes w path options came)
+taken_observes Leads options now path answer id s (Ok came) is led h = λ server sizes w leads.
+    comes_observes server sizes w options now path id.0 came s
+    (subst (λ (a : Result CallId CallRefusal). Led server sizes w (observes now path (number_of a) ∷ []) s) is
+    (led server sizes w leads)) h
+taken_observes Leads options now path answer id s (Err stop) is led h = tt
 
 -- of the path and the options that the words say
 pub observed_by : (server : Endpoint) (word : ℕ) (path : List (List ℕ)) (options : AskOptions) (ended : Result Status Stop)

@@ -39,9 +39,9 @@ use Rattle.coap_words.specs.declared.orders.AskOptions.{AskOptions}
 use Rattle.coap_words.specs.declared.orders.Content.{Content}
 use Rattle.coap_words.specs.declared.orders.Content.TheVariants as contents
 use Rattle.coap_words.specs.declared.orders.NumberRefusal.{NumberRefusal}
-use Rattle.coap_words.specs.declared.orders.NumberRefusal.TheVariants.{Port, Count, Limit, Format, Times, Seconds}
+use Rattle.coap_words.specs.declared.orders.NumberRefusal.TheVariants.{Port, Count, Limit, Format, Accept, Times, Seconds, GiveUp}
 use Rattle.coap_words.specs.declared.orders.TagsRefusal.{TagsRefusal}
-use Rattle.coap_words.specs.declared.orders.TagsRefusal.TheVariants.{IfMatch}
+use Rattle.coap_words.specs.declared.orders.TagsRefusal.TheVariants.{Etag, IfMatch}
 use Rattle.coap_words.specs.declared.orders.What.{What}
 use Rattle.coap_words.specs.declared.orders.What.TheVariants.{Get, Put, Post, Delete, Observe}
 use Rattle.coap_words.specs.declared.orders.WordChoice.{WordChoice}
@@ -164,10 +164,13 @@ counts_none known name Port n p s is (inr e) = asks_none known name n is e
 counts_none known name Count n p s is e = differ known (codes "serve") name s is e
 counts_none known name Limit n p s is e = makes_none known name n p s is e
 counts_none known name Format n p s is e = sends_none known name n.put n.post is e
+counts_none known name Accept n p s is e = differ known (codes "get") name n.get is e
 counts_none known name Times n p s is e = differ known (codes "observe") name n.observe is e
 counts_none known name Seconds n p s is e = differ known (codes "observe") name n.observe is e
+counts_none known name GiveUp n p s is e = asks_none known name n is e
 
 tags_none : (known name : Text) (why : TagsRefusal) → AsksNone known → name ≡ known → TakesTags why name → ⊥
+tags_none known name Etag n is e = differ known (codes "get") name n.get is e
 tags_none known name IfMatch n is e = changes_none known name n is e
 
 -- who takes no HEX
@@ -255,26 +258,33 @@ has_number name v (Pair path body word limit) Count e h = absurd (differ (codes 
 has_number name v (Pair path body word limit) Limit takes h = of_limit v limit h.5
 has_number name v (Pair path body word limit) Format takes h =
     absurd (sends_none (codes "pair") name refl refl h.0 takes)
+has_number name v (Pair path body word limit) Accept e h = absurd (differ (codes "pair") (codes "get") name refl h.0 e)
 has_number name v (Pair path body word limit) Times e h =
     absurd (differ (codes "pair") (codes "observe") name refl h.0 e)
 has_number name v (Pair path body word limit) Seconds e h =
     absurd (differ (codes "pair") (codes "observe") name refl h.0 e)
+has_number name v (Pair path body word limit) GiveUp e h = absurd (asks_none (codes "pair") name pair_asks_none h.0 e)
 has_number name v (Serve port count word limit) Port takes h = inr (port, h.1)
 has_number name v (Serve port count word limit) Count takes h = inr (count, h.2)
 has_number name v (Serve port count word limit) Limit takes h = of_limit v limit h.4
 has_number name v (Serve port count word limit) Format takes h =
     absurd (sends_none (codes "serve") name refl refl h.0 takes)
+has_number name v (Serve port count word limit) Accept e h =
+    absurd (differ (codes "serve") (codes "get") name refl h.0 e)
 has_number name v (Serve port count word limit) Times e h =
     absurd (differ (codes "serve") (codes "observe") name refl h.0 e)
 has_number name v (Serve port count word limit) Seconds e h =
     absurd (differ (codes "serve") (codes "observe") name refl h.0 e)
+has_number name v (Serve port count word limit) GiveUp e h = absurd (asks_none (codes "serve") name serve_asks_none h.0 e)
 has_number name v (Ask port path what options) Port takes h = inr (port, h.1)
 has_number name v (Ask port path what options) Count e h =
     absurd (asks_none (codes "serve") name serve_asks_none e (what_asks name v what h.0))
 has_number name v (Ask port path what options) Limit takes h = of_limit v options.limit h.4.limit
 has_number name v (Ask port path what options) Format takes h = of_optional v Format options.format h.4.format
+has_number name v (Ask port path what options) Accept takes h = of_optional v Accept options.accept h.4.accept
 has_number name v (Ask port path what options) Times takes h = of_optional v Times options.times h.4.times
 has_number name v (Ask port path what options) Seconds takes h = of_optional v Seconds options.seconds h.4.seconds
+has_number name v (Ask port path what options) GiveUp takes h = of_optional v GiveUp options.give_up h.4.give_up
 has_number name v (Sim file store plains) why takes h =
     absurd (counts_none (codes "sim") name why sim_asks_none refl refl h.0 takes)
 
@@ -341,6 +351,7 @@ not_tags (Pair path body word limit) why name v h (takes, none) =
     absurd (tags_none (codes "pair") name why pair_asks_none h.0 takes)
 not_tags (Serve port count word limit) why name v h (takes, none) =
     absurd (tags_none (codes "serve") name why serve_asks_none h.0 takes)
+not_tags (Ask port path what options) Etag name v h (takes, none) = tags_or_not v Etag options.etags h.4.etags none
 not_tags (Ask port path what options) IfMatch name v h (takes, none) =
     tags_or_not v IfMatch options.if_match h.4.if_match none
 not_tags (Sim file store plains) why name v h (takes, none) =
@@ -564,10 +575,12 @@ changed_carried other = inr refl
 got_ends : (o : Outcome) → IsCarriedOut (got_status o)
 got_ends (outcome.Refused why) = inr refl
 got_ends (outcome.Reported r) = got_carried r
+got_ends (outcome.GaveUp seconds) = inr refl
 
 changed_ends : (o : Outcome) → IsCarriedOut (changed_status o)
 changed_ends (outcome.Refused why) = inr refl
 changed_ends (outcome.Reported r) = changed_carried r
+changed_ends (outcome.GaveUp seconds) = inr refl
 
 after_carried : (m : Method) (o : Outcome) → IsCarriedOut (status_after m o)
 after_carried method.Get o = got_ends o
@@ -582,6 +595,7 @@ observed_carried other = inr refl
 observed_ends : (o : Outcome) → IsCarriedOut (observed_status o)
 observed_ends (outcome.Refused why) = inr refl
 observed_ends (outcome.Reported r) = observed_carried r
+observed_ends (outcome.GaveUp seconds) = inr refl
 
 requested_carried : (s : Status) (port : ℕ) (path : List (List ℕ)) (what : What) (options : AskOptions)
     → IsRequested port path what options s → IsCarriedOut s

@@ -1,5 +1,5 @@
 -- What becomes of a request, from the calls of its client to the status of the program.
-use Rattle.std.proofs.Common.{◌≡◌, ◌++◌, ◌∷◌, [], ℕ, List, Result, Ok, Err, IfOk, refl, subst, sym}
+use Rattle.std.proofs.Common.{◌≡◌, ◌++◌, ◌∷◌, [], ℕ, List, Option, Result, Ok, Err, IfOk, refl, subst, sym}
 use Rattle.std.specs.declared.alloc.Global.{Global}
 use Rattle.coap_types.specs.declared.endpoint.Endpoint.{Endpoint}
 use Rattle.coap_block.specs.Sizes.{Sizes}
@@ -7,16 +7,15 @@ use Rattle.coap_client.specs.Led.{Led, State}
 use Rattle.coap_client.specs.Object.Shown.{number_of, shown_report}
 use Rattle.coap_client.specs.Trace.{Call, Calls, Request}
 use Rattle.coap_client.specs.declared.client.report.CallId.{CallId}
-use Rattle.coap_client.specs.declared.client.report.Report as R
 use Rattle.coap_client.specs.declared.refusals.CallRefusal.{CallRefusal}
 use Rattle.coap_client.proofs.Facts.EachCall.{led_client}
 use Rattle.coap_words.specs.declared.orders.AskOptions.{AskOptions}
 use Rattle.coap_words.specs.declared.orders.What.{What}
 use Rattle.coap_commands.specs.Asked.{IsBody, IsRequested, IsWord, asked_request}
-use Rattle.coap_commands.specs.Asks.{Asks, AsksNothing, Becomes, Chain, Reports, takes_report}
+use Rattle.coap_commands.specs.Asks.{Asks, AsksNothing, Becomes, Chain, Comes, takes_report}
 use Rattle.coap_commands.specs.Ends.{client_sizes}
 use Rattle.coap_commands.specs.declared.calling.Outcome.{Outcome}
-use Rattle.coap_commands.specs.declared.calling.Outcome.TheVariants.{Refused, Reported}
+use Rattle.coap_commands.specs.declared.calling.Outcome.TheVariants.{GaveUp, Refused, Reported}
 use Rattle.coap_commands.specs.declared.status.Status.{Status}
 use Rattle.coap_commands.specs.declared.status.Stop.{Stop}
 
@@ -28,37 +27,46 @@ module _ (server : Endpoint) (sizes : Sizes) (word : ℕ) where
   led_on t (c ∷ calls) old new led h =
       led_client server sizes word (calls ++ t) c h.0 new (led_on t calls old h.0 led h.1) h.2
 
-  -- a request that was taken, and of which this is reported
-  pub reported_becomes : (now : ℕ) (request : Request) (number : ℕ) (report : R.Report Global) (s : State)
+  -- a request that was taken, and what its calls came to
+  comes_becomes : (now : ℕ) (request : Request) (give_up : Option ℕ) (number : ℕ) (outcome : Outcome) (s : State)
       → Led server sizes word (Calls now request (Ok number) ∷ []) s
-      → Reports AsksNothing s number (shown_report report) → Becomes server sizes word request (Reported report)
-  reported_becomes now request number report s led r = (
+      → Comes AsksNothing give_up s number outcome → Becomes server sizes word give_up request outcome
+  comes_becomes now request give_up number (Refused why) s led h = absurd h
+  comes_becomes now request give_up number (Reported report) s led h = (
     now,
     number,
-    r.2.0,
-    r.1,
-    r.2.1,
-    led_client server sizes word (r.2.0 ++ Calls now request (Ok number) ∷ [])
-        (takes_report number (shown_report report)) r.0 r.1 (led_on (Calls now request (Ok number) ∷ []) r.2.0 s r.0 led r.2.2) r.3,
+    h.2.0,
+    h.1,
+    h.2.1,
+    led_client server sizes word (h.2.0 ++ Calls now request (Ok number) ∷ [])
+        (takes_report number (shown_report report)) h.0 h.1 (led_on (Calls now request (Ok number) ∷ []) h.2.0 s h.0 led h.2.2) h.3,
   )
+  comes_becomes now request give_up number (GaveUp seconds) s led h =
+      (h.0, now, number, h.2.0, h.1, h.2.1, led_on (Calls now request (Ok number) ∷ []) h.2.0 s h.1 led h.2.2)
 
-  -- the same, by what the client answered
-  pub taken_becomes : (now : ℕ) (request : Request) (answer : Result CallId CallRefusal) (id : CallId)
-      (report : R.Report Global) (s : State) → answer ≡ Ok id
+  pub refused_becomes : (now : ℕ) (request : Request) (give_up : Option ℕ) (answer : Result CallId CallRefusal)
+      (why : CallRefusal) (s : State) → answer ≡ Err why
       → Led server sizes word (Calls now request (number_of answer) ∷ []) s
-      → Reports AsksNothing s id.0 (shown_report report) → Becomes server sizes word request (Reported report)
-  taken_becomes now request answer id report s is led r =
-      reported_becomes now request id.0 report s
-      (subst (λ (a : Result CallId CallRefusal). Led server sizes word (Calls now request (number_of a) ∷ []) s) is led) r
-
-  pub refused_becomes : (now : ℕ) (request : Request) (answer : Result CallId CallRefusal) (why : CallRefusal)
-      (s : State) → answer ≡ Err why → Led server sizes word (Calls now request (number_of answer) ∷ []) s
-      → Becomes server sizes word request (Refused why)
-  refused_becomes now request answer why s is led = (
+      → Becomes server sizes word give_up request (Refused why)
+  refused_becomes now request give_up answer why s is led = (
     now,
     s,
     subst (λ (a : Result CallId CallRefusal). Led server sizes word (Calls now request (number_of a) ∷ []) s) is led,
   )
+
+-- the same, by what the client answered
+pub taken_becomes : (Leads : Endpoint → Sizes → ℕ → Type 0) (now : ℕ) (request : Request) (give_up : Option ℕ)
+    (answer : Result CallId CallRefusal) (id : CallId) (s : State) (ended : Result Outcome Stop) → answer ≡ Ok id
+    → ((server : Endpoint) (sizes : Sizes) (w : ℕ) → Leads server sizes w
+    → Led server sizes w (Calls now request (number_of answer) ∷ []) s)
+    → IfOk ended (Comes AsksNothing give_up s id.0)
+    → IfOk ended (λ outcome. (server : Endpoint) (sizes : Sizes) (w : ℕ) → Leads server sizes w
+    → Becomes server sizes w give_up request outcome)
+taken_becomes Leads now request give_up answer id s (Ok outcome) is led h = λ server sizes w leads.
+    comes_becomes server sizes w now request give_up id.0 outcome s
+    (subst (λ (a : Result CallId CallRefusal). Led server sizes w (Calls now request (number_of a) ∷ []) s) is
+    (led server sizes w leads)) h
+taken_becomes Leads now request give_up answer id s (Err stop) is led h = tt
 
 -- ---- a program that ends
 
@@ -84,8 +92,8 @@ began Leads Is (Err stop) server sizes word led is = tt
 pub asked_by : (server : Endpoint) (word : ℕ) (path : List (List ℕ)) (what : What) (options : AskOptions) (body : List ℕ)
     (request : Request) (ended : Result Status Stop)
     → IsWord options.word word → IsBody what body → request ≡ asked_request what path options body
-    → IfOk ended (Asks server (client_sizes options.limit) word request)
+    → IfOk ended (Asks server (client_sizes options.limit) word options.give_up request)
     → IfOk ended (IsRequested server.port path what options)
 asked_by server word path what options body request (Ok s) is_word is_body same asks =
-    (server, refl, word, is_word, body, is_body, subst (λ (r : Request). Asks server (client_sizes options.limit) word r s) same asks)
+    (server, refl, word, is_word, body, is_body, subst (λ (r : Request). Asks server (client_sizes options.limit) word options.give_up r s) same asks)
 asked_by server word path what options body request (Err stop) is_word is_body same asks = tt

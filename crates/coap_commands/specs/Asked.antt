@@ -1,5 +1,5 @@
 -- What the words of a subcommand have a client ask.
-use Rattle.std.specs.Prelude.{◌≡◌, ⊤, ℕ, List, [], None}
+use Rattle.std.specs.Prelude.{◌≡◌, ⊤, ℕ, List, []}
 use Rattle.coap_types.specs.declared.endpoint.Endpoint.{Endpoint}
 use Rattle.coap_types.specs.declared.request.Method.{Method}
 use Rattle.coap_types.specs.declared.request.Method.TheVariants as method
@@ -49,17 +49,17 @@ asked_request what path options body =
       path = path;
       format = options.format;
       body = body;
-      etags = [];
+      etags = options.etags;
       if_match = options.if_match;
       if_none_match = options.if_none_match;
-      accept = None;
+      accept = options.accept;
     }
 
 -- a client hands the server at this port a request for it, with the word and the limit of the options
 abbrev pub IsRequested : ℕ → List (List ℕ) → What → AskOptions → Status → Type 0
 IsRequested port path what options status =
     (server : Endpoint) × (server.port ≡ port) × (word : ℕ) × IsWord options.word word × (body : List ℕ) × IsBody what body
-    × Asks server (client_sizes options.limit) word (asked_request what path options body) status
+    × Asks server (client_sizes options.limit) word options.give_up (asked_request what path options body) status
 
 -- a client observes the path at the server at this port, likewise
 abbrev pub IsObserved : ℕ → List (List ℕ) → AskOptions → Status → Type 0

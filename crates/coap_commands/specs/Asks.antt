@@ -1,6 +1,6 @@
 -- What becomes of a request that a client is handed, and with which status a program ends that asks it (RFC 7252, section
 -- 5.2).
-use Rattle.std.specs.Prelude.{◌≡◌, ⊤, ℕ, List, [], ◌∷◌, ◌++◌, Some, Ok, Err}
+use Rattle.std.specs.Prelude.{◌≡◌, ⊤, ℕ, Option, List, [], ◌∷◌, ◌++◌, Some, Ok, Err}
 use Rattle.std.specs.declared.alloc.Global.{Global}
 use Rattle.coap_types.specs.declared.endpoint.Endpoint.{Endpoint}
 use Rattle.coap_types.specs.declared.request.Method.{Method}
@@ -12,7 +12,7 @@ use Rattle.coap_client.specs.Trace.{Call, Calls, Feeds, NextOut, NextReport, Rep
 use Rattle.coap_client.specs.declared.client.report.Report as R
 use Rattle.coap_client.specs.declared.client.report.Report.TheVariants as report
 use Rattle.coap_commands.specs.declared.calling.Outcome.{Outcome}
-use Rattle.coap_commands.specs.declared.calling.Outcome.TheVariants.{Refused, Reported}
+use Rattle.coap_commands.specs.declared.calling.Outcome.TheVariants.{GaveUp, Refused, Reported}
 use Rattle.coap_commands.specs.declared.status.Status.{Status}
 use Rattle.coap_commands.specs.declared.status.Status.TheVariants as status
 
@@ -46,14 +46,24 @@ abbrev pub Reports : (Call → Type 0) → State → ℕ → Report → Type 0
 Reports like old number report = (turned : State) × (taken : State) × Turned like old turned
     × Step turned (takes_report number report) taken
 
+-- such calls lead to this: a report of this number, which is taken; or that is given up, where so many seconds may pass
+abbrev pub Comes : (Call → Type 0) → Option ℕ → State → ℕ → Outcome → Type 0
+Comes like give_up old number (Refused why) = ⊥
+Comes like give_up old number (Reported report) = Reports like old number (shown_report report)
+Comes like give_up old number (GaveUp seconds) = (give_up ≡ Some seconds) × (turned : State) × Turned like old turned
+
 -- A client of this server began with this word and these sizes. It was handed the request, and nothing else: it refused
--- it; or it took it under a number, and then this was reported of that number.
-abbrev pub Becomes : Endpoint → (sizes : Sizes) → ℕ → Request → Outcome → Type 0
-Becomes server sizes word request (Refused why) =
+-- it; or it took it under a number, and then this was reported of that number; or nothing was, and it was given up, where
+-- so many seconds may pass.
+abbrev pub Becomes : Endpoint → (sizes : Sizes) → ℕ → Option ℕ → Request → Outcome → Type 0
+Becomes server sizes word give_up request (Refused why) =
     (now : ℕ) × (s : State) × Led server sizes word (Calls now request (Err why) ∷ []) s
-Becomes server sizes word request (Reported report) =
+Becomes server sizes word give_up request (Reported report) =
     (now : ℕ) × (number : ℕ) × (calls : List Call) × (s : State) × Each AsksNothing calls
     × Led server sizes word (takes_report number (shown_report report) ∷ calls ++ Calls now request (Ok number) ∷ []) s
+Becomes server sizes word give_up request (GaveUp seconds) =
+    (give_up ≡ Some seconds) × (now : ℕ) × (number : ℕ) × (calls : List Call) × (s : State) × Each AsksNothing calls
+    × Led server sizes word (calls ++ Calls now request (Ok number) ∷ []) s
 
 -- done is a GET of which a body is reported
 abbrev pub got_report : R.Report Global → Status
@@ -63,6 +73,7 @@ got_report other = status.Refused
 abbrev pub got_status : Outcome → Status
 got_status (Refused why) = status.Refused
 got_status (Reported report) = got_report report
+got_status (GaveUp seconds) = status.Refused
 
 -- done is a change of which success is reported
 abbrev pub changed_report : R.Report Global → Status
@@ -72,6 +83,7 @@ changed_report other = status.Refused
 abbrev pub changed_status : Outcome → Status
 changed_status (Refused why) = status.Refused
 changed_status (Reported report) = changed_report report
+changed_status (GaveUp seconds) = status.Refused
 
 abbrev pub status_after : Method → Outcome → Status
 status_after Get outcome = got_status outcome
@@ -80,6 +92,6 @@ status_after Put outcome = changed_status outcome
 status_after Delete outcome = changed_status outcome
 
 -- a client is asked this, and the status is that of what becomes of it
-abbrev pub Asks : Endpoint → (sizes : Sizes) → ℕ → Request → Status → Type 0
-Asks server sizes word request status =
-    (outcome : Outcome) × Becomes server sizes word request outcome × (status ≡ status_after request.method outcome)
+abbrev pub Asks : Endpoint → (sizes : Sizes) → ℕ → Option ℕ → Request → Status → Type 0
+Asks server sizes word give_up request status =
+    (outcome : Outcome) × Becomes server sizes word give_up request outcome × (status ≡ status_after request.method outcome)

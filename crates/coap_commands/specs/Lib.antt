@@ -7,3 +7,4 @@ pub mod Script
 pub mod ScriptRefusals
 pub mod ScriptWords
 pub mod Statuses
+pub mod Waiting

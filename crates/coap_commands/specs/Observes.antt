@@ -5,7 +5,7 @@ use Rattle.std.specs.Prelude.{None, Some, Ok, Err, if◌then◌else◌}
 use Rattle.std.specs.declared.alloc.Global.{Global}
 use Rattle.coap_types.specs.declared.endpoint.Endpoint.{Endpoint}
 use Rattle.coap_block.specs.Sizes.{Sizes}
-use Rattle.coap_client.specs.Led.{Led, State}
+use Rattle.coap_client.specs.Led.{Led, State, Step}
 use Rattle.coap_client.specs.Object.Shown.{shown_report}
 use Rattle.coap_client.specs.Trace.{Call, Cancels, Feeds, NextOut, NextReport, Reported, Ticks, is_value}
 use Rattle.coap_client.specs.Trace.{Observes as observes}
@@ -15,9 +15,9 @@ use Rattle.coap_words.specs.declared.orders.AskOptions.{AskOptions}
 use Rattle.coap_commands.specs.Asks.{Chain, takes_report}
 use Rattle.coap_commands.specs.declared.calling.Outcome.{Outcome}
 use Rattle.coap_commands.specs.declared.calling.Outcome.TheVariants as outcome
-use Rattle.coap_commands.specs.declared.observe.TheConstants.{MS_PER_SECOND as ms_per_second}
 use Rattle.coap_commands.specs.declared.status.Status.{Status}
 use Rattle.coap_commands.specs.declared.status.Status.TheVariants as status
+use Rattle.coap_commands.specs.Waiting.{HasPassed}
 
 -- so many values are as many as are wanted
 abbrev pub HasAll : Option ℕ → ℕ → Type 0
@@ -27,7 +27,7 @@ HasAll (Some times) values = times ≤ values
 -- at that moment, the second one, so many seconds have passed since this one
 abbrev pub IsLate : Option ℕ → ℕ → ℕ → Type 0
 IsLate None begin now = ⊥
-IsLate (Some seconds) begin now = seconds * ms_per_second ≤ now - begin
+IsLate (Some seconds) begin now = HasPassed seconds begin now
 
 -- An observation that began at this moment is over, by the options, at that one: so many values of it were taken, or its
 -- time has passed.
@@ -68,9 +68,19 @@ abbrev pub Observed : AskOptions → ℕ → ℕ → State → ℕ → State →
 Observed options begin number old values new =
     (calls : List Call) × AllObserving options begin number calls × (values ≤ values_in calls) × Chain old calls new
 
+-- such calls lead to this: the last report of this number, which is taken; or that is given up, where so many seconds may
+-- pass
+abbrev pub ObserveComes : AskOptions → ℕ → ℕ → State → Outcome → Type 0
+ObserveComes options begin number old (outcome.Refused why) = ⊥
+ObserveComes options begin number old (outcome.Reported report) =
+    (turned : State) × (values : ℕ) × (taken : State) × Observed options begin number old values turned
+    × Step turned (takes_report number (shown_report report)) taken × (is_value (shown_report report) ≡ false)
+ObserveComes options begin number old (outcome.GaveUp seconds) =
+    (options.give_up ≡ Some seconds) × (values : ℕ) × (turned : State) × Observed options begin number old values turned
+
 -- A client of this server began with this word and these sizes. It was called to observe the path, and cancelled that
 -- once it was over, and else was asked for nothing: it refused it; or it took it under a number, and then this was
--- reported last of that number.
+-- reported last of that number; or it was given up, where so many seconds may pass.
 abbrev pub ObserveBecomes : Endpoint → (sizes : Sizes) → ℕ → List (List ℕ) → AskOptions → Outcome → Type 0
 ObserveBecomes server sizes word path options (outcome.Refused why) =
     (now : ℕ) × (s : State) × Led server sizes word (observes now path (Err why) ∷ []) s
@@ -78,6 +88,10 @@ ObserveBecomes server sizes word path options (outcome.Reported report) =
     (now : ℕ) × (number : ℕ) × (calls : List Call) × (s : State) × AllObserving options now number calls
     × (is_value (shown_report report) ≡ false)
     × Led server sizes word (takes_report number (shown_report report) ∷ calls ++ observes now path (Ok number) ∷ []) s
+ObserveBecomes server sizes word path options (outcome.GaveUp seconds) =
+    (options.give_up ≡ Some seconds) × (now : ℕ) × (number : ℕ) × (calls : List Call) × (s : State)
+    × AllObserving options now number calls
+    × Led server sizes word (calls ++ observes now path (Ok number) ∷ []) s
 
 -- done is an observation that is cancelled
 abbrev pub observed_report : R.Report Global → Status
@@ -87,6 +101,7 @@ observed_report other = status.Refused
 abbrev pub observed_status : Outcome → Status
 observed_status (outcome.Refused why) = status.Refused
 observed_status (outcome.Reported report) = observed_report report
+observed_status (outcome.GaveUp seconds) = status.Refused
 
 -- a client observes this, and the status is that of what becomes of it
 abbrev pub Observes : Endpoint → (sizes : Sizes) → ℕ → List (List ℕ) → AskOptions → Status → Type 0

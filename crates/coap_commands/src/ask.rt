@@ -7,7 +7,7 @@ ghost use Rattle.coap_client.specs.Object.CallShown.{shown_request};
 ghost use Rattle.coap_client.specs.Object.Shown.{shown_report};
 ghost use Rattle.coap_client.specs.Trace.{NextReport};
 ghost use Rattle.coap_commands.specs.Asked.{IsAsked, IsRequested};
-ghost use Rattle.coap_commands.specs.Asks.{Asks, AsksNothing, Becomes, Reports, Turned, changed_status};
+ghost use Rattle.coap_commands.specs.Asks.{Asks, AsksNothing, Becomes, Comes, Turned, changed_status};
 ghost use Rattle.coap_commands.specs.Asks.{got_status, status_after};
 ghost use Rattle.coap_commands.specs.Ends.{client_sizes};
 ghost use Rattle.coap_commands.specs.Statuses.{IsCarriedOut};
@@ -20,10 +20,11 @@ use crate::put_away::put_away;
 use crate::request::{body_of, request_of};
 use crate::status::{Status, Stop};
 use crate::timekeeper::{ProgramTime, Timekeeper};
+use crate::waiting::passed;
 use crate::word::word_of;
 use coap_ends::{CallId, Client, Report};
 use coap_links::{ANY_PORT, Link, UdpLink, fresh_tally, get_turn, send_all};
-use coap_types::{BodyLimit, Endpoint, Method, Path, Request};
+use coap_types::{BodyLimit, Endpoint, Method, Moment, Path, Request};
 use coap_words::{AskOptions, What};
 use std::alloc::Global;
 use std::hash::{BuildHasher, RandomState};
@@ -47,23 +48,30 @@ pub(crate) fn next_report_of<H: BuildHasher>(
     }
 }
 
-// Turns the client until it reports of this call, and sends what is out then.
-fn reported<H: BuildHasher, L: Link, T: Timekeeper>(
+// Turns the client until it reports of this call, which it took at this moment, and sends what is out then; or
+// until so many seconds have passed.
+fn awaited<H: BuildHasher, L: Link, T: Timekeeper>(
     client: &mut Client<Global, H>,
     link: &mut L,
     time: &mut T,
     id: CallId,
+    begin: Moment,
+    give_up: Option<u64>,
     word: u64,
-) -> Result<Report, Stop>
-    ensures { IfOk result (λ report. Reports AsksNothing client.old id.0 (shown_report report)) }
+) -> Result<Outcome, Stop>
+    ensures { IfOk result (Comes AsksNothing give_up client.old id.0) }
 {
     let mut tally = fresh_tally(word);
     // More turns than a program lives.
     for _turn in 0..u64::MAX {
-        get_turn(client, link, time.now()?, &mut tally);
+        let now = time.now()?;
+        get_turn(client, link, now, &mut tally);
         if let Some(report) = next_report_of(client, id) {
             send_all(client, link);
-            return Ok(report);
+            return Ok(Outcome::Reported(report));
+        }
+        if let Some(seconds) = passed(give_up, begin, now) {
+            return Ok(Outcome::GaveUp(seconds));
         }
         bear(link, &tally)?;
     }
@@ -76,36 +84,62 @@ fn outcome_of<H: BuildHasher, L: Link, T: Timekeeper>(
     link: &mut L,
     time: &mut T,
     request: Request,
+    give_up: Option<u64>,
     word: u64,
 ) -> Result<Outcome, Stop>
     ensures { IfOk result (λ outcome. (server : EndpointSpec) (sizes : Sizes) (w : ℕ)
-        → Led server sizes w [] client.old → Becomes server sizes w (shown_request request) outcome) }
+        → Led server sizes w [] client.old → Becomes server sizes w give_up (shown_request request) outcome) }
 {
-    match call(client, time.now()?, request)? {
-        Ok(id) => Ok(Outcome::Reported(reported(client, link, time, id, word)?)),
+    let begin = time.now()?;
+    match call(client, begin, request)? {
+        Ok(id) => awaited(client, link, time, id, begin, give_up, word),
         Err(refusal) => Ok(Outcome::Refused(refusal)),
     }
 }
 
+// Says what became of a request; that the client gave up, on standard error.
+fn say<O: Write, E: Write>(
+    alloc: Global,
+    outcome: &Outcome,
+    writers: (&mut O, &mut E),
+) -> Result<(), Stop> {
+    let (out, err) = writers;
+    let text = outcome_text(alloc, outcome)?;
+    match outcome {
+        Outcome::Refused(_) | Outcome::Reported(_) => writeln!(out, "{text}")?,
+        Outcome::GaveUp(_) => {
+            let _ = writeln!(err, "{text}");
+        }
+    }
+    Ok(())
+}
+
 // Prints the body that was got, or why there is none.
-fn tell_got<W: Write>(alloc: Global, outcome: &Outcome, out: &mut W) -> Result<Status, Stop>
+fn tell_got<O: Write, E: Write>(
+    alloc: Global,
+    outcome: &Outcome,
+    writers: (&mut O, &mut E),
+) -> Result<Status, Stop>
     ensures { IfOk result (λ status. status ≡ got_status outcome.now) }
 {
+    let (out, err) = writers;
     if let Outcome::Reported(Report::Body(fetched)) = outcome {
         out.write_all(fetched.body.as_slice())?;
         return Ok(Status::Done);
     }
-    let text = outcome_text(alloc, outcome)?;
-    writeln!(out, "{text}")?;
+    say(alloc, outcome, (out, err))?;
     Ok(Status::Refused)
 }
 
 // Prints what became of a change.
-fn tell_changed<W: Write>(alloc: Global, outcome: &Outcome, out: &mut W) -> Result<Status, Stop>
+fn tell_changed<O: Write, E: Write>(
+    alloc: Global,
+    outcome: &Outcome,
+    writers: (&mut O, &mut E),
+) -> Result<Status, Stop>
     ensures { IfOk result (λ status. status ≡ changed_status outcome.now) }
 {
-    let text = outcome_text(alloc, outcome)?;
-    writeln!(out, "{text}")?;
+    say(alloc, outcome, writers)?;
     if let Outcome::Reported(Report::Done(_)) = outcome {
         return Ok(Status::Done);
     }
@@ -113,69 +147,81 @@ fn tell_changed<W: Write>(alloc: Global, outcome: &Outcome, out: &mut W) -> Resu
 }
 
 // Prints what became of a request with this method.
-fn tell<W: Write>(
+fn tell<O: Write, E: Write>(
     alloc: Global,
     method: Method,
     outcome: &Outcome,
-    out: &mut W,
+    writers: (&mut O, &mut E),
 ) -> Result<Status, Stop>
     ensures { IfOk result (λ status. status ≡ status_after method outcome.now) }
 {
     match method {
-        Method::Get => tell_got(alloc, outcome, out),
-        Method::Post | Method::Put | Method::Delete => tell_changed(alloc, outcome, out),
+        Method::Get => tell_got(alloc, outcome, writers),
+        Method::Post | Method::Put | Method::Delete => tell_changed(alloc, outcome, writers),
     }
 }
 
 // Asks, and prints what came of it.
-fn ask_and_tell<H: BuildHasher, L: Link, T: Timekeeper, W: Write>(
+fn ask_and_tell<H: BuildHasher, L: Link, T: Timekeeper, O: Write, E: Write>(
     alloc: Global,
     client: &mut Client<Global, H>,
     link: &mut L,
     time: &mut T,
     request: Request,
+    give_up: Option<u64>,
     word: u64,
-    out: &mut W,
+    writers: (&mut O, &mut E),
 ) -> Result<Status, Stop>
     ensures { IfOk result (λ status. (server : EndpointSpec) (sizes : Sizes) (w : ℕ)
-        → Led server sizes w [] client.old → Asks server sizes w (shown_request request) status) }
+        → Led server sizes w [] client.old → Asks server sizes w give_up (shown_request request) status) }
 {
     let method = request.method;
-    let outcome = outcome_of(client, link, time, request, word)?;
-    tell(alloc, method, &outcome, out)
+    let outcome = outcome_of(client, link, time, request, give_up, word)?;
+    tell(alloc, method, &outcome, writers)
 }
 
-/// Asks a server for what a request says, and prints the body that it got, or what was reported. The
-/// client begins with this word, and takes bodies up to this limit.
-pub fn ask_over<L: Link, T: Timekeeper, H: BuildHasher + Drop, W: Write>(
+/// Asks a server for what a request says, and prints the body that it got, or what was reported; where so
+/// many seconds pass before that, it gives up and says so on standard error. The client begins with
+/// this word, and takes bodies up to this limit.
+pub fn ask_over<L: Link, T: Timekeeper, H: BuildHasher + Drop, O: Write, E: Write>(
     alloc: Global,
     link: &mut L,
     server: Endpoint,
     time: &mut T,
     hasher: H,
     request: Request,
+    give_up: Option<u64>,
     word: u64,
     limit: BodyLimit,
-    out: &mut W,
+    writers: (&mut O, &mut E),
 ) -> Result<Status, Stop>
-    // A client of this server was handed this request, and nothing else; the status is 0 where a body (of a GET) or success was
-    // reported of it, and else 1.
-    ensures { IfOk result (Asks server (client_sizes limit) word (shown_request request)) }
+    // A client of this server was handed this request, and nothing else, and given up only where so many seconds may pass; the
+    // status is 0 where a body (of a GET) or success was reported of it, and else 1.
+    ensures { IfOk result (Asks server (client_sizes limit) word give_up (shown_request request)) }
 {
     let mut client = fresh_client(alloc, server, word, limit, hasher);
-    let ended = ask_and_tell(alloc, &mut client, link, time, request, word, out);
+    let ended = ask_and_tell(
+        alloc,
+        &mut client,
+        link,
+        time,
+        request,
+        give_up,
+        word,
+        writers,
+    );
     put_away(client);
     ended
 }
 
 // Hands the server at a port of 127.0.0.1 the request that the words say.
-fn request<R: AllocGlobal + Files + Net + Clock + RandomSource, W: Write>(
+fn request<R: AllocGlobal + Files + Net + Clock + RandomSource, O: Write, E: Write>(
     rt: &R,
     port: u16,
     path: &Path,
     what: What<'_>,
     options: &AskOptions,
-    out: &mut W,
+    writers: (&mut O, &mut E),
 ) -> Result<Status, Stop>
     ensures { IfOk result (IsRequested port path.now what.entry options.now) }
 {
@@ -196,9 +242,10 @@ fn request<R: AllocGlobal + Files + Net + Clock + RandomSource, W: Write>(
         &mut time,
         hasher,
         request,
+        options.give_up,
         word,
         options.limit,
-        out,
+        writers,
     )
 }
 
@@ -213,12 +260,11 @@ pub(crate) fn ask<R: AllocGlobal + Files + Net + Clock + RandomSource, O: Write,
 ) -> Result<Status, Stop>
     ensures { IfOk result (IsAsked port path.now what.entry options.now) }
 {
-    let (out, err) = writers;
     match what {
-        What::Get => request(rt, port, path, What::Get, options, out),
-        What::Put(content) => request(rt, port, path, What::Put(content), options, out),
-        What::Post(content) => request(rt, port, path, What::Post(content), options, out),
-        What::Delete => request(rt, port, path, What::Delete, options, out),
-        What::Observe => observe(rt, port, path, options, (out, err)),
+        What::Get => request(rt, port, path, What::Get, options, writers),
+        What::Put(content) => request(rt, port, path, What::Put(content), options, writers),
+        What::Post(content) => request(rt, port, path, What::Post(content), options, writers),
+        What::Delete => request(rt, port, path, What::Delete, options, writers),
+        What::Observe => observe(rt, port, path, options, writers),
     }
 }

@@ -24,6 +24,8 @@ pub enum Outcome {
     Refused(CallRefusal),
     /// The client reported this.
     Reported(Report),
+    /// The client gave up after so many seconds.
+    GaveUp(u64),
 }
 
 /// A request whose only option is its path.
@@ -85,5 +87,8 @@ pub fn outcome_text(alloc: Global, outcome: &Outcome) -> Result<String, AllocErr
             format!(in alloc; "refused {number}")
         }
         Outcome::Reported(report) => report_text(alloc, report),
+        Outcome::GaveUp(seconds) => {
+            format!(in alloc; "gave up after {seconds} s; the request may still be applied")
+        }
     }
 }

@@ -24,6 +24,7 @@ mod status;
 mod telling;
 mod text;
 mod timekeeper;
+mod waiting;
 mod word;
 
 pub use ask::ask_over;

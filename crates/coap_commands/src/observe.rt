@@ -1,5 +1,5 @@
 //! Observing a resource, and printing its values (RFC 7641).
-ghost use Rattle.std.specs.Prelude.{◌≡◌, ◌+◌, ◌≤◌, ◌∷◌, ℕ, List, [], true, false, IfNone, IfOk, IfSome};
+ghost use Rattle.std.specs.Prelude.{◌≡◌, ◌+◌, ◌≤◌, ◌∷◌, ℕ, List, [], true, false, Some, IfNone, IfOk, IfSome};
 ghost use Rattle.coap_types.specs.declared.endpoint.Endpoint.{Endpoint as EndpointSpec};
 ghost use Rattle.coap_block.specs.Sizes.{Sizes};
 ghost use Rattle.coap_client.specs.Led.{Led, State, Step};
@@ -10,7 +10,8 @@ ghost use Rattle.coap_words.specs.declared.orders.AskOptions.{AskOptions as Opti
 ghost use Rattle.coap_commands.specs.Asked.{IsObserved};
 ghost use Rattle.coap_commands.specs.Asks.{takes_report};
 ghost use Rattle.coap_commands.specs.Ends.{client_sizes};
-ghost use Rattle.coap_commands.specs.Observes.{HasAll, IsLate, IsOver, ObserveBecomes, Observed, Observes};
+ghost use Rattle.coap_commands.specs.Observes.{HasAll, IsLate, IsOver, ObserveBecomes, ObserveComes, Observed};
+ghost use Rattle.coap_commands.specs.Observes.{Observes};
 ghost use Rattle.coap_commands.specs.Observes.{observed_status};
 
 use crate::ask::next_report_of;
@@ -21,6 +22,7 @@ use crate::put_away::put_away;
 use crate::status::{Status, Stop};
 use crate::text::hex_or_dash;
 use crate::timekeeper::{ProgramTime, Timekeeper};
+use crate::waiting::{MS_PER_SECOND, passed};
 use crate::word::word_of;
 use coap_ends::{CallId, CallRefusal, Client, Report};
 use coap_links::{ANY_PORT, Link, UdpLink, fresh_tally, get_turn, send_all};
@@ -32,11 +34,6 @@ use std::io::Write;
 use std::net::Net;
 use std::random::RandomSource;
 use std::rt::Clock;
-
-/// The milliseconds of a second.
-pub const MS_PER_SECOND: u64 = 1_000;
-
-const _: () = prove!(MS_PER_SECOND == 1_000);
 
 // Whether so many values are as many as are wanted.
 fn has_all(times: Option<u64>, values: u64) -> bool
@@ -148,9 +145,19 @@ fn cancel_at_end<H: BuildHasher>(
     }
 }
 
+// After how many seconds it is given up, where they have passed and no value came.
+fn given_up(options: &AskOptions, begin: Moment, values: u64, now: Moment) -> Option<u64>
+    ensures { IfSome result (λ seconds. options.now.give_up ≡ Some seconds) }
+{
+    if values > 0 {
+        return None;
+    }
+    passed(options.give_up, begin, now)
+}
+
 // Turns the client until it reports for the last time of this observation, which began at this moment,
-// and sends what is out then.
-fn reported<H: BuildHasher, L: Link, T: Timekeeper, W: Write>(
+// and sends what is out then; or until so many seconds have passed without a value.
+fn awaited<H: BuildHasher, L: Link, T: Timekeeper, W: Write>(
     alloc: Global,
     client: &mut Client<Global, H>,
     link: &mut L,
@@ -160,10 +167,8 @@ fn reported<H: BuildHasher, L: Link, T: Timekeeper, W: Write>(
     options: &AskOptions,
     word: u64,
     out: &mut W,
-) -> Result<Report, Stop>
-    ensures { IfOk result (λ report. (turned : State) × (values : ℕ) × (taken : State)
-        × Observed options.now begin.0 id.0 client.old values turned
-        × Step turned (takes_report id.0 (shown_report report)) taken × (is_value (shown_report report) ≡ false)) }
+) -> Result<Outcome, Stop>
+    ensures { IfOk result (ObserveComes options.now begin.0 id.0 client.old) }
 {
     let mut tally = fresh_tally(word);
     let mut values = 0;
@@ -182,7 +187,10 @@ fn reported<H: BuildHasher, L: Link, T: Timekeeper, W: Write>(
             out,
         )? {
             send_all(client, link);
-            return Ok(report);
+            return Ok(Outcome::Reported(report));
+        }
+        if let Some(seconds) = given_up(options, begin, values, now) {
+            return Ok(Outcome::GaveUp(seconds));
         }
         cancel_at_end(client, id, options, begin, values, now);
         bear(link, &tally)?;
@@ -223,10 +231,7 @@ fn outcome_of<H: BuildHasher, L: Link, T: Timekeeper, W: Write>(
 {
     let begin = time.now()?;
     match register(client, begin, path)? {
-        Ok(id) => {
-            let report = reported(alloc, client, link, time, id, begin, options, word, out)?;
-            Ok(Outcome::Reported(report))
-        }
+        Ok(id) => awaited(alloc, client, link, time, id, begin, options, word, out),
         Err(refusal) => Ok(Outcome::Refused(refusal)),
     }
 }

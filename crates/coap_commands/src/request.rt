@@ -52,7 +52,7 @@ pub fn request_of(
     options: &AskOptions,
     body: Bytes,
 ) -> Result<Request, AllocError>
-    // The request that the words ask for has their method, path, format, If-Match and If-None-Match, and this body.
+    // The request that the words ask for has their method, path and options, and this body.
     ensures { IfOk result (λ made. shown_request made ≡ asked_request what.entry path.now options.now body) }
 {
     Ok(Request {
@@ -60,10 +60,10 @@ pub fn request_of(
         path: path.clone()?,
         format: options.format,
         body,
-        etags: Tags::new(),
+        etags: copy_of(&options.etags),
         if_match: copy_of(&options.if_match),
         if_none_match: options.if_none_match,
-        accept: None,
+        accept: options.accept,
     })
 }
 

@@ -230,12 +230,13 @@ fn a_body_behind_two_hyphens(rt: HostRuntime) -> Result<(), Fail> {
 
 // ---- one client over a link in memory
 
-// What the words ask, by a client of word 0, to whose first message this comes: the exit status.
-fn ask_in_memory<R: AllocGlobal + Files>(
+// What the words ask, by a client of word 0, to whose first message this comes: what it prints and says, and the first
+// datagram that it sends; the exit status.
+pub(super) fn ask_in_memory<R: AllocGlobal + Files>(
     rt: &R,
     words: &[&str],
     reply: &[u8],
-    told: &mut Vec<u8>,
+    (told, said): (&mut Vec<u8>, &mut Vec<u8>),
     sent: &mut Vec<u8>,
 ) -> Result<u8, AllocError> {
     let alloc = rt.alloc();
@@ -253,7 +254,7 @@ fn ask_in_memory<R: AllocGlobal + Files>(
     };
     let body = match body_of(rt, what, options.limit) {
         Ok(body) => body,
-        Err(stop) => return Ok(close(Err(stop), told).number()),
+        Err(stop) => return Ok(close(Err(stop), said).number()),
     };
     let request = request_of(&path, what, &options, body)?;
     let mut link = MemoryLink::new(alloc, NEAR);
@@ -271,33 +272,36 @@ fn ask_in_memory<R: AllocGlobal + Files>(
         &mut time,
         hasher,
         request,
+        options.give_up,
         0,
         options.limit,
-        told,
+        (told, said),
     );
     if let Some(datagram) = link.next_handed() {
         sent.extend_from_slice(datagram.bytes())?;
     }
     drop(link);
-    Ok(close(ended, told).number())
+    Ok(close(ended, said).number())
 }
 
-// What is sent, in hex; and what is printed, and the exit status, where this comes.
-fn check_ask<R: Abort + AllocGlobal + Files>(
+// What is sent, in hex; and what is printed or said, and the exit status, where this comes.
+pub(super) fn check_ask<R: Abort + AllocGlobal + Files>(
     rt: &R,
     words: &[&str],
     wanted: &str,
     reply: &[u8],
     (status, printed): (u8, &str),
 ) -> Result<(), AllocError> {
-    let (mut told, mut sent) = (Vec::new(rt.alloc()), Vec::new(rt.alloc()));
+    let alloc = rt.alloc();
+    let (mut told, mut said, mut sent) = (Vec::new(alloc), Vec::new(alloc), Vec::new(alloc));
     assert_eq!(rt;
-        ask_in_memory(rt, words, reply, &mut told, &mut sent)?,
+        ask_in_memory(rt, words, reply, (&mut told, &mut said), &mut sent)?,
         status,
         "at {words:?}"
     );
     let sent = hex::encode(rt.alloc(), sent.as_slice())?;
     assert_eq!(rt; sent.as_str(), wanted, "at {words:?}");
+    told.extend_from_slice(said.as_slice())?;
     assert_eq!(rt; told.as_slice(), printed.as_bytes(), "at {words:?}");
     Ok(())
 }

@@ -10,6 +10,10 @@ mod bodies;
 #[cfg(test)]
 mod buffers;
 #[cfg(test)]
+mod getting;
+#[cfg(test)]
+mod giving_up;
+#[cfg(test)]
 mod joined_link;
 #[cfg(test)]
 mod observing;

@@ -245,3 +245,36 @@ fn what_an_observation_prints_and_sends(rt: HostRuntime) -> Result<(), Fail> {
     }
     Ok(())
 }
+
+// What had no value is given up.
+#[test]
+fn observations_that_are_given_up(rt: HostRuntime) -> Result<(), Fail> {
+    let rows: [Row<'_>; 2] = [
+        (
+            &["observe", "5683", "t", "--give-up", "1"],
+            &[],
+            1,
+            "",
+            "gave up after 1 s; the request may still be applied\n",
+            REGISTERED,
+        ),
+        (
+            &["observe", "5683", "t", "--give-up", "1", "--seconds", "2"],
+            &[FIRST],
+            1,
+            "a\n",
+            "timeout\n",
+            "",
+        ),
+    ];
+    for (words, replies, status, printed, text, sent) in rows {
+        let seen = observe_in_memory(rt.alloc(), words, replies)?;
+        assert_eq!(rt; seen.printed.as_slice(), printed.as_bytes(), "at {words:?}");
+        assert_eq!(rt; seen.said.as_slice(), text.as_bytes(), "at {words:?}");
+        assert_eq!(rt; seen.status, status, "at {words:?}");
+        if !sent.is_empty() {
+            assert_eq!(rt; seen.sent.as_slice(), sent.as_bytes(), "at {words:?}");
+        }
+    }
+    Ok(())
+}

@@ -152,11 +152,13 @@ fn get_in_memory(
     let hasher = BuildHasherDefault::<FoldHasher>::new();
     let mut time = Clock { now: 0 };
     let request = get_request(path)?;
+    let mut said = Vec::new(alloc);
+    let writers = (told, &mut said);
     let ended = ask_over(
-        alloc, &mut link, FAR, &mut time, hasher, request, 0, limit, told,
+        alloc, &mut link, FAR, &mut time, hasher, request, None, 0, limit, writers,
     );
     drop(link);
-    Ok(close(ended, told).number())
+    Ok(close(ended, &mut said).number())
 }
 
 #[test]

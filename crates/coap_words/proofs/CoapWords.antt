@@ -20,10 +20,10 @@ use Rattle.coap_words.specs.Values.{Enters, IsGiven, IsValue}
 use Rattle.coap_words.specs.Words.{AsksFor, AsksForIn, IsWrong, IsWrongIn}
 use Rattle.coap_words.specs.Wrongs.{IsWrongOfClap}
 use Rattle.coap_words.specs.declared.orders.NumberRefusal.{NumberRefusal}
-use Rattle.coap_words.specs.declared.orders.NumberRefusal.TheVariants.{Port, Count, Limit, Format, Times, Seconds}
+use Rattle.coap_words.specs.declared.orders.NumberRefusal.TheVariants.{Port, Count, Limit, Format, Accept, Times, Seconds, GiveUp}
 use Rattle.coap_words.specs.declared.orders.Order.{Order}
 use Rattle.coap_words.specs.declared.orders.TagsRefusal.{TagsRefusal}
-use Rattle.coap_words.specs.declared.orders.TagsRefusal.TheVariants.{IfMatch}
+use Rattle.coap_words.specs.declared.orders.TagsRefusal.TheVariants.{Etag, IfMatch}
 use Rattle.coap_words.specs.declared.orders.Wrong.{Wrong}
 use Rattle.coap_words.specs.declared.orders.Wrong.TheVariants.{Words, Path, Number, Word, Tags, Body, Store, Plains}
 use Rattle.coap_words.specs.declared.orders.Wrong.TheVariants.{Hex, Memory}
@@ -219,12 +219,17 @@ takes_number words name rows e Limit =
     taken_by makes_end (TakesNumber Limit) (codes "limit") words name rows one_makes_end refl e
 takes_number words name rows e Format =
     taken_by sends_body (TakesNumber Format) (codes "format") words name rows one_sends refl e
+takes_number words name rows e Accept = taken_by
+    (λ n. bytes_eq n (codes "get")) (TakesNumber Accept) (codes "accept") words name rows
+    (λ n is. is_name n (codes "get") is) refl e
 takes_number words name rows e Times = taken_by
     (λ n. bytes_eq n (codes "observe")) (TakesNumber Times) (codes "count") words name rows
     (λ n is. is_name n (codes "observe") is) refl e
 takes_number words name rows e Seconds = taken_by
     (λ n. bytes_eq n (codes "observe")) (TakesNumber Seconds) (codes "seconds") words name rows
     (λ n is. is_name n (codes "observe") is) refl e
+takes_number words name rows e GiveUp =
+    taken_by is_ask (TakesNumber GiveUp) (codes "give-up") words name rows one_asks refl e
 
 takes_word : (words : List Text) (name : Text) (rows : List Row) → Enters words name rows
     → (all_of (codes "word") rows ≡ None) ⊎ MakesEnd name
@@ -234,6 +239,9 @@ takes_word words name rows e = taken_by makes_end MakesEnd (codes "word") words 
 takes_tags : (words : List Text) (name : Text) (rows : List Row) → Enters words name rows → (why : TagsRefusal)
     → (all_of (tags_argument_of why) rows ≡ None) ⊎ TakesTags why name
 unfolding clap_on_literals
+takes_tags words name rows e Etag = taken_by
+    (λ n. bytes_eq n (codes "get")) (TakesTags Etag) (codes "etag") words name rows
+    (λ n is. is_name n (codes "get") is) refl e
 takes_tags words name rows e IfMatch =
     taken_by asks_change (TakesTags IfMatch) (codes "if-match") words name rows one_changes refl e
 

@@ -10,9 +10,9 @@ use Rattle.coap_words.specs.declared.orders.AskOptions.{AskOptions}
 use Rattle.coap_words.specs.declared.orders.Content.{Content}
 use Rattle.coap_words.specs.declared.orders.Content.TheVariants as content
 use Rattle.coap_words.specs.declared.orders.NumberRefusal.{NumberRefusal}
-use Rattle.coap_words.specs.declared.orders.NumberRefusal.TheVariants.{Format, Times, Seconds}
+use Rattle.coap_words.specs.declared.orders.NumberRefusal.TheVariants.{Format, Accept, Times, Seconds, GiveUp}
 use Rattle.coap_words.specs.declared.orders.TagsRefusal.{TagsRefusal}
-use Rattle.coap_words.specs.declared.orders.TagsRefusal.TheVariants.{IfMatch}
+use Rattle.coap_words.specs.declared.orders.TagsRefusal.TheVariants.{Etag, IfMatch}
 use Rattle.coap_words.specs.declared.orders.What.{What}
 use Rattle.coap_words.specs.declared.orders.What.TheVariants.{Get, Put, Post, Delete, Observe}
 use Rattle.coap_words.specs.declared.orders.WordChoice.{WordChoice}
@@ -55,6 +55,7 @@ IsWhat subcommand values Observe = subcommand ≡ codes "observe"
 
 -- the argument that is refused so, by its name in clap
 abbrev pub tags_argument_of : TagsRefusal → Text
+tags_argument_of Etag = codes "etag"
 tags_argument_of IfMatch = codes "if-match"
 
 -- the values of an argument that may be given again and again
@@ -104,10 +105,13 @@ usual_word Observe = Random
 
 pub record HasOptions (usual : WordChoice) (values : List Row) (options : AskOptions) : Type 0 where
   pub format : HasOptionalNumber Format values options.format
+  pub accept : HasOptionalNumber Accept values options.accept
+  pub etags : HasTags Etag values options.etags
   pub if_match : HasTags IfMatch values options.if_match
   pub if_none_match : HasFlag (codes "if-none-match") values options.if_none_match
   pub times : HasOptionalNumber Times values options.times
   pub seconds : HasOptionalNumber Seconds values options.seconds
   pub hex : HasFlag (codes "hex") values options.hex
+  pub give_up : HasOptionalNumber GiveUp values options.give_up
   pub word : HasWord usual values options.word
   pub limit : HasLimit values options.limit

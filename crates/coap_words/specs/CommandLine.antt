@@ -29,6 +29,10 @@ flag_of name = record (new_rule name) { long = Some name; action = Some SetTrue 
 abbrev pub of_an_end : List Rule
 of_an_end = option_of (codes "word") ∷ option_of (codes "limit") ∷ []
 
+-- what each subcommand takes besides that asks something of a server: `--give-up SECONDS`
+abbrev pub of_a_client : List Rule
+of_a_client = option_of (codes "give-up") ∷ of_an_end
+
 -- on what a change is made: `--if-match HEX`, again and again, and `--if-none-match`
 abbrev pub conditions : List Rule → List Rule
 conditions rest = repeated_of (codes "if-match") ∷ flag_of (codes "if-none-match") ∷ rest
@@ -58,22 +62,23 @@ pair_app = leaf (codes "pair") (required_word (codes "PATH") ∷ required_word (
 abbrev pub serve_app : App
 serve_app = leaf (codes "serve") (required_word (codes "PORT") ∷ required_word (codes "COUNT") ∷ of_an_end)
 
+-- `coap get PORT PATH --accept N --etag HEX`, the latter again and again, and the options of a client
 abbrev pub get_app : App
-get_app = leaf (codes "get") (asking of_an_end)
+get_app = leaf (codes "get") (asking (option_of (codes "accept") ∷ repeated_of (codes "etag") ∷ of_a_client))
 
 abbrev pub put_app : App
-put_app = leaf (codes "put") (asking (with_body (conditions of_an_end)))
+put_app = leaf (codes "put") (asking (with_body (conditions of_a_client)))
 
 abbrev pub post_app : App
-post_app = leaf (codes "post") (asking (with_body (conditions of_an_end)))
+post_app = leaf (codes "post") (asking (with_body (conditions of_a_client)))
 
 abbrev pub delete_app : App
-delete_app = leaf (codes "delete") (asking (conditions of_an_end))
+delete_app = leaf (codes "delete") (asking (conditions of_a_client))
 
--- `coap observe PORT PATH --count N --seconds N --hex`, and the options of an end
+-- `coap observe PORT PATH --count N --seconds N --hex`, and the options of a client
 abbrev pub observe_app : App
 observe_app = leaf (codes "observe")
-    (asking (option_of (codes "count") ∷ option_of (codes "seconds") ∷ flag_of (codes "hex") ∷ of_an_end))
+    (asking (option_of (codes "count") ∷ option_of (codes "seconds") ∷ flag_of (codes "hex") ∷ of_a_client))
 
 -- `coap sim FILE --store list|map`, and `--plain PATH`, again and again
 abbrev pub sim_app : App

@@ -5,7 +5,7 @@ use Rattle.std.specs.Str.Parse.{IsNumeral, digits_value, without_leading_plus}
 use Rattle.clap.specs.Words.{Text}
 use Rattle.coap_types.specs.declared.body_limit.TheConstants.{MAX_BODY_LIMIT as max_body_limit}
 use Rattle.coap_words.specs.declared.orders.NumberRefusal.{NumberRefusal}
-use Rattle.coap_words.specs.declared.orders.NumberRefusal.TheVariants.{Port, Count, Limit, Format, Times, Seconds}
+use Rattle.coap_words.specs.declared.orders.NumberRefusal.TheVariants.{Port, Count, Limit, Format, Accept, Times, Seconds, GiveUp}
 
 -- the text says this number
 abbrev pub IsNumber : Text → ℕ → Type 0
@@ -17,24 +17,30 @@ argument_of Port = codes "PORT"
 argument_of Count = codes "COUNT"
 argument_of Limit = codes "limit"
 argument_of Format = codes "format"
+argument_of Accept = codes "accept"
 argument_of Times = codes "count"
 argument_of Seconds = codes "seconds"
+argument_of GiveUp = codes "give-up"
 
 abbrev pub least_of : NumberRefusal → ℕ
 least_of Port = 0
 least_of Count = 0
 least_of Limit = 1
 least_of Format = 0
+least_of Accept = 0
 least_of Times = 0
 least_of Seconds = 0
+least_of GiveUp = 0
 
 abbrev pub most_of : NumberRefusal → ℕ
 most_of Port = 2 ^ 16 - 1
 most_of Count = 2 ^ 64 - 1
 most_of Limit = max_body_limit
 most_of Format = 2 ^ 16 - 1
+most_of Accept = 2 ^ 16 - 1
 most_of Times = 2 ^ 64 - 1
 most_of Seconds = 2 ^ 64 - 1
+most_of GiveUp = 2 ^ 64 - 1
 
 -- the text says a number in range
 abbrev pub IsInRange : NumberRefusal → Text → ℕ → Type 0

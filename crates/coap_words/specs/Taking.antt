@@ -5,9 +5,9 @@ use Rattle.coap_words.specs.Asking.{AsksChange, HasNoTags, IsAsk, SendsBody, tag
 use Rattle.coap_words.specs.Numbers.{argument_of}
 use Rattle.coap_words.specs.Values.{HasNoNumber, HasNoWord}
 use Rattle.coap_words.specs.declared.orders.NumberRefusal.{NumberRefusal}
-use Rattle.coap_words.specs.declared.orders.NumberRefusal.TheVariants.{Port, Count, Limit, Format, Times, Seconds}
+use Rattle.coap_words.specs.declared.orders.NumberRefusal.TheVariants.{Port, Count, Limit, Format, Accept, Times, Seconds, GiveUp}
 use Rattle.coap_words.specs.declared.orders.TagsRefusal.{TagsRefusal}
-use Rattle.coap_words.specs.declared.orders.TagsRefusal.TheVariants.{IfMatch}
+use Rattle.coap_words.specs.declared.orders.TagsRefusal.TheVariants.{Etag, IfMatch}
 use Rattle.coap_words.specs.declared.orders.Wrong.{Wrong}
 use Rattle.coap_words.specs.declared.orders.Wrong.TheVariants.{Words, Path, Number, Word, Tags, Body, Store, Plains}
 use Rattle.coap_words.specs.declared.orders.Wrong.TheVariants.{Hex, Memory}
@@ -26,11 +26,14 @@ TakesNumber Port subcommand = (subcommand ≡ codes "serve") ⊎ IsAsk subcomman
 TakesNumber Count subcommand = subcommand ≡ codes "serve"
 TakesNumber Limit subcommand = MakesEnd subcommand
 TakesNumber Format subcommand = SendsBody subcommand
+TakesNumber Accept subcommand = subcommand ≡ codes "get"
 TakesNumber Times subcommand = subcommand ≡ codes "observe"
 TakesNumber Seconds subcommand = subcommand ≡ codes "observe"
+TakesNumber GiveUp subcommand = IsAsk subcommand
 
 -- the subcommand takes this argument, entity-tags
 abbrev pub TakesTags : TagsRefusal → Text → Type 0
+TakesTags Etag subcommand = subcommand ≡ codes "get"
 TakesTags IfMatch subcommand = AsksChange subcommand
 
 -- what has values the subcommand takes

@@ -37,11 +37,14 @@ pub(crate) fn options_of(
         (IsWrongOption (rows_of (found_of given.now))) }
 {
     let format = small_of(given, NumberRefusal::Format)?;
+    let accept = small_of(given, NumberRefusal::Accept)?;
+    let etags = tags_of(alloc, given, TagsRefusal::Etag)?;
     let if_match = tags_of(alloc, given, TagsRefusal::IfMatch)?;
     let if_none_match = is_set(given, "if-none-match");
     let times = number_of(given, NumberRefusal::Times)?;
     let seconds = number_of(given, NumberRefusal::Seconds)?;
     let hex = is_set(given, "hex");
+    let give_up = number_of(given, NumberRefusal::GiveUp)?;
     let Some(word) = word(given, usual) else {
         return Err(Wrong::Word);
     };
@@ -50,11 +53,14 @@ pub(crate) fn options_of(
     };
     Ok(AskOptions {
         format,
+        accept,
+        etags,
         if_match,
         if_none_match,
         times,
         seconds,
         hex,
+        give_up,
         word,
         limit,
     })

@@ -115,6 +115,10 @@ pub enum Content<'a> {
 pub struct AskOptions {
     /// The format of the body.
     pub format: Option<u16>,
+    /// The format that is wanted.
+    pub accept: Option<u16>,
+    /// The representations that the client has: one of them that is valid is not sent again.
+    pub etags: Tags,
     /// The representations of which one has to be there; none: no condition.
     pub if_match: Tags,
     /// Whether nothing may be there yet.
@@ -125,6 +129,8 @@ pub struct AskOptions {
     pub seconds: Option<u64>,
     /// Whether values are printed in hex.
     pub hex: bool,
+    /// After how many seconds the client gives up.
+    pub give_up: Option<u64>,
     /// The word that the client begins with.
     pub word: WordChoice,
     /// The longest body that the client takes.
@@ -175,12 +181,18 @@ pub enum NumberRefusal {
     /// The format of a body.
     #[error("--format is no number from 0 to 65535")]
     Format,
+    /// The format that is wanted.
+    #[error("--accept is no number from 0 to 65535")]
+    Accept,
     /// After how many values an observation ends.
     #[error("--count is no number from 0 to 18446744073709551615")]
     Times,
     /// After how many seconds an observation ends.
     #[error("--seconds is no number from 0 to 18446744073709551615")]
     Seconds,
+    /// After how many seconds a client gives up.
+    #[error("--give-up is no number from 0 to 18446744073709551615")]
+    GiveUp,
 }
 
 impl NumberRefusal {
@@ -193,8 +205,10 @@ impl NumberRefusal {
             NumberRefusal::Count => "COUNT",
             NumberRefusal::Limit => "limit",
             NumberRefusal::Format => "format",
+            NumberRefusal::Accept => "accept",
             NumberRefusal::Times => "count",
             NumberRefusal::Seconds => "seconds",
+            NumberRefusal::GiveUp => "give-up",
         }
     }
 }
@@ -202,6 +216,9 @@ impl NumberRefusal {
 /// Which argument has a value that is no entity-tag, or more than four of them.
 #[derive(Clone, Copy, Debug, PartialEq, Eq, Error)]
 pub enum TagsRefusal {
+    /// The representations that the client has.
+    #[error("--etag is not the hex of 1 to 8 bytes, or is given more than 4 times")]
+    Etag,
     /// The representations of which one has to be there.
     #[error("--if-match is not the hex of 1 to 8 bytes, or is given more than 4 times")]
     IfMatch,
@@ -213,6 +230,7 @@ impl TagsRefusal {
         ensures { result.now ≡ tags_argument_of self }
     {
         match self {
+            TagsRefusal::Etag => "etag",
             TagsRefusal::IfMatch => "if-match",
         }
     }

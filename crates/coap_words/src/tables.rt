@@ -72,6 +72,18 @@ const FORMAT: Argument = Argument {
     help: "the format of the body, as 0 for text/plain or 50 for application/json",
 };
 
+const ACCEPT: Argument = Argument {
+    form: Form::Single { value_name: "N" },
+    name: "accept",
+    help: "the format that is wanted, as 0 for text/plain or 50 for application/json",
+};
+
+const ETAG: Argument = Argument {
+    form: Form::Repeated { value_name: "HEX" },
+    name: "etag",
+    help: "the entity-tag of a body that is there already, which is not sent again; at most 4",
+};
+
 const IF_MATCH: Argument = Argument {
     form: Form::Repeated { value_name: "HEX" },
     name: "if-match",
@@ -95,6 +107,24 @@ const SECONDS: Argument = Argument {
     form: Form::Single { value_name: "N" },
     name: "seconds",
     help: "ends after so many seconds",
+};
+
+// --give-up of a request.
+const GIVE_UP: Argument = Argument {
+    form: Form::Single {
+        value_name: "SECONDS",
+    },
+    name: "give-up",
+    help: "gives up after so many seconds; the request may still be applied",
+};
+
+// --give-up of an observation.
+const GIVE_UP_OBSERVING: Argument = Argument {
+    form: Form::Single {
+        value_name: "SECONDS",
+    },
+    name: "give-up",
+    help: "gives up where no first value came in so many seconds",
 };
 
 const IN_HEX: Argument = Argument {
@@ -166,7 +196,7 @@ pub(crate) static SUBCOMMANDS: [Subcommand; 10] = [
     Subcommand {
         name: "get",
         about: "Prints what the server at a port of 127.0.0.1 holds at PATH",
-        arguments: &[SERVER_PORT, PATH, WORD, LIMIT],
+        arguments: &[SERVER_PORT, PATH, ACCEPT, ETAG, GIVE_UP, WORD, LIMIT],
     },
     Subcommand {
         name: "put",
@@ -179,6 +209,7 @@ pub(crate) static SUBCOMMANDS: [Subcommand; 10] = [
             FORMAT,
             IF_MATCH,
             IF_NONE_MATCH,
+            GIVE_UP,
             DRAWN_WORD,
             LIMIT,
         ],
@@ -194,6 +225,7 @@ pub(crate) static SUBCOMMANDS: [Subcommand; 10] = [
             FORMAT,
             IF_MATCH,
             IF_NONE_MATCH,
+            GIVE_UP,
             DRAWN_WORD,
             LIMIT,
         ],
@@ -206,6 +238,7 @@ pub(crate) static SUBCOMMANDS: [Subcommand; 10] = [
             PATH,
             IF_MATCH,
             IF_NONE_MATCH,
+            GIVE_UP,
             DRAWN_WORD,
             LIMIT,
         ],
@@ -213,7 +246,16 @@ pub(crate) static SUBCOMMANDS: [Subcommand; 10] = [
     Subcommand {
         name: "observe",
         about: "Prints what the server at a port of 127.0.0.1 holds at PATH, each time that it changes",
-        arguments: &[SERVER_PORT, PATH, TIMES, SECONDS, IN_HEX, DRAWN_WORD, LIMIT],
+        arguments: &[
+            SERVER_PORT,
+            PATH,
+            TIMES,
+            SECONDS,
+            IN_HEX,
+            GIVE_UP_OBSERVING,
+            DRAWN_WORD,
+            LIMIT,
+        ],
     },
     Subcommand {
         name: "sim",

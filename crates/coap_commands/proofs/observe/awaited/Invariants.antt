@@ -1,5 +1,5 @@
 use Rattle.coap_commands.specs.Observes.{Observed}
-use Rattle.coap_commands.proofs.observe.reported.Given as goal
+use Rattle.coap_commands.proofs.observe.awaited.Given as goal
 
 -- so far the observation goes on
 abbrev pub invariant-loop-turn : goal.invariant-loop-turn

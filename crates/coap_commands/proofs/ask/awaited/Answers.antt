@@ -1,7 +1,7 @@
 use Rattle.std.proofs.Common.{◌≡◌, Option, Some, None, IfNone, refl}
 use Rattle.coap_commands.specs.Asks.{AsksNothing}
 use Rattle.coap_commands.proofs.TurnCalls.{client_turned, turned_here, turned_on}
-use Rattle.coap_commands.proofs.ask.reported.Goals as goal
+use Rattle.coap_commands.proofs.ask.awaited.Goals as goal
 
 none_is : {X : Type 0} (P : Type 0) (o : Option X) → IfNone o P → o ≡ None → P
 none_is P None h is = h

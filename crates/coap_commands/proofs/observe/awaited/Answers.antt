@@ -2,7 +2,7 @@ use Rattle.std.proofs.Common.{◌≡◌, Option, Some, None, IfNone, IfSome, sub
 use Rattle.coap_commands.specs.Asks.{AsksNothing}
 use Rattle.coap_commands.proofs.ObservedCalls.{observed_here, observed_on}
 use Rattle.coap_commands.proofs.TurnCalls.{client_turned}
-use Rattle.coap_commands.proofs.observe.reported.Goals as goal
+use Rattle.coap_commands.proofs.observe.awaited.Goals as goal
 
 none_is : {X : Type 0} (P : Type 0) (o : Option X) → IfNone o P → o ≡ None → P
 none_is P None h is = h
@@ -34,3 +34,15 @@ returns-in-Some g c =
       last.0,
       last.1,
     )
+
+pub returns-in-Some-given_up : goal.returns-in-Some-given_up
+returns-in-Some-given_up g c = (
+  some_is _ _ _ c.given_up.ensures c.in-Some-given_up.is,
+  _,
+  _,
+  none_is _ _
+      (c.in_ok-report.ensures.more c.args.options.now c.args.begin.0 c.args.client.now
+      (observed_on c.args.options.now c.args.begin.0 c.args.id.0 _ _ _ _ c.loop-turn.invariant
+      (client_turned AsksNothing (λ call is. is) _ _ _ _ _ _ _ _ _ _ _ _ c.get_turn.ensures)))
+      c.in_default.is,
+)

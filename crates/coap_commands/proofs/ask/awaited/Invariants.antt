@@ -1,5 +1,5 @@
 use Rattle.coap_commands.specs.Asks.{AsksNothing, Turned}
-use Rattle.coap_commands.proofs.ask.reported.Given as goal
+use Rattle.coap_commands.proofs.ask.awaited.Given as goal
 
 -- so far the client was asked for nothing
 abbrev pub invariant-loop-turn : goal.invariant-loop-turn

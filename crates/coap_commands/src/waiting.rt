@@ -1,0 +1,20 @@
+//! How long a program waits.
+ghost use Rattle.std.specs.Prelude.{◌≡◌, Some, IfSome};
+ghost use Rattle.coap_commands.specs.Waiting.{HasPassed};
+
+use coap_types::Moment;
+
+/// The milliseconds of a second.
+pub const MS_PER_SECOND: u64 = 1_000;
+
+const _: () = prove!(MS_PER_SECOND == 1_000);
+
+/// So many seconds, where they have passed since this moment.
+pub(crate) fn passed(seconds: Option<u64>, begin: Moment, now: Moment) -> Option<u64>
+    ensures { IfSome result (λ n. (seconds ≡ Some n) × HasPassed n begin.0 now.0) }
+{
+    match seconds {
+        Some(seconds) if seconds <= now.since(begin) / MS_PER_SECOND => Some(seconds),
+        _ => None,
+    }
+}
