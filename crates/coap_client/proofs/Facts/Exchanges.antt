@@ -6,3 +6,6 @@ pub use Rattle.coap_client.proofs.Reporting.ByAnswers.{are_by_answers}
 pub use Rattle.coap_client.proofs.Fetching.FetchUnchanged.{fetches_unchanged}
 pub use Rattle.coap_client.proofs.Fetching.StaysUnchanged.{are_unchanged}
 pub use Rattle.coap_client.proofs.Sending.HeardOfOpen.{hears_of_open, answers_are_heard}
+pub use Rattle.coap_client.proofs.Sending.LastCancels.{failed_quiet}
+pub use Rattle.coap_client.proofs.Sending.SendsBegin.{sends_begin}
+pub use Rattle.coap_client.proofs.Sending.StaysOpen.{BeginsTo, open_before, closed_by}

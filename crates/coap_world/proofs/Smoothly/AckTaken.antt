@@ -37,7 +37,7 @@ use Rattle.coap_client.specs.Own.{Operation, Observation, Own}
 use Rattle.coap_client.specs.Requests.{message_of}
 use Rattle.coap_client.specs.Trace as C
 use Rattle.coap_client.proofs.Facts.Laws.{back, layer_next}
-use Rattle.coap_client.proofs.Sending.LastCancels.{failed_quiet}
+use Rattle.coap_client.proofs.Facts.Exchanges.{failed_quiet}
 use Rattle.coap_world.specs.Events.{server_end, Config}
 use Rattle.coap_world.specs.Hops.{client_asks, client_asked, client_adds}
 use Rattle.coap_world.proofs.Delivery.HopsAreEntries.{client_asked_next}

@@ -26,10 +26,8 @@ use Rattle.coap_client.specs.Follows.Open.{IsOpenSince, RunsSince}
 use Rattle.coap_client.specs.Follows.Words.{Sending, sends, hears, last_sent}
 use Rattle.coap_client.specs.Law.{ClientLaw, own_of, lower_of, layer_of}
 use Rattle.coap_client.specs.Trace.{Call}
-use Rattle.coap_client.proofs.Facts.Exchanges.{open_runs}
+use Rattle.coap_client.proofs.Facts.Exchanges.{open_runs, sends_begin, BeginsTo, open_before, closed_by}
 use Rattle.coap_client.proofs.Facts.Laws.{back, layer, layer_next, begins_now}
-use Rattle.coap_client.proofs.Sending.SendsBegin.{sends_begin}
-use Rattle.coap_client.proofs.Sending.StaysOpen.{BeginsTo, open_before, closed_by}
 
 -- what the layer's calls leave outstanding is what their entries say
 open_kept : (word : ℕ) (calls : List Asked) → (left_after (start (usual word)) calls).open_cons

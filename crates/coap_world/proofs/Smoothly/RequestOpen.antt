@@ -29,7 +29,7 @@ use Rattle.coap_client.specs.Own.{Operation}
 use Rattle.coap_client.specs.Requests.{message_of}
 use Rattle.coap_client.specs.Trace as C
 use Rattle.coap_client.proofs.Facts.Laws.{back, begins_now, layer, layer_next}
-use Rattle.coap_client.proofs.Sending.StaysOpen.{open_before}
+use Rattle.coap_client.proofs.Facts.Exchanges.{open_before}
 use Rattle.coap_world.proofs.Smoothly.ExchangeOpen.{OpenOf, Runs, runs_of, Lonely, Waited, lonely, last_of, is_last}
 
 -- what is outstanding was begun

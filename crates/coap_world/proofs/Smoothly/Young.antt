@@ -23,7 +23,7 @@ use Rattle.coap_client.specs.Follows.Open.{IsOpenSince, AllEndInTime, HearsOfOpe
 use Rattle.coap_client.specs.Follows.Words.{Sending}
 use Rattle.coap_client.specs.Law.{ClientLaw}
 use Rattle.coap_client.specs.Trace as C
-use Rattle.coap_client.proofs.Sending.StaysOpen.{open_before}
+use Rattle.coap_client.proofs.Facts.Exchanges.{open_before}
 use Rattle.coap_server.specs.Follows.Attended.{CanAnswer, NoId}
 use Rattle.coap_server.specs.Follows.Begins.{NoneToAnswer}
 use Rattle.coap_server.specs.Follows.Observes.{AreObservers}
