@@ -1,6 +1,5 @@
 -- What becomes of a request, from the calls of its client to the status of the program.
 use Rattle.std.proofs.Common.{◌≡◌, ◌++◌, ◌∷◌, [], ℕ, List, Option, Result, Ok, Err, IfOk, refl, subst, sym}
-use Rattle.std.specs.declared.alloc.Global.{Global}
 use Rattle.coap_types.specs.declared.endpoint.Endpoint.{Endpoint}
 use Rattle.coap_block.specs.Sizes.{Sizes}
 use Rattle.coap_client.specs.Led.{Led, State}
