@@ -7,13 +7,13 @@
  * The loop of an end, whichever it is:
  *
  *     for (;;) {
- *         while (ks_server_tick(&server, now(), word()) == KS_DONE) {}      what is due is done; then
+ *         while (ks_server_tick(&server, now(), word()) == KS_DONE) ask_applied();        what is due is done; then
  *         while (ks_server_next_out(&server, &to, room, sizeof room, &len) == KS_DONE) send(to, room, len);
  *         wait for a datagram, until the moment that ks_server_due tells;
- *         ks_server_feed(&server, now(), &from, datagram, datagram_len, word());
+ *         ks_server_feed(&server, now(), &from, datagram, datagram_len, word()), ask_applied();
  *     }
  *
- * A server asks ks_server_applied after each feed, and after each tick that answered KS_DONE.
+ * ask_applied stands for ks_server_applied, at a server: the next feed or tick forgets what the last one applied.
  *
  * Rules for all calls. Nothing checks them:
  *  - A handle is all zero before its first call: `ks_server server = {0};`. Change none of its bytes, and do not copy it
@@ -55,7 +55,7 @@ enum {
     KS_BAD_SIZE = -6,       /* ks_config.size is neither 0 nor sizeof (ks_config) */
     KS_BAD_BLOCK_SIZE = -7, /* ks_config.block_size is none of 0, 16, 32, 64, 128, 256, 512 and 1,024 */
     KS_BAD_BODY_LIMIT = -8, /* ks_config.body_limit is over 1,048,576 */
-    KS_BAD_REMEMBERED = -9, /* ks_config.remembered is neither 0 nor 4,096 */
+    KS_BAD_REMEMBERED = -9, /* ks_config.remembered is over 1,048,576 */
     KS_BAD_CHANGES = -10    /* ks_config.changes is over 4,194,303 */
 };
 
@@ -78,9 +78,8 @@ typedef struct { uint8_t ip[4]; uint16_t port; } ks_address;
  * sizeof (ks_config) and the fields that you want; 0 in a field is the usual number.
  *   block_size  bytes of a block at most: 16, 32, .. 1,024 (1,024)
  *   body_limit  bytes of a body at most, that is sent, joined from blocks or held: up to 1,048,576 (65,536)
- *   remembered  how many messages are remembered at once, to tell repeats: 4,096 is the one number that there is so far,
- *               any other is refused with KS_BAD_REMEMBERED. One is remembered for 247 s; while all places are
- *               taken, new messages go unanswered
+ *   remembered  how many messages are remembered at once, to tell repeats: up to 1,048,576 (4,096). One is remembered for
+ *               247 s, with its reply of up to 1,152 bytes; while all places are taken, new messages go unanswered
  *   changes     how many changes a server's store takes in 256 s: up to 4,194,303 (4,194,303); a client has no use for it
  * Later versions add fields at the end; an older library refuses the larger size. */
 typedef struct { uint32_t size; uint32_t block_size; uint32_t body_limit; uint32_t remembered; uint32_t changes; } ks_config;
@@ -95,7 +94,8 @@ typedef struct { uint64_t word; uint64_t key0; uint64_t key1; } ks_seed;
 /* ---- The server -------------------------------------------------------------------------------------------------- */
 
 /* Makes a server that holds nothing; what the handle held is freed. KS_OK; KS_BAD_SIZE, KS_BAD_BLOCK_SIZE,
- * KS_BAD_BODY_LIMIT, KS_BAD_REMEMBERED, KS_BAD_CHANGES, KS_NO_MEMORY, after which the handle holds what it held. */
+ * KS_BAD_BODY_LIMIT, KS_BAD_REMEMBERED, KS_BAD_CHANGES, KS_NO_MEMORY, after which the handle holds what it held. A number
+ * names a field that is wrong, and KS_NO_MEMORY says that none is. */
 int32_t ks_server_new(ks_server *handle, const ks_config *config, const ks_seed *seed);
 
 /* Frees it. The handle is empty then: it may be freed again, and used for a new end. */
@@ -179,7 +179,8 @@ int32_t ks_server_applied(ks_server *handle, ks_applied *done, char *room, size_
 
 /* ---- The client of one server ------------------------------------------------------------------------------------ */
 
-/* Makes a client of that server, to which nothing has happened; what the handle held is freed. As ks_server_new. */
+/* Makes a client of that server, to which nothing has happened; what the handle held is freed. As ks_server_new,
+ * but for KS_BAD_CHANGES. */
 int32_t ks_client_new(ks_client *handle, const ks_address *server, const ks_config *config, const ks_seed *seed);
 
 /* Frees it, as ks_server_free does. What it asked for is not cancelled: an observation ends at the server's next

@@ -1,168 +1,6 @@
-/* ends: both ends in one process, over no socket, by the calls of knifesilver.h alone; each answer is compared. Then an
- * exchange with each allocation refused in turn: this file has the three calls by which the library takes memory (it is
- * linked with an archive that bindings/build --no-heap made). Ends with status 0, or says where an answer differs. */
-#include "knifesilver.h"
-#include <stdio.h>
-#include <stdlib.h>
-#include <string.h>
-
-#define P(text) (text), sizeof(text) - 1
-#define NONE &one_tag, 0
-#define IS(a, b)                                                                                                   \
-    do {                                                                                                           \
-        long long x = (long long)(a), y = (long long)(b);                                                          \
-        if (x != y) {                                                                                              \
-            printf("%s:%d: %s is %lld, not %lld\n", __FILE__, __LINE__, #a, x, y);                                 \
-            exit(1);                                                                                               \
-        }                                                                                                          \
-    } while (0)
-
-/* Memory, of which the n-th allocation is refused. */
-
-struct tried {
-    bool ok;
-    void *at;
-};
-
-struct tried rattle_alloc(size_t size, size_t align);
-struct tried rattle_realloc(void *at, size_t kept, size_t size, size_t align);
-void rattle_dealloc(void *at);
-
-static long refuse_at = -1, allocated;
-static char nowhere;
-
-static struct tried tried(void *at) { return (struct tried){at != NULL, at != NULL ? at : &nowhere}; }
-
-struct tried rattle_alloc(size_t size, size_t align) {
-    return tried(++allocated == refuse_at ? NULL : malloc(size != 0 ? size : align));
-}
-
-struct tried rattle_realloc(void *at, size_t kept, size_t size, size_t align) {
-    (void)kept;
-    return tried(++allocated == refuse_at ? NULL : realloc(at, size != 0 ? size : align));
-}
-
-void rattle_dealloc(void *at) { free(at); }
-
-/* Two ends, and a network that carries what is out. */
-
-static ks_server server;
-static ks_client client;
-static uint64_t now;
-static const ks_address here = {{127, 0, 0, 1}, 40001}, there = {{127, 0, 0, 1}, 5683};
-static ks_tag one_tag;
-static uint8_t room[65536], datagram[KS_DATAGRAM_ROOM];
-static char path_room[KS_PATH_ROOM];
-static long no_memory, switched;
-
-static uint64_t word(void) {
-    static uint64_t s = 88172645463325252u;
-    s ^= s << 13;
-    s ^= s >> 7;
-    return s ^= s << 17;
-}
-
-static int32_t seen(int32_t answer) {
-    if (answer == KS_NO_MEMORY) no_memory++;
-    return answer;
-}
-
-/* What the server applied, in the call that served it. */
-static void ask_applied(void) {
-    ks_applied done;
-    if (ks_server_applied(&server, &done, path_room, sizeof path_room) == KS_DONE && done.path_len == 5
-        && memcmp(path_room, "/lamp", 5) == 0)
-        switched++;
-}
-
-static void turn(void) {
-    ks_address to;
-    size_t len;
-    while (seen(ks_client_tick(&client, now, word())) == KS_DONE) {}
-    while (seen(ks_server_tick(&server, now, word())) == KS_DONE) ask_applied();
-    for (int more = 1; more;) {
-        more = 0;
-        while (ks_client_next_out(&client, &to, datagram, sizeof datagram, &len) == KS_DONE) {
-            IS(to.port, there.port);
-            if (seen(ks_server_feed(&server, now, &here, datagram, len, word())) == KS_OK) ask_applied();
-            more = 1;
-        }
-        while (ks_server_next_out(&server, &to, datagram, sizeof datagram, &len) == KS_DONE) {
-            IS(to.port, here.port);
-            seen(ks_client_feed(&client, now, &there, datagram, len, word()));
-            more = 1;
-        }
-    }
-}
-
-static ks_report await(void) {
-    ks_report report;
-    for (int i = 0; i < 100000; i++, now += 50) {
-        turn();
-        if (ks_client_next_report(&client, &report, room, sizeof room) == KS_DONE) return report;
-    }
-    printf("no report\n");
-    exit(1);
-}
-
-static void begin(void) {
-    ks_config config = {0};
-    ks_seed seed = {word(), word(), word()};
-    IS(ks_server_new(&server, &config, &seed), KS_OK);
-    IS(ks_client_new(&client, &there, &config, &seed), KS_OK);
-    now = 0;
-}
-
-static void end(void) {
-    ks_server_free(&server);
-    ks_server_free(&server);
-    ks_client_free(&client);
-}
-
-static void handles_and_configurations(void) {
-    ks_config config = {0};
-    ks_seed seed = {1, 2, 3};
-    uint64_t at;
-    IS(ks_version(), KS_VERSION);
-    IS(ks_server_tick(&server, 0, 0), KS_NOT_LIVE);
-    IS(ks_client_due(&client, &at), KS_NOT_LIVE);
-    config.size = 19;
-    IS(ks_server_new(&server, &config, &seed), KS_BAD_SIZE);
-    config.size = sizeof config;
-    config.block_size = 48;
-    IS(ks_server_new(&server, &config, &seed), KS_BAD_BLOCK_SIZE);
-    config.block_size = 16;
-    config.body_limit = 1048577;
-    IS(ks_server_new(&server, &config, &seed), KS_BAD_BODY_LIMIT);
-    IS(ks_client_new(&client, &there, &config, &seed), KS_BAD_BODY_LIMIT);
-    config.body_limit = 1048576;
-    config.remembered = 1;
-    IS(ks_server_new(&server, &config, &seed), KS_BAD_REMEMBERED);
-    config.remembered = 4096;
-    config.changes = 4194304;
-    IS(ks_server_new(&server, &config, &seed), KS_BAD_CHANGES);
-    config.changes = 2;
-    IS(ks_server_new(&server, &config, &seed), KS_OK);
-    uint64_t version;
-    IS(ks_server_set(&server, 0, P("a"), -1, P("1"), &version), KS_OK);
-    IS(ks_server_set(&server, 0, P("a"), -1, P("2"), &version), KS_OK);
-    IS(version, 2);
-    IS(ks_server_set(&server, 0, P("a"), -1, P("3"), &version), KS_SET_RATE_EXCEEDED);
-    IS(ks_server_update(&server, 0, P("a"), -1, P("2"), &version), KS_OK);
-    IS(ks_server_remove(&server, 0, P("a")), KS_SET_RATE_EXCEEDED);
-    /* A refused configuration leaves the handle as it was. */
-    config.changes = 4194304;
-    IS(ks_server_new(&server, &config, &seed), KS_BAD_CHANGES);
-    ks_representation shown;
-    IS(ks_server_get(&server, P("a"), &shown, room, 1), KS_DONE);
-    IS(room[0], '2');
-    begin();
-    IS(ks_server_tick((ks_server *)&client, 0, 0), KS_NOT_LIVE);
-    IS(ks_client_tick((ks_client *)&server, 0, 0), KS_NOT_LIVE);
-    IS(ks_client_forget((ks_client *)&server, 0), KS_NOT_LIVE);
-    IS(ks_server_due(&server, &at), KS_OK);
-    end();
-}
+/* ends: both ends in one process, call by call; each answer is compared. Then an exchange with each allocation refused in
+ * turn. Ends with status 0, or says where an answer differs. */
+#include "both_ends.h"
 
 static void the_servers_own_side(void) {
     static uint8_t body[65537];
@@ -178,6 +16,13 @@ static void the_servers_own_side(void) {
     IS(ks_server_set(&server, now, P("t"), 42, P("22.3 C"), &version), KS_OK);
     IS(version, 3);
     IS(ks_server_set(&server, now, P("a/b/c/d/e/f/g/h/i/j/k/l/m/n/o/p/q"), 0, P(""), &version), KS_BAD_PATH);
+    static char longest[256];
+    allocated = 0;
+    IS(ks_server_get(&server, longest, 256, &shown, room, 5), KS_BAD_PATH);
+    IS(ks_server_remove(&server, now, P("a/b/c/d/e/f/g/h/i/j/k/l/m/n/o//q")), KS_BAD_PATH);
+    IS(allocated, 0);
+    IS(ks_server_get(&server, longest, 255, &shown, room, 5), KS_OK);
+    IS(ks_server_get(&server, P("/a/b/c/d/e/f/g/h/i/j/k/l/m/n/o/"), &shown, room, 5), KS_OK);
     IS(ks_server_get(&server, P("/t"), &shown, room, 5), KS_SMALL_ROOM);
     IS(shown.body_len, 6);
     IS(ks_server_get(&server, P("/t"), &shown, room, 6), KS_DONE);
@@ -372,7 +217,6 @@ static long exchange(long n) {
 }
 
 int main(void) {
-    handles_and_configurations();
     the_servers_own_side();
     each_call_of_a_client();
     observation();

@@ -74,7 +74,10 @@ fn main() -> Result<(), Box<dyn Error>> {
         let client = Client::new(&Config::default(), SocketAddrV4::new(Ipv4Addr::LOCALHOST, *at), Instant::now())?;
         clients.push(Source { client, socket: open(end, 0, &to)?, again: Some(Instant::now()) });
     }
-    let mut server = Server::new(&Config::default(), Instant::now())?;
+    let mut config = Config::default();
+    // It takes 265 new messages a second for good, and not the usual 16.
+    config.remembered = 65_536;
+    let mut server = Server::new(&config, Instant::now())?;
     let (own, mut buffer) = (open(clients.len(), *port, &to)?, [0; MAX_DATAGRAM]);
     loop {
         let now = Instant::now();

@@ -36,7 +36,7 @@ errors! {
         /// No body is limited so.
         BodyLimit = "the limit of bodies is not 1 to 1,048,576",
         /// So many messages cannot be remembered.
-        Remembered = "the number of remembered messages is not 4,096",
+        Remembered = "the number of remembered messages is not 1 to 1,048,576",
         /// No window takes so many changes.
         Changes = "the number of changes is not 1 to 4,194,303",
     }

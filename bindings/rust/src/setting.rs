@@ -20,7 +20,7 @@ pub struct Config {
     pub block_size: u32,
     /// Bytes of a body at most, that is sent, joined from blocks or held: 1 to 1,048,576.
     pub body_limit: u32,
-    /// How many messages are remembered at once: 4,096 so far.
+    /// How many messages are remembered at once, each for 247 s: 1 to 1,048,576 (RFC 7252, section 4.5).
     pub remembered: u32,
     /// How many changes a server's store takes in 256 s: 1 to 4,194,303.
     pub changes: u32,

@@ -232,3 +232,22 @@ fn random_datagrams_leave_both_ends_at_work() {
     let (_, report) = run.until_report();
     assert!(matches!(report, Report::Body(fetched) if fetched.body == b"22.3 C"));
 }
+
+#[test]
+fn as_many_messages_are_remembered_as_are_chosen() {
+    for remembered in [1, 2, 4_096, 5_000] {
+        let mut config = Config::default();
+        config.remembered = remembered;
+        let (now, mut buffer) = (Instant::now(), [0; MAX_DATAGRAM]);
+        let mut server = Server::new(&config, now).unwrap();
+        let mut asks = |id: u32, now| {
+            server.handle(now, HERE, &[0x40, 1, (id >> 8) as u8, id as u8, 0xb1, b't']).unwrap();
+            server.poll_transmit(&mut buffer).is_some()
+        };
+        assert!((0..remembered).all(|id| asks(id, now)));
+        // The places are taken for 247 s.
+        assert!(!asks(remembered, now));
+        assert!(!asks(remembered, now + Duration::from_secs(247)));
+        assert!(asks(remembered, now + Duration::from_millis(247_001)));
+    }
+}

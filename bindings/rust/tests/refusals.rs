@@ -32,7 +32,9 @@ fn configurations_are_refused() {
     assert_eq!(refused(|c| c.block_size = 2_048), (Some(NewError::BlockSize), Some(NewError::BlockSize)));
     assert_eq!(refused(|c| c.block_size = 17), (Some(NewError::BlockSize), Some(NewError::BlockSize)));
     assert_eq!(refused(|c| c.body_limit = 1_048_577), (Some(NewError::BodyLimit), Some(NewError::BodyLimit)));
-    assert_eq!(refused(|c| c.remembered = 4_095), (Some(NewError::Remembered), Some(NewError::Remembered)));
+    assert_eq!(refused(|c| c.remembered = 1_048_577), (Some(NewError::Remembered), Some(NewError::Remembered)));
+    assert_eq!(refused(|c| c.remembered = 1_048_576), (None, None));
+    assert_eq!(refused(|c| c.remembered = 1), (None, None));
     assert_eq!(refused(|c| c.changes = 4_194_304), (Some(NewError::Changes), None));
     assert_eq!(refused(|c| c.block_size = 16), (None, None));
     assert_eq!(NewError::BodyLimit.to_string(), "the limit of bodies is not 1 to 1,048,576");

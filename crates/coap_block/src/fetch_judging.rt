@@ -70,6 +70,7 @@ fn differs(progress: &Progress, tag: &Option<Tag>) -> bool
 }
 
 // The block behind that one is asked for, in the smaller of both sizes.
+#[inline(always)]
 fn ask_behind(szx: Szx, block: Block) -> Verdict
     requires { offset_of block.num block.szx + size_of block.szx ≤ MAX_BODY_LIMIT }
     ensures next { result ≡ Ask (number_behind szx block) (min block.szx szx) }

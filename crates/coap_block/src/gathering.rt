@@ -67,6 +67,7 @@ impl<A: Allocator + Copy> Gathering<A> {
     }
 
     /// Puts bytes behind the first `len`, in place of what is there.
+    #[inline(always)]
     pub(crate) fn put_at(&mut self, len: usize, more: &[u8]) -> Result<(), AllocError>
         requires { len ≤ length self.old }
         ensures ok { OnOk result (self.new ≡ take len self.old ++ more.now) }

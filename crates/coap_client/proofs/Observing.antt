@@ -7,6 +7,7 @@ pub mod FewObserved
 pub mod KeptTokens
 pub mod LastValue
 pub mod Marks
+pub mod NoneFetched
 pub mod Noticed
 pub mod Notified
 pub mod ObservationOrigins
@@ -17,3 +18,4 @@ pub mod StaysLive
 pub mod TokensKept
 pub mod Values
 pub mod WatchedAs
+pub mod Registered

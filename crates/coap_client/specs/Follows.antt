@@ -26,6 +26,7 @@ pub mod Holds
 pub mod LastValue
 pub mod Live
 pub mod Newer
+pub mod NoneFetched
 pub mod Noted
 pub mod Noticed
 pub mod Notified

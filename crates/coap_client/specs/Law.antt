@@ -1,7 +1,8 @@
 -- The law of a client, over whole traces of its calls, the newest first (RFC 7252, section 5).
-use Rattle.std.specs.Prelude.{ℕ, List}
+use Rattle.std.specs.Prelude.{List}
 use Rattle.coap_types.specs.declared.endpoint.Endpoint.{Endpoint}
 use Rattle.coap_layer.specs.Trace.{Entry}
+use Rattle.coap_layer.specs.declared.setup.Setup.{Setup}
 use Rattle.coap_block.specs.Sizes.{Sizes}
 use Rattle.coap_exchange.specs.Above.{sum_of, asked_by, Rows}
 use Rattle.coap_exchange.specs.AskerTrace as E
@@ -24,10 +25,10 @@ module _ (sizes : Sizes) where
   ClientRows trace = Rows (start sizes) after IsRight trace
 
 -- .. and the calls of its exchanges stand in their law, those of the message layer in its own
-pub record ClientLaw (server : Endpoint) (sizes : Sizes) (word : ℕ) (trace : List Call) : Type 0 where
+pub record ClientLaw (server : Endpoint) (sizes : Sizes) (setup : Setup) (trace : List Call) : Type 0 where
   pub rows : ClientRows sizes trace
-  pub exchanges : ExchangeLaw server word (lower_of sizes trace)
+  pub exchanges : ExchangeLaw server setup (lower_of sizes trace)
 
 -- the trace of the message layer
-abbrev pub layer_of : Endpoint → (sizes : Sizes) (word : ℕ) → List Call → List Entry
-layer_of server sizes word trace = below_of server word (lower_of sizes trace)
+abbrev pub layer_of : Endpoint → (sizes : Sizes) (setup : Setup) → List Call → List Entry
+layer_of server sizes setup trace = below_of server setup (lower_of sizes trace)

@@ -33,6 +33,8 @@ ghost use Rattle.std.specs.Option.{option_map};
 ghost use Rattle.coap_types.specs.declared.endpoint.Endpoint.{Endpoint};
 ghost use Rattle.coap_block.specs.Sizes.{Sizes, usual_sizes};
 ghost use Rattle.coap_layer.specs.Trace as L;
+ghost use Rattle.coap_layer.specs.Machine.State.{usual};
+ghost use Rattle.coap_layer.specs.declared.setup.Setup.{Setup as SetupSpec};
 ghost use Rattle.coap_exchange.specs.declared.asker.AskRefusal.{AskRefusal};
 ghost use Rattle.coap_exchange.specs.declared.asker.Event.{Event};
 ghost use Rattle.coap_exchange.specs.declared.asker.Turn.{Turn};
@@ -54,7 +56,7 @@ use crate::client::held::Held;
 use crate::client::request_options::{is_long_path, is_long_request};
 use crate::{CallRefusal, CancelRefusal};
 use coap_exchange::Asker;
-use coap_layer::Datagram;
+use coap_layer::{Datagram, Setup};
 use coap_types::{BodyLimit, Endpoint, Moment, Path, Request, Szx, Token, earlier};
 pub use report::{CallId, Fetched, Report};
 use std::alloc::{AllocError, Allocator};
@@ -89,9 +91,9 @@ impl<A: Allocator + Copy> Client<A, BuildHasherDefault<FoldHasher>> {
     /// bytes, in blocks of at most that size. The word picks the first token and the first Message ID.
     pub fn new(alloc: A, server: Endpoint, szx: Szx, word: u64) -> Self
         // To a `new` client no call has led, with the usual limit of a body.
-        ensures led { Led server (usual_sizes szx) word [] result }
+        ensures led { Led server (usual_sizes szx) (usual word) [] result }
         // A `new` client is in the state in which no call was made, by its server, block size and word.
-        ensures start { result ≡ fresh_state server (usual_sizes szx) word }
+        ensures start { result ≡ fresh_state server (usual_sizes szx) (usual word) }
     {
         Client::with_hasher(alloc, server, szx, word, BuildHasherDefault::new())
     }
@@ -101,9 +103,9 @@ impl<A: Allocator + Copy, H: BuildHasher> Client<A, H> {
     /// The same, with a hasher for the messages that are remembered.
     pub fn with_hasher(alloc: A, server: Endpoint, szx: Szx, word: u64, hasher: H) -> Self
         // To a client of `with_hasher` no call has led.
-        ensures led { Led server (usual_sizes szx) word [] result }
+        ensures led { Led server (usual_sizes szx) (usual word) [] result }
         // A client of `with_hasher` is in the state in which no call was made, whatever the hasher.
-        ensures start { result ≡ fresh_state server (usual_sizes szx) word }
+        ensures start { result ≡ fresh_state server (usual_sizes szx) (usual word) }
     {
         Client::with_limit(alloc, server, szx, word, BodyLimit::default(), hasher)
     }
@@ -118,13 +120,31 @@ impl<A: Allocator + Copy, H: BuildHasher> Client<A, H> {
         hasher: H,
     ) -> Self
         // To a client of `with_limit` no call has led, with that limit of a body.
-        ensures led { Led server (record { szx = szx; limit = limit }) word [] result }
+        ensures led { Led server (record { szx = szx; limit = limit }) (usual word) [] result }
         // A client of `with_limit` is in the state in which no call was made, with that limit.
-        ensures start { result ≡ fresh_state server (record { szx = szx; limit = limit }) word }
+        ensures start { result ≡ fresh_state server (record { szx = szx; limit = limit }) (usual word) }
+    {
+        Client::with_setup(alloc, server, szx, limit, Setup::new(word), hasher)
+    }
+
+    /// The same, with so many messages that are remembered at most (RFC 7252, section 4.5).
+    pub fn with_setup(
+        alloc: A,
+        server: Endpoint,
+        szx: Szx,
+        limit: BodyLimit,
+        setup: Setup,
+        hasher: H,
+    ) -> Self
+        // To a client of `with_setup` no call has led, with that limit, and as many messages can be remembered as were
+        // chosen.
+        ensures led { Led server (record { szx = szx; limit = limit }) setup [] result }
+        // A client of `with_setup` is in the state in which no call was made, by its word and number of places.
+        ensures start { result ≡ fresh_state server (record { szx = szx; limit = limit }) setup }
     {
         Client {
             alloc,
-            asker: Asker::with_hasher(alloc, server, word, hasher),
+            asker: Asker::with_setup(alloc, server, setup, hasher),
             held: Held::new(alloc, szx, limit),
         }
     }
@@ -143,11 +163,11 @@ impl<A: Allocator + Copy, H: BuildHasher> Client<A, H> {
             × (token : Result (List ℕ) AskRefusal) × (kept : Bool)
             × Step self.old (Feeds now.0 from bytes.now word up settled event sent token kept) self.new) }
         // Every history that led to the client leads on with this datagram, unless it was refused memory.
-        ensures led { OnOk result ((server : Endpoint) (sizes : Sizes) (w : ℕ) (t : List Call)
-            → Led server sizes w t self.old
+        ensures led { OnOk result ((server : Endpoint) (sizes : Sizes) (setup : SetupSpec) (t : List Call)
+            → Led server sizes setup t self.old
             → (up : L.Answer) × (settled : Bool) × (event : Option Event) × (sent : L.Answer)
             × (token : Result (List ℕ) AskRefusal) × (kept : Bool)
-            × Led server sizes w (Feeds now.0 from bytes.now word up settled event sent token kept ∷ t) self.new) }
+            × Led server sizes setup (Feeds now.0 from bytes.now word up settled event sent token kept ∷ t) self.new) }
         // A datagram that is refused memory leaves the client as it was.
         ensures err { OnErr result (self.new ≡ self.old) }
         // Where nothing is sent, kept or told, as for an acknowledgement that matches nothing, it takes no memory.
@@ -201,9 +221,9 @@ impl<A: Allocator + Copy, H: BuildHasher> Client<A, H> {
         ensures step { result ≢ Err refusals.Memory
             → Step self.old (Calls now.0 (shown_request request) (number_of result)) self.new }
         // Every history that led to the client leads on with this call, unless it was refused memory.
-        ensures led { (server : Endpoint) (sizes : Sizes) (w : ℕ) (t : List Call) → Led server sizes w t self.old
+        ensures led { (server : Endpoint) (sizes : Sizes) (setup : SetupSpec) (t : List Call) → Led server sizes setup t self.old
             → result ≢ Err refusals.Memory
-            → Led server sizes w (Calls now.0 (shown_request request) (number_of result) ∷ t) self.new }
+            → Led server sizes setup (Calls now.0 (shown_request request) (number_of result) ∷ t) self.new }
         // A call that is refused memory leaves the client as it was.
         ensures memory { result ≡ Err refusals.Memory → self.new ≡ self.old }
         // Where it is refused for another reason, it takes no memory.
@@ -221,9 +241,9 @@ impl<A: Allocator + Copy, H: BuildHasher> Client<A, H> {
         ensures step { result ≢ Err refusals.Memory
             → Step self.old (Observes now.0 path (number_of result)) self.new }
         // Every history that led to the client leads on with this observation, unless it was refused memory.
-        ensures led { (server : Endpoint) (sizes : Sizes) (w : ℕ) (t : List Call) → Led server sizes w t self.old
+        ensures led { (server : Endpoint) (sizes : Sizes) (setup : SetupSpec) (t : List Call) → Led server sizes setup t self.old
             → result ≢ Err refusals.Memory
-            → Led server sizes w (Observes now.0 path (number_of result) ∷ t) self.new }
+            → Led server sizes setup (Observes now.0 path (number_of result) ∷ t) self.new }
         // An observation that is refused memory leaves the client as it was.
         ensures memory { result ≡ Err refusals.Memory → self.new ≡ self.old }
         // An observation that is refused for another reason takes no memory.
@@ -239,8 +259,8 @@ impl<A: Allocator + Copy, H: BuildHasher> Client<A, H> {
         // Whether a cancel is taken, and what that leaves, is a step of the client's machine.
         ensures step { Step self.old (Cancels now.0 id.0 (refusal_in result)) self.new }
         // Every history that led to the client leads on with this cancel, which is never refused memory.
-        ensures led { (server : Endpoint) (sizes : Sizes) (w : ℕ) (t : List Call) → Led server sizes w t self.old
-            → Led server sizes w (Cancels now.0 id.0 (refusal_in result) ∷ t) self.new }
+        ensures led { (server : Endpoint) (sizes : Sizes) (setup : SetupSpec) (t : List Call) → Led server sizes setup t self.old
+            → Led server sizes setup (Cancels now.0 id.0 (refusal_in result) ∷ t) self.new }
     {
         cancelling::cancel(&mut self.held, now, id)
     }
@@ -252,8 +272,8 @@ impl<A: Allocator + Copy, H: BuildHasher> Client<A, H> {
         // Whether there was such an observation, and what its end leaves, is a step of the client's machine.
         ensures step { (kept : Bool) × Step self.old (Forgets id.0 kept result) self.new }
         // Every history that led to the client leads on with an observation that is forgotten.
-        ensures led { (server : Endpoint) (sizes : Sizes) (w : ℕ) (t : List Call) → Led server sizes w t self.old
-            → (kept : Bool) × Led server sizes w (Forgets id.0 kept result ∷ t) self.new }
+        ensures led { (server : Endpoint) (sizes : Sizes) (setup : SetupSpec) (t : List Call) → Led server sizes setup t self.old
+            → (kept : Bool) × Led server sizes setup (Forgets id.0 kept result ∷ t) self.new }
     {
         forgetting::forget(&mut self.asker, &mut self.held, id)
     }
@@ -269,10 +289,10 @@ impl<A: Allocator + Copy, H: BuildHasher> Client<A, H> {
             × (token : Result (List ℕ) AskRefusal)
             × (kept : Bool) × Step self.old (Ticks now.0 word below due sent token kept did) self.new) }
         // Every history that led to the client leads on with this tick, unless it was refused memory.
-        ensures led { (server : Endpoint) (sizes : Sizes) (w : ℕ) (t : List Call) → Led server sizes w t self.old
+        ensures led { (server : Endpoint) (sizes : Sizes) (setup : SetupSpec) (t : List Call) → Led server sizes setup t self.old
             → IfOk result (λ did. (below : L.Answer) × (due : Turn) × (sent : L.Answer)
             × (token : Result (List ℕ) AskRefusal)
-            × (kept : Bool) × Led server sizes w (Ticks now.0 word below due sent token kept did ∷ t) self.new) }
+            × (kept : Bool) × Led server sizes setup (Ticks now.0 word below due sent token kept did ∷ t) self.new) }
         // Each tick of a client that does something leaves less to be done at its moment.
         ensures less { result ≡ Ok true → work self.new now.0 < work self.old now.0 }
         // A tick that is refused memory leaves the client as it was.
@@ -289,8 +309,8 @@ impl<A: Allocator + Copy, H: BuildHasher> Client<A, H> {
         // Which request the last datagram or tick sent for the first time is told as the machine has it.
         ensures step { Step self.now (Asked (shown_asked result)) self.now }
         // Every history that led to the client leads on with this question, which changes nothing.
-        ensures led { (server : Endpoint) (sizes : Sizes) (w : ℕ) (t : List Call) → Led server sizes w t self.now
-            → Led server sizes w (Asked (shown_asked result) ∷ t) self.now }
+        ensures led { (server : Endpoint) (sizes : Sizes) (setup : SetupSpec) (t : List Call) → Led server sizes setup t self.now
+            → Led server sizes setup (Asked (shown_asked result) ∷ t) self.now }
     {
         last_request::asked(&self.held)
     }
@@ -300,8 +320,8 @@ impl<A: Allocator + Copy, H: BuildHasher> Client<A, H> {
         // Which datagram the client gives out, and what that leaves, is a step of its machine.
         ensures step { Step self.old (NextOut result) self.new }
         // Every history that led to the client leads on with a datagram that it gives out.
-        ensures led { (server : Endpoint) (sizes : Sizes) (w : ℕ) (t : List Call) → Led server sizes w t self.old
-            → Led server sizes w (NextOut result ∷ t) self.new }
+        ensures led { (server : Endpoint) (sizes : Sizes) (setup : SetupSpec) (t : List Call) → Led server sizes setup t self.old
+            → Led server sizes setup (NextOut result ∷ t) self.new }
         // The datagram that the client gives out is the first that waited.
         ensures some { IfSome result (λ datagram. self.old.layer.layer.queue ≡ datagram ∷ self.new.layer.layer.queue) }
         // The client gives out none only where none waited, and nothing changes.
@@ -317,8 +337,8 @@ impl<A: Allocator + Copy, H: BuildHasher> Client<A, H> {
         // Which report is taken, and what that leaves, is a step of the client's machine.
         ensures step { Step self.old (NextReport (option_map shown_reported result)) self.new }
         // Every history that led to the client leads on with a report that is taken.
-        ensures led { (server : Endpoint) (sizes : Sizes) (w : ℕ) (t : List Call) → Led server sizes w t self.old
-            → Led server sizes w (NextReport (option_map shown_reported result) ∷ t) self.new }
+        ensures led { (server : Endpoint) (sizes : Sizes) (setup : SetupSpec) (t : List Call) → Led server sizes setup t self.old
+            → Led server sizes setup (NextReport (option_map shown_reported result) ∷ t) self.new }
         // Each report that is taken leaves one less to be taken.
         ensures some { IfSome result (λ report. self.old.own.reports ≡ shown_reported report ∷ self.new.own.reports) }
         // No report is given only where none waited, and nothing changes.

@@ -101,6 +101,7 @@ fn has_room(token: &[u8], options: &[Opt<'_>], payload: &[u8], room: usize) -> b
 }
 
 // Why a message is not to be written into this room.
+#[inline(always)]
 fn refuses(head: &Head, options: &[Opt<'_>], payload: &[u8], room: usize) -> Option<Refusal>
     ensures refused { IfSome result (λ r. Refused r (message head.now options.now payload.now) room) }
     ensures none { IfNone result (IsWritable (message head.now options.now payload.now) room) }
@@ -124,6 +125,7 @@ fn refuses(head: &Head, options: &[Opt<'_>], payload: &[u8], room: usize) -> Opt
 }
 
 // Writes a message from the start on, and answers its length.
+#[inline(always)]
 fn put_message(out: &mut [u8], head: &Head, options: &[Opt<'_>], payload: &[u8]) -> usize
     requires { IsWritable (message head.now options.now payload.now) (length out.old) }
     ensures written { Puts out.old 0 (message_bytes (message head.now options.now payload.now)) out.new }
@@ -141,6 +143,7 @@ fn put_message(out: &mut [u8], head: &Head, options: &[Opt<'_>], payload: &[u8])
 ///
 /// A message is refused with the first that holds of [`Refusal::EmptyNotBare`],
 /// [`Refusal::OptionOrder`], [`Refusal::OptionTooLong`] and [`Refusal::NoRoom`].
+#[inline(always)]
 pub fn encode(
     head: &Head,
     options: &[Opt<'_>],

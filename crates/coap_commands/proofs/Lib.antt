@@ -1,6 +1,10 @@
 pub mod ObservedCalls
 pub mod PathWords
+pub mod RightWords
+pub mod RunEnds
 pub mod ScriptWords
+pub mod SettingUpCalls
 pub mod Statuses
 pub mod TurnCalls
 pub mod WhatBecomes
+pub mod WhoTakes

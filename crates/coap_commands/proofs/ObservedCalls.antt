@@ -2,6 +2,7 @@
 use Rattle.std.proofs.Common.{◌≡◌, ◌≤◌, ◌+◌, ◌++◌, ◌∷◌, [], ℕ, List, Option, Some, None, Result, Ok, Err, IfOk, true}
 use Rattle.std.proofs.Common.{inl, inr, refl, subst, arith}
 use Rattle.coap_types.specs.declared.endpoint.Endpoint.{Endpoint}
+use Rattle.coap_layer.specs.declared.setup.Setup.{Setup}
 use Rattle.coap_block.specs.Sizes.{Sizes}
 use Rattle.coap_client.specs.Led.{Led, State, Step}
 use Rattle.coap_client.specs.Object.Shown.{number_of, shown_report}
@@ -12,7 +13,7 @@ use Rattle.coap_client.specs.declared.refusals.CallRefusal.{CallRefusal}
 use Rattle.coap_client.specs.declared.refusals.CancelRefusal.{CancelRefusal}
 use Rattle.coap_client.proofs.Facts.EachCall.{led_client}
 use Rattle.coap_words.specs.declared.orders.AskOptions.{AskOptions}
-use Rattle.coap_commands.specs.Asked.{IsObserved, IsWord}
+use Rattle.coap_commands.specs.Asked.{IsObserved, IsWord, asked_server, asked_setup}
 use Rattle.coap_commands.specs.Asks.{AsksNothing, Each, Turned, takes_report}
 use Rattle.coap_commands.specs.Ends.{client_sizes}
 use Rattle.coap_commands.specs.Observes.{AllObserving, HasAll, IsOver, ObserveBecomes, ObserveComes, Observed, Observes, Observing, value_in, values_in}
@@ -104,10 +105,10 @@ module _ (options : AskOptions) (begin number : ℕ) where
 
 -- ---- from the client's beginning
 
-module _ (server : Endpoint) (sizes : Sizes) (word : ℕ) (options : AskOptions) (now : ℕ) (path : List (List ℕ)) where
+module _ (server : Endpoint) (sizes : Sizes) (setup : Setup) (options : AskOptions) (now : ℕ) (path : List (List ℕ)) where
   comes_observes : (number : ℕ) (came : Outcome) (s : State)
-      → Led server sizes word (observes now path (Ok number) ∷ []) s → ObserveComes options now number s came
-      → ObserveBecomes server sizes word path options came
+      → Led server sizes setup (observes now path (Ok number) ∷ []) s → ObserveComes options now number s came
+      → ObserveBecomes server sizes setup path options came
   comes_observes number (Refused why) s led h = absurd h
   comes_observes number (Reported report) s led h =
       let first : List Call = observes now path (Ok number) ∷ [] in
@@ -118,29 +119,29 @@ module _ (server : Endpoint) (sizes : Sizes) (word : ℕ) (options : AskOptions)
         h.2,
         seen.1,
         h.5,
-        led_client server sizes word (seen.0 ++ first) (takes_report number (shown_report report)) h.0 h.2
-            (led_on server sizes word first seen.0 s h.0 led seen.3) h.4,
+        led_client server sizes setup (seen.0 ++ first) (takes_report number (shown_report report)) h.0 h.2
+            (led_on server sizes setup first seen.0 s h.0 led seen.3) h.4,
       )
   comes_observes number (GaveUp seconds) s led h =
       let first : List Call = observes now path (Ok number) ∷ [] in
       let seen = h.3 in
-      (h.0, now, number, seen.0, h.2, seen.1, led_on server sizes word first seen.0 s h.2 led seen.3)
+      (h.0, now, number, seen.0, h.2, seen.1, led_on server sizes setup first seen.0 s h.2 led seen.3)
 
   pub refused_observes : (answer : Result CallId CallRefusal) (why : CallRefusal) (s : State) → answer ≡ Err why
-      → Led server sizes word (observes now path (number_of answer) ∷ []) s
-      → ObserveBecomes server sizes word path options (Refused why)
+      → Led server sizes setup (observes now path (number_of answer) ∷ []) s
+      → ObserveBecomes server sizes setup path options (Refused why)
   refused_observes answer why s is led = (
     now,
     s,
-    subst (λ (a : Result CallId CallRefusal). Led server sizes word (observes now path (number_of a) ∷ []) s) is led,
+    subst (λ (a : Result CallId CallRefusal). Led server sizes setup (observes now path (number_of a) ∷ []) s) is led,
   )
 
-pub taken_observes : (Leads : Endpoint → Sizes → ℕ → Type 0) (options : AskOptions) (now : ℕ) (path : List (List ℕ))
+pub taken_observes : (Leads : Endpoint → Sizes → Setup → Type 0) (options : AskOptions) (now : ℕ) (path : List (List ℕ))
     (answer : Result CallId CallRefusal) (id : CallId) (s : State) (ended : Result Outcome Stop) → answer ≡ Ok id
-    → ((server : Endpoint) (sizes : Sizes) (w : ℕ) → Leads server sizes w
+    → ((server : Endpoint) (sizes : Sizes) (w : Setup) → Leads server sizes w
     → Led server sizes w (observes now path (number_of answer) ∷ []) s)
     → IfOk ended (ObserveComes options now id.0 s)
-    → IfOk ended (λ came. (server : Endpoint) (sizes : Sizes) (w : ℕ) → Leads server sizes w
+    → IfOk ended (λ came. (server : Endpoint) (sizes : Sizes) (w : Setup) → Leads server sizes w
     → ObserveBecomes server sizes w path options came)
 taken_observes Leads options now path answer id s (Ok came) is led h = λ server sizes w leads.
     comes_observes server sizes w options now path id.0 came s
@@ -149,8 +150,10 @@ taken_observes Leads options now path answer id s (Ok came) is led h = λ server
 taken_observes Leads options now path answer id s (Err stop) is led h = tt
 
 -- of the path and the options that the words say
-pub observed_by : (server : Endpoint) (word : ℕ) (path : List (List ℕ)) (options : AskOptions) (ended : Result Status Stop)
-    → IsWord options.word word → IfOk ended (Observes server (client_sizes options.limit) word path options)
-    → IfOk ended (IsObserved server.port path options)
-observed_by server word path options (Ok s) is_word is = (server, refl, word, is_word, is)
-observed_by server word path options (Err stop) is_word is = tt
+pub observed_by : (port : ℕ) (server : Endpoint) (word : ℕ) (path : List (List ℕ)) (options : AskOptions)
+    (ended : Result Status Stop) → server ≡ asked_server port options → IsWord options.word word
+    → IfOk ended (Observes server (client_sizes options.size options.limit) (asked_setup word options) path options)
+    → IfOk ended (IsObserved port path options)
+observed_by port server word path options (Ok s) there is_word is =
+    (word, is_word, subst (λ (e : Endpoint). Observes e (client_sizes options.size options.limit) (asked_setup word options) path options s) there is)
+observed_by port server word path options (Err stop) there is_word is = tt

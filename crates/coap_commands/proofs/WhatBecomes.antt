@@ -1,6 +1,7 @@
 -- What becomes of a request, from the calls of its client to the status of the program.
-use Rattle.std.proofs.Common.{◌≡◌, ◌++◌, ◌∷◌, [], ℕ, List, Option, Result, Ok, Err, IfOk, refl, subst, sym}
+use Rattle.std.proofs.Common.{◌≡◌, ◌++◌, ◌∷◌, [], ℕ, List, Option, Result, Ok, Err, IfOk, subst, sym}
 use Rattle.coap_types.specs.declared.endpoint.Endpoint.{Endpoint}
+use Rattle.coap_layer.specs.declared.setup.Setup.{Setup}
 use Rattle.coap_block.specs.Sizes.{Sizes}
 use Rattle.coap_client.specs.Led.{Led, State}
 use Rattle.coap_client.specs.Object.Shown.{number_of, shown_report}
@@ -10,7 +11,7 @@ use Rattle.coap_client.specs.declared.refusals.CallRefusal.{CallRefusal}
 use Rattle.coap_client.proofs.Facts.EachCall.{led_client}
 use Rattle.coap_words.specs.declared.orders.AskOptions.{AskOptions}
 use Rattle.coap_words.specs.declared.orders.What.{What}
-use Rattle.coap_commands.specs.Asked.{IsBody, IsRequested, IsWord, asked_request}
+use Rattle.coap_commands.specs.Asked.{IsBody, IsRequested, IsWord, asked_request, asked_setup, asked_server}
 use Rattle.coap_commands.specs.Asks.{Asks, AsksNothing, Becomes, Chain, Comes, takes_report}
 use Rattle.coap_commands.specs.Ends.{client_sizes}
 use Rattle.coap_commands.specs.declared.calling.Outcome.{Outcome}
@@ -18,18 +19,18 @@ use Rattle.coap_commands.specs.declared.calling.Outcome.TheVariants.{GaveUp, Ref
 use Rattle.coap_commands.specs.declared.status.Status.{Status}
 use Rattle.coap_commands.specs.declared.status.Stop.{Stop}
 
-module _ (server : Endpoint) (sizes : Sizes) (word : ℕ) where
+module _ (server : Endpoint) (sizes : Sizes) (setup : Setup) where
   -- calls behind others that led to a state
-  pub led_on : (t calls : List Call) (old new : State) → Led server sizes word t old → Chain old calls new
-      → Led server sizes word (calls ++ t) new
-  led_on t [] old new led h = subst (Led server sizes word t) (sym h) led
+  pub led_on : (t calls : List Call) (old new : State) → Led server sizes setup t old → Chain old calls new
+      → Led server sizes setup (calls ++ t) new
+  led_on t [] old new led h = subst (Led server sizes setup t) (sym h) led
   led_on t (c ∷ calls) old new led h =
-      led_client server sizes word (calls ++ t) c h.0 new (led_on t calls old h.0 led h.1) h.2
+      led_client server sizes setup (calls ++ t) c h.0 new (led_on t calls old h.0 led h.1) h.2
 
   -- a request that was taken, and what its calls came to
   comes_becomes : (now : ℕ) (request : Request) (give_up : Option ℕ) (number : ℕ) (outcome : Outcome) (s : State)
-      → Led server sizes word (Calls now request (Ok number) ∷ []) s
-      → Comes AsksNothing give_up s number outcome → Becomes server sizes word give_up request outcome
+      → Led server sizes setup (Calls now request (Ok number) ∷ []) s
+      → Comes AsksNothing give_up s number outcome → Becomes server sizes setup give_up request outcome
   comes_becomes now request give_up number (Refused why) s led h = absurd h
   comes_becomes now request give_up number (Reported report) s led h = (
     now,
@@ -37,7 +38,7 @@ module _ (server : Endpoint) (sizes : Sizes) (word : ℕ) where
     h.2.0,
     h.1,
     h.2.1,
-    led_client server sizes word (h.2.0 ++ Calls now request (Ok number) ∷ [])
+    led_client server sizes setup (h.2.0 ++ Calls now request (Ok number) ∷ [])
         (takes_report number (shown_report report)) h.0 h.1 (led_on (Calls now request (Ok number) ∷ []) h.2.0 s h.0 led h.2.2) h.3,
   )
   comes_becomes now request give_up number (GaveUp seconds) s led h =
@@ -45,21 +46,21 @@ module _ (server : Endpoint) (sizes : Sizes) (word : ℕ) where
 
   pub refused_becomes : (now : ℕ) (request : Request) (give_up : Option ℕ) (answer : Result CallId CallRefusal)
       (why : CallRefusal) (s : State) → answer ≡ Err why
-      → Led server sizes word (Calls now request (number_of answer) ∷ []) s
-      → Becomes server sizes word give_up request (Refused why)
+      → Led server sizes setup (Calls now request (number_of answer) ∷ []) s
+      → Becomes server sizes setup give_up request (Refused why)
   refused_becomes now request give_up answer why s is led = (
     now,
     s,
-    subst (λ (a : Result CallId CallRefusal). Led server sizes word (Calls now request (number_of a) ∷ []) s) is led,
+    subst (λ (a : Result CallId CallRefusal). Led server sizes setup (Calls now request (number_of a) ∷ []) s) is led,
   )
 
 -- the same, by what the client answered
-pub taken_becomes : (Leads : Endpoint → Sizes → ℕ → Type 0) (now : ℕ) (request : Request) (give_up : Option ℕ)
+pub taken_becomes : (Leads : Endpoint → Sizes → Setup → Type 0) (now : ℕ) (request : Request) (give_up : Option ℕ)
     (answer : Result CallId CallRefusal) (id : CallId) (s : State) (ended : Result Outcome Stop) → answer ≡ Ok id
-    → ((server : Endpoint) (sizes : Sizes) (w : ℕ) → Leads server sizes w
+    → ((server : Endpoint) (sizes : Sizes) (w : Setup) → Leads server sizes w
     → Led server sizes w (Calls now request (number_of answer) ∷ []) s)
     → IfOk ended (Comes AsksNothing give_up s id.0)
-    → IfOk ended (λ outcome. (server : Endpoint) (sizes : Sizes) (w : ℕ) → Leads server sizes w
+    → IfOk ended (λ outcome. (server : Endpoint) (sizes : Sizes) (w : Setup) → Leads server sizes w
     → Becomes server sizes w give_up request outcome)
 taken_becomes Leads now request give_up answer id s (Ok outcome) is led h = λ server sizes w leads.
     comes_becomes server sizes w now request give_up id.0 outcome s
@@ -70,29 +71,36 @@ taken_becomes Leads now request give_up answer id s (Err stop) is led h = tt
 -- ---- a program that ends
 
 -- the status is told of what became of it
-pub told : (Leads : Endpoint → Sizes → ℕ → Type 0) (Comes : Endpoint → Sizes → ℕ → Outcome → Type 0)
+pub told : (Leads : Endpoint → Sizes → Setup → Type 0) (Comes : Endpoint → Sizes → Setup → Outcome → Type 0)
     (status : Outcome → Status) (outcome : Outcome) (ended : Result Status Stop)
-    → ((server : Endpoint) (sizes : Sizes) (w : ℕ) → Leads server sizes w → Comes server sizes w outcome)
+    → ((server : Endpoint) (sizes : Sizes) (w : Setup) → Leads server sizes w → Comes server sizes w outcome)
     → IfOk ended (λ s. s ≡ status outcome)
-    → IfOk ended (λ s. (server : Endpoint) (sizes : Sizes) (w : ℕ) → Leads server sizes w
+    → IfOk ended (λ s. (server : Endpoint) (sizes : Sizes) (w : Setup) → Leads server sizes w
     → (of : Outcome) × Comes server sizes w of × (s ≡ status of))
 told Leads Comes status outcome (Ok s) becomes is = λ server sizes w led. (outcome, becomes server sizes w led, is)
 told Leads Comes status outcome (Err stop) becomes is = tt
 
 -- by a client that began so
-pub began : (Leads : Endpoint → Sizes → ℕ → Type 0) (Is : Endpoint → Sizes → ℕ → Status → Type 0)
-    (ended : Result Status Stop) (server : Endpoint) (sizes : Sizes) (word : ℕ) → Leads server sizes word
-    → IfOk ended (λ s. (server : Endpoint) (sizes : Sizes) (w : ℕ) → Leads server sizes w → Is server sizes w s)
-    → IfOk ended (Is server sizes word)
-began Leads Is (Ok s) server sizes word led is = is server sizes word led
-began Leads Is (Err stop) server sizes word led is = tt
+pub began : (Leads : Endpoint → Sizes → Setup → Type 0) (Is : Endpoint → Sizes → Setup → Status → Type 0)
+    (ended : Result Status Stop) (server : Endpoint) (sizes : Sizes) (setup : Setup) → Leads server sizes setup
+    → IfOk ended (λ s. (server : Endpoint) (sizes : Sizes) (w : Setup) → Leads server sizes w → Is server sizes w s)
+    → IfOk ended (Is server sizes setup)
+began Leads Is (Ok s) server sizes setup led is = is server sizes setup led
+began Leads Is (Err stop) server sizes setup led is = tt
 
 -- of the request that the words say
-pub asked_by : (server : Endpoint) (word : ℕ) (path : List (List ℕ)) (what : What) (options : AskOptions) (body : List ℕ)
-    (request : Request) (ended : Result Status Stop)
-    → IsWord options.word word → IsBody what body → request ≡ asked_request what path options body
-    → IfOk ended (Asks server (client_sizes options.limit) word options.give_up request)
-    → IfOk ended (IsRequested server.port path what options)
-asked_by server word path what options body request (Ok s) is_word is_body same asks =
-    (server, refl, word, is_word, body, is_body, subst (λ (r : Request). Asks server (client_sizes options.limit) word options.give_up r s) same asks)
-asked_by server word path what options body request (Err stop) is_word is_body same asks = tt
+pub asked_by : (port : ℕ) (server : Endpoint) (word : ℕ) (path : List (List ℕ)) (what : What) (options : AskOptions)
+    (body : List ℕ) (request : Request) (ended : Result Status Stop)
+    → server ≡ asked_server port options → IsWord options.word word → IsBody what body
+    → request ≡ asked_request what path options body
+    → IfOk ended (Asks server (client_sizes options.size options.limit) (asked_setup word options) options.give_up request)
+    → IfOk ended (IsRequested port path what options)
+asked_by port server word path what options body request (Ok s) there is_word is_body same asks = (
+  word,
+  is_word,
+  body,
+  is_body,
+  subst (λ (e : Endpoint). Asks e (client_sizes options.size options.limit) (asked_setup word options) options.give_up (asked_request what path options body) s)
+      there (subst (λ (r : Request). Asks server (client_sizes options.size options.limit) (asked_setup word options) options.give_up r s) same asks),
+)
+asked_by port server word path what options body request (Err stop) there is_word is_body same asks = tt

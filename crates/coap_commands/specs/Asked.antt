@@ -1,8 +1,10 @@
 -- What the words of a subcommand have a client ask.
 use Rattle.std.specs.Prelude.{◌≡◌, ⊤, ℕ, List, []}
+use Rattle.std.specs.Net.Addr.{ipv4_octets}
 use Rattle.coap_types.specs.declared.endpoint.Endpoint.{Endpoint}
 use Rattle.coap_types.specs.declared.request.Method.{Method}
 use Rattle.coap_types.specs.declared.request.Method.TheVariants as method
+use Rattle.coap_layer.specs.declared.setup.Setup.{Setup}
 use Rattle.coap_client.specs.Trace.{Request}
 use Rattle.coap_words.specs.declared.orders.AskOptions.{AskOptions}
 use Rattle.coap_words.specs.declared.orders.Content.{Content}
@@ -55,17 +57,28 @@ asked_request what path options body =
       accept = options.accept;
     }
 
--- a client hands the server at this port a request for it, with the word and the limit of the options
+-- the server at this port of the host
+abbrev pub asked_server : ℕ → AskOptions → Endpoint
+asked_server port options = record { ip = ipv4_octets options.host; port = port }
+
+-- with this word, and as many messages remembered as the options say
+abbrev pub asked_setup : ℕ → AskOptions → Setup
+asked_setup word options = record { word = word; remembered = options.remembered }
+
+-- a client hands the server at this port of the host a request for it, with the word, the number of remembered messages,
+-- the size and the limit of the options
 abbrev pub IsRequested : ℕ → List (List ℕ) → What → AskOptions → Status → Type 0
 IsRequested port path what options status =
-    (server : Endpoint) × (server.port ≡ port) × (word : ℕ) × IsWord options.word word × (body : List ℕ) × IsBody what body
-    × Asks server (client_sizes options.limit) word options.give_up (asked_request what path options body) status
+    (word : ℕ) × IsWord options.word word × (body : List ℕ) × IsBody what body
+    × Asks (asked_server port options) (client_sizes options.size options.limit)
+    (asked_setup word options) options.give_up (asked_request what path options body) status
 
--- a client observes the path at the server at this port, likewise
+-- a client observes the path at that server, likewise
 abbrev pub IsObserved : ℕ → List (List ℕ) → AskOptions → Status → Type 0
 IsObserved port path options status =
-    (server : Endpoint) × (server.port ≡ port) × (word : ℕ) × IsWord options.word word
-    × Observes server (client_sizes options.limit) word path options status
+    (word : ℕ) × IsWord options.word word
+    × Observes (asked_server port options) (client_sizes options.size options.limit)
+    (asked_setup word options) path options status
 
 -- a client asks the server for it
 abbrev pub IsAsked : ℕ → List (List ℕ) → What → AskOptions → Status → Type 0

@@ -5,6 +5,7 @@ use Rattle.std.specs.declared.alloc.Global.{Global}
 use Rattle.coap_types.specs.declared.endpoint.Endpoint.{Endpoint}
 use Rattle.coap_types.specs.declared.request.Method.{Method}
 use Rattle.coap_types.specs.declared.request.Method.TheVariants.{Get, Post, Put, Delete}
+use Rattle.coap_layer.specs.declared.setup.Setup.{Setup}
 use Rattle.coap_block.specs.Sizes.{Sizes}
 use Rattle.coap_client.specs.Led.{Led, State, Step}
 use Rattle.coap_client.specs.Object.Shown.{shown_report}
@@ -52,18 +53,18 @@ Comes like give_up old number (Refused why) = ⊥
 Comes like give_up old number (Reported report) = Reports like old number (shown_report report)
 Comes like give_up old number (GaveUp seconds) = (give_up ≡ Some seconds) × (turned : State) × Turned like old turned
 
--- A client of this server began with this word and these sizes. It was handed the request, and nothing else: it refused
+-- A client of this server began with this setup and these sizes. It was handed the request, and nothing else: it refused
 -- it; or it took it under a number, and then this was reported of that number; or nothing was, and it was given up, where
 -- so many seconds may pass.
-abbrev pub Becomes : Endpoint → (sizes : Sizes) → ℕ → Option ℕ → Request → Outcome → Type 0
-Becomes server sizes word give_up request (Refused why) =
-    (now : ℕ) × (s : State) × Led server sizes word (Calls now request (Err why) ∷ []) s
-Becomes server sizes word give_up request (Reported report) =
+abbrev pub Becomes : Endpoint → (sizes : Sizes) → Setup → Option ℕ → Request → Outcome → Type 0
+Becomes server sizes setup give_up request (Refused why) =
+    (now : ℕ) × (s : State) × Led server sizes setup (Calls now request (Err why) ∷ []) s
+Becomes server sizes setup give_up request (Reported report) =
     (now : ℕ) × (number : ℕ) × (calls : List Call) × (s : State) × Each AsksNothing calls
-    × Led server sizes word (takes_report number (shown_report report) ∷ calls ++ Calls now request (Ok number) ∷ []) s
-Becomes server sizes word give_up request (GaveUp seconds) =
+    × Led server sizes setup (takes_report number (shown_report report) ∷ calls ++ Calls now request (Ok number) ∷ []) s
+Becomes server sizes setup give_up request (GaveUp seconds) =
     (give_up ≡ Some seconds) × (now : ℕ) × (number : ℕ) × (calls : List Call) × (s : State) × Each AsksNothing calls
-    × Led server sizes word (calls ++ Calls now request (Ok number) ∷ []) s
+    × Led server sizes setup (calls ++ Calls now request (Ok number) ∷ []) s
 
 -- done is a GET of which a body is reported
 abbrev pub got_report : R.Report Global → Status
@@ -92,6 +93,6 @@ status_after Put outcome = changed_status outcome
 status_after Delete outcome = changed_status outcome
 
 -- a client is asked this, and the status is that of what becomes of it
-abbrev pub Asks : Endpoint → (sizes : Sizes) → ℕ → Option ℕ → Request → Status → Type 0
-Asks server sizes word give_up request status =
-    (outcome : Outcome) × Becomes server sizes word give_up request outcome × (status ≡ status_after request.method outcome)
+abbrev pub Asks : Endpoint → (sizes : Sizes) → Setup → Option ℕ → Request → Status → Type 0
+Asks server sizes setup give_up request status =
+    (outcome : Outcome) × Becomes server sizes setup give_up request outcome × (status ≡ status_after request.method outcome)

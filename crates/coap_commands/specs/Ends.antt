@@ -1,13 +1,12 @@
 -- With what the ends begin that the programs run, where bodies have at most so many bytes.
 use Rattle.std.specs.Prelude.{ℕ}
-use Rattle.coap_types.specs.declared.szx.TheConstants.{MAX_SZX as max_szx}
 use Rattle.coap_block.specs.Sizes.{Sizes}
 use Rattle.coap_resource.specs.Limits.{Limits}
 use Rattle.coap_resource.specs.declared.tally.TheConstants.{MAX_CHANGES_PER_WINDOW as max_changes}
 
--- a client: the largest blocks
-abbrev pub client_sizes : ℕ → Sizes
-client_sizes limit = record { szx = max_szx; limit = limit }
+-- a client: with blocks of this size
+abbrev pub client_sizes : ℕ → ℕ → Sizes
+client_sizes szx limit = record { szx = szx; limit = limit }
 
 -- a server: as many changes a window as there can be
 abbrev pub server_limits : ℕ → Limits

@@ -1,10 +1,15 @@
 pub mod Asked
 pub mod Asks
 pub mod Bearing
+pub mod Dumps
 pub mod Ends
 pub mod Observes
 pub mod Script
 pub mod ScriptRefusals
 pub mod ScriptWords
+pub mod Serves
+pub mod SettingUp
+pub mod Sims
 pub mod Statuses
+pub mod ToldChanges
 pub mod Waiting

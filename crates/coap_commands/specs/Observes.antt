@@ -4,6 +4,7 @@ use Rattle.std.specs.Prelude.{◌≡◌, ◌≤◌, ◌⊎◌, ⊤, ℕ, ◌+◌
 use Rattle.std.specs.Prelude.{None, Some, Ok, Err, if◌then◌else◌}
 use Rattle.std.specs.declared.alloc.Global.{Global}
 use Rattle.coap_types.specs.declared.endpoint.Endpoint.{Endpoint}
+use Rattle.coap_layer.specs.declared.setup.Setup.{Setup}
 use Rattle.coap_block.specs.Sizes.{Sizes}
 use Rattle.coap_client.specs.Led.{Led, State, Step}
 use Rattle.coap_client.specs.Object.Shown.{shown_report}
@@ -78,20 +79,20 @@ ObserveComes options begin number old (outcome.Reported report) =
 ObserveComes options begin number old (outcome.GaveUp seconds) =
     (options.give_up ≡ Some seconds) × (values : ℕ) × (turned : State) × Observed options begin number old values turned
 
--- A client of this server began with this word and these sizes. It was called to observe the path, and cancelled that
+-- A client of this server began with this setup and these sizes. It was called to observe the path, and cancelled that
 -- once it was over, and else was asked for nothing: it refused it; or it took it under a number, and then this was
 -- reported last of that number; or it was given up, where so many seconds may pass.
-abbrev pub ObserveBecomes : Endpoint → (sizes : Sizes) → ℕ → List (List ℕ) → AskOptions → Outcome → Type 0
-ObserveBecomes server sizes word path options (outcome.Refused why) =
-    (now : ℕ) × (s : State) × Led server sizes word (observes now path (Err why) ∷ []) s
-ObserveBecomes server sizes word path options (outcome.Reported report) =
+abbrev pub ObserveBecomes : Endpoint → (sizes : Sizes) → Setup → List (List ℕ) → AskOptions → Outcome → Type 0
+ObserveBecomes server sizes setup path options (outcome.Refused why) =
+    (now : ℕ) × (s : State) × Led server sizes setup (observes now path (Err why) ∷ []) s
+ObserveBecomes server sizes setup path options (outcome.Reported report) =
     (now : ℕ) × (number : ℕ) × (calls : List Call) × (s : State) × AllObserving options now number calls
     × (is_value (shown_report report) ≡ false)
-    × Led server sizes word (takes_report number (shown_report report) ∷ calls ++ observes now path (Ok number) ∷ []) s
-ObserveBecomes server sizes word path options (outcome.GaveUp seconds) =
+    × Led server sizes setup (takes_report number (shown_report report) ∷ calls ++ observes now path (Ok number) ∷ []) s
+ObserveBecomes server sizes setup path options (outcome.GaveUp seconds) =
     (options.give_up ≡ Some seconds) × (now : ℕ) × (number : ℕ) × (calls : List Call) × (s : State)
     × AllObserving options now number calls
-    × Led server sizes word (calls ++ observes now path (Ok number) ∷ []) s
+    × Led server sizes setup (calls ++ observes now path (Ok number) ∷ []) s
 
 -- done is an observation that is cancelled
 abbrev pub observed_report : R.Report Global → Status
@@ -104,6 +105,6 @@ observed_status (outcome.Reported report) = observed_report report
 observed_status (outcome.GaveUp seconds) = status.Refused
 
 -- a client observes this, and the status is that of what becomes of it
-abbrev pub Observes : Endpoint → (sizes : Sizes) → ℕ → List (List ℕ) → AskOptions → Status → Type 0
-Observes server sizes word path options status =
-    (outcome : Outcome) × ObserveBecomes server sizes word path options outcome × (status ≡ observed_status outcome)
+abbrev pub Observes : Endpoint → (sizes : Sizes) → Setup → List (List ℕ) → AskOptions → Status → Type 0
+Observes server sizes setup path options status =
+    (outcome : Outcome) × ObserveBecomes server sizes setup path options outcome × (status ≡ observed_status outcome)

@@ -2,15 +2,17 @@
 use Rattle.std.specs.Prelude.{◌≡◌, ◌⊎◌, ⊤, ℕ, List, Result, Ok, Err, IfOk}
 use Rattle.clap.specs.Words.{Text}
 use Rattle.coap_words.specs.Words.{AsksFor, IsWrong}
+use Rattle.coap_world.specs.Events.{Event}
 use Rattle.coap_commands.specs.Asked.{IsAsked}
+use Rattle.coap_commands.specs.Sims.{IsSim, sim_config}
 use Rattle.coap_commands.specs.declared.status.Status.{Status}
 use Rattle.coap_commands.specs.declared.status.Status.TheVariants as status
 use Rattle.coap_commands.specs.declared.status.Stop.{Stop}
 use Rattle.coap_commands.specs.declared.status.Stop.TheVariants as stop
 use Rattle.coap_words.specs.declared.orders.Order.{Order}
-use Rattle.coap_words.specs.declared.orders.Order.TheVariants.{Ask, Sim}
+use Rattle.coap_words.specs.declared.orders.Order.TheVariants.{Ask, Dump, Sim}
 use Rattle.coap_words.specs.declared.orders.Wrong.{Wrong}
-use Rattle.coap_words.specs.declared.orders.Wrong.TheVariants.{Words, Path, Number, Word, Tags, Body, Store, Plains}
+use Rattle.coap_words.specs.declared.orders.Wrong.TheVariants.{Words, Path, Number, Word, Address, Size, Tags, Setting, Body, Store, Plains}
 use Rattle.coap_words.specs.declared.orders.Wrong.TheVariants.{Hex, Memory}
 
 abbrev pub status_number : Status → ℕ
@@ -26,22 +28,25 @@ status_of (Ok s) = s
 status_of (Err stop.Failed) = status.Failed
 status_of (Err stop.Memory) = status.Memory
 
--- what an order comes to that is carried out to its end, where it runs no script
+-- what an order comes to that is carried out to its end, where it reads no text
 abbrev pub IsCarriedOut : Status → Type 0
 IsCarriedOut s = (s ≡ status.Done) ⊎ (s ≡ status.Refused)
 
--- what a script comes to that is in a file which can be read: it may be one that can't be read as a script
+-- what a text comes to that can be read: it may be one that can't be read as a script, or as lines of hex
 abbrev pub IsOfScript : Status → Type 0
 IsOfScript s = (s ≡ status.Done) ⊎ ((s ≡ status.Refused) ⊎ (s ≡ status.Words))
 
--- the order runs a script
-abbrev pub RunsScript : Order → Type 0
-RunsScript (Sim file store plains) = ⊤
-RunsScript _ = ⊥
+-- the order reads a text: a script, or lines of hex
+abbrev pub ReadsText : Order → Type 0
+ReadsText (Sim file store plains remembered) = ⊤
+ReadsText Dump = ⊤
+ReadsText _ = ⊥
 
 -- what this order comes to, carried out to its end
 abbrev pub CarriesOut : Order → Status → Type 0
-CarriesOut (Sim file store plains) s = IsOfScript s
+CarriesOut (Sim file store plains remembered) s =
+    (events : List Event) × IsSim (sim_config remembered plains.items) events s
+CarriesOut Dump s = IsOfScript s
 CarriesOut (Ask port path what options) s = IsAsked port path what options s
 CarriesOut _ s = IsCarriedOut s
 
@@ -51,7 +56,10 @@ IsTold (Words error) ended = ended ≡ Ok status.Words
 IsTold (Path refusal) ended = ended ≡ Ok status.Words
 IsTold (Number refusal) ended = ended ≡ Ok status.Words
 IsTold Word ended = ended ≡ Ok status.Words
+IsTold (Address refusal) ended = ended ≡ Ok status.Words
+IsTold Size ended = ended ≡ Ok status.Words
 IsTold (Tags refusal) ended = ended ≡ Ok status.Words
+IsTold (Setting refusal) ended = ended ≡ Ok status.Words
 IsTold Body ended = ended ≡ Ok status.Words
 IsTold Store ended = ended ≡ Ok status.Words
 IsTold Plains ended = ended ≡ Ok status.Words
@@ -65,7 +73,10 @@ IsAnswered (Words error) n = (n ≡ 2) ⊎ (n ≡ 4)
 IsAnswered (Path refusal) n = (n ≡ 2) ⊎ (n ≡ 4)
 IsAnswered (Number refusal) n = (n ≡ 2) ⊎ (n ≡ 4)
 IsAnswered Word n = (n ≡ 2) ⊎ (n ≡ 4)
+IsAnswered (Address refusal) n = (n ≡ 2) ⊎ (n ≡ 4)
+IsAnswered Size n = (n ≡ 2) ⊎ (n ≡ 4)
 IsAnswered (Tags refusal) n = (n ≡ 2) ⊎ (n ≡ 4)
+IsAnswered (Setting refusal) n = (n ≡ 2) ⊎ (n ≡ 4)
 IsAnswered Body n = (n ≡ 2) ⊎ (n ≡ 4)
 IsAnswered Store n = (n ≡ 2) ⊎ (n ≡ 4)
 IsAnswered Plains n = (n ≡ 2) ⊎ (n ≡ 4)

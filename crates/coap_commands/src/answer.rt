@@ -5,6 +5,7 @@ use crate::ends::{fresh_server, hold, tell_refusal};
 use crate::put_away::put_away;
 use crate::status::{Status, Stop};
 use coap_ends::{End, Server};
+use coap_layer::Setup;
 use coap_resource::MapStore;
 use coap_types::{BodyLimit, Moment, Path};
 use coap_world::CLIENT_END;
@@ -30,7 +31,7 @@ pub fn answer<W: Write>(
     ensures { IfOk result IsCarriedOut }
 {
     let hasher = BuildHasherDefault::<FoldHasher>::new();
-    let mut server = fresh_server(alloc, WORD, BodyLimit::default(), hasher);
+    let mut server = fresh_server(alloc, Setup::new(WORD), BodyLimit::default(), hasher);
     let ended = held_reply(alloc, &mut server, path, body, datagram, out);
     put_away(server);
     ended

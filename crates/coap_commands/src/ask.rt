@@ -2,6 +2,7 @@
 ghost use Rattle.std.specs.Prelude.{◌≡◌, ℕ, [], Some, IfOk, IfNone, IfSome};
 ghost use Rattle.coap_types.specs.declared.endpoint.Endpoint.{Endpoint as EndpointSpec};
 ghost use Rattle.coap_block.specs.Sizes.{Sizes};
+ghost use Rattle.coap_layer.specs.declared.setup.Setup.{Setup as SetupSpec};
 ghost use Rattle.coap_client.specs.Led.{Led, Step};
 ghost use Rattle.coap_client.specs.Object.CallShown.{shown_request};
 ghost use Rattle.coap_client.specs.Object.Shown.{shown_report};
@@ -17,16 +18,19 @@ use crate::calling::{Outcome, call, outcome_text};
 use crate::ends::fresh_client;
 use crate::observe::observe;
 use crate::put_away::put_away;
-use crate::request::{body_of, request_of};
+use crate::request::{body_of, request_of, server_of};
 use crate::status::{Status, Stop};
 use crate::timekeeper::{ProgramTime, Timekeeper};
+use crate::tracing::{SharedWriter, teller_on};
 use crate::waiting::passed;
 use crate::word::word_of;
 use coap_ends::{CallId, Client, Report};
-use coap_links::{ANY_PORT, Link, UdpLink, fresh_tally, get_turn, send_all};
-use coap_types::{BodyLimit, Endpoint, Method, Moment, Path, Request};
+use coap_layer::Setup;
+use coap_links::{Link, Trace, UdpLink, fresh_tally, get_turn, send_all};
+use coap_types::{BodyLimit, Endpoint, Method, Moment, Path, Request, Szx};
 use coap_words::{AskOptions, What};
 use std::alloc::Global;
+use std::cell::RefCell;
 use std::hash::{BuildHasher, RandomState};
 use std::io::Write;
 use std::net::Net;
@@ -87,7 +91,7 @@ fn outcome_of<H: BuildHasher, L: Link, T: Timekeeper>(
     give_up: Option<u64>,
     word: u64,
 ) -> Result<Outcome, Stop>
-    ensures { IfOk result (λ outcome. (server : EndpointSpec) (sizes : Sizes) (w : ℕ)
+    ensures { IfOk result (λ outcome. (server : EndpointSpec) (sizes : Sizes) (w : SetupSpec)
         → Led server sizes w [] client.old → Becomes server sizes w give_up (shown_request request) outcome) }
 {
     let begin = time.now()?;
@@ -172,7 +176,7 @@ fn ask_and_tell<H: BuildHasher, L: Link, T: Timekeeper, O: Write, E: Write>(
     word: u64,
     writers: (&mut O, &mut E),
 ) -> Result<Status, Stop>
-    ensures { IfOk result (λ status. (server : EndpointSpec) (sizes : Sizes) (w : ℕ)
+    ensures { IfOk result (λ status. (server : EndpointSpec) (sizes : Sizes) (w : SetupSpec)
         → Led server sizes w [] client.old → Asks server sizes w give_up (shown_request request) status) }
 {
     let method = request.method;
@@ -182,7 +186,7 @@ fn ask_and_tell<H: BuildHasher, L: Link, T: Timekeeper, O: Write, E: Write>(
 
 /// Asks a server for what a request says, and prints the body that it got, or what was reported; where so
 /// many seconds pass before that, it gives up and says so on standard error. The client begins with
-/// this word, and takes bodies up to this limit.
+/// this word, remembers so many messages, has blocks of this size, and takes bodies up to this limit.
 pub fn ask_over<L: Link, T: Timekeeper, H: BuildHasher + Drop, O: Write, E: Write>(
     alloc: Global,
     link: &mut L,
@@ -191,15 +195,17 @@ pub fn ask_over<L: Link, T: Timekeeper, H: BuildHasher + Drop, O: Write, E: Writ
     hasher: H,
     request: Request,
     give_up: Option<u64>,
-    word: u64,
+    setup: Setup,
+    size: Szx,
     limit: BodyLimit,
     writers: (&mut O, &mut E),
 ) -> Result<Status, Stop>
-    // A client of this server was handed this request, and nothing else, and given up only where so many seconds may pass; the
+    // A client of this server, which remembers as many messages as were chosen, was handed this request, and nothing else, and given up only where so many seconds may pass; the
     // status is 0 where a body (of a GET) or success was reported of it, and else 1.
-    ensures { IfOk result (Asks server (client_sizes limit) word give_up (shown_request request)) }
+    ensures { IfOk result (Asks server (client_sizes size limit) setup give_up (shown_request request)) }
 {
-    let mut client = fresh_client(alloc, server, word, limit, hasher);
+    let word = setup.word;
+    let mut client = fresh_client(alloc, server, setup, size, limit, hasher);
     let ended = ask_and_tell(
         alloc,
         &mut client,
@@ -214,14 +220,48 @@ pub fn ask_over<L: Link, T: Timekeeper, H: BuildHasher + Drop, O: Write, E: Writ
     ended
 }
 
-// Hands the server at a port of 127.0.0.1 the request that the words say.
+// The same, on a writer of its own.
+fn ask_on<L: Link, T: Timekeeper, H: BuildHasher + Drop, O: Write, E: Write + Drop>(
+    alloc: Global,
+    link: &mut L,
+    server: Endpoint,
+    time: &mut T,
+    hasher: H,
+    request: Request,
+    give_up: Option<u64>,
+    setup: Setup,
+    size: Szx,
+    limit: BodyLimit,
+    out: &mut O,
+    err: E,
+) -> Result<Status, Stop>
+    ensures { IfOk result (Asks server (client_sizes size limit) setup give_up (shown_request request)) }
+{
+    let mut err = err;
+    ask_over(
+        alloc,
+        link,
+        server,
+        time,
+        hasher,
+        request,
+        give_up,
+        setup,
+        size,
+        limit,
+        (out, &mut err),
+    )
+}
+
+// Hands the server at this port of the host the request that the words say.
 fn request<R: AllocGlobal + Files + Net + Clock + RandomSource, O: Write, E: Write>(
     rt: &R,
     port: u16,
     path: &Path,
     what: What<'_>,
     options: &AskOptions,
-    writers: (&mut O, &mut E),
+    out: &mut O,
+    err: &mut E,
 ) -> Result<Status, Stop>
     ensures { IfOk result (IsRequested port path.now what.entry options.now) }
 {
@@ -229,13 +269,13 @@ fn request<R: AllocGlobal + Files + Net + Clock + RandomSource, O: Write, E: Wri
     let body = body_of(rt, what, options.limit)?;
     let request = request_of(path, what, options, body)?;
     let mut time = ProgramTime::begin(rt)?;
-    let mut link = UdpLink::bind(rt, ANY_PORT)?;
-    let server = Endpoint {
-        port,
-        ..link.address()
-    };
+    let server = server_of(port, options);
+    let link = UdpLink::client(rt, server)?;
     let hasher = RandomState::new(rt)?;
-    ask_over(
+    let err = RefCell::new(&mut *err);
+    let teller = teller_on(rt.alloc(), time.again(), &err, options.trace);
+    let mut link = Trace::new(link, teller);
+    ask_on(
         rt.alloc(),
         &mut link,
         server,
@@ -243,28 +283,34 @@ fn request<R: AllocGlobal + Files + Net + Clock + RandomSource, O: Write, E: Wri
         hasher,
         request,
         options.give_up,
-        word,
+        Setup {
+            word,
+            remembered: options.remembered,
+        },
+        options.size,
         options.limit,
-        writers,
+        out,
+        SharedWriter::new(&err),
     )
 }
 
-/// Asks the server at a port of 127.0.0.1 for what the words say.
+/// Asks the server at this port of the host for what the words say.
 pub(crate) fn ask<R: AllocGlobal + Files + Net + Clock + RandomSource, O: Write, E: Write>(
     rt: &R,
     port: u16,
     path: &Path,
     what: What<'_>,
     options: &AskOptions,
-    writers: (&mut O, &mut E),
+    out: &mut O,
+    err: &mut E,
 ) -> Result<Status, Stop>
     ensures { IfOk result (IsAsked port path.now what.entry options.now) }
 {
     match what {
-        What::Get => request(rt, port, path, What::Get, options, writers),
-        What::Put(content) => request(rt, port, path, What::Put(content), options, writers),
-        What::Post(content) => request(rt, port, path, What::Post(content), options, writers),
-        What::Delete => request(rt, port, path, What::Delete, options, writers),
-        What::Observe => observe(rt, port, path, options, writers),
+        What::Get => request(rt, port, path, What::Get, options, out, err),
+        What::Put(content) => request(rt, port, path, What::Put(content), options, out, err),
+        What::Post(content) => request(rt, port, path, What::Post(content), options, out, err),
+        What::Delete => request(rt, port, path, What::Delete, options, out, err),
+        What::Observe => observe(rt, port, path, options, out, err),
     }
 }

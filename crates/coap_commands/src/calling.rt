@@ -3,6 +3,7 @@ ghost use Rattle.std.specs.Prelude.{◌≡◌, ℕ, List, [], ◌∷◌, IfOk};
 ghost use Rattle.coap_types.specs.declared.endpoint.Endpoint.{Endpoint};
 ghost use Rattle.coap_types.specs.declared.request.Method.TheVariants.{Get, Put};
 ghost use Rattle.coap_block.specs.Sizes.{Sizes};
+ghost use Rattle.coap_layer.specs.declared.setup.Setup.{Setup as SetupSpec};
 ghost use Rattle.coap_client.specs.Led.{Led};
 ghost use Rattle.coap_client.specs.Object.CallShown.{shown_request};
 ghost use Rattle.coap_client.specs.Object.Shown.{number_of};
@@ -68,7 +69,7 @@ pub fn call<H: BuildHasher>(
     request: Request,
 ) -> Result<Result<CallId, CallRefusal>, Stop>
     // What leads to the client before the call leads, with the call and its answer, to the client after it.
-    ensures led { IfOk result (λ answer. (server : Endpoint) (sizes : Sizes) (w : ℕ) (t : List Call)
+    ensures led { IfOk result (λ answer. (server : Endpoint) (sizes : Sizes) (w : SetupSpec) (t : List Call)
         → Led server sizes w t client.old
         → Led server sizes w (Calls now.0 (shown_request request) (number_of answer) ∷ t) client.new) }
 {

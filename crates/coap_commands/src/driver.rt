@@ -1,6 +1,6 @@
 //! One run of the program, over the writers that it is handed.
 ghost use Rattle.std.specs.Prelude.{◌≡◌, ◌≢◌, ◌≤◌, ◌⊎◌, IfOk, map, string_bytes};
-ghost use Rattle.coap_commands.specs.Statuses.{CarriesOut, Ends, IsAnswered, IsCarriedTo, IsTold, RunsScript};
+ghost use Rattle.coap_commands.specs.Statuses.{CarriesOut, Ends, IsAnswered, IsCarriedTo, IsTold, ReadsText};
 ghost use Rattle.coap_commands.specs.Statuses.{status_number};
 ghost use Rattle.coap_commands.specs.Statuses.{status_of};
 ghost use Rattle.coap_words.specs.Words.{AsksFor, IsWrong};
@@ -10,6 +10,7 @@ ghost use Rattle.coap_words.specs.declared.orders.Wrong.TheVariants as wrongs;
 
 use crate::answer::answer;
 use crate::ask::ask;
+use crate::dump::dump;
 use crate::pair::pair;
 use crate::put_away::put_away;
 use crate::serve::serve;
@@ -35,6 +36,7 @@ fn perform<R: AllocGlobal + Files + Net + Clock + RandomSource, O: Write, E: Wri
     let alloc = rt.alloc();
     match order {
         Order::Show { datagram } => show(alloc, datagram.as_slice(), out),
+        Order::Dump => dump(rt, out),
         Order::Answer {
             path,
             body,
@@ -45,24 +47,25 @@ fn perform<R: AllocGlobal + Files + Net + Clock + RandomSource, O: Write, E: Wri
             body,
             word,
             limit,
-        } => pair(rt, path, body, *word, *limit, out),
+            remembered,
+        } => pair(rt, path, body, *word, *limit, *remembered, out),
         Order::Serve {
             port,
             count,
-            word,
-            limit,
-        } => serve(rt, *port, *count, *word, *limit, out),
+            options,
+        } => serve(rt, *port, *count, options, out, err),
         Order::Ask {
             port,
             path,
             what,
             options,
-        } => ask(rt, *port, path, *what, options, (out, err)),
+        } => ask(rt, *port, path, *what, options, out, err),
         Order::Sim {
             file,
             store,
             plains,
-        } => sim(rt, file, *store, plains.as_slice(), out),
+            remembered,
+        } => sim(rt, file, *store, plains.as_slice(), *remembered, out),
     }
 }
 
@@ -81,7 +84,10 @@ pub fn refuse<O: Write, E: Write>(wrong: Wrong, out: &mut O, err: &mut E) -> Res
         | Wrong::Path(_)
         | Wrong::Number(_)
         | Wrong::Word
+        | Wrong::Address(_)
+        | Wrong::Size
         | Wrong::Tags(_)
+        | Wrong::Setting(_)
         | Wrong::Body
         | Wrong::Store
         | Wrong::Plains => {
@@ -140,9 +146,9 @@ pub fn command<R: AllocGlobal + Files + Net + Clock + RandomSource, O: Write, E:
     ensures most { result ≤ 4 }
     // What is wrong in the words is answered with 2, unless that can't be told ..
     ensures wrong { (wrong : Wrong) → IsWrong (map string_bytes words.now) wrong → IsAnswered wrong result }
-    // .. and nothing else is, but for a script that can't be read.
+    // .. and nothing else is, but for a script that can't be read, or a line of standard input that is no hex.
     ensures words { result ≡ 2 → ((wrong : Wrong) × IsWrong (map string_bytes words.now) wrong
-        × (wrong ≢ wrongs.Memory)) ⊎ ((order : Order) × AsksFor (map string_bytes words.now) order × RunsScript order) }
+        × (wrong ≢ wrongs.Memory)) ⊎ ((order : Order) × AsksFor (map string_bytes words.now) order × ReadsText order) }
     // An order is carried out only where the words ask for it, and to that end.
     ensures done { result ≤ 1 → (order : Order) × AsksFor (map string_bytes words.now) order
         × IsCarriedTo order result }

@@ -1,17 +1,19 @@
 //! The ends that the programs run.
-ghost use Rattle.std.specs.Prelude.{◌≡◌, ℕ, [], ◌∷◌, Ok, Some, IfOk, IfNone};
+ghost use Rattle.std.specs.Prelude.{◌≡◌, ℕ, List, [], ◌∷◌, Ok, Some, IfOk, IfNone};
 ghost use Rattle.coap_resource.specs.Content.{Content};
 ghost use Rattle.coap_resource.specs.Entries.{content_of};
 ghost use Rattle.coap_resource.specs.Limits.{Limits};
 ghost use Rattle.coap_client.specs.Led.{Led as ClientLed};
 ghost use Rattle.coap_server.specs.Object.Shown.{state_of};
 ghost use Rattle.coap_server.specs.Led.{Led};
-ghost use Rattle.coap_server.specs.Trace.{Sets};
+ghost use Rattle.coap_layer.specs.declared.setup.Setup.{Setup as SetupSpec};
+ghost use Rattle.coap_server.specs.Trace.{Call, Sets};
 ghost use Rattle.coap_commands.specs.Ends.{client_sizes, server_limits};
 ghost use Rattle.coap_commands.specs.Statuses.{IsCarriedOut};
 
 use crate::status::{Status, Stop};
 use coap_ends::{Client, Server};
+use coap_layer::Setup;
 use coap_resource::{MAX_CHANGES_PER_WINDOW, MapStore, Store, StoreRefusal};
 use coap_types::{BodyLimit, Endpoint, MAX_SZX, Moment, Path, Szx};
 use std::alloc::Global;
@@ -23,7 +25,7 @@ pub(crate) const TEXT_PLAIN: u16 = 0;
 
 const _: () = prove!(TEXT_PLAIN == 0);
 
-/// The size of the blocks of both ends: the largest (RFC 7959, section 2.2).
+/// The largest size of blocks (RFC 7959, section 2.2).
 pub fn largest_szx() -> Szx
     // The size exponent is the greatest, 6.
     ensures { result ≡ MAX_SZX }
@@ -34,48 +36,49 @@ pub fn largest_szx() -> Szx
     }
 }
 
-/// A server that holds nothing, and then bodies up to this limit.
+/// A server that holds nothing, and then bodies up to this limit. It begins with this word, and remembers so
+/// many messages.
 pub fn fresh_server<H: BuildHasher + Drop>(
     alloc: Global,
-    word: u64,
+    setup: Setup,
     limit: BodyLimit,
     hasher: H,
 ) -> Server<MapStore, Global, H>
-    // To the server that a command begins with no call has led.
-    ensures { Led (server_limits limit) MAX_SZX word [] (state_of content_of result) }
+    // To the server that a command begins with no call has led, with that limit and as many remembered messages as were chosen.
+    ensures { Led (server_limits limit) MAX_SZX setup [] (state_of content_of result) }
 {
     let Some(store) = MapStore::new_sized(alloc, MAX_CHANGES_PER_WINDOW, limit) else {
         unreachable!()
     };
-    Server::with_hasher(alloc, store, largest_szx(), word, hasher)
+    Server::with_setup(alloc, store, largest_szx(), setup, hasher)
 }
 
-/// A client of the server at this endpoint, to which nothing has happened, and which takes bodies up
-/// to this limit.
+/// A client of the server at this endpoint, to which nothing has happened, with blocks of this size, which
+/// takes bodies up to this limit. It begins with this word, and remembers so many messages.
 pub fn fresh_client<H: BuildHasher + Drop>(
     alloc: Global,
     server: Endpoint,
-    word: u64,
+    setup: Setup,
+    size: Szx,
     limit: BodyLimit,
     hasher: H,
 ) -> Client<Global, H>
-    // To the client that a command begins with no call has led.
-    ensures { ClientLed server (client_sizes limit) word [] result }
+    // To the client that a command begins with no call has led, with that size and limit, and as many remembered messages as were chosen.
+    ensures { ClientLed server (client_sizes size limit) setup [] result }
 {
-    Client::with_limit(alloc, server, largest_szx(), word, limit, hasher)
+    Client::with_setup(alloc, server, size, limit, setup, hasher)
 }
 
-/// Has a server that holds nothing hold this text at this path; the refusal of its store where it
-/// doesn't.
+/// Has a server hold this text at this path; the refusal of its store where it doesn't.
 pub fn hold<H: BuildHasher + Drop>(
     server: &mut Server<MapStore, Global, H>,
     path: &Path,
     body: &[u8],
 ) -> Result<Option<StoreRefusal>, Stop>
-    // The one call that made it so.
-    ensures holds { (limits : Limits) (word : ℕ) → Led limits MAX_SZX word [] (state_of content_of server.old)
+    // What led to the server before it was to hold something leads, with the one call that set it, to the server that holds it.
+    ensures holds { (limits : Limits) (setup : SetupSpec) (t : List Call) → Led limits MAX_SZX setup t (state_of content_of server.old)
         → IfOk result (λ refusal. IfNone refusal ((version : ℕ) × (store : Content)
-        × Led limits MAX_SZX word (Sets 0 path.now (Some TEXT_PLAIN) body.now (Ok version) store ∷ [])
+        × Led limits MAX_SZX setup (Sets 0 path.now (Some TEXT_PLAIN) body.now (Ok version) store ∷ t)
         (state_of content_of server.new))) }
 {
     match server.set(Moment(0), path, Some(TEXT_PLAIN), body) {

@@ -2,12 +2,13 @@
 ghost use Rattle.std.specs.Prelude.{◌≡◌, ◌+◌, ◌≤◌, ◌∷◌, ℕ, List, [], true, false, Some, IfNone, IfOk, IfSome};
 ghost use Rattle.coap_types.specs.declared.endpoint.Endpoint.{Endpoint as EndpointSpec};
 ghost use Rattle.coap_block.specs.Sizes.{Sizes};
+ghost use Rattle.coap_layer.specs.declared.setup.Setup.{Setup as SetupSpec};
 ghost use Rattle.coap_client.specs.Led.{Led, State, Step};
 ghost use Rattle.coap_client.specs.Object.Shown.{number_of, shown_report};
 ghost use Rattle.coap_client.specs.Trace.{Call, is_value};
 ghost use Rattle.coap_client.specs.Trace.{Observes as observes};
 ghost use Rattle.coap_words.specs.declared.orders.AskOptions.{AskOptions as OptionsSpec};
-ghost use Rattle.coap_commands.specs.Asked.{IsObserved};
+ghost use Rattle.coap_commands.specs.Asked.{IsObserved, asked_setup};
 ghost use Rattle.coap_commands.specs.Asks.{takes_report};
 ghost use Rattle.coap_commands.specs.Ends.{client_sizes};
 ghost use Rattle.coap_commands.specs.Observes.{HasAll, IsLate, IsOver, ObserveBecomes, ObserveComes, Observed};
@@ -19,16 +20,20 @@ use crate::bearing::bear;
 use crate::calling::{Outcome, outcome_text};
 use crate::ends::fresh_client;
 use crate::put_away::put_away;
+use crate::request::server_of;
 use crate::status::{Status, Stop};
 use crate::text::hex_or_dash;
 use crate::timekeeper::{ProgramTime, Timekeeper};
+use crate::tracing::{SharedWriter, teller_on};
 use crate::waiting::{MS_PER_SECOND, passed};
 use crate::word::word_of;
 use coap_ends::{CallId, CallRefusal, Client, Report};
-use coap_links::{ANY_PORT, Link, UdpLink, fresh_tally, get_turn, send_all};
+use coap_layer::Setup;
+use coap_links::{Link, Trace, UdpLink, fresh_tally, get_turn, send_all};
 use coap_types::{Endpoint, Moment, Path};
 use coap_words::AskOptions;
 use std::alloc::Global;
+use std::cell::RefCell;
 use std::hash::{BuildHasher, RandomState};
 use std::io::Write;
 use std::net::Net;
@@ -204,7 +209,7 @@ fn register<H: BuildHasher>(
     now: Moment,
     path: &Path,
 ) -> Result<Result<CallId, CallRefusal>, Stop>
-    ensures { IfOk result (λ answer. (server : EndpointSpec) (sizes : Sizes) (w : ℕ) (t : List Call)
+    ensures { IfOk result (λ answer. (server : EndpointSpec) (sizes : Sizes) (w : SetupSpec) (t : List Call)
         → Led server sizes w t client.old
         → Led server sizes w (observes now.0 path.now (number_of answer) ∷ t) client.new) }
 {
@@ -226,7 +231,7 @@ fn outcome_of<H: BuildHasher, L: Link, T: Timekeeper, W: Write>(
     word: u64,
     out: &mut W,
 ) -> Result<Outcome, Stop>
-    ensures { IfOk result (λ outcome. (server : EndpointSpec) (sizes : Sizes) (w : ℕ)
+    ensures { IfOk result (λ outcome. (server : EndpointSpec) (sizes : Sizes) (w : SetupSpec)
         → Led server sizes w [] client.old → ObserveBecomes server sizes w path.now options.now outcome) }
 {
     let begin = time.now()?;
@@ -259,7 +264,7 @@ fn observe_and_tell<H: BuildHasher, L: Link, T: Timekeeper, O: Write, E: Write>(
     word: u64,
     writers: (&mut O, &mut E),
 ) -> Result<Status, Stop>
-    ensures { IfOk result (λ status. (server : EndpointSpec) (sizes : Sizes) (w : ℕ)
+    ensures { IfOk result (λ status. (server : EndpointSpec) (sizes : Sizes) (w : SetupSpec)
         → Led server sizes w [] client.old → Observes server sizes w path.now options.now status) }
 {
     let (out, err) = writers;
@@ -269,7 +274,8 @@ fn observe_and_tell<H: BuildHasher, L: Link, T: Timekeeper, O: Write, E: Write>(
 
 /// Observes what a server holds at a path, and prints each value on a line of `out`, and on `err` how it
 /// ended. It ends after as many values, or seconds, as the options say, and with neither when the server
-/// ends it. The client begins with this word, and takes bodies up to the limit of the options.
+/// ends it. The client begins with this word, remembers as many messages, has blocks of the size and takes bodies
+/// up to the limit that the options say.
 pub fn observe_over<L: Link, T: Timekeeper, H: BuildHasher + Drop, O: Write, E: Write>(
     alloc: Global,
     link: &mut L,
@@ -281,35 +287,71 @@ pub fn observe_over<L: Link, T: Timekeeper, H: BuildHasher + Drop, O: Write, E: 
     word: u64,
     writers: (&mut O, &mut E),
 ) -> Result<Status, Stop>
-    // A client of this server was called to observe the path, and then only to cancel that, once it was over by the options; the
-    // status is 0 where it was reported last that it is cancelled, and else 1.
-    ensures { IfOk result (Observes server (client_sizes options.now.limit) word path.now options.now) }
+    // A client of this server, which remembers as many messages as the options say, was called to observe the path, and then
+    // only to cancel that, once it was over by the options; the status is 0 where it was reported last that it is cancelled, and else 1.
+    ensures { IfOk result (Observes server (client_sizes options.now.size options.now.limit)
+        (asked_setup word options.now) path.now options.now) }
 {
-    let mut client = fresh_client(alloc, server, word, options.limit, hasher);
+    let setup = Setup {
+        word,
+        remembered: options.remembered,
+    };
+    let mut client = fresh_client(alloc, server, setup, options.size, options.limit, hasher);
     let ended = observe_and_tell(alloc, &mut client, link, time, path, options, word, writers);
     put_away(client);
     ended
 }
 
-/// Observes what the server at a port of 127.0.0.1 holds at a path.
+// The same, on a writer of its own.
+fn observe_on<L: Link, T: Timekeeper, H: BuildHasher + Drop, O: Write, E: Write + Drop>(
+    alloc: Global,
+    link: &mut L,
+    server: Endpoint,
+    time: &mut T,
+    hasher: H,
+    path: &Path,
+    options: &AskOptions,
+    word: u64,
+    out: &mut O,
+    err: E,
+) -> Result<Status, Stop>
+    ensures { IfOk result (Observes server (client_sizes options.now.size options.now.limit)
+        (asked_setup word options.now) path.now options.now) }
+{
+    let mut err = err;
+    observe_over(
+        alloc,
+        link,
+        server,
+        time,
+        hasher,
+        path,
+        options,
+        word,
+        (out, &mut err),
+    )
+}
+
+/// Observes what the server at this port of the host holds at a path.
 pub(crate) fn observe<R: AllocGlobal + Net + Clock + RandomSource, O: Write, E: Write>(
     rt: &R,
     port: u16,
     path: &Path,
     options: &AskOptions,
-    writers: (&mut O, &mut E),
+    out: &mut O,
+    err: &mut E,
 ) -> Result<Status, Stop>
     ensures { IfOk result (IsObserved port path.now options.now) }
 {
     let word = word_of(rt, options.word)?;
     let mut time = ProgramTime::begin(rt)?;
-    let mut link = UdpLink::bind(rt, ANY_PORT)?;
-    let server = Endpoint {
-        port,
-        ..link.address()
-    };
+    let server = server_of(port, options);
+    let link = UdpLink::client(rt, server)?;
     let hasher = RandomState::new(rt)?;
-    observe_over(
+    let err = RefCell::new(&mut *err);
+    let teller = teller_on(rt.alloc(), time.again(), &err, options.trace);
+    let mut link = Trace::new(link, teller);
+    observe_on(
         rt.alloc(),
         &mut link,
         server,
@@ -318,6 +360,7 @@ pub(crate) fn observe<R: AllocGlobal + Net + Clock + RandomSource, O: Write, E: 
         path,
         options,
         word,
-        writers,
+        out,
+        SharedWriter::new(&err),
     )
 }

@@ -2,15 +2,16 @@ ghost use Rattle.std.specs.Prelude.{◌≡◌, IfOk};
 ghost use Rattle.coap_commands.specs.Statuses.{IsCarriedOut};
 
 use crate::calling::{Outcome, call, get_request, outcome_text, put_request};
-use crate::ends::{fresh_client, fresh_server};
+use crate::ends::{fresh_client, fresh_server, largest_szx};
 use crate::put_away::put_away;
 use crate::side::Side;
 use crate::status::{Status, Stop};
 use crate::timekeeper::{ProgramTime, Timekeeper};
 use crate::word::word_of;
 use coap_ends::{Client, End, Report};
-use coap_links::{ANY_PORT, Link, UdpLink};
-use coap_types::{BodyLimit, Code, Path, Request};
+use coap_layer::Setup;
+use coap_links::{ANY_PORT, LOOPBACK, Link, UdpLink};
+use coap_types::{BodyLimit, Code, Endpoint, Path, Remembered, Request};
 use coap_words::WordChoice;
 use std::alloc::Global;
 use std::hash::{BuildHasher, RandomState};
@@ -135,7 +136,7 @@ fn tell_get<W: Write>(
 
 /// Puts a body at a path and gets it back, between a client and a server that take turns, and
 /// prints what became of both requests; done where what came back is the body. Each end begins with
-/// this word, and takes bodies up to this limit; the first hasher is the client's.
+/// this word, remembers so many messages, and takes bodies up to this limit; the first hasher is the client's.
 pub fn pair_over<
     C: Link,
     S: Link,
@@ -152,6 +153,7 @@ pub fn pair_over<
     path: &Path,
     body: &[u8],
     word: u64,
+    remembered: Remembered,
     limit: BodyLimit,
     out: &mut W,
 ) -> Result<Status, Stop>
@@ -159,8 +161,15 @@ pub fn pair_over<
     ensures { IfOk result IsCarriedOut }
 {
     let (client_hasher, server_hasher) = hashers;
-    let mut client = fresh_client(alloc, server_link.address(), word, limit, client_hasher);
-    let mut server = fresh_server(alloc, word, limit, server_hasher);
+    let mut client = fresh_client(
+        alloc,
+        server_link.address(),
+        Setup { word, remembered },
+        largest_szx(),
+        limit,
+        client_hasher,
+    );
+    let mut server = fresh_server(alloc, Setup { word, remembered }, limit, server_hasher);
     let mut ends = BothEnds {
         client: Side::new(&mut client, client_link, word),
         server: Side::new(&mut server, server_link, word),
@@ -178,14 +187,19 @@ pub fn pair<R: AllocGlobal + Net + Clock + RandomSource, W: Write>(
     body: &str,
     word: WordChoice,
     limit: BodyLimit,
+    remembered: Remembered,
     out: &mut W,
 ) -> Result<Status, Stop>
     ensures { IfOk result IsCarriedOut }
 {
     let word = word_of(rt, word)?;
     let mut time = ProgramTime::begin(rt)?;
-    let mut client_link = UdpLink::bind(rt, ANY_PORT)?;
-    let mut server_link = UdpLink::bind(rt, ANY_PORT)?;
+    let own = Endpoint {
+        ip: LOOPBACK,
+        port: ANY_PORT,
+    };
+    let mut client_link = UdpLink::bind(rt, own)?;
+    let mut server_link = UdpLink::bind(rt, own)?;
     let hashers = (RandomState::new(rt)?, RandomState::new(rt)?);
     pair_over(
         rt.alloc(),
@@ -196,6 +210,7 @@ pub fn pair<R: AllocGlobal + Net + Clock + RandomSource, W: Write>(
         path,
         body.as_bytes(),
         word,
+        remembered,
         limit,
         out,
     )

@@ -1,23 +1,54 @@
 ghost use Rattle.std.specs.Prelude.{◌≡◌, IfOk};
+ghost use Rattle.coap_links.specs.Pumping.{SendsAll};
+ghost use Rattle.coap_links.specs.Turning.{Turns};
+ghost use Rattle.coap_commands.specs.Serves.{Feeds, Serves};
 ghost use Rattle.coap_commands.specs.Statuses.{IsCarriedOut};
+ghost use Rattle.coap_commands.specs.declared.status.Status.TheVariants.{Done};
 
 use crate::bearing::bear;
-use crate::ends::{fresh_server, hold, tell_refusal};
+use crate::changes::{TellingEnd, changes_on};
+use crate::ends::tell_refusal;
 use crate::put_away::put_away;
+use crate::setting_up::server_by;
 use crate::status::{Status, Stop};
 use crate::timekeeper::{ProgramTime, Timekeeper};
+use crate::tracing::teller_on;
 use crate::word::word_of;
-use coap_ends::{End, Server};
-use coap_links::{Link, UdpLink, fresh_tally, send_all, serve_turn};
-use coap_resource::{MapStore, StoreRefusal};
-use coap_types::BodyLimit;
-use coap_words::{WordChoice, path_of_text};
-use std::alloc::{Allocator, Global};
-use std::hash::{BuildHasher, RandomState};
+use coap_ends::End;
+use coap_links::{Link, Trace, UdpLink, fresh_tally, send_all, serve_turn};
+use coap_types::Endpoint;
+use coap_words::ServeOptions;
+use std::alloc::Allocator;
+use std::cell::RefCell;
+use std::hash::RandomState;
 use std::io::Write;
 use std::net::Net;
 use std::random::RandomSource;
 use std::rt::Clock;
+
+// Takes turns until so many datagrams were fed.
+fn serve_until<A: Allocator + Copy, E: End<A>, L: Link, T: Timekeeper>(
+    server: &mut E,
+    link: &mut L,
+    time: &mut T,
+    count: u64,
+    word: u64,
+) -> Result<(), Stop>
+    ensures { IfOk result (λ _. Feeds
+        (Turns E.waiting E.gives L.sends L.receives E.quiet_feed E.feeds E.quiet_tick E.ticks) count word
+        (E.state server.old) link.old (E.state server.new) link.new) }
+{
+    let mut tally = fresh_tally(word);
+    // More turns than a program lives.
+    for _turn in 0..u64::MAX {
+        if tally.fed >= count {
+            return Ok(());
+        }
+        serve_turn(server, link, time.now()?, &mut tally);
+        bear(link, &tally)?;
+    }
+    Err(Stop::Failed)
+}
 
 /// Serves until so many datagrams were fed, sends what is out then, and prints the number. The
 /// word is the one that the server began with.
@@ -29,60 +60,59 @@ pub fn serve_over<A: Allocator + Copy, E: End<A>, L: Link, T: Timekeeper, W: Wri
     word: u64,
     out: &mut W,
 ) -> Result<Status, Stop>
-    // A `serve` over any link is carried out with status 0 or 1, or stops.
-    ensures { IfOk result IsCarriedOut }
+    // A `serve` over any link ends with status 0, or stops: it ends after turns alone, once so many datagrams were fed and no later, and
+    // has sent what was out then.
+    ensures { IfOk result (λ status. (status ≡ Done) × Serves
+        (Turns E.waiting E.gives L.sends L.receives E.quiet_feed E.feeds E.quiet_tick E.ticks)
+        (λ g k f m. SendsAll E.gives L.sends g k (E.waiting g) f m) count word
+        (E.state server.old) link.old (E.state server.new) link.new) }
 {
-    let mut tally = fresh_tally(word);
-    // More turns than a program lives.
-    for _ in 0..u64::MAX {
-        if tally.fed >= count {
-            break;
-        }
-        serve_turn(server, link, time.now()?, &mut tally);
-        bear(link, &tally)?;
-    }
+    serve_until(server, link, time, count, word)?;
     send_all(server, link);
     writeln!(out, "served {count}")?;
     Ok(Status::Done)
 }
 
-// The resource that is served, and what it holds.
-const PATH: &str = "temperature";
-
-const BODY: &str = "22.3 C";
-
-/// Has the server hold the resource, the text of a temperature; the refusal of its store where it
-/// doesn't.
-pub fn hold_resource<H: BuildHasher + Drop>(
-    alloc: Global,
-    server: &mut Server<MapStore, Global, H>,
-) -> Result<Option<StoreRefusal>, Stop> {
-    let Ok(path) = path_of_text(alloc, PATH) else {
-        return Err(Stop::Memory);
-    };
-    hold(server, &path, BODY.as_bytes())
+// Says what a server that others reach lets them do.
+fn warn<E: Write>(options: &ServeOptions, port: u16, err: &mut E) {
+    if !options.address.is_loopback() {
+        let _ = writeln!(
+            err,
+            "whoever reaches port {port} may write, make and delete every path"
+        );
+    }
 }
 
-/// Serves the resource at a port of 127.0.0.1 until so many datagrams came.
-pub fn serve<R: AllocGlobal + Net + Clock + RandomSource, W: Write>(
+/// Serves at a port, as the words say, until so many datagrams came.
+pub fn serve<R: AllocGlobal + Net + Clock + RandomSource, O: Write, E: Write>(
     rt: &R,
     port: u16,
     count: u64,
-    word: WordChoice,
-    limit: BodyLimit,
-    out: &mut W,
+    options: &ServeOptions,
+    out: &mut O,
+    err: &mut E,
 ) -> Result<Status, Stop>
     ensures { IfOk result IsCarriedOut }
 {
-    let word = word_of(rt, word)?;
+    let word = word_of(rt, options.word)?;
     let mut time = ProgramTime::begin(rt)?;
-    let mut link = UdpLink::bind(rt, port)?;
-    let mut server = fresh_server(rt.alloc(), word, limit, RandomState::new(rt)?);
-    let ended = match hold_resource(rt.alloc(), &mut server) {
-        Ok(None) => serve_over(&mut server, &mut link, &mut time, count, word, out),
-        Ok(Some(refusal)) => tell_refusal(refusal, out),
-        Err(stop) => Err(stop),
+    let address = Endpoint {
+        ip: options.address.octets(),
+        port,
     };
-    put_away(server);
-    ended
+    let link = UdpLink::bind(rt, address)?;
+    warn(options, port, err);
+    let err = RefCell::new(&mut *err);
+    let teller = teller_on(rt.alloc(), time.again(), &err, options.trace);
+    let mut link = Trace::new(link, teller);
+    match server_by(rt.alloc(), word, options, RandomState::new(rt)?)? {
+        Ok(server) => {
+            let changes = changes_on(rt.alloc(), &err, options.changes);
+            let mut server = TellingEnd::new(server, changes);
+            let ended = serve_over(&mut server, &mut link, &mut time, count, word, out);
+            put_away(server);
+            ended
+        }
+        Err(refusal) => tell_refusal(refusal, out),
+    }
 }

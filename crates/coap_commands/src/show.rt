@@ -1,6 +1,9 @@
-ghost use Rattle.std.specs.Prelude.{IfOk};
+ghost use Rattle.std.specs.Prelude.{◌≡◌, IfOk};
+ghost use Rattle.coap_commands.specs.Dumps.{IsShown};
 ghost use Rattle.coap_commands.specs.Statuses.{IsCarriedOut};
+ghost use Rattle.coap_commands.specs.declared.status.Status.TheVariants as statuses;
 
+use crate::message_words::FaultWords;
 use crate::status::{Status, Stop};
 use crate::text::hex_or_dash;
 use coap_codec::{Fault, View, decode};
@@ -9,17 +12,18 @@ use std::io::Write;
 
 /// Prints what the datagram spells: a message, or the first fault.
 pub fn show<W: Write>(alloc: Global, datagram: &[u8], out: &mut W) -> Result<Status, Stop>
-    ensures { IfOk result IsCarriedOut }
+    ensures shown { IfOk result (IsShown datagram.now) }
+    ensures ended { IfOk result IsCarriedOut }
 {
     match decode(datagram) {
         Ok(message) => show_message(alloc, &message, out),
-        Err(fault) => show_fault(&fault, out),
+        Err(fault) => show_fault(fault, out),
     }
 }
 
 // Kind, code, Message ID and token, then a line for each option, then the payload.
 fn show_message<W: Write>(alloc: Global, message: &View<'_>, out: &mut W) -> Result<Status, Stop>
-    ensures { IfOk result IsCarriedOut }
+    ensures { IfOk result (λ status. status ≡ statuses.Done) }
 {
     let kind = message.kind();
     let code = message.code();
@@ -50,13 +54,11 @@ fn show_payload<W: Write>(alloc: Global, message: &View<'_>, out: &mut W) -> Res
     Ok(())
 }
 
-// The number of the reason, its name and its place.
-fn show_fault<W: Write>(fault: &Fault, out: &mut W) -> Result<Status, Stop>
-    ensures { IfOk result IsCarriedOut }
+// The fault in words.
+fn show_fault<W: Write>(fault: Fault, out: &mut W) -> Result<Status, Stop>
+    ensures { IfOk result (λ status. status ≡ statuses.Refused) }
 {
-    let number = fault.reason.number();
-    let reason = fault.reason;
-    let at = fault.at;
-    writeln!(out, "fault {number} {reason} at {at}")?;
+    let words = FaultWords(fault);
+    writeln!(out, "{words}")?;
     Ok(Status::Refused)
 }

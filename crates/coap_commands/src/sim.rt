@@ -1,5 +1,10 @@
-ghost use Rattle.std.specs.Prelude.{IfOk};
-ghost use Rattle.coap_commands.specs.Statuses.{IsOfScript};
+ghost use Rattle.std.specs.Prelude.{◌≡◌, [], ℕ, List, IfOk, map};
+ghost use Rattle.coap_types.specs.declared.remembered.TheConstants.{DEFAULT_REMEMBERED as default_remembered};
+ghost use Rattle.coap_world.specs.Events.{Event as EventSpec};
+ghost use Rattle.coap_world.specs.Run.Happening.{event_of};
+ghost use Rattle.coap_world.specs.declared.running.RunRefusal.TheVariants.{NotLegal};
+ghost use Rattle.coap_commands.specs.Sims.{IsSim, sim_config};
+ghost use Rattle.coap_commands.specs.declared.status.Status.TheVariants.{Refused};
 
 use crate::ends::largest_szx;
 use crate::script::{ScriptRefusal, events_of};
@@ -7,7 +12,7 @@ use crate::status::{Status, Stop, stop_of};
 use crate::telling::tell;
 use coap_ends::{MAX_PLAINS, PlainRefusal};
 use coap_resource::{ListStore, MAX_CHANGES_PER_WINDOW, MapStore};
-use coap_types::Path;
+use coap_types::{Path, Remembered};
 use coap_words::StoreKind;
 use coap_world::{Event, RunRefusal, WorldConfig, run_with};
 use std::alloc::Allocator;
@@ -30,32 +35,42 @@ pub fn sim_to<A: Allocator + Copy, R: Read, W: Write>(
     script: &mut R,
     out: &mut W,
 ) -> Result<Status, Stop>
-    // A script is run with status 0, 1 or 2, or stops.
-    ensures { IfOk result IsOfScript }
+    // The events of a script run to their end with status 0, between ends that remember the usual number of messages and
+    // without a plain path; one of them is not legal with status 1.
+    ensures { IfOk result (λ status. (events : List EventSpec) × IsSim (sim_config default_remembered []) events status) }
 {
     let no_path: [Path<A>; 0] = [];
-    sim_with(alloc, script, StoreKind::Map, &no_path, out)
+    sim_with(
+        alloc,
+        script,
+        StoreKind::Map,
+        &no_path,
+        Remembered::default(),
+        out,
+    )
 }
 
-/// Runs a script as [`sim_to`] does, over a server with such a store, which tells the observers of these
-/// paths in Non-confirmable messages where it may. With more than `MAX_PLAINS` different ones nothing
+/// Runs a script as [`sim_to`] does, over ends that remember so many messages, and a server with such a store,
+/// which tells the observers of these paths in Non-confirmable messages where it may. With more than `MAX_PLAINS` different ones nothing
 /// is run: these are wrong words.
 pub fn sim_with<A: Allocator + Copy, R: Read, W: Write>(
     alloc: A,
     script: &mut R,
     store: StoreKind,
     plains: &[Path<A>],
+    remembered: Remembered,
     out: &mut W,
 ) -> Result<Status, Stop>
-    // A script is run over either store with status 0, 1 or 2, or stops.
-    ensures { IfOk result IsOfScript }
+    // The events of a script run to their end with status 0, between ends that remember so many messages and with these
+    // plain paths, over either store; one of them is not legal with status 1.
+    ensures { IfOk result (λ status. (events : List EventSpec) × IsSim (sim_config remembered plains.now) events status) }
 {
     let mut text = Vec::new(alloc);
     if let Err(error) = script.read_to_end(&mut text) {
         return Err(stop_of(&error));
     }
     match events_of(alloc, text.as_slice()) {
-        Ok(events) => run_events(alloc, events.as_slice(), store, plains, out),
+        Ok(events) => run_events(alloc, events.as_slice(), store, plains, remembered, out),
         Err(ScriptRefusal::Line(number)) => {
             writeln!(out, "bad line {number}")?;
             Ok(Status::Words)
@@ -66,7 +81,9 @@ pub fn sim_with<A: Allocator + Copy, R: Read, W: Write>(
 
 // With what a run begins: both ends have the largest blocks, no path is answered later, and observers
 // are told in Confirmable messages.
-fn usual_config<A: Allocator + Copy>(alloc: A) -> WorldConfig<A> {
+fn usual_config<A: Allocator + Copy>(alloc: A) -> WorldConfig<A>
+    ensures { result ≡ sim_config default_remembered [] }
+{
     let szx = largest_szx();
     match WorldConfig::new(alloc, WORD, WORD, szx, szx, MAX_CHANGES_PER_WINDOW) {
         Some(config) => config,
@@ -74,16 +91,33 @@ fn usual_config<A: Allocator + Copy>(alloc: A) -> WorldConfig<A> {
     }
 }
 
-// The same, but for the observers of these paths.
+// The same, but for the observers of these paths, and so many remembered messages.
 fn config_with<A: Allocator + Copy>(
     alloc: A,
     plains: &[Path<A>],
-) -> Result<WorldConfig<A>, PlainRefusal> {
+    remembered: Remembered,
+) -> Result<WorldConfig<A>, PlainRefusal>
+    ensures { IfOk result (λ config. config ≡ sim_config remembered plains.now) }
+{
     let mut config = usual_config(alloc);
+    config.remembered(remembered, remembered);
     for path in plains {
         config.plain(path)?;
     }
     Ok(config)
+}
+
+// Prints which event is not legal.
+fn tell_refusal<W: Write>(refusal: RunRefusal, out: &mut W) -> Result<Status, Stop>
+    ensures { IfOk result (λ status. (status ≡ Refused) × (number : ℕ) × (refusal ≡ NotLegal number)) }
+{
+    match refusal {
+        RunRefusal::NotLegal(number) => {
+            writeln!(out, "not legal {number}")?;
+            Ok(Status::Refused)
+        }
+        RunRefusal::Memory => Err(Stop::Memory),
+    }
 }
 
 // Runs the events, and prints what comes of them, or which one is not legal.
@@ -92,11 +126,12 @@ fn run_events<A: Allocator + Copy, W: Write>(
     events: &[Event<A>],
     store: StoreKind,
     plains: &[Path<A>],
+    remembered: Remembered,
     out: &mut W,
 ) -> Result<Status, Stop>
-    ensures { IfOk result IsOfScript }
+    ensures { IfOk result (IsSim (sim_config remembered plains.now) (map event_of events.now)) }
 {
-    let config = match config_with(alloc, plains) {
+    let config = match config_with(alloc, plains, remembered) {
         Ok(config) => config,
         Err(PlainRefusal::Full) => return Ok(Status::Words),
         Err(PlainRefusal::Memory) => return Err(Stop::Memory),
@@ -110,26 +145,24 @@ fn run_events<A: Allocator + Copy, W: Write>(
             tell(alloc, events, &record, out)?;
             Ok(Status::Done)
         }
-        Err(RunRefusal::NotLegal(number)) => {
-            writeln!(out, "not legal {number}")?;
-            Ok(Status::Refused)
-        }
-        Err(RunRefusal::Memory) => Err(Stop::Memory),
+        Err(refusal) => tell_refusal(refusal, out),
     }
 }
 
-/// Runs the script in a file, over a server with such a store and such plain paths.
+/// Runs the script in a file, over a server with such a store and such plain paths, and ends that remember so
+/// many messages.
 pub fn sim<R: AllocGlobal + Files, W: Write>(
     rt: &R,
     file: &str,
     store: StoreKind,
     plains: &[Path],
+    remembered: Remembered,
     out: &mut W,
 ) -> Result<Status, Stop>
-    ensures { IfOk result IsOfScript }
+    ensures { IfOk result (λ status. (events : List EventSpec) × IsSim (sim_config remembered plains.now) events status) }
 {
     match fs::open(rt, file) {
-        Ok(mut script) => sim_with(rt.alloc(), &mut script, store, plains, out),
+        Ok(mut script) => sim_with(rt.alloc(), &mut script, store, plains, remembered, out),
         Err(error) => Err(stop_of(&error)),
     }
 }

@@ -28,6 +28,16 @@ impl<'a, R: Clock> ProgramTime<'a, R> {
     }
 }
 
+impl<'a, R: Clock> ProgramTime<'a, R> {
+    /// Another clock that tells the same moments.
+    pub fn again(&self) -> ProgramTime<'a, R> {
+        ProgramTime {
+            rt: self.rt,
+            begin: self.begin,
+        }
+    }
+}
+
 impl<'a, R: Clock> Timekeeper for ProgramTime<'a, R> {
     fn now(&mut self) -> io::Result<Moment> {
         let elapsed = self.begin.elapsed(self.rt)?.as_millis();

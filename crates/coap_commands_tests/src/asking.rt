@@ -1,6 +1,7 @@
 use crate::pair::Clock;
 use crate::rows::{check_row, repeated, words_of};
 use coap_commands::{ask_over, body_of, close, request_of};
+use coap_layer::Setup;
 use coap_links::MemoryLink;
 use coap_types::Endpoint;
 use coap_words::{Content, Order, What, WordChoice, order};
@@ -54,7 +55,8 @@ const NO_BODY: &str = "give either BODY or --file";
 
 const NO_TAG: &str = "--if-match is not the hex of 1 to 8 bytes, or is given more than 4 times";
 
-const NO_FORMAT: &str = "--format is no number from 0 to 65535";
+const NO_FORMAT: &str =
+    "--format is neither a number from 0 to 65535 nor the name of a format, as text/plain";
 
 const NO_WORD: &str = "--word is neither random nor a number from 0 to 18446744073709551615";
 
@@ -188,7 +190,7 @@ fn word_in(alloc: Global, words: &[&str]) -> Result<Option<WordChoice>, AllocErr
     match &asked {
         Order::Ask { options, .. } => Ok(Some(options.word)),
         Order::Pair { word, .. } => Ok(Some(*word)),
-        Order::Serve { word, .. } => Ok(Some(*word)),
+        Order::Serve { options, .. } => Ok(Some(options.word)),
         _ => Ok(None),
     }
 }
@@ -273,7 +275,11 @@ pub(super) fn ask_in_memory<R: AllocGlobal + Files>(
         hasher,
         request,
         options.give_up,
-        0,
+        Setup {
+            word: 0,
+            remembered: options.remembered,
+        },
+        options.size,
         options.limit,
         (told, said),
     );

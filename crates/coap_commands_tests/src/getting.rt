@@ -1,7 +1,8 @@
 use crate::asking::{check_ask, check_said};
 use std::test::Fail;
 
-const NO_ACCEPT: &str = "--accept is no number from 0 to 65535";
+const NO_ACCEPT: &str =
+    "--accept is neither a number from 0 to 65535 nor the name of a format, as text/plain";
 
 const NO_TAG: &str = "--etag is not the hex of 1 to 8 bytes, or is given more than 4 times";
 

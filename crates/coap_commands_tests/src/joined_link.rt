@@ -152,6 +152,8 @@ impl<'a> Link for JoinedLink<'a> {
 
     ghost fault_count = { λ link. link.faults };
 
+    ghost own_address = { λ link. link.link.address };
+
     fn send(&mut self, to: Endpoint, bytes: &[u8]) {
         if self.failing == Failing::EachSend {
             self.link.fail_send(1);

@@ -10,9 +10,19 @@ mod bodies;
 #[cfg(test)]
 mod buffers;
 #[cfg(test)]
+mod changes;
+#[cfg(test)]
+mod dumps;
+#[cfg(test)]
+mod flags;
+#[cfg(test)]
+mod formats;
+#[cfg(test)]
 mod getting;
 #[cfg(test)]
 mod giving_up;
+#[cfg(test)]
+mod hosts;
 #[cfg(test)]
 mod joined_link;
 #[cfg(test)]
@@ -24,6 +34,14 @@ mod programs;
 #[cfg(test)]
 mod refusing_end;
 #[cfg(test)]
+mod remembering;
+#[cfg(test)]
 mod rows;
 #[cfg(test)]
+mod serving;
+#[cfg(test)]
 mod sim;
+#[cfg(test)]
+mod sizes;
+#[cfg(test)]
+mod tracing;

@@ -1,13 +1,14 @@
 use crate::joined_link::{Failing, JoinedLink, Road, Way};
 use crate::rows::repeated;
 use coap_commands::{
-    Stop, Timekeeper, call, close, fresh_client, fresh_server, get_request, hold, pair_over,
-    put_request,
+    Stop, Timekeeper, call, close, fresh_client, fresh_server, get_request, hold, largest_szx,
+    pair_over, put_request,
 };
 use coap_ends::{Client, Report, Server};
+use coap_layer::Setup;
 use coap_links::{Link, fresh_tally, get_turn, serve_turn};
 use coap_resource::MapStore;
-use coap_types::{BodyLimit, Code, Endpoint, Moment, Path, Request};
+use coap_types::{BodyLimit, Code, Endpoint, Moment, Path, Remembered, Request};
 use coap_words::path_of_text;
 use std::alloc::{AllocError, Global};
 use std::cell::RefCell;
@@ -78,6 +79,7 @@ fn pair_in_memory(
         path,
         body,
         1,
+        Remembered::default(),
         limit,
         told,
     );
@@ -232,9 +234,16 @@ fn gets_in_turns(alloc: Global, path: &Path) -> bool {
     let mut near = JoinedLink::new(alloc, (CLIENT, SERVER), (&there, &here), way, never);
     let mut far = JoinedLink::new(alloc, (SERVER, CLIENT), (&here, &there), way, never);
     let hasher = BuildHasherDefault::<FoldHasher>::new();
-    let mut client = fresh_client(alloc, SERVER, 0, BodyLimit::default(), hasher);
+    let mut client = fresh_client(
+        alloc,
+        SERVER,
+        Setup::new(0),
+        largest_szx(),
+        BodyLimit::default(),
+        hasher,
+    );
     let hasher = BuildHasherDefault::<FoldHasher>::new();
-    let mut server = fresh_server(alloc, 0, BodyLimit::default(), hasher);
+    let mut server = fresh_server(alloc, Setup::new(0), BodyLimit::default(), hasher);
     let reported = get_in_turns((&mut client, &mut near), (&mut server, &mut far), path);
     drop(client);
     drop(server);
@@ -283,9 +292,16 @@ fn refused_in_turns(
     let mut near = JoinedLink::new(alloc, (CLIENT, SERVER), (&there, &here), way, never);
     let mut far = JoinedLink::new(alloc, (SERVER, CLIENT), (&here, &there), way, never);
     let hasher = BuildHasherDefault::<FoldHasher>::new();
-    let mut client = fresh_client(alloc, SERVER, 0, client_limit, hasher);
+    let mut client = fresh_client(
+        alloc,
+        SERVER,
+        Setup::new(0),
+        largest_szx(),
+        client_limit,
+        hasher,
+    );
     let hasher = BuildHasherDefault::<FoldHasher>::new();
-    let mut server = fresh_server(alloc, 0, server_limit, hasher);
+    let mut server = fresh_server(alloc, Setup::new(0), server_limit, hasher);
     let both = ((&mut client, &mut near), (&mut server, &mut far));
     let reported = put_and_get_in_turns(alloc, both.0, both.1, path, body);
     let block1 = near.last_block1();

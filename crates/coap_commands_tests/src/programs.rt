@@ -2,9 +2,11 @@ use crate::pair::Clock;
 use crate::refusing_end::RefusingEnd;
 use crate::rows::{Row, check_row, repeated, words_of};
 use coap_commands::{
-    Stop, ask_over, close, command, fresh_server, get_request, hold_resource, serve_over,
+    Stop, ask_over, close, command, fresh_server, get_request, hold_resource, largest_szx,
+    serve_over,
 };
-use coap_links::{ANY_PORT, Link, MemoryLink, UdpLink};
+use coap_layer::Setup;
+use coap_links::{ANY_PORT, LOOPBACK, Link, MemoryLink, UdpLink};
 use coap_types::{BodyLimit, Endpoint, Path};
 use coap_words::path_of_text;
 use std::alloc::{AllocError, Global};
@@ -124,7 +126,11 @@ fn check_taken<R: Abort + AllocGlobal + Files + Net + HasClock + RandomSource>(
 
 #[test]
 fn a_port_that_is_taken(rt: HostRuntime) -> Result<(), Fail> {
-    let link = UdpLink::bind(&rt, ANY_PORT)?;
+    let own = Endpoint {
+        ip: LOOPBACK,
+        port: ANY_PORT,
+    };
+    let link = UdpLink::bind(&rt, own)?;
     check_taken(&rt, link.address().port)?;
     drop(link);
     Ok(())
@@ -155,7 +161,17 @@ fn get_in_memory(
     let mut said = Vec::new(alloc);
     let writers = (told, &mut said);
     let ended = ask_over(
-        alloc, &mut link, FAR, &mut time, hasher, request, None, 0, limit, writers,
+        alloc,
+        &mut link,
+        FAR,
+        &mut time,
+        hasher,
+        request,
+        None,
+        Setup::new(0),
+        largest_szx(),
+        limit,
+        writers,
     );
     drop(link);
     Ok(close(ended, &mut said).number())
@@ -192,7 +208,7 @@ fn serve_in_memory(alloc: Global, count: u64, told: &mut Vec<u8>) -> Result<(), 
     link.give(NEAR, b"\x40\x01\x7d\x34\xbbtemperature")?;
     link.give(NEAR, &[0x40, 0, 0, 1])?;
     let hasher = BuildHasherDefault::<FoldHasher>::new();
-    let mut server = fresh_server(alloc, 0, BodyLimit::default(), hasher);
+    let mut server = fresh_server(alloc, Setup::new(0), BodyLimit::default(), hasher);
     let mut time = Clock { now: 0 };
     match hold_resource(alloc, &mut server) {
         Ok(None) => {}

@@ -119,7 +119,7 @@ fn check_wrong<R: Abort + AllocGlobal + Files + Net + Clock + RandomSource>(
 
 #[test]
 fn wrong_words(rt: HostRuntime) -> Result<(), Fail> {
-    let cases: [&[&str]; 34] = [
+    let cases: [&[&str]; 36] = [
         &["pair"],
         &["pair", "t"],
         &["pair", "t", "hi", "--word"],
@@ -135,6 +135,8 @@ fn wrong_words(rt: HostRuntime) -> Result<(), Fail> {
         &["serve", "65536", "1"],
         &["serve", "5683", "18446744073709551616"],
         &["serve", "5683", "one"],
+        &["serve", "5683", "1", "--changes", "--changes"],
+        &["get", "5683", "t", "--changes"],
         &["get", "5683"],
         &["get", "", "t"],
         &["sim"],
@@ -197,9 +199,9 @@ fn refused_memory(rt: HostRuntime) -> Result<(), Fail> {
     Ok(())
 }
 
-// A writer that fails.
+/// A writer that fails.
 #[derive(Drop)]
-struct Broken;
+pub(super) struct Broken;
 
 impl Write for Broken {
     fn write(&mut self, _bytes: &[u8]) -> io::Result<usize> {

@@ -9,12 +9,13 @@ mod legality;
 mod observations;
 mod plain_paths;
 mod refused_growths;
+mod remembering;
 mod strangers;
 mod uploads;
 
 use crate::rows::words_of;
 use coap_commands::{close, command, sim_to, sim_with};
-use coap_types::Path;
+use coap_types::{Path, Remembered};
 use coap_words::{StoreKind, path_of_text};
 use std::alloc::{AllocError, Global};
 use std::io::{ErrorKind, Read};
@@ -50,7 +51,14 @@ fn check_script_with(
         let mut out = Vec::new(alloc);
         let mut err = Vec::new(alloc);
         let mut reader = script;
-        let ended = sim_with(alloc, &mut reader, store, plains, &mut out);
+        let ended = sim_with(
+            alloc,
+            &mut reader,
+            store,
+            plains,
+            Remembered::default(),
+            &mut out,
+        );
         assert_eq!(rt; out.as_slice(), printed, "at {name} over {store:?}");
         assert_eq!(rt;
             close(ended, &mut err).number(),

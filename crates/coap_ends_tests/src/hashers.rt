@@ -1,6 +1,6 @@
 //! Each end remembers messages by the hasher that it is handed.
+use crate::remembering::{is_answered, is_full_for_its_time, is_sent};
 use coap_ends::{Client, Server};
-use coap_layer::Datagram;
 use coap_resource::{MAX_CHANGES_PER_WINDOW, MapStore, Store};
 use coap_types::{Endpoint, Moment, Path, Szx};
 use std::alloc::{AllocError, AllocGlobal, Global};
@@ -8,11 +8,6 @@ use std::cell::Cell;
 use std::hash::{BuildHasher, FoldHasher, RandomState};
 use std::process::Abort;
 use std::test::*;
-
-// A GET in a CON of Message ID 1, and what a server answers that holds nothing: 4.04.
-const GET: &[u8] = &[0x40, 0x01, 0, 1];
-
-const NOT_FOUND: &[u8] = &[0x60, 0x84, 0, 1];
 
 // The GET with Observe 0 that a client of the word 0 begins with, and the answer to it in its
 // acknowledgement: 2.05 with Observe 1.
@@ -45,13 +40,6 @@ fn counting(uses: &Cell<u32>) -> Counts<'_> {
     }
 }
 
-fn at_port(port: u16) -> Endpoint {
-    Endpoint {
-        ip: [127, 0, 0, 1],
-        port,
-    }
-}
-
 // A server that holds nothing.
 fn fresh_server<R: Abort + AllocGlobal, H: BuildHasher>(
     rt: &R,
@@ -62,59 +50,13 @@ fn fresh_server<R: Abort + AllocGlobal, H: BuildHasher>(
     Server::with_hasher(rt.alloc(), store, szx, 0, hasher)
 }
 
-// This goes out, to there.
-fn is_sent<R: Abort>(rt: &R, datagram: Option<Datagram<Global>>, to: Endpoint, bytes: &[u8]) {
-    let datagram = datagram.expect(rt, "a datagram");
-    assert_eq!(rt; datagram.to(), to);
-    assert_eq!(rt; datagram.bytes(), bytes);
-}
-
-// The GET from this port is answered, or its answer is given once more.
-fn is_answered<R: Abort + AllocGlobal, H: BuildHasher>(
-    rt: &R,
-    server: &mut Server<MapStore, Global, H>,
-    now: Moment,
-    port: u16,
-) -> Result<(), AllocError> {
-    server.feed(now, at_port(port), GET, 0)?;
-    is_sent(rt, server.next_out(), at_port(port), NOT_FOUND);
-    Ok(())
-}
-
-// The server remembers messages from ports 1 to 4,096, for their time.
-fn is_full_for_its_time<R: Abort + AllocGlobal, H: BuildHasher>(
-    rt: &R,
-    server: &mut Server<MapStore, Global, H>,
-) -> Result<(), AllocError> {
-    for port in 1..4_097 {
-        is_answered(rt, server, Moment(0), port)?;
-    }
-    // A new request is dropped; the first and the last are still remembered.
-    is_dropped(rt, server, Moment(247_000), 4_097)?;
-    is_answered(rt, server, Moment(247_000), 1)?;
-    is_answered(rt, server, Moment(247_000), 4_096)?;
-    is_answered(rt, server, Moment(247_001), 4_097)
-}
-
-// The GET from this port is not answered.
-fn is_dropped<R: Abort + AllocGlobal, H: BuildHasher>(
-    rt: &R,
-    server: &mut Server<MapStore, Global, H>,
-    now: Moment,
-    port: u16,
-) -> Result<(), AllocError> {
-    server.feed(now, at_port(port), GET, 0)?;
-    assert!(rt; server.next_out().is_none());
-    Ok(())
-}
-
 // A server with this hasher forgets nothing while its table is full.
 fn forgets_nothing<R: Abort + AllocGlobal, H: BuildHasher + Drop>(
     rt: &R,
     hasher: H,
 ) -> Result<(), AllocError> {
     let mut server = fresh_server(rt, hasher);
-    is_full_for_its_time(rt, &mut server)
+    is_full_for_its_time(rt, &mut server, 4_096)
 }
 
 #[test]

@@ -12,6 +12,8 @@ mod pair;
 #[cfg(test)]
 mod refused_growths;
 #[cfg(test)]
+mod remembering;
+#[cfg(test)]
 mod script;
 #[cfg(test)]
 mod server;

@@ -15,6 +15,7 @@ use Rattle.coap_exchange.specs.AnswererSteps.{asked_of, asked_in, reset_by, fail
 use Rattle.coap_exchange.specs.AnswererLaw.{own_of, ResponseLaw}
 use Rattle.coap_exchange.specs.AskerArrivals.{observe}
 use Rattle.coap_exchange.specs.Tokens.{same_token}
+use Rattle.coap_layer.specs.declared.setup.Setup.{Setup}
 
 -- the request that a call hands up, and that which it responds to
 abbrev pub hands : Call → Option Asked
@@ -90,8 +91,8 @@ EndsOnce trace = Always ToldOnce trace
 
 -- Where a separate response or a notification to an endpoint is not acknowledged, the layer has a CON to it
 -- outstanding, and only there.
-abbrev pub WaitsForOutstanding : (word : ℕ) (trace : List Call) → ResponseLaw word trace → Type 0
-WaitsForOutstanding word trace law =
+abbrev pub WaitsForOutstanding : (setup : Setup) (trace : List Call) → ResponseLaw setup trace → Type 0
+WaitsForOutstanding setup trace law =
     (to : Endpoint) → is_waited_for to (own_of trace).separate ≡ L.is_busy to law.left.open_cons
 
 -- At most 16 requests are deferred.

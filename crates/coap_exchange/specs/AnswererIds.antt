@@ -4,6 +4,7 @@ use Rattle.coap_types.specs.declared.message.TheConstants.{MESSAGE_IDS as messag
 use Rattle.coap_layer.specs.Ids.{Withholds}
 use Rattle.coap_layer.specs.Taking.{issued_since, came_since, FewCome}
 use Rattle.coap_layer.specs.Words.{clock, numbers}
+use Rattle.coap_layer.specs.declared.setup.Setup.{Setup}
 use Rattle.coap_exchange.specs.AnswererTrace.{Call, Notifies, NotifiesPlain}
 use Rattle.coap_exchange.specs.AnswererSteps.{max_deferred}
 use Rattle.coap_exchange.specs.AnswererLaw.{own_of, below_of}
@@ -25,10 +26,10 @@ most_waiting = max_deferred + 1
 
 -- From any moment on, each Message ID is given to the response to a request that came since, to that of one that waited
 -- then, or to a notification.
-abbrev pub IdsCounted : ℕ → List Call → Type 0
-IdsCounted word t =
-    (u : ℕ) → issued_since u (numbers (below_of word t))
-    ≤ most_waiting + came_since u (below_of word t) + notified_since u t
+abbrev pub IdsCounted : Setup → List Call → Type 0
+IdsCounted setup t =
+    (u : ℕ) → issued_since u (numbers (below_of setup t))
+    ≤ most_waiting + came_since u (below_of setup t) + notified_since u t
 
 -- fewer notifications than so many are sent in each EXCHANGE_LIFETIME
 abbrev pub FewNotified : ℕ → List Call → Type 0
@@ -36,8 +37,8 @@ FewNotified most t = AreFew (λ past. (own_of past).clock) notifies most t
 
 -- Where these are fewer than an eighth of the Message IDs, and so are the messages that come in each EXCHANGE_LIFETIME,
 -- one is free from the latest moment on.
-abbrev pub IdIsFree : ℕ → List Call → Type 0
-IdIsFree word t =
-    (most now : ℕ) → 8 * most ≤ message_ids → FewNotified most t → FewCome most (below_of word t)
-    → clock (below_of word t) ≤ now
-    → Withholds word (numbers (below_of word t)) now → ⊥
+abbrev pub IdIsFree : Setup → List Call → Type 0
+IdIsFree setup t =
+    (most now : ℕ) → 8 * most ≤ message_ids → FewNotified most t → FewCome most (below_of setup t)
+    → clock (below_of setup t) ≤ now
+    → Withholds setup.word (numbers (below_of setup t)) now → ⊥

@@ -1,8 +1,9 @@
 -- The law of the server's side, over whole traces of its calls, the newest first (RFC 7252, section 5.2).
-use Rattle.std.specs.Prelude.{ℕ, List}
+use Rattle.std.specs.Prelude.{List}
 use Rattle.coap_layer.specs.Machine.State as L
 use Rattle.coap_layer.specs.Machine.Steps.{Asked, Steps, entries}
 use Rattle.coap_layer.specs.Trace.{Entry}
+use Rattle.coap_layer.specs.declared.setup.Setup.{Setup}
 use Rattle.coap_exchange.specs.Above as above
 use Rattle.coap_exchange.specs.Above.{sum_of, asked_by, Rows}
 use Rattle.coap_exchange.specs.AnswererTrace.{Own, start, Call}
@@ -20,21 +21,21 @@ lower_of trace = asked_by start after lower trace
 abbrev pub AnswererLaw : List Call → Type 0
 AnswererLaw trace = Rows start after IsRight trace
 
--- .. and what was asked of a layer that began with the word was answered by it, step by step: what these steps add
+-- .. and what was asked of a layer that began with this setup was answered by it, step by step: what these steps add
 -- stands in the law of the layer
-abbrev pub ResponseLaw : ℕ → List Call → Type 0
-ResponseLaw word trace = above.Law IsRight after lower Steps start (L.start (L.usual word)) trace
+abbrev pub ResponseLaw : Setup → List Call → Type 0
+ResponseLaw setup trace = above.Law IsRight after lower Steps start (L.start setup) trace
 
 -- the trace of that layer
-abbrev pub below_of : ℕ → List Call → List Entry
-below_of word trace = entries (L.start (L.usual word)) (lower_of trace)
+abbrev pub below_of : Setup → List Call → List Entry
+below_of setup trace = entries (L.start setup) (lower_of trace)
 
 -- what is kept: by the server's side itself, and by its layer
 abbrev pub State : Type 0
 State = above.State Own L.State
 
-abbrev pub fresh_state : ℕ → State
-fresh_state word = record { own = start; layer = L.start (L.usual word) }
+abbrev pub fresh_state : Setup → State
+fresh_state setup = record { own = start; layer = L.start setup }
 
 -- one call
 abbrev pub Step : State → Call → State → Type 0
@@ -45,5 +46,5 @@ abbrev pub Exchanged : State → List Call → State → Type 0
 Exchanged old calls new = above.Chain IsRight after lower Steps old calls new
 
 -- these calls can leave it so
-abbrev pub Led : ℕ → List Call → State → Type 0
-Led word trace s = above.Led IsRight after lower Steps start (L.start (L.usual word)) trace s
+abbrev pub Led : Setup → List Call → State → Type 0
+Led setup trace s = above.Led IsRight after lower Steps start (L.start setup) trace s

@@ -1,6 +1,6 @@
 -- A separate response or a notification that a Reset rejects, or that is given up, is said to have ended
 -- (RFC 7252, sections 4.2 and 5.2.2; RFC 7641, sections 3.6 and 4.5).
-use Rattle.std.specs.Prelude.{◌≡◌, ◌≢◌, ℕ, Option, Some, None, List, [], ◌∷◌, IfSome}
+use Rattle.std.specs.Prelude.{◌≡◌, ◌≢◌, Option, Some, None, List, [], ◌∷◌, IfSome}
 use Rattle.coap_types.specs.Past.{Since, Always}
 use Rattle.coap_types.specs.declared.endpoint.Endpoint.{Endpoint}
 use Rattle.coap_layer.specs.Trace as L

@@ -1,6 +1,6 @@
 -- When a client answers an arrival with an Empty message, and with which (RFC 7252, sections 4.2, 4.3, 5.3.2 and 5.4.1;
 -- RFC 7641, section 3.6). A Reset to a NON is a profile.
-use Rattle.std.specs.Prelude.{◌≡◌, ◌≢◌, ◌⊎◌, ℕ, Bool, true, false, Option, Some, List, [], ◌&&◌, ◌||◌}
+use Rattle.std.specs.Prelude.{◌≡◌, ◌≢◌, ◌⊎◌, Bool, true, false, Option, Some, List, [], ◌&&◌, ◌||◌}
 use Rattle.coap_types.specs.Past.{Always}
 use Rattle.coap_types.specs.Recognised.{lacks_critical, carries}
 use Rattle.coap_types.specs.declared.direction.Direction.TheVariants.{Response}
@@ -17,6 +17,7 @@ use Rattle.coap_exchange.specs.AskerLaw.{own_of}
 use Rattle.coap_exchange.specs.AskerFollows.{message_told}
 use Rattle.coap_exchange.specs.EmptyMessages.{acknowledging, rejecting, replies_in}
 use Rattle.coap_exchange.specs.Tokens.{is_kept}
+use Rattle.coap_layer.specs.declared.setup.Setup.{Setup}
 
 -- it comes from the server, with the token of the exchange or a kept one
 abbrev pub is_known : Own → Endpoint → Message → Bool
@@ -52,13 +53,13 @@ RepliesBy s from (L.Becomes (L.Request m kept)) told out =
     (m.kind ≡ Con → out ≡ rejecting from m.id) × (m.kind ≢ Con → out ≡ [])
 RepliesBy s from _ told out = out ≡ []
 
-module _ (server : Endpoint) (word : ℕ) where
+module _ (server : Endpoint) (setup : Setup) where
   -- nothing but an arrival is replied to
   abbrev pub RepliesRightly : List Call → Call → Type 0
   RepliesRightly past (Receive now from bytes up settled answer) =
-      RepliesBy (own_of server word past) from up answer
-      (replies_in (lower (own_of server word past) (Receive now from bytes up settled answer)))
-  RepliesRightly past c = replies_in (lower (own_of server word past) c) ≡ []
+      RepliesBy (own_of server setup past) from up answer
+      (replies_in (lower (own_of server setup past) (Receive now from bytes up settled answer)))
+  RepliesRightly past c = replies_in (lower (own_of server setup past) c) ≡ []
 
   abbrev pub AreReplied : List Call → Type 0
   AreReplied trace = Always RepliesRightly trace

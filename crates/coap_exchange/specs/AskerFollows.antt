@@ -9,6 +9,7 @@ use Rattle.coap_types.specs.declared.transmission.TheConstants.{EXCHANGE_LIFETIM
 use Rattle.coap_types.specs.declared.transmission.TheConstants.{FAILURE_TIMEOUTS as failure_timeouts}
 use Rattle.coap_types.specs.declared.transmission.TheConstants.{TIMEOUT_VALUES as timeout_values}
 use Rattle.coap_types.specs.SameEndpoint.{same_endpoint}
+use Rattle.coap_layer.specs.declared.setup.Setup.{Setup}
 use Rattle.coap_codec.specs.Message.{Message, Spells}
 use Rattle.coap_exchange.specs.declared.asker.Event.{Event}
 use Rattle.coap_exchange.specs.declared.asker.Event.TheVariants as event
@@ -128,10 +129,10 @@ abbrev pub carried : Call → Option Message
 carried (Receive now from bytes up settled answer) = message_told answer
 carried _ = None
 
-module _ (server : Endpoint) (word : ℕ) where
+module _ (server : Endpoint) (setup : Setup) where
   -- the moment of a call that is handed one: a moment before the last counts as the last
   abbrev pub moment : List Call → ℕ → ℕ
-  moment past now = max (own_of server word past).clock now
+  moment past now = max (own_of server setup past).clock now
 
   abbrev pub last_begun : List Call → Option Begun
   last_begun [] = None
@@ -148,7 +149,7 @@ module _ (server : Endpoint) (word : ℕ) where
   -- NoResponse comes EXCHANGE_LIFETIME after the Empty acknowledgement, and no earlier
   pub record GivesUp (past : List Call) (now : ℕ) : Type 0 where
     pub exchange : Exchange
-    pub runs : (own_of server word past).running ≡ Some exchange
+    pub runs : (own_of server setup past).running ≡ Some exchange
     pub acked : Moment
     pub since : exchange.acked ≡ Some acked
     pub late : exchange_lifetime ≤ moment past now - acked.0
@@ -162,8 +163,8 @@ module _ (server : Endpoint) (word : ℕ) where
 
   -- The tokens that are kept are those that were kept and not released since, at most 16 (profile).
   pub record FewKept (trace : List Call) : Type 0 where
-    pub few : length (own_of server word trace).kept ≤ max_kept
-    pub are : (token : List ℕ) → IsTrue (is_kept token (own_of server word trace).kept) ↔ Kept token trace
+    pub few : length (own_of server setup trace).kept ≤ max_kept
+    pub are : (token : List ℕ) → IsTrue (is_kept token (own_of server setup trace).kept) ↔ Kept token trace
 
 -- an answer and a notification came from the server, and are what the datagram spells
 pub record CameFrom (server : Endpoint) (c : Call) : Type 0 where

@@ -13,6 +13,7 @@ use Rattle.coap_exchange.specs.AskerTrace.{Call, Ask}
 use Rattle.coap_exchange.specs.AskerLaw.{own_of, below_of}
 use Rattle.coap_exchange.specs.AskerFollows.{ends, fresh_in}
 use Rattle.coap_exchange.specs.Counts.{count_since, AreFew}
+use Rattle.coap_layer.specs.declared.setup.Setup.{Setup}
 
 -- why a request is refused
 abbrev pub refused : Call → Option AskRefusal
@@ -23,9 +24,9 @@ refused _ = None
 abbrev pub NoneWanting : List Call → Type 0
 NoneWanting t = Always (λ past c. (why : AskRefusal) → refused c ≡ Some why → why ≡ refusal.Running) t
 
-module _ (server : Endpoint) (word : ℕ) where
+module _ (server : Endpoint) (setup : Setup) where
   abbrev pub clock_of : List Call → ℕ
-  clock_of past = (own_of server word past).clock
+  clock_of past = (own_of server setup past).clock
 
   -- how many exchanges ended from this moment on: by an answer, or without one
   abbrev pub ended_since : ℕ → List Call → ℕ
@@ -34,7 +35,7 @@ module _ (server : Endpoint) (word : ℕ) where
   -- From any moment on, each Message ID is given to the request of an exchange that ended since, or of the one that
   -- runs; and each token.
   pub record IdsCounted (t : List Call) : Type 0 where
-    pub ids : (u : ℕ) → issued_since u (numbers (below_of server word t)) ≤ 1 + ended_since u t
+    pub ids : (u : ℕ) → issued_since u (numbers (below_of server setup t)) ≤ 1 + ended_since u t
     pub tokens : fresh_in t ≤ 1 + ended_since 0 t
 
   -- fewer exchanges than so many end in EXCHANGE_LIFETIME
@@ -44,8 +45,8 @@ module _ (server : Endpoint) (word : ℕ) where
   -- Where fewer end in each EXCHANGE_LIFETIME than a quarter of the Message IDs, one is free from the latest moment on.
   abbrev pub IdIsFree : List Call → Type 0
   IdIsFree t =
-      (most now : ℕ) → 4 * most ≤ message_ids → FewEnd most t → clock (below_of server word t) ≤ now
-      → Withholds word (numbers (below_of server word t)) now → ⊥
+      (most now : ℕ) → 4 * most ≤ message_ids → FewEnd most t → clock (below_of server setup t) ≤ now
+      → Withholds setup.word (numbers (below_of server setup t)) now → ⊥
 
   -- .. and no request is refused for want of one, nor of a token, while the clock has 64 bits.
   abbrev pub RequestsAreSent : List Call → Type 0

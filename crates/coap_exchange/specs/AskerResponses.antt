@@ -16,12 +16,13 @@ use Rattle.coap_exchange.specs.AskerArrivals.{has_token, observe}
 use Rattle.coap_exchange.specs.AskerLaw.{own_of}
 use Rattle.coap_exchange.specs.AskerFollows.{answered, carried}
 use Rattle.coap_exchange.specs.Tokens.{is_kept}
+use Rattle.coap_layer.specs.declared.setup.Setup.{Setup}
 
-module _ (server : Endpoint) (word : ℕ) where
+module _ (server : Endpoint) (setup : Setup) where
   -- the exchange that runs has the token and the Message ID of the message
   pub record Answers (past : List Call) (m : Message) : Type 0 where
     pub exchange : Exchange
-    pub runs : (own_of server word past).running ≡ Some exchange
+    pub runs : (own_of server setup past).running ≡ Some exchange
     pub token : m.token ≡ exchange.token
     pub id : m.id ≡ exchange.id.0
 
@@ -32,7 +33,7 @@ module _ (server : Endpoint) (word : ℕ) where
     pub piggybacked : (m : Message) → carried c ≡ Some m → m.kind ≡ Ack → Answers past m
     -- what answers a cancel is no notification that was under way (RFC 7641, section 3.6)
     pub cancelled :
-        (m : Message) (x : Exchange) → answered c ≡ Some m → (own_of server word past).running ≡ Some x
+        (m : Message) (x : Exchange) → answered c ≡ Some m → (own_of server setup past).running ≡ Some x
         → x.cancel ≡ true → m.kind ≢ Ack
         → carries Response observe m.options ≡ false
 
@@ -51,7 +52,7 @@ module _ (server : Endpoint) (word : ℕ) where
     pub answer :
         (now : ℕ) (from : Endpoint) (bytes : List ℕ) (settled : Bool) (answer : Option Event) (m : Message)
         (x : Exchange) → c ≡ Receive now from bytes (L.Becomes (L.Response m)) settled answer
-        → IsSound from m → (own_of server word past).running ≡ Some x → m.token ≡ x.token
+        → IsSound from m → (own_of server setup past).running ≡ Some x → m.token ≡ x.token
         → ((m.kind ≡ Ack) × (m.id ≡ x.id.0)) ⊎ (((m.kind ≡ Con) ⊎ (m.kind ≡ Non))
         × ((x.cancel ≡ false) ⊎ (carries Response observe m.options ≡ false)))
         → answer ≡ Some (event.Answer m)
@@ -59,8 +60,8 @@ module _ (server : Endpoint) (word : ℕ) where
     pub notice :
         (now : ℕ) (from : Endpoint) (bytes : List ℕ) (settled : Bool) (answer : Option Event) (m : Message)
         → c ≡ Receive now from bytes (L.Becomes (L.Response m)) settled answer
-        → IsSound from m → has_token (own_of server word past).running m.token ≡ false
-        → is_kept m.token (own_of server word past).kept ≡ true → (m.kind ≡ Con) ⊎ (m.kind ≡ Non)
+        → IsSound from m → has_token (own_of server setup past).running m.token ≡ false
+        → is_kept m.token (own_of server setup past).kept ≡ true → (m.kind ≡ Con) ⊎ (m.kind ≡ Non)
         → answer ≡ Some (event.Notice m)
 
   abbrev pub AreToldAs : List Call → Type 0

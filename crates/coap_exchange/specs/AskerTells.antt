@@ -11,6 +11,7 @@ use Rattle.coap_exchange.specs.declared.asker.Exchange.{Exchange}
 use Rattle.coap_exchange.specs.AskerTrace.{Request, Call, Ask, Receive}
 use Rattle.coap_exchange.specs.AskerLaw.{own_of}
 use Rattle.coap_exchange.specs.AskerFollows.{Open}
+use Rattle.coap_layer.specs.declared.setup.Setup.{Setup}
 
 -- Running is told exactly where an exchange runs (NSTART is 1: section 4.7).
 pub record TellsRunning (past : List Call) (c : Call) : Type 0 where
@@ -22,12 +23,12 @@ pub record TellsRunning (past : List Call) (c : Call) : Type 0 where
 abbrev pub AreRefused : List Call → Type 0
 AreRefused trace = Always TellsRunning trace
 
-module _ (server : Endpoint) (word : ℕ) where
+module _ (server : Endpoint) (setup : Setup) where
   -- A Reset that is told came from the server, and rejects the request of the exchange that runs (section 4.2): it is
   -- an Empty message with its Message ID
   pub record Rejects (past : List Call) (from : Endpoint) (bytes : List ℕ) : Type 0 where
     pub exchange : Exchange
-    pub runs : (own_of server word past).running ≡ Some exchange
+    pub runs : (own_of server setup past).running ≡ Some exchange
     pub there : same_endpoint from server ≡ true
     pub message : Message
     pub spelled : Spells bytes message

@@ -6,8 +6,9 @@ ghost use Rattle.std.specs.Prelude.{IsSome, is_some, Ok, IsOk, IfOk, OnOk, OnErr
 ghost use Rattle.coap_types.specs.declared.endpoint.Endpoint.{Endpoint as EndpointSpec};
 ghost use Rattle.coap_types.specs.declared.message.Kind.TheVariants.{Con};
 ghost use Rattle.coap_types.specs.declared.token.TheConstants.{MAX_TOKEN_LEN as max_token_len};
-ghost use Rattle.coap_layer.specs.Machine.State.{answer_of, copies, is_free, made};
+ghost use Rattle.coap_layer.specs.Machine.State.{answer_of, copies, is_free, made, usual};
 ghost use Rattle.coap_layer.specs.Trace as below;
+ghost use Rattle.coap_layer.specs.declared.setup.Setup.{Setup as SetupSpec};
 ghost use Rattle.coap_layer.specs.Machine.Ups.{IsQuiet};
 ghost use Rattle.coap_exchange.specs.declared.answerer.Asked.{Asked as AskedSpec};
 ghost use Rattle.coap_exchange.specs.declared.answerer.Due.TheVariants as dues;
@@ -31,7 +32,7 @@ use crate::waiting::{
     unless_failed,
 };
 use coap_codec::View;
-use coap_layer::{Datagram, Layer, ack};
+use coap_layer::{Datagram, Layer, Setup, ack};
 use coap_types::{Code, Endpoint, Id, Kind, Moment, Opt, Token, earlier, latest};
 use std::alloc::{AllocError, Allocator};
 use std::hash::{BuildHasher, BuildHasherDefault, FoldHasher};
@@ -160,9 +161,9 @@ impl<A: Allocator + Copy> Answerer<A, BuildHasherDefault<FoldHasher>> {
     /// A server's side to which nothing has happened. The word picks its first Message ID.
     pub fn new(alloc: A, word: u64) -> Self
         // To a `new` answerer no call has led.
-        ensures led { Led word [] result.state }
+        ensures led { Led (usual word) [] result.state }
         // A `new` answerer is in the state in which no call was made, by its word.
-        ensures start { result.state ≡ fresh_state word }
+        ensures start { result.state ≡ fresh_state (usual word) }
         // A `new` answerer has no input to take back.
         ensures before { result.before ≡ None }
     {
@@ -174,14 +175,26 @@ impl<A: Allocator + Copy, S: BuildHasher> Answerer<A, S> {
     /// The same, with a hasher for the messages that are remembered.
     pub fn with_hasher(alloc: A, word: u64, hasher: S) -> Self
         // To an answerer of `with_hasher` no call has led.
-        ensures led { Led word [] result.state }
+        ensures led { Led (usual word) [] result.state }
         // An answerer of `with_hasher` is in the state in which no call was made, whatever the hasher.
-        ensures start { result.state ≡ fresh_state word }
+        ensures start { result.state ≡ fresh_state (usual word) }
         // An answerer of `with_hasher` has no input to take back.
         ensures before { result.before ≡ None }
     {
+        Answerer::with_setup(alloc, Setup::new(word), hasher)
+    }
+
+    /// The same, with so many messages that are remembered at most.
+    pub fn with_setup(alloc: A, setup: Setup, hasher: S) -> Self
+        // To an answerer of `with_setup` no call has led, and as many messages can be remembered as were chosen.
+        ensures led { Led setup [] result.state }
+        // An answerer of `with_setup` is in the state in which no call was made, by its word and number of places.
+        ensures start { result.state ≡ fresh_state setup }
+        // An answerer of `with_setup` has no input to take back.
+        ensures before { result.before ≡ None }
+    {
         Answerer {
-            layer: Layer::with_hasher(alloc, word, hasher),
+            layer: Layer::with_setup(alloc, setup, hasher),
             pending: None,
             deferred: Deferrals::new(),
             separate: Vec::new(alloc),
@@ -263,7 +276,7 @@ impl<A: Allocator + Copy, S: BuildHasher> Answerer<A, S> {
         let rejected = reject(&mut self.layer, from, &up);
         settle_down(&mut self.separate);
         self.pending_before = self.pending.take();
-        self.deferred_before = self.deferred.copy();
+        self.deferred_before.copy_from(&self.deferred);
         self.ended_before = self.ended.take();
         self.unmatched_before = self.unmatched;
         self.ended = reset_by(from, &up, &self.separate);
@@ -278,7 +291,7 @@ impl<A: Allocator + Copy, S: BuildHasher> Answerer<A, S> {
 
     /// Sends the response to the request that the last input, an `incoming`, handed up: in the
     /// acknowledgement of a Confirmable request, and to a Non-confirmable one as such (RFC 7252,
-    /// sections 5.2.1 and 5.2.3). It takes no memory.
+    /// sections 5.2.1 and 5.2.3). It is not refused memory.
     pub fn answer(&mut self, asked: &Asked, response: &Response<'_>)
         requires may { MayAnswer self.old asked.now }
         requires response { IsAnswer asked.now response.now }
@@ -297,7 +310,7 @@ impl<A: Allocator + Copy, S: BuildHasher> Answerer<A, S> {
 
     /// Acknowledges the Confirmable request that the last input, an `incoming`, handed up, and
     /// keeps it to be responded to when so many milliseconds have passed (RFC 7252, section 5.2.2);
-    /// false, and nothing is sent, where 16 requests are deferred. It takes no memory.
+    /// false, and nothing is sent, where 16 requests are deferred. It is not refused memory.
     pub fn defer(&mut self, now: Moment, asked: &Asked, delay_ms: u64) -> bool
         requires may { MayAnswer self.old asked.now }
         requires con { asked.now.kind ≡ Con }
@@ -330,7 +343,7 @@ impl<A: Allocator + Copy, S: BuildHasher> Answerer<A, S> {
     /// Does the first that is due: the failure of a separate response, a retransmission, the
     /// response to a deferred request whose delay has passed, to whose endpoint no Confirmable
     /// message is outstanding, and for which a Message ID is free (RFC 7252, sections 4.2, 4.7 and
-    /// 5.2.2). `respond` is to be called for that, at the same moment, and takes no memory then.
+    /// 5.2.2). `respond` is to be called for that, at the same moment, and is not refused memory.
     pub fn tick(&mut self, now: Moment) -> Result<Due, AllocError>
         // What a tick does, and what that leaves, is a step of the answerer's machine.
         ensures step { IfOk result (λ due. (done : below.Answer) × (room : Bool)
@@ -373,7 +386,7 @@ impl<A: Allocator + Copy, S: BuildHasher> Answerer<A, S> {
         let room = is_sendable(&mut self.layer, now, &ready);
         settle_down(&mut self.separate);
         self.pending_before = self.pending.take();
-        self.deferred_before = self.deferred.copy();
+        self.deferred_before.copy_from(&self.deferred);
         self.ended_before = self.ended.take();
         self.unmatched_before = self.unmatched;
         self.ended = failed_by(tick, &self.separate);
@@ -394,7 +407,7 @@ impl<A: Allocator + Copy, S: BuildHasher> Answerer<A, S> {
         ensures some { IfSome result (λ at. (later : ℕ) → now.0 ≤ later → max self.now.state.own.clock later < at.0
             → AnswererRests self.now.state later) }
         // A tick of the answerer at the moment that is told does something.
-        ensures does { IfSome result (λ at. (word : ℕ) (t : List Call) → Led word t self.now.state
+        ensures does { IfSome result (λ at. (setup : SetupSpec) (t : List Call) → Led setup t self.now.state
             → AnswererTurns self.now.state at.0) }
         // The moment that the answerer tells is not before its clock, nor before the one that was handed in.
         ensures from { IfSome result (λ at. max self.now.state.own.clock now.0 ≤ at.0) }
@@ -419,7 +432,7 @@ impl<A: Allocator + Copy, S: BuildHasher> Answerer<A, S> {
 
     /// Sends the separate response to the deferred request which the last call, a `tick` at this
     /// moment, said to be ready, in a Confirmable message, and answers its Message ID (RFC 7252,
-    /// section 5.2.2). The word picks the initial timeout. It takes no memory.
+    /// section 5.2.2). The word picks the initial timeout. It is not refused memory.
     pub fn respond(&mut self, now: Moment, asked: &Asked, response: &Response<'_>, word: u64) -> Id
         requires may { MayRespond self.old now.0 asked.now }
         requires response { IsAnswer asked.now response.now }
@@ -457,7 +470,7 @@ impl<A: Allocator + Copy, S: BuildHasher> Answerer<A, S> {
 
     /// Whether a notification could be sent there now: no Confirmable message to this endpoint is
     /// outstanding, and a Message ID is free (RFC 7252, sections 4.4 and 4.7). After true, `notify`
-    /// may be called at the same moment, and takes no memory. Where it is false, it takes no memory.
+    /// may be called at the same moment, and is not refused memory. Where it is false, it takes no memory.
     pub fn ready(&mut self, now: Moment, to: Endpoint) -> Result<bool, AllocError>
         // Whether a notification may be sent, and what asking leaves, is a step of the answerer's machine.
         ensures step { IfOk result (λ may. Step self.old.state (Ready now.0 to may) self.new.state) }
@@ -492,7 +505,7 @@ impl<A: Allocator + Copy, S: BuildHasher> Answerer<A, S> {
     /// Sends a notification to an observer in a Confirmable message, where `ready` answered true at
     /// this moment, and since then nothing was sent and no input taken back; answers its Message ID
     /// (RFC 7641, sections 4.2 and 4.5). A request that was handed up before can't be answered any
-    /// more. The word picks the initial timeout. It takes no memory.
+    /// more. The word picks the initial timeout. It is not refused memory.
     pub fn notify(
         &mut self,
         now: Moment,
@@ -520,8 +533,8 @@ impl<A: Allocator + Copy, S: BuildHasher> Answerer<A, S> {
     /// Sends a notification to an observer in a Non-confirmable message, where `ready` answered true
     /// at this moment, and since then nothing was sent and no input taken back; answers its Message
     /// ID (RFC 7641, section 4.5). Nothing waits for an acknowledgement then, and a Reset of it is
-    /// `unmatched`. A request that was handed up before can't be answered any more. It takes no
-    /// memory.
+    /// `unmatched`. A request that was handed up before can't be answered any more. It is not
+    /// refused memory.
     pub fn notify_plain(
         &mut self,
         now: Moment,
@@ -575,7 +588,7 @@ impl<A: Allocator + Copy, S: BuildHasher> Answerer<A, S> {
         self.layer.undo();
         put_back(&mut self.separate);
         self.pending = copied(&self.pending_before);
-        self.deferred = self.deferred_before.copy();
+        self.deferred.copy_from(&self.deferred_before);
         self.ended = copied_end(&self.ended_before);
         self.unmatched = self.unmatched_before;
         self.answerable = false;

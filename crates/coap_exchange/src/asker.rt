@@ -4,8 +4,9 @@ ghost use Rattle.coap_types.specs.declared.endpoint.Endpoint.{Endpoint as Endpoi
 ghost use Rattle.coap_types.specs.FirstMoment.{IsFirstMoment};
 ghost use Rattle.coap_exchange.specs.Machine.Rests.{AskerRests, AskerTurns, has_turn};
 ghost use Rattle.coap_types.specs.declared.token.TheConstants.{MAX_TOKEN_LEN as max_token_len};
-ghost use Rattle.coap_layer.specs.Machine.State.{answer_of, copies, made};
+ghost use Rattle.coap_layer.specs.Machine.State.{answer_of, copies, made, usual};
 ghost use Rattle.coap_layer.specs.Trace as below;
+ghost use Rattle.coap_layer.specs.declared.setup.Setup.{Setup as SetupSpec};
 ghost use Rattle.coap_layer.specs.Machine.Ups.{IsQuiet};
 ghost use Rattle.coap_exchange.specs.declared.asker.AskRefusal.TheVariants as refusals;
 ghost use Rattle.coap_exchange.specs.declared.matching.Opening.TheVariants as openings;
@@ -22,7 +23,7 @@ use crate::held::{Held, after_arrival, waited_from};
 use crate::matching::{Opening, judge_ask};
 use crate::token_source::is_spent;
 use coap_codec::View;
-use coap_layer::{Content, Datagram, Layer};
+use coap_layer::{Content, Datagram, Layer, Setup};
 use coap_types::{Endpoint, Id, Method, Moment, Opt, Token, earlier};
 use std::alloc::{AllocError, Allocator};
 use std::hash::{BuildHasher, BuildHasherDefault, FoldHasher};
@@ -139,9 +140,9 @@ impl<A: Allocator + Copy> Asker<A, BuildHasherDefault<FoldHasher>> {
     /// Message ID.
     pub fn new(alloc: A, server: Endpoint, word: u64) -> Self
         // To a `new` asker no call has led.
-        ensures led { Led server word [] result.state }
+        ensures led { Led server (usual word) [] result.state }
         // A `new` asker is in the state in which no call was made, by its server and its word.
-        ensures start { result.state ≡ fresh_state server word }
+        ensures start { result.state ≡ fresh_state server (usual word) }
         // A `new` asker has no input to take back.
         ensures before { result.before ≡ None }
     {
@@ -153,14 +154,27 @@ impl<A: Allocator + Copy, S: BuildHasher> Asker<A, S> {
     /// The same, with a hasher for the messages that are remembered.
     pub fn with_hasher(alloc: A, server: Endpoint, word: u64, hasher: S) -> Self
         // To an asker of `with_hasher` no call has led.
-        ensures led { Led server word [] result.state }
+        ensures led { Led server (usual word) [] result.state }
         // An asker of `with_hasher` is in the state in which no call was made, whatever the hasher.
-        ensures start { result.state ≡ fresh_state server word }
+        ensures start { result.state ≡ fresh_state server (usual word) }
         // An asker of `with_hasher` has no input to take back.
         ensures before { result.before ≡ None }
     {
+        Asker::with_setup(alloc, server, Setup::new(word), hasher)
+    }
+
+    /// The same, with so many messages that are remembered at most.
+    pub fn with_setup(alloc: A, server: Endpoint, setup: Setup, hasher: S) -> Self
+        // To an asker of `with_setup` no call has led, and as many messages can be remembered as were chosen.
+        ensures led { Led server setup [] result.state }
+        // An asker of `with_setup` is in the state in which no call was made, by its word and number of places.
+        ensures start { result.state ≡ fresh_state server setup }
+        // An asker of `with_setup` has no input to take back.
+        ensures before { result.before ≡ None }
+    {
+        let word = setup.word;
         Asker {
-            layer: Layer::with_hasher(alloc, word, hasher),
+            layer: Layer::with_setup(alloc, setup, hasher),
             server,
             word,
             held: Held::new(),
@@ -277,7 +291,7 @@ impl<A: Allocator + Copy, S: BuildHasher> Asker<A, S> {
             id,
             verdict,
         );
-        self.before = self.held.copy();
+        self.before.copy_from(&self.held);
         let running = self.held.running.take();
         self.held.running = after_arrival(at, verdict, running);
         Ok(told(verdict, up))
@@ -301,7 +315,7 @@ impl<A: Allocator + Copy, S: BuildHasher> Asker<A, S> {
     {
         let tick = self.layer.tick(now)?;
         let turn = turn_of(self.server, &self.held, self.layer.clock(), tick);
-        self.before = self.held.copy();
+        self.before.copy_from(&self.held);
         let running = self.held.running.take();
         self.held.running = unless_ended(&turn, running);
         Ok(turn)
@@ -318,8 +332,8 @@ impl<A: Allocator + Copy, S: BuildHasher> Asker<A, S> {
         ensures some { IfSome result (λ at. (later : ℕ) → now.0 ≤ later → max self.now.state.own.clock later < at.0
             → AskerRests self.now.state later) }
         // A tick of the asker at the moment that is told does something.
-        ensures does { IfSome result (λ at. (server : EndpointSpec) (word : ℕ) (t : List Call)
-            → Led server word t self.now.state → AskerTurns self.now.state at.0) }
+        ensures does { IfSome result (λ at. (server : EndpointSpec) (setup : SetupSpec) (t : List Call)
+            → Led server setup t self.now.state → AskerTurns self.now.state at.0) }
         // The moment that the asker tells is not before its clock, nor before the one that was handed in.
         ensures from { IfSome result (λ at. max self.now.state.own.clock now.0 ≤ at.0) }
         // The moment that the asker tells is the first of what is outstanding and of its wait.
@@ -380,6 +394,6 @@ impl<A: Allocator + Copy, S: BuildHasher> Asker<A, S> {
         ensures spent { self.new.before ≡ None }
     {
         self.layer.undo();
-        self.held = self.before.copy();
+        self.held.copy_from(&self.before);
     }
 }

@@ -32,16 +32,15 @@ impl Model for Deferrals {
     ghost view = { λ d. d.requests.items };
 }
 
-// The same requests again.
-fn copied(requests: &[Deferred]) -> ArrayVec<Deferred, MAX_DEFERRED>
+// Puts copies of the requests in the place of what is there.
+fn refill(copies: &mut ArrayVec<Deferred, MAX_DEFERRED>, requests: &[Deferred])
     requires { length requests.now ≤ max_deferred }
-    ensures { result.items ≡ requests.now }
+    ensures { copies.new.items ≡ requests.now }
 {
-    let mut copies = ArrayVec::new();
+    copies.clear();
     for request in requests {
         copies.push(request.copy());
     }
-    copies
 }
 
 // The first that is ready.
@@ -131,12 +130,11 @@ impl Deferrals {
         }
     }
 
-    /// The same requests again.
-    pub(crate) fn copy(&self) -> Deferrals
-        ensures { result ≡ self.now }
+    /// Becomes the same requests as the others. It stays in its place, so that none of the 16 costs anything
+    /// but those that are there.
+    pub(crate) fn copy_from(&mut self, others: &Deferrals)
+        ensures { self.new ≡ others.now }
     {
-        Deferrals {
-            requests: copied(self.requests.as_slice()),
-        }
+        refill(&mut self.requests, others.requests.as_slice());
     }
 }

@@ -51,15 +51,13 @@ impl Held {
         });
     }
 
-    /// The same again.
-    pub(crate) fn copy(&self) -> Held
-        ensures { result ≡ self.now }
+    /// Becomes the same as the other.
+    pub(crate) fn copy_from(&mut self, other: &Held)
+        ensures { self.new ≡ other.now }
     {
-        Held {
-            given: self.given,
-            running: copied(&self.running),
-            kept: self.kept.copy(),
-        }
+        self.given = other.given;
+        self.running = copied(&other.running);
+        self.kept.copy_from(&other.kept);
     }
 }
 

@@ -24,16 +24,15 @@ impl Model for KeptTokens {
     ghost view = { λ k. k.tokens.items };
 }
 
-// The same tokens again.
-fn copied(tokens: &[Token]) -> ArrayVec<Token, MAX_KEPT>
+// Puts copies of the tokens in the place of what is there.
+fn refill(copies: &mut ArrayVec<Token, MAX_KEPT>, tokens: &[Token])
     requires { length tokens.now ≤ max_kept }
-    ensures { result.items ≡ tokens.now }
+    ensures { copies.new.items ≡ tokens.now }
 {
-    let mut copies = ArrayVec::new();
+    copies.clear();
     for token in tokens {
         copies.push(token.copy());
     }
-    copies
 }
 
 impl KeptTokens {
@@ -47,6 +46,7 @@ impl KeptTokens {
     }
 
     /// Whether the token is kept.
+    #[inline(always)]
     pub(crate) fn has(&self, token: &[u8]) -> bool
         ensures { result ≡ is_kept token.now self.now }
     {
@@ -72,12 +72,11 @@ impl KeptTokens {
         kept
     }
 
-    /// The same tokens again.
-    pub(crate) fn copy(&self) -> KeptTokens
-        ensures { result ≡ self.now }
+    /// Becomes the same tokens as the others. It stays in its place, so that none of the 16 costs anything
+    /// but those that are there.
+    pub(crate) fn copy_from(&mut self, others: &KeptTokens)
+        ensures { self.new ≡ others.now }
     {
-        KeptTokens {
-            tokens: copied(self.tokens.as_slice()),
-        }
+        refill(&mut self.tokens, others.tokens.as_slice());
     }
 }

@@ -94,6 +94,7 @@ fn of_message<A: Allocator + Copy, S: BuildHasher>(
 }
 
 /// What becomes of a datagram.
+#[inline(always)]
 pub(crate) fn judge<A: Allocator + Copy, S: BuildHasher>(
     read: &Result<View<'_>, Fault>,
     at: Moment,
@@ -114,6 +115,7 @@ pub(crate) fn judge<A: Allocator + Copy, S: BuildHasher>(
 }
 
 /// What the layer above is told.
+#[inline(always)]
 pub(crate) fn told<'d>(read: Result<View<'d>, Fault>, verdict: Verdict) -> Up<'d>
     ensures { disposition_of result ≡ told_by verdict read.entry }
 {

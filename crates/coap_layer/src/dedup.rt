@@ -149,6 +149,7 @@ fn passed_by<A: Allocator + Copy, S: BuildHasher>(
 }
 
 // What is kept in this turn under this key, if it doesn't stand before that place.
+#[inline(always)]
 fn in_turn<'m, A: Allocator + Copy, S: BuildHasher>(
     entries: &'m IndexMap<Key, Kept<A>, S, A>,
     place: usize,
@@ -202,6 +203,7 @@ fn are_many(passed: usize, held: usize, earlier: usize) -> bool
 }
 
 // Lets go of the first ones.
+#[inline(never)]
 fn let_go<A: Allocator + Copy, S: BuildHasher>(
     entries: &mut IndexMap<Key, Kept<A>, S, A>,
     passed: usize,

@@ -20,10 +20,10 @@ use crate::datagram::push_within;
 use crate::dedup::Memory;
 use crate::due::next_step;
 use crate::lists::Lists;
-use crate::mark::{Awaiting, Mark};
+use crate::mark::{Awaiting, FoundIds, Mark};
 use crate::outstanding::{due_copy, put_back};
 use crate::retransmission::{end_all, find_step, is_busy, is_outstanding, is_step, ticked};
-use crate::room::{Brings, Room, filled, fitted, grow, make_room, take_room};
+use crate::room::{Brings, Room, copied, grow, make_room};
 use crate::sending::{FirstSending, refusal, send_con, send_non};
 use crate::taking::{Arrived, Moments, take_in, take_tick};
 use crate::{Content, Datagram, IdSource, SendRefusal, Setup, Tick, Up};
@@ -45,8 +45,9 @@ pub struct Layer<A: Allocator + Copy, S: BuildHasher = BuildHasherDefault<FoldHa
     clock: Moment,
     awaits: Option<Awaiting>,
     ids: IdSource,
+    found: FoundIds,
     lists: Lists<A, S>,
-    room: Option<Room<A>>,
+    room: Room<A>,
     // A reply may be given to the message that was handed up last.
     replies: bool,
     mark: Option<Mark>,
@@ -57,15 +58,16 @@ impl<A: Allocator + Copy, S: BuildHasher> Model for Layer<A, S> {
 
     ghost Value = { Shown };
 
-    ghost use Rattle.std.specs.Prelude.{is_some, length};
-    ghost use Rattle.coap_layer.specs.Machine.Parts.{awaited, before_of, held};
+    ghost use Rattle.std.specs.Prelude.{length};
+    ghost use Rattle.coap_layer.specs.Machine.Parts.{awaited, before_of, found_ids, held};
     ghost use Rattle.coap_layer.specs.Machine.Sound.{IsWithin, HasRoom, IsKept};
     ghost use Rattle.coap_layer.specs.Machine.State.{forgotten};
 
     ghost view = { λ l. record {
       state = forgotten (held l.most l.clock.0 l.awaits l.ids l.lists);
-      before = before_of l.most l.mark l.lists.entries.settled l.lists.sendings.items l.lists.waiting.items;
-      has_room = is_some l.room;
+      before = before_of l.most l.mark (found_ids l.found l.ids) l.lists.entries.settled l.lists.sendings.items
+          l.lists.waiting.items;
+      has_room = l.room.is_made;
       replies = l.replies;
     } };
 
@@ -100,11 +102,7 @@ impl<A: Allocator + Copy, S: BuildHasher> Layer<A, S> {
         // A layer of `with_hasher` has no input to take back.
         ensures before { result.before ≡ None }
     {
-        let setup = Setup {
-            word,
-            remembered: Remembered::default(),
-        };
-        Layer::with_setup(alloc, setup, hasher)
+        Layer::with_setup(alloc, Setup::new(word), hasher)
     }
 
     /// The same, with so many messages that are remembered at most.
@@ -122,12 +120,13 @@ impl<A: Allocator + Copy, S: BuildHasher> Layer<A, S> {
             clock: Moment(0),
             awaits: None,
             ids: IdSource::new(setup.word),
+            found: FoundIds::new(),
             lists: Lists {
                 entries: Memory::with_hasher(alloc, hasher),
                 sendings: Vec::new(alloc),
                 waiting: VecDeque::new(alloc),
             },
-            room: None,
+            room: Room::new(alloc),
             replies: false,
             mark: None,
         }
@@ -191,17 +190,17 @@ impl<A: Allocator + Copy, S: BuildHasher> Layer<A, S> {
             hands: hands(arriving),
             sends: sent.is_some(),
         };
-        grow(self.alloc, brings, &mut self.room, &mut self.lists)?;
+        grow(brings, &mut self.room, &mut self.lists)?;
         // Nothing fails from here on.
         let mark = take_in(
             moments,
             self.awaits,
-            &self.ids,
             Arrived { from, arriving },
             sent,
             &mut self.lists,
         );
         self.clock = moments.at;
+        self.found.is_noted = false;
         self.awaits = awaiting(from, arriving);
         self.replies = true;
         self.mark = Some(mark);
@@ -209,9 +208,8 @@ impl<A: Allocator + Copy, S: BuildHasher> Layer<A, S> {
     }
 
     /// Sends the reply to the message that was handed up last, and stores it for a Confirmable one,
-    /// so that a duplicate gets it again (RFC 7252, sections 4.2 and 4.5). It takes no memory: where the
-    /// stored reply needs less than half of its room, the allocator's `shrink` is asked to take the rest back,
-    /// and the room stays as it is where that is refused.
+    /// so that a duplicate gets it again (RFC 7252, sections 4.2 and 4.5). It is not refused memory: it asks for
+    /// allocations of the reply's own length, and where one is refused it uses the buffer that was made before.
     pub fn reply(&mut self, to: Endpoint, id: Id, bytes: &[u8])
         requires may { MayReply self.old to id.0 }
         requires short { length bytes.now ≤ max_message_len }
@@ -222,14 +220,12 @@ impl<A: Allocator + Copy, S: BuildHasher> Layer<A, S> {
         // A reply belongs to the input that it answers, and is taken back with it.
         ensures before { self.new.before ≡ self.old.before }
     {
-        if let Some(room) = self.room.take() {
-            let Room { sent, kept } = room;
-            let sent = filled(sent, bytes);
-            let stored = fitted(kept, bytes);
-            self.lists.entries.store_reply(to, id, stored);
-            push_within(&mut self.lists.waiting, Datagram { to, bytes: sent });
-            self.awaits = None;
-        }
+        let stored = copied(bytes, &mut self.room.kept);
+        let sent = copied(bytes, &mut self.room.sent);
+        self.room.is_made = false;
+        self.lists.entries.store_reply(to, id, stored);
+        push_within(&mut self.lists.waiting, Datagram { to, bytes: sent });
+        self.awaits = None;
     }
 
     /// Sends a Confirmable message, and answers its Message ID (RFC 7252, section 4.2). The word
@@ -270,13 +266,14 @@ impl<A: Allocator + Copy, S: BuildHasher> Layer<A, S> {
             self.awaits = None;
             return Err(refusal);
         }
-        let Ok(room) = take_room(self.alloc, &mut self.room, &mut self.lists) else {
+        let Ok(()) = make_room(&mut self.room, &mut self.lists) else {
             return Err(SendRefusal::Memory);
         };
         // Nothing fails from here on.
+        self.found.note(&self.ids);
         let id = self.ids.give(at);
         let begun = FirstSending { at, word };
-        send_con(room, begun, to, id, content, &mut self.lists);
+        send_con(&mut self.room, begun, to, id, content, &mut self.lists);
         self.clock = at;
         self.awaits = None;
         Ok(id)
@@ -316,12 +313,13 @@ impl<A: Allocator + Copy, S: BuildHasher> Layer<A, S> {
             self.awaits = None;
             return Err(refusal);
         }
-        let Ok(room) = take_room(self.alloc, &mut self.room, &mut self.lists) else {
+        let Ok(()) = make_room(&mut self.room, &mut self.lists) else {
             return Err(SendRefusal::Memory);
         };
         // Nothing fails from here on.
+        self.found.note(&self.ids);
         let id = self.ids.give(at);
-        send_non(room, to, id, content, &mut self.lists);
+        send_non(&mut self.room, to, id, content, &mut self.lists);
         self.clock = at;
         self.awaits = None;
         Ok(id)
@@ -410,7 +408,7 @@ impl<A: Allocator + Copy, S: BuildHasher> Layer<A, S> {
             hands: may,
             sends: false,
         };
-        grow(self.alloc, brings, &mut self.room, &mut self.lists)?;
+        grow(brings, &mut self.room, &mut self.lists)?;
         self.clock = at;
         Ok(may)
     }
@@ -431,7 +429,7 @@ impl<A: Allocator + Copy, S: BuildHasher> Layer<A, S> {
         // Where room is refused, the layer is as it was.
         ensures err { OnErr result (self.new ≡ self.old) }
     {
-        make_room(self.alloc, &mut self.room, &mut self.lists)?;
+        make_room(&mut self.room, &mut self.lists)?;
         Ok(())
     }
 
@@ -514,10 +512,11 @@ impl<A: Allocator + Copy, S: BuildHasher> Layer<A, S> {
             hands: false,
             sends: sent.is_some(),
         };
-        grow(self.alloc, brings, &mut self.room, &mut self.lists)?;
+        grow(brings, &mut self.room, &mut self.lists)?;
         // Nothing fails from here on.
-        let (mark, due) = take_tick(moments, self.awaits, &self.ids, sent, &mut self.lists);
+        let (mark, due) = take_tick(moments, self.awaits, sent, &mut self.lists);
         self.clock = moments.at;
+        self.found.is_noted = false;
         self.awaits = None;
         self.mark = Some(mark);
         Ok(ticked(due))
@@ -560,7 +559,7 @@ impl<A: Allocator + Copy, S: BuildHasher> Layer<A, S> {
         if let Some(mark) = self.mark.take() {
             self.clock = mark.clock;
             self.awaits = mark.awaits;
-            self.ids = mark.ids;
+            self.found.put_back(&mut self.ids);
             self.replies = false;
             self.lists.entries.forget_newest();
             put_back(&mut self.lists.sendings);

@@ -1,4 +1,4 @@
-ghost use Rattle.std.specs.Prelude.{◌≡◌, ◌≤◌, ◌<◌, ◌+◌, length, true, false, None, Some, is_some, IfOk, OnOk, OnErr};
+ghost use Rattle.std.specs.Prelude.{◌≡◌, ◌≤◌, ◌<◌, ◌+◌, length, true, false, OnOk, OnErr};
 ghost use Rattle.std.specs.Prelude.{IsOk};
 ghost use Rattle.std.specs.Vec.{vec_capacity};
 ghost use Rattle.std.specs.VecDeque.{deque_len, deque_capacity};
@@ -8,12 +8,16 @@ use crate::lists::Lists;
 use coap_types::limits::MAX_MESSAGE_LEN;
 use std::alloc::{AllocError, Allocator};
 use std::hash::BuildHasher;
+use std::mem;
 
-/// Buffers for a message of the greatest length: one that is sent, and one that is kept.
+/// Room for a message of the greatest length: a buffer for what is sent, and one for what is kept. They stay
+/// from one message to the next, and are used where an allocation of the message's own length is refused.
 #[derive(Drop)]
 pub(crate) struct Room<A: Allocator + Copy> {
     pub(crate) sent: Vec<u8, A>,
     pub(crate) kept: Vec<u8, A>,
+    /// Both buffers are there, and a place for the message in each list.
+    pub(crate) is_made: bool,
 }
 
 /// What an input brings: a message that is remembered, one that is handed up and may be replied
@@ -25,18 +29,32 @@ pub(crate) struct Brings {
     pub(crate) sends: bool,
 }
 
-fn new_room<A: Allocator + Copy>(alloc: A) -> Result<Room<A>, AllocError>
-    ensures { IfOk result (λ r. HasBuffers r) }
-{
-    let sent = Vec::with_capacity(alloc, MAX_MESSAGE_LEN)?;
-    let kept = Vec::with_capacity(alloc, MAX_MESSAGE_LEN)?;
-    Ok(Room { sent, kept })
+impl<A: Allocator + Copy> Room<A> {
+    /// No room yet.
+    pub(crate) fn new(alloc: A) -> Room<A>
+        ensures { result.is_made ≡ false }
+    {
+        Room {
+            sent: Vec::new(alloc),
+            kept: Vec::new(alloc),
+            is_made: false,
+        }
+    }
+
+    // Makes both buffers as long as a message may be.
+    fn reserve(&mut self) -> Result<(), AllocError>
+        ensures made { self.new.is_made ≡ self.old.is_made }
+        ensures buffers { OnOk result (HasBuffers self.new) }
+    {
+        self.sent.reserve(MAX_MESSAGE_LEN)?;
+        self.kept.reserve(MAX_MESSAGE_LEN)?;
+        Ok(())
+    }
 }
 
 /// Makes room for a message that is sent and kept, if there is none.
 pub(crate) fn make_room<A: Allocator + Copy, S: BuildHasher>(
-    alloc: A,
-    room: &mut Option<Room<A>>,
+    room: &mut Room<A>,
     lists: &mut Lists<A, S>,
 ) -> Result<(), AllocError>
     requires { HasRoom room.old lists.old }
@@ -45,48 +63,25 @@ pub(crate) fn make_room<A: Allocator + Copy, S: BuildHasher>(
     ensures waiting { lists.new.waiting.items ≡ lists.old.waiting.items }
     ensures len { deque_len lists.new.waiting ≡ deque_len lists.old.waiting }
     ensures capacity { deque_capacity lists.old.waiting ≤ deque_capacity lists.new.waiting }
-    ensures there { OnOk result (is_some room.new ≡ true) }
+    ensures there { OnOk result (room.new.is_made ≡ true) }
     ensures room { HasRoom room.new lists.new }
-    ensures kept { is_some room.old ≡ true → is_some room.new ≡ true }
-    ensures had { is_some room.old ≡ true → IsOk result }
-    ensures err { OnErr result (room.new ≡ room.old) }
+    ensures kept { room.old.is_made ≡ true → room.new.is_made ≡ true }
+    ensures had { room.old.is_made ≡ true → IsOk result }
+    ensures err { OnErr result (room.new.is_made ≡ room.old.is_made) }
 {
-    if room.is_none() {
+    if !room.is_made {
         lists.sendings.reserve(1)?;
         lists.waiting.reserve(1)?;
-        *room = Some(new_room(alloc)?);
+        room.reserve()?;
+        room.is_made = true;
     }
     Ok(())
 }
 
-/// The room for a message that is sent and kept, made if there is none.
-pub(crate) fn take_room<A: Allocator + Copy, S: BuildHasher>(
-    alloc: A,
-    room: &mut Option<Room<A>>,
-    lists: &mut Lists<A, S>,
-) -> Result<Room<A>, AllocError>
-    requires { HasRoom room.old lists.old }
-    ensures entries { lists.new.entries ≡ lists.old.entries }
-    ensures sendings { lists.new.sendings.items ≡ lists.old.sendings.items }
-    ensures waiting { lists.new.waiting.items ≡ lists.old.waiting.items }
-    ensures taken { IfOk result (λ r. HasRoom (Some r) lists.new) }
-    ensures none { OnOk result (room.new ≡ None) }
-    ensures left { OnErr result (HasRoom room.new lists.new) }
-    ensures had { is_some room.old ≡ true → IsOk result }
-    ensures err { OnErr result (room.new ≡ room.old) }
-{
-    make_room(alloc, room, lists)?;
-    match room.take() {
-        Some(room) => Ok(room),
-        None => unreachable!("room was made"),
-    }
-}
-
 /// Makes room for what an input brings.
 pub(crate) fn grow<A: Allocator + Copy, S: BuildHasher>(
-    alloc: A,
     brings: Brings,
-    room: &mut Option<Room<A>>,
+    room: &mut Room<A>,
     lists: &mut Lists<A, S>,
 ) -> Result<(), AllocError>
     requires { HasRoom room.old lists.old }
@@ -97,12 +92,12 @@ pub(crate) fn grow<A: Allocator + Copy, S: BuildHasher>(
     ensures entry { OnOk result (brings.keeps ≡ true → 2 ≤ lists.new.entries.spare) }
     ensures place { OnOk result (brings.sends ≡ true
         → deque_len lists.new.waiting + 1 < deque_capacity lists.new.waiting) }
-    ensures there { OnOk result (brings.hands ≡ true → is_some room.new ≡ true) }
-    ensures kept { is_some room.old ≡ true → is_some room.new ≡ true }
+    ensures there { OnOk result (brings.hands ≡ true → room.new.is_made ≡ true) }
+    ensures kept { room.old.is_made ≡ true → room.new.is_made ≡ true }
     ensures room { HasRoom room.new lists.new }
-    ensures err { OnErr result (room.new ≡ room.old) }
+    ensures err { OnErr result (room.new.is_made ≡ room.old.is_made) }
     ensures idle { brings.keeps ≡ false → brings.hands ≡ false → brings.sends ≡ false → IsOk result }
-    ensures had { is_some room.old ≡ true → brings.keeps ≡ false → brings.sends ≡ false → IsOk result }
+    ensures had { room.old.is_made ≡ true → brings.keeps ≡ false → brings.sends ≡ false → IsOk result }
 {
     if brings.sends {
         lists.waiting.reserve(2)?;
@@ -111,13 +106,13 @@ pub(crate) fn grow<A: Allocator + Copy, S: BuildHasher>(
         lists.entries.reserve()?;
     }
     if brings.hands {
-        make_room(alloc, room, lists)?;
+        make_room(room, lists)?;
     }
     Ok(())
 }
 
-/// The buffer with these bytes, which it has room for.
-pub(crate) fn filled<A: Allocator + Copy>(mut buffer: Vec<u8, A>, bytes: &[u8]) -> Vec<u8, A>
+// The buffer with these bytes, which it has room for.
+fn filled<A: Allocator + Copy>(mut buffer: Vec<u8, A>, bytes: &[u8]) -> Vec<u8, A>
     requires { length bytes.now ≤ vec_capacity buffer }
     ensures { result.items ≡ bytes.now }
 {
@@ -126,9 +121,9 @@ pub(crate) fn filled<A: Allocator + Copy>(mut buffer: Vec<u8, A>, bytes: &[u8]) 
     buffer
 }
 
-/// The same, for what is kept for long: where less than half of the room is needed, the rest is given
-/// back, unless the allocator refuses to.
-pub(crate) fn fitted<A: Allocator + Copy>(buffer: Vec<u8, A>, bytes: &[u8]) -> Vec<u8, A>
+// The same, for what is kept for long: where less than half of the room is needed, the rest is given
+// back, unless the allocator refuses to.
+fn fitted<A: Allocator + Copy>(buffer: Vec<u8, A>, bytes: &[u8]) -> Vec<u8, A>
     requires { length bytes.now ≤ vec_capacity buffer }
     ensures { result.items ≡ bytes.now }
 {
@@ -137,4 +132,16 @@ pub(crate) fn fitted<A: Allocator + Copy>(buffer: Vec<u8, A>, bytes: &[u8]) -> V
         kept.shrink_to_fit();
     }
     kept
+}
+
+/// These bytes, in an allocation of their own length; where that is refused, in the buffer that was reserved.
+pub(crate) fn copied<A: Allocator + Copy>(bytes: &[u8], reserved: &mut Vec<u8, A>) -> Vec<u8, A>
+    requires { length bytes.now ≤ vec_capacity reserved.old }
+    ensures { result.items ≡ bytes.now }
+{
+    let alloc = *reserved.allocator();
+    match Vec::from_slice(alloc, bytes) {
+        Ok(own) => own,
+        Err(_) => fitted(mem::replace(reserved, Vec::new(alloc)), bytes),
+    }
 }

@@ -1,11 +1,11 @@
-ghost use Rattle.std.specs.Prelude.{◌≡◌, ◌<◌, ◌+◌, ◌%◌, ◌++◌, ◌∷◌, [], Some};
+ghost use Rattle.std.specs.Prelude.{◌≡◌, ◌<◌, ◌+◌, ◌%◌, ◌++◌, ◌∷◌, [], false};
 ghost use Rattle.std.specs.Vec.{vec_len, vec_capacity};
 ghost use Rattle.coap_types.specs.declared.message.Kind.TheVariants.{Con, Non};
 ghost use Rattle.coap_codec.specs.Spelling.{message_bytes};
 ghost use Rattle.coap_layer.specs.Machine.Parts.{open_before};
 ghost use Rattle.coap_layer.specs.Sendable.{IsSendable};
 ghost use Rattle.coap_layer.specs.Machine.Sendings.{open_now};
-ghost use Rattle.coap_layer.specs.Machine.Sound.{HasRoom};
+ghost use Rattle.coap_layer.specs.Machine.Sound.{IsReady};
 ghost use Rattle.coap_layer.specs.Trace.{with_head};
 ghost use Rattle.coap_layer.specs.Machine.Ups.{refusal_of};
 ghost use Rattle.coap_types.specs.declared.transmission.TheConstants.{ACK_TIMEOUT_MS as ack_timeout};
@@ -16,7 +16,7 @@ use crate::content::{Content, spell};
 use crate::datagram::{Datagram, push_within};
 use crate::lists::Lists;
 use crate::retransmission::Sending;
-use crate::room::{Room, filled};
+use crate::room::{Room, copied};
 use coap_types::limits::MAX_MESSAGE_LEN;
 use coap_types::transmission::{ACK_TIMEOUT_MS, TIMEOUT_VALUES};
 use coap_types::{Endpoint, Id, Kind, Moment};
@@ -63,7 +63,7 @@ pub(crate) struct FirstSending {
 
 /// Sends a Confirmable message, for which there is room (RFC 7252, section 4.2).
 pub(crate) fn send_con<A: Allocator + Copy, S: BuildHasher>(
-    room: Room<A>,
+    room: &mut Room<A>,
     begun: FirstSending,
     to: Endpoint,
     id: Id,
@@ -71,7 +71,7 @@ pub(crate) fn send_con<A: Allocator + Copy, S: BuildHasher>(
     lists: &mut Lists<A, S>,
 )
     requires sendable { IsSendable content.now }
-    requires room { HasRoom (Some room) lists.old }
+    requires room { IsReady room.old lists.old }
     ensures open { open_now lists.new.sendings.items ≡ open_now lists.old.sendings.items
         ++ record {
           to = to;
@@ -85,12 +85,13 @@ pub(crate) fn send_con<A: Allocator + Copy, S: BuildHasher>(
     ensures waiting { lists.new.waiting.items ≡ lists.old.waiting.items
         ++ record { to = to; bytes = message_bytes (with_head Con id.0 content.now) } ∷ [] }
     ensures entries { lists.new.entries ≡ lists.old.entries }
+    ensures spent { room.new.is_made ≡ false }
 {
     let mut buffer = [0; MAX_MESSAGE_LEN];
     let len = spell(content, Kind::Con, id, &mut buffer);
-    let Room { sent, kept } = room;
-    let sent = filled(sent, &buffer[..len]);
-    let bytes = filled(kept, &buffer[..len]);
+    let sent = copied(&buffer[..len], &mut room.sent);
+    let bytes = copied(&buffer[..len], &mut room.kept);
+    room.is_made = false;
     let sending = Sending {
         to,
         id,
@@ -106,21 +107,23 @@ pub(crate) fn send_con<A: Allocator + Copy, S: BuildHasher>(
 
 /// Sends a Non-confirmable message, for which there is room (RFC 7252, section 4.3).
 pub(crate) fn send_non<A: Allocator + Copy, S: BuildHasher>(
-    room: Room<A>,
+    room: &mut Room<A>,
     to: Endpoint,
     id: Id,
     content: &Content<'_>,
     lists: &mut Lists<A, S>,
 )
     requires sendable { IsSendable content.now }
-    requires room { HasRoom (Some room) lists.old }
+    requires room { IsReady room.old lists.old }
     ensures waiting { lists.new.waiting.items ≡ lists.old.waiting.items
         ++ record { to = to; bytes = message_bytes (with_head Non id.0 content.now) } ∷ [] }
     ensures sendings { lists.new.sendings ≡ lists.old.sendings }
     ensures entries { lists.new.entries ≡ lists.old.entries }
+    ensures spent { room.new.is_made ≡ false }
 {
     let mut buffer = [0; MAX_MESSAGE_LEN];
     let len = spell(content, Kind::Non, id, &mut buffer);
-    let bytes = filled(room.sent, &buffer[..len]);
+    let bytes = copied(&buffer[..len], &mut room.sent);
+    room.is_made = false;
     push_within(&mut lists.waiting, Datagram { to, bytes });
 }

@@ -5,6 +5,7 @@ ghost use Rattle.std.specs.Vec.{vec_len, vec_capacity};
 ghost use Rattle.std.specs.VecDeque.{deque_len, deque_capacity};
 ghost use Rattle.coap_layer.specs.Machine.Arriving.{awaits_by, hands, keeps, newly_by, open_by};
 ghost use Rattle.coap_layer.specs.Machine.Entries.{IsUpTo, arrivals_in};
+ghost use Rattle.coap_layer.specs.Machine.IdState.{IdState};
 ghost use Rattle.coap_layer.specs.Machine.Parts.{awaited, before_of, state_of_parts};
 ghost use Rattle.coap_layer.specs.Machine.Sendings.{answer_for, open_now};
 ghost use Rattle.coap_layer.specs.Machine.Sound.{IsKept, IsWithin};
@@ -12,7 +13,6 @@ ghost use Rattle.coap_layer.specs.Machine.State.{forgotten, is_live, is_remember
 ghost use Rattle.coap_layer.specs.Trace.{Packet, Ticks};
 ghost use Rattle.coap_layer.specs.Words.{left_by};
 
-use crate::IdSource;
 use crate::arriving::{Arriving, end_by, keep_by};
 use crate::datagram::{Datagram, push_some};
 use crate::lists::Lists;
@@ -37,10 +37,10 @@ pub(crate) struct Arrived {
 }
 
 /// Takes in what arrived, where there is room for all that it brings.
+#[inline(always)]
 pub(crate) fn take_in<A: Allocator + Copy, S: BuildHasher>(
     moments: Moments,
     awaits: Option<Awaiting>,
-    ids: &IdSource,
     arrived: Arrived,
     sent: Option<Datagram<A>>,
     lists: &mut Lists<A, S>,
@@ -57,8 +57,9 @@ pub(crate) fn take_in<A: Allocator + Copy, S: BuildHasher>(
     ensures open { open_now lists.new.sendings.items
         ≡ open_by arrived.from arrived.arriving (open_now lists.old.sendings.items) }
     ensures waiting { lists.new.waiting.items ≡ lists.old.waiting.items ++ option_to_list sent }
-    ensures before { (most : ℕ) → before_of most (Some result) lists.new.entries.settled lists.new.sendings.items lists.new.waiting.items
-        ≡ Some (forgotten (state_of_parts most moments.last.0 (awaited awaits) ids.now (arrivals_in lists.old.entries)
+    ensures before { (most : ℕ) (ids : IdState) → before_of most (Some result) ids lists.new.entries.settled
+        lists.new.sendings.items lists.new.waiting.items
+        ≡ Some (forgotten (state_of_parts most moments.last.0 (awaited awaits) ids (arrivals_in lists.old.entries)
         (open_now lists.old.sendings.items) lists.old.waiting.items)) }
     ensures within { IsWithin (Some result) lists.new.entries.settled (length lists.new.waiting.items) }
     ensures kept { IsKept moments.at.0 (awaits_by arrived.from arrived.arriving) true lists.new.entries }
@@ -67,7 +68,7 @@ pub(crate) fn take_in<A: Allocator + Copy, S: BuildHasher>(
     ensures waiting_room { deque_len lists.old.waiting < deque_capacity lists.old.waiting
         → deque_len lists.new.waiting < deque_capacity lists.new.waiting }
 {
-    let mark = begin(moments.last, awaits, ids, lists);
+    let mark = begin(moments.last, awaits, lists);
     end_by(arrived.from, arrived.arriving, &mut lists.sendings);
     keep_by(
         moments.at,
@@ -83,7 +84,6 @@ pub(crate) fn take_in<A: Allocator + Copy, S: BuildHasher>(
 pub(crate) fn take_tick<A: Allocator + Copy, S: BuildHasher>(
     moments: Moments,
     awaits: Option<Awaiting>,
-    ids: &IdSource,
     sent: Option<Datagram<A>>,
     lists: &mut Lists<A, S>,
 ) -> (Mark, Due)
@@ -97,9 +97,9 @@ pub(crate) fn take_tick<A: Allocator + Copy, S: BuildHasher>(
         (left_by (record { at = moments.at.0; call = Ticks; answer = answer_for result.1; out = out }))
         (open_now lists.old.sendings.items) }
     ensures waiting { lists.new.waiting.items ≡ lists.old.waiting.items ++ option_to_list sent }
-    ensures before { (most : ℕ) → before_of most (Some result.0) lists.new.entries.settled lists.new.sendings.items
+    ensures before { (most : ℕ) (ids : IdState) → before_of most (Some result.0) ids lists.new.entries.settled lists.new.sendings.items
         lists.new.waiting.items
-        ≡ Some (forgotten (state_of_parts most moments.last.0 (awaited awaits) ids.now (arrivals_in lists.old.entries)
+        ≡ Some (forgotten (state_of_parts most moments.last.0 (awaited awaits) ids (arrivals_in lists.old.entries)
         (open_now lists.old.sendings.items) lists.old.waiting.items)) }
     ensures within { IsWithin (Some result.0) lists.new.entries.settled (length lists.new.waiting.items) }
     ensures kept { IsKept moments.at.0 None true lists.new.entries }
@@ -108,7 +108,7 @@ pub(crate) fn take_tick<A: Allocator + Copy, S: BuildHasher>(
     ensures waiting_room { deque_len lists.old.waiting < deque_capacity lists.old.waiting
         → deque_len lists.new.waiting < deque_capacity lists.new.waiting }
 {
-    let mark = begin(moments.last, awaits, ids, lists);
+    let mark = begin(moments.last, awaits, lists);
     let due = find_step(&lists.sendings, moments.at);
     take_step(&mut lists.sendings, due, moments.at);
     push_some(&mut lists.waiting, sent);

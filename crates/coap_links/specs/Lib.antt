@@ -1,5 +1,7 @@
+pub mod Bound
 pub mod Carried
 pub mod Faults
 pub mod MemoryCarries
 pub mod Pumping
+pub mod Tracing
 pub mod Turning

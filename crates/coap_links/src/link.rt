@@ -24,6 +24,9 @@ pub trait Link {
     /// How many calls failed.
     ghost fault_count: { Self → ℕ };
 
+    /// Where it receives.
+    ghost own_address: { Self → EndpointSpec };
+
     /// Sends a datagram.
     fn send(&mut self, to: Endpoint, bytes: &[u8])
         // A link sends just these bytes to that endpoint, as its own words have it.
@@ -50,7 +53,9 @@ pub trait Link {
         ensures { result ≡ fault_count self.now };
 
     /// Where it receives.
-    fn address(&self) -> Endpoint;
+    fn address(&self) -> Endpoint
+        // The address is that where the link receives.
+        ensures { result ≡ own_address self.now };
 }
 
 /// One more fault, up to the last value.

@@ -1,6 +1,6 @@
 use crate::link::{Link, MAX_DATAGRAM_LEN};
 use crate::memory_link::MemoryLink;
-use crate::udp_link::UdpLink;
+use crate::udp_link::{ANY_PORT, EACH_ADDRESS, LOOPBACK, UdpLink};
 use coap_types::Endpoint;
 use std::alloc::{AllocError, Global};
 use std::test::Fail;
@@ -17,12 +17,16 @@ pub(super) const FAR: Endpoint = Endpoint {
 
 // Functions without contracts, so that the proof of a test knows nothing of its links.
 
-fn send<L: Link>(link: &mut L, to: Endpoint, bytes: &[u8]) {
+pub(super) fn send<L: Link>(link: &mut L, to: Endpoint, bytes: &[u8]) {
     link.send(to, bytes);
 }
 
 // What came, and `-` where nothing did, or `?` where it came from elsewhere.
-fn receive<L: Link>(link: &mut L, from: Endpoint, told: &mut Vec<u8>) -> Result<(), AllocError> {
+pub(super) fn receive<L: Link>(
+    link: &mut L,
+    from: Endpoint,
+    told: &mut Vec<u8>,
+) -> Result<(), AllocError> {
     let mut buf = [0; MAX_DATAGRAM_LEN];
     match link.receive(&mut buf) {
         Some((peer, len)) if peer == from => told.extend_from_slice(&buf[..len])?,
@@ -37,7 +41,7 @@ fn faults<L: Link>(link: &L) -> u64 {
 }
 
 // The number of faults, a digit.
-fn count_faults<L: Link>(link: &L, told: &mut Vec<u8>) -> Result<(), AllocError> {
+pub(super) fn count_faults<L: Link>(link: &L, told: &mut Vec<u8>) -> Result<(), AllocError> {
     told.push(b'0' + link.faults().min(9) as u8)?;
     Ok(())
 }
@@ -191,10 +195,15 @@ fn what_is_too_long_is_dropped(rt: HostRuntime) -> Result<(), Fail> {
 
 // ---- sockets
 
+const ON_LOOPBACK: Endpoint = Endpoint {
+    ip: LOOPBACK,
+    port: ANY_PORT,
+};
+
 #[test]
 fn datagrams_go_over_two_sockets(rt: HostRuntime) -> Result<(), Fail> {
-    let mut near = UdpLink::bind(&rt, 0)?;
-    let mut far = UdpLink::bind(&rt, 0)?;
+    let mut near = UdpLink::bind(&rt, ON_LOOPBACK)?;
+    let mut far = UdpLink::bind(&rt, ON_LOOPBACK)?;
     for (len, came) in LENGTHS {
         assert_eq!(rt; carried_len(&mut near, &mut far, len), came, "at {len}");
         assert_eq!(rt; carried_len(&mut near, &mut far, 5), Some(5), "at {len}");
@@ -205,7 +214,7 @@ fn datagrams_go_over_two_sockets(rt: HostRuntime) -> Result<(), Fail> {
 
 #[test]
 fn a_send_that_the_system_refuses_is_a_fault(rt: HostRuntime) -> Result<(), Fail> {
-    let mut link = UdpLink::bind(&rt, 0)?;
+    let mut link = UdpLink::bind(&rt, ON_LOOPBACK)?;
     let port_zero = Endpoint {
         ip: [127, 0, 0, 1],
         port: 0,
@@ -222,8 +231,8 @@ fn a_send_that_the_system_refuses_is_a_fault(rt: HostRuntime) -> Result<(), Fail
 #[test]
 fn a_port_where_nobody_listens_is_no_fault(rt: HostRuntime) -> Result<(), Fail> {
     // The port of a socket that is closed again: the system answers with an ICMP refusal.
-    let closed = UdpLink::bind(&rt, 0)?.address();
-    let mut link = UdpLink::bind(&rt, 0)?;
+    let closed = UdpLink::bind(&rt, ON_LOOPBACK)?.address();
+    let mut link = UdpLink::bind(&rt, ON_LOOPBACK)?;
     for _ in 0..3 {
         send(&mut link, closed, b"abc");
         assert_eq!(rt; received_len(&mut link, closed), None);
@@ -234,7 +243,59 @@ fn a_port_where_nobody_listens_is_no_fault(rt: HostRuntime) -> Result<(), Fail> 
 
 #[test]
 fn a_port_is_taken(rt: HostRuntime) -> Result<(), Fail> {
-    let link = UdpLink::bind(&rt, 0)?;
-    assert!(rt; UdpLink::bind(&rt, link.address().port).is_err());
+    let link = UdpLink::bind(&rt, ON_LOOPBACK)?;
+    assert!(rt; UdpLink::bind(&rt, link.address()).is_err());
+    Ok(())
+}
+
+#[test]
+fn an_address_of_no_machine_is_not_bound(rt: HostRuntime) -> Result<(), Fail> {
+    // One of those for documents (RFC 5737).
+    let elsewhere = Endpoint {
+        ip: [192, 0, 2, 1],
+        port: ANY_PORT,
+    };
+    assert!(rt; UdpLink::bind(&rt, elsewhere).is_err());
+    // To ask a server there needs no address there.
+    let link = UdpLink::client(&rt, elsewhere)?;
+    assert_eq!(rt; link.address().ip, EACH_ADDRESS);
+    Ok(())
+}
+
+// Whether a client has an answer from the endpoint that it asks, where the server receives it there.
+fn is_answered<L: Link, M: Link>(client: &mut L, server: &mut M, asked: Endpoint) -> bool {
+    send(client, asked, b"abc");
+    let own = client.address();
+    if received_len(server, own) != Some(3) {
+        return false;
+    }
+    send(server, own, b"abcd");
+    received_len(client, asked) == Some(4)
+}
+
+#[test]
+fn servers_answer_from_where_they_are_bound(rt: HostRuntime) -> Result<(), Fail> {
+    // Where a server is bound, which address a client asks, and whether it has an answer from there.
+    let cases = [
+        (LOOPBACK, LOOPBACK, true),
+        ([127, 0, 0, 2], [127, 0, 0, 2], true),
+        (EACH_ADDRESS, LOOPBACK, true),
+        // The answer leaves from 127.0.0.1.
+        (EACH_ADDRESS, [127, 0, 0, 2], false),
+    ];
+    for (ip, asked_ip, answered) in cases {
+        let port = ANY_PORT;
+        let mut server = UdpLink::bind(&rt, Endpoint { ip, port })?;
+        let asked = Endpoint {
+            ip: asked_ip,
+            ..server.address()
+        };
+        let mut client = UdpLink::client(&rt, asked)?;
+        assert_eq!(rt;
+            is_answered(&mut client, &mut server, asked),
+            answered,
+            "at {ip:?}"
+        );
+    }
     Ok(())
 }

@@ -40,6 +40,7 @@ impl<A: Allocator + Copy> Model for MemoryLink<A> {
     ghost Value = { Memory };
 
     ghost view = { λ m. record {
+      address = m.address;
       handed = m.handed.items;
       coming = m.coming.items;
       failing_send = m.failing_send;
@@ -109,8 +110,9 @@ fn take_first<A: Allocator + Copy>(
 impl<A: Allocator + Copy> MemoryLink<A> {
     /// A link that receives at this address. It takes no memory.
     pub fn new(alloc: A, address: Endpoint) -> MemoryLink<A>
-        // A `new` link in memory holds nothing, and loses nothing.
+        // A `new` link in memory is at its address, holds nothing, and loses nothing.
         ensures { result ≡ record {
+          address = address;
           handed = [];
           coming = [];
           failing_send = 0;
@@ -203,6 +205,8 @@ impl<A: Allocator + Copy> Link for MemoryLink<A> {
     ghost receives = { ReceivesFromMemory };
 
     ghost fault_count = { λ link. link.faults };
+
+    ghost own_address = { λ link. link.address };
 
     fn send(&mut self, to: Endpoint, bytes: &[u8]) {
         let (fails, left) = count_down(self.failing_send);

@@ -1,5 +1,6 @@
 //! A link over a socket of UDP.
-ghost use Rattle.std.specs.Prelude.{ℕ, List, Option, ◌≡◌, ◌≤◌, IfOk, IfSome, length};
+ghost use Rattle.std.specs.Prelude.{ℕ, List, Option, ◌≡◌, ◌≤◌, IfOk, IfSome, length, true};
+ghost use Rattle.coap_links.specs.Bound.{IsBoundAt, client_ip};
 ghost use Rattle.coap_links.specs.Faults.{MayRaise, raised};
 
 use crate::link::{Link, MAX_DATAGRAM_LEN, raise};
@@ -19,7 +20,14 @@ pub const ANY_PORT: u16 = 0;
 
 const _: () = prove!(ANY_PORT == 0);
 
-/// A UDP socket on 127.0.0.1.
+/// The address by which a machine reaches itself, whatever else it is joined to (RFC 1122, section
+/// 3.2.1.3).
+pub const LOOPBACK: [u8; 4] = [127, 0, 0, 1];
+
+/// The address that stands for each of the machine's (RFC 1122, section 3.2.1.3).
+pub const EACH_ADDRESS: [u8; 4] = [0, 0, 0, 0];
+
+/// A UDP socket.
 #[derive(Drop)]
 pub struct UdpLink {
     socket: UdpSocket,
@@ -38,22 +46,65 @@ fn endpoint_of(address: SocketAddr) -> Option<Endpoint> {
     }
 }
 
+// Whether a socket is where it was asked to be; at `ANY_PORT`, at whichever port.
+fn is_bound_at(asked: Endpoint, address: Endpoint) -> bool
+    ensures { result ≡ true → IsBoundAt asked address }
+{
+    address.ip == asked.ip && (asked.port == ANY_PORT || address.port == asked.port)
+}
+
+// The address of a client's socket, by that of its server.
+fn client_ip(server: [u8; 4]) -> [u8; 4]
+    ensures { result ≡ client_ip server }
+{
+    match server {
+        [127, ..] => LOOPBACK,
+        _ => EACH_ADDRESS,
+    }
+}
+
 impl UdpLink {
-    /// A socket at a port of 127.0.0.1; at `ANY_PORT`, at one that is free.
-    pub fn bind<R: Net>(net: &R, port: u16) -> io::Result<UdpLink>
+    /// A socket at an address of this machine; at `ANY_PORT`, at a port of it that is free.
+    ///
+    /// At `LOOPBACK` only the machine itself reaches it. At `EACH_ADDRESS` whoever reaches one of the machine's
+    /// addresses does. A server there does not know to which of them a request came, and its answer
+    /// leaves from the one that the system chooses for the way back. On a machine with several addresses
+    /// that may be another one: the client then has an answer from an endpoint that it did not ask,
+    /// and does not take it (RFC 7252, section 5.3.2). Such a server is bound to the one address that
+    /// its clients ask.
+    pub fn bind<R: Net>(net: &R, address: Endpoint) -> io::Result<UdpLink>
         // A link that is bound has failed no call.
-        ensures { IfOk result (λ link. link.faults ≡ 0) }
+        ensures faults { IfOk result (λ link. link.faults ≡ 0) }
+        // A link that is bound has the address that was asked for, and the port, but where any would do.
+        ensures bound { IfOk result (λ link. IsBoundAt address link.address) }
     {
-        let socket = UdpSocket::bind(net, (Ipv4Addr::LOCALHOST, port))?;
+        let [a, b, c, d] = address.ip;
+        let socket = UdpSocket::bind(net, (Ipv4Addr::new(a, b, c, d), address.port))?;
         socket.set_read_timeout(Some(Duration::from_millis(RECEIVE_WAIT_MS)))?;
         match endpoint_of(socket.local_addr()?) {
-            Some(address) => Ok(UdpLink {
+            Some(bound) if is_bound_at(address, bound) => Ok(UdpLink {
                 socket,
-                address,
+                address: bound,
                 faults: 0,
             }),
-            None => Err(io::Error::from(ErrorKind::AddrNotAvailable)),
+            _ => Err(io::Error::from(ErrorKind::AddrNotAvailable)),
         }
+    }
+
+    /// A socket for a client of this server, at a port that is free. It is at `LOOPBACK` where the server is at
+    /// an address of 127.0.0.0/8, so that only the machine itself reaches it; else at `EACH_ADDRESS`, and each
+    /// datagram leaves from the address that the system chooses for its way.
+    pub fn client<R: Net>(net: &R, server: Endpoint) -> io::Result<UdpLink>
+        // A client's link that is bound has failed no call.
+        ensures faults { IfOk result (λ link. link.faults ≡ 0) }
+        // A client's link is at 127.0.0.1 where its server is in 127.0.0.0/8, and else at 0.0.0.0.
+        ensures bound { IfOk result (λ link. link.address.ip ≡ client_ip server.ip) }
+    {
+        let address = Endpoint {
+            ip: client_ip(server.ip),
+            port: ANY_PORT,
+        };
+        UdpLink::bind(net, address)
     }
 }
 
@@ -68,6 +119,8 @@ impl Link for UdpLink {
     ghost receives = { λ before _ after. MayRaise before.faults after.faults };
 
     ghost fault_count = { λ link. link.faults };
+
+    ghost own_address = { λ link. link.address };
 
     fn send(&mut self, to: Endpoint, bytes: &[u8]) {
         let [a, b, c, d] = to.ip;

@@ -157,6 +157,7 @@ impl<W: Drop, O: Drop, A: Allocator + Copy> Operations<W, O, A> {
     }
 
     /// Takes out what runs; what had waited leaves the slab.
+    #[inline(always)]
     pub fn take_running(&mut self) -> Option<Running<W>>
         // What is given out is what ran.
         ensures value { result ≡ self.old.running }

@@ -80,6 +80,7 @@ fn if_match_names(options: &[Opt<'_>], version: u64) -> bool
 }
 
 /// Whether the preconditions of a request fail for what the path holds (RFC 7252, section 5.10.8).
+#[inline(always)]
 pub(crate) fn precondition_fails<A: Allocator>(
     held: Option<&Representation<A>>,
     options: &[Opt<'_>],
@@ -136,6 +137,7 @@ fn block_of(options: &[Opt<'_>]) -> Option<Block>
 
 /// What the Block2 of a request asks for, where the server sends blocks of at most this size
 /// (RFC 7959, section 2.4).
+#[inline(always)]
 pub(crate) fn wanted_block(options: &[Opt<'_>], szx: Szx) -> Wanted
     ensures by_block { result.by_block ≡ is_some (block_of (options_of options.now)) }
     ensures offset { result.offset ≡ offset_by (block_of (options_of options.now)) }

@@ -119,6 +119,7 @@ fn content<A: Allocator + Copy>(
 }
 
 // A GET.
+#[inline(always)]
 fn serve_get<A: Allocator + Copy, S: Store<A>>(
     store: &S,
     asking: &Asking<'_, A>,
@@ -215,6 +216,7 @@ fn serve_delete<A: Allocator + Copy, S: Store<A>>(
 /// Serves a request: its preconditions (RFC 7252, section 5.10.8), and then its method (section
 /// 5.8). The response fits one message: NUM of its Block2 has 20 bits, its payload at most 1,024
 /// bytes. After an `Err` the store is as before.
+#[inline(always)]
 pub fn serve<A: Allocator + Copy, S: Store<A>>(
     store: &mut S,
     now: Moment,

@@ -2,6 +2,7 @@
 -- 7959, section 2).
 use Rattle.std.specs.Prelude.{ℕ, List}
 use Rattle.coap_layer.specs.Trace.{Entry}
+use Rattle.coap_layer.specs.declared.setup.Setup.{Setup}
 use Rattle.coap_resource.specs.Limits.{Limits}
 use Rattle.coap_exchange.specs.Above.{sum_of, asked_by, Rows}
 use Rattle.coap_exchange.specs.AnswererTrace as E
@@ -24,10 +25,10 @@ module _ (limits : Limits) (szx : ℕ) where
   ServerRows trace = Rows (start limits szx) after IsRight trace
 
   -- .. and the calls of its exchanges stand in their law, those of the message layer in its own
-  pub record ServerLaw (word : ℕ) (trace : List Call) : Type 0 where
+  pub record ServerLaw (setup : Setup) (trace : List Call) : Type 0 where
     pub rows : ServerRows trace
-    pub exchanges : ResponseLaw word (lower_of trace)
+    pub exchanges : ResponseLaw setup (lower_of trace)
 
   -- the trace of the message layer
-  abbrev pub layer_of : ℕ → List Call → List Entry
-  layer_of word trace = below_of word (lower_of trace)
+  abbrev pub layer_of : Setup → List Call → List Entry
+  layer_of setup trace = below_of setup (lower_of trace)

@@ -22,9 +22,10 @@ ghost use Rattle.std.specs.Prelude.{◌≡◌, ◌≢◌, ◌≤◌, ◌<◌, �
 ghost use Rattle.std.specs.Prelude.{Err};
 ghost use Rattle.std.specs.Prelude.{is_ok, is_some, length, IfNone, IfOk, IfSome, IsOk, OnErr, OnOk, option_copied};
 ghost use Rattle.coap_codec.specs.Message.{Message};
-ghost use Rattle.coap_layer.specs.Machine.State.{answer_of, copies, made};
+ghost use Rattle.coap_layer.specs.Machine.State.{answer_of, copies, made, usual};
 ghost use Rattle.coap_layer.specs.Machine.Ups.{IsQuiet};
 ghost use Rattle.coap_layer.specs.Trace as below;
+ghost use Rattle.coap_layer.specs.declared.setup.Setup.{Setup as SetupSpec};
 ghost use Rattle.coap_resource.specs.Content.{nothing, put_refusal};
 ghost use Rattle.coap_resource.specs.Limits.{Limits};
 ghost use Rattle.coap_resource.specs.Shown.{shown};
@@ -54,7 +55,7 @@ use crate::server::plain::set_plain_parts;
 use crate::server::turning::tick_parts;
 use coap_block::Assembly;
 use coap_exchange::Answerer;
-use coap_layer::Datagram;
+use coap_layer::{Datagram, Setup};
 use coap_observe::Observers;
 use coap_resource::{Representation, Store, StoreRefusal};
 use coap_types::{Endpoint, Moment, Path, Szx};
@@ -95,10 +96,10 @@ impl<S: Store<A>, A: Allocator + Copy> Server<S, A, BuildHasherDefault<FoldHashe
         requires fresh { (limits : Limits) × (S.content store ≡ nothing limits) }
         // To a `new` server over an empty store no call has led.
         ensures led { (limits : Limits) → S.content store ≡ nothing limits
-            → Led limits szx word [] (state_of S.content result) }
+            → Led limits szx (usual word) [] (state_of S.content result) }
         // A `new` server over an empty store is in the state in which no call was made, by its word.
         ensures start { (limits : Limits) → S.content store ≡ nothing limits → state_of S.content result
-            ≡ fresh_state limits szx word }
+            ≡ fresh_state limits szx (usual word) }
     {
         Server::with_hasher(alloc, store, szx, word, BuildHasherDefault::new())
     }
@@ -110,10 +111,24 @@ impl<S: Store<A>, A: Allocator + Copy, H: BuildHasher> Server<S, A, H> {
         requires fresh { (limits : Limits) × (S.content store ≡ nothing limits) }
         // To a server of `with_hasher` over an empty store no call has led.
         ensures led { (limits : Limits) → S.content store ≡ nothing limits
-            → Led limits szx word [] (state_of S.content result) }
+            → Led limits szx (usual word) [] (state_of S.content result) }
         // A server of `with_hasher` is in the state in which no call was made, whatever the hasher.
         ensures start { (limits : Limits) → S.content store ≡ nothing limits → state_of S.content result
-            ≡ fresh_state limits szx word }
+            ≡ fresh_state limits szx (usual word) }
+    {
+        Server::with_setup(alloc, store, szx, Setup::new(word), hasher)
+    }
+
+    /// The same, with so many messages that are remembered at most (RFC 7252, section 4.5).
+    pub fn with_setup(alloc: A, store: S, szx: Szx, setup: Setup, hasher: H) -> Self
+        requires fresh { (limits : Limits) × (S.content store ≡ nothing limits) }
+        // To a server of `with_setup` over an empty store no call has led, and as many messages can be remembered as
+        // were chosen.
+        ensures led { (limits : Limits) → S.content store ≡ nothing limits
+            → Led limits szx setup [] (state_of S.content result) }
+        // A server of `with_setup` is in the state in which no call was made, by its word and number of places.
+        ensures start { (limits : Limits) → S.content store ≡ nothing limits → state_of S.content result
+            ≡ fresh_state limits szx setup }
     {
         let uploads = Assembly::with_limit(alloc, szx, store.limit());
         Server {
@@ -121,7 +136,7 @@ impl<S: Store<A>, A: Allocator + Copy, H: BuildHasher> Server<S, A, H> {
                 alloc,
                 szx,
                 clock: Moment(0),
-                exchanges: Answerer::with_hasher(alloc, word, hasher),
+                exchanges: Answerer::with_setup(alloc, setup, hasher),
                 store,
                 uploads,
                 observers: Observers::new(alloc),
@@ -157,11 +172,11 @@ impl<S: Store<A>, A: Allocator + Copy, H: BuildHasher> Server<S, A, H> {
             × Step (state_of S.content self.old) (Feeds now.0 from bytes.now word up came h sent)
             (state_of S.content self.new)) }
         // Every history that led to the server leads on with this datagram, unless it was refused memory.
-        ensures led { (limits : Limits) (szx begin : ℕ) (t : List Call)
-            → Led limits szx begin t (state_of S.content self.old)
+        ensures led { (limits : Limits) (szx : ℕ) (setup : SetupSpec) (t : List Call)
+            → Led limits szx setup t (state_of S.content self.old)
             → OnOk result ((up : below.Answer) × (came : Option (AskedSpec × Message)) × (h : Handling)
             × (sent : below.Answer)
-            × Led limits szx begin (Feeds now.0 from bytes.now word up came h sent ∷ t) (state_of S.content self.new)) }
+            × Led limits szx setup (Feeds now.0 from bytes.now word up came h sent ∷ t) (state_of S.content self.new)) }
         // A datagram that is refused memory leaves the server as it was.
         ensures err { OnErr result (self.new ≡ self.old) }
         // Where the message layer sends nothing and hands nothing up, it takes no memory.
@@ -183,11 +198,11 @@ impl<S: Store<A>, A: Allocator + Copy, H: BuildHasher> Server<S, A, H> {
             × Step (state_of S.content self.old) (Ticks now.0 word done room due passed h id did)
             (state_of S.content self.new)) }
         // Every history that led to the server leads on with this tick, unless it was refused memory.
-        ensures led { (limits : Limits) (szx begin : ℕ) (t : List Call)
-            → Led limits szx begin t (state_of S.content self.old)
+        ensures led { (limits : Limits) (szx : ℕ) (setup : SetupSpec) (t : List Call)
+            → Led limits szx setup t (state_of S.content self.old)
             → IfOk result (λ did. (done : below.Answer) × (room : Bool) × (due : Due) × (passed : ℕ) × (h : Handling)
             × (id : ℕ)
-            × Led limits szx begin (Ticks now.0 word done room due passed h id did ∷ t) (state_of S.content self.new)) }
+            × Led limits szx setup (Ticks now.0 word done room due passed h id did ∷ t) (state_of S.content self.new)) }
         // Each tick of a server that does something leaves less to be done at its moment.
         ensures less { result ≡ Ok true
             → work (state_of S.content self.new) now.0 < work (state_of S.content self.old) now.0 }
@@ -235,10 +250,10 @@ impl<S: Store<A>, A: Allocator + Copy, H: BuildHasher> Server<S, A, H> {
             (Sets now.0 path.now format body.now result (state_of S.content self.new).own.store)
             (state_of S.content self.new) }
         // Every history that led to the server leads on with this local change, unless it was refused memory.
-        ensures led { (limits : Limits) (szx begin : ℕ) (t : List Call)
-            → Led limits szx begin t (state_of S.content self.old)
+        ensures led { (limits : Limits) (szx : ℕ) (setup : SetupSpec) (t : List Call)
+            → Led limits szx setup t (state_of S.content self.old)
             → result ≢ Err store_refusals.Memory
-            → Led limits szx begin (Sets now.0 path.now format body.now result
+            → Led limits szx setup (Sets now.0 path.now format body.now result
             (state_of S.content self.new).own.store ∷ t) (state_of S.content self.new) }
         // A local change that is refused memory leaves the server as it was.
         ensures memory { result ≡ Err store_refusals.Memory → self.new ≡ self.old }
@@ -257,9 +272,9 @@ impl<S: Store<A>, A: Allocator + Copy, H: BuildHasher> Server<S, A, H> {
         ensures step { Step (state_of S.content self.old)
             (Removes now.0 path.now result (state_of S.content self.new).own.store) (state_of S.content self.new) }
         // Every history that led to the server leads on with this removal, which is never refused memory.
-        ensures led { (limits : Limits) (szx begin : ℕ) (t : List Call)
-            → Led limits szx begin t (state_of S.content self.old)
-            → Led limits szx begin (Removes now.0 path.now result (state_of S.content self.new).own.store ∷ t)
+        ensures led { (limits : Limits) (szx : ℕ) (setup : SetupSpec) (t : List Call)
+            → Led limits szx setup t (state_of S.content self.old)
+            → Led limits szx setup (Removes now.0 path.now result (state_of S.content self.new).own.store ∷ t)
             (state_of S.content self.new) }
     {
         remove_parts(&mut self.parts, now, path)
@@ -273,10 +288,10 @@ impl<S: Store<A>, A: Allocator + Copy, H: BuildHasher> Server<S, A, H> {
         ensures step { result ≢ Err delay_refusals.Memory → Step (state_of S.content self.old)
             (Delays path.now ms (is_ok result)) (state_of S.content self.new) }
         // Every history that led to the server leads on with this delay, unless it was refused memory.
-        ensures led { (limits : Limits) (szx begin : ℕ) (t : List Call)
-            → Led limits szx begin t (state_of S.content self.old)
+        ensures led { (limits : Limits) (szx : ℕ) (setup : SetupSpec) (t : List Call)
+            → Led limits szx setup t (state_of S.content self.old)
             → result ≢ Err delay_refusals.Memory
-            → Led limits szx begin (Delays path.now ms (is_ok result) ∷ t) (state_of S.content self.new) }
+            → Led limits szx setup (Delays path.now ms (is_ok result) ∷ t) (state_of S.content self.new) }
         // A delay that is refused memory leaves the server as it was.
         ensures memory { result ≡ Err delay_refusals.Memory → self.new ≡ self.old }
         // Where 16 other paths have a delay, a further one is refused as Full.
@@ -297,10 +312,10 @@ impl<S: Store<A>, A: Allocator + Copy, H: BuildHasher> Server<S, A, H> {
         ensures step { result ≢ Err plain_refusals.Memory → Step (state_of S.content self.old)
             (Plains path.now (is_ok result)) (state_of S.content self.new) }
         // Every history that led to the server leads on with this plain path, unless it was refused memory.
-        ensures led { (limits : Limits) (szx begin : ℕ) (t : List Call)
-            → Led limits szx begin t (state_of S.content self.old)
+        ensures led { (limits : Limits) (szx : ℕ) (setup : SetupSpec) (t : List Call)
+            → Led limits szx setup t (state_of S.content self.old)
             → result ≢ Err plain_refusals.Memory
-            → Led limits szx begin (Plains path.now (is_ok result) ∷ t) (state_of S.content self.new) }
+            → Led limits szx setup (Plains path.now (is_ok result) ∷ t) (state_of S.content self.new) }
         // A path that can't be made plain for want of memory leaves the server as it was.
         ensures memory { result ≡ Err plain_refusals.Memory → self.new ≡ self.old }
         // Where 16 other paths are plain, a further one is refused as Full.
@@ -319,9 +334,9 @@ impl<S: Store<A>, A: Allocator + Copy, H: BuildHasher> Server<S, A, H> {
         ensures step { Step (state_of S.content self.now) (Gets path.now (shown (option_copied result)))
             (state_of S.content self.now) }
         // Every history that led to the server leads on with this question for a path, which changes nothing.
-        ensures led { (limits : Limits) (szx begin : ℕ) (t : List Call)
-            → Led limits szx begin t (state_of S.content self.now)
-            → Led limits szx begin (Gets path.now (shown (option_copied result)) ∷ t) (state_of S.content self.now) }
+        ensures led { (limits : Limits) (szx : ℕ) (setup : SetupSpec) (t : List Call)
+            → Led limits szx setup t (state_of S.content self.now)
+            → Led limits szx setup (Gets path.now (shown (option_copied result)) ∷ t) (state_of S.content self.now) }
     {
         self.parts.store.get(path)
     }
@@ -333,9 +348,9 @@ impl<S: Store<A>, A: Allocator + Copy, H: BuildHasher> Server<S, A, H> {
         ensures step { Step (state_of S.content self.now) (TellsApplied (applied_list (option_copied result)))
             (state_of S.content self.now) }
         // Every history that led to the server leads on with the question for what was applied.
-        ensures led { (limits : Limits) (szx begin : ℕ) (t : List Call)
-            → Led limits szx begin t (state_of S.content self.now)
-            → Led limits szx begin (TellsApplied (applied_list (option_copied result)) ∷ t)
+        ensures led { (limits : Limits) (szx : ℕ) (setup : SetupSpec) (t : List Call)
+            → Led limits szx setup t (state_of S.content self.now)
+            → Led limits szx setup (TellsApplied (applied_list (option_copied result)) ∷ t)
             (state_of S.content self.now) }
     {
         self.parts.applied.as_ref()
@@ -346,9 +361,9 @@ impl<S: Store<A>, A: Allocator + Copy, H: BuildHasher> Server<S, A, H> {
         // Which datagram the server gives out, and what that leaves, is a step of its machine.
         ensures step { Step (state_of S.content self.old) (NextOut result) (state_of S.content self.new) }
         // Every history that led to the server leads on with a datagram that it gives out.
-        ensures led { (limits : Limits) (szx begin : ℕ) (t : List Call)
-            → Led limits szx begin t (state_of S.content self.old)
-            → Led limits szx begin (NextOut result ∷ t) (state_of S.content self.new) }
+        ensures led { (limits : Limits) (szx : ℕ) (setup : SetupSpec) (t : List Call)
+            → Led limits szx setup t (state_of S.content self.old)
+            → Led limits szx setup (NextOut result ∷ t) (state_of S.content self.new) }
         // The datagram that the server gives out is the first that waited.
         ensures some { IfSome result (λ datagram. self.old.exchanges.layer.queue
             ≡ datagram ∷ self.new.exchanges.layer.queue) }

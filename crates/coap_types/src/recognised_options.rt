@@ -59,6 +59,7 @@ fn is_recognised(direction: Direction, option: Opt<'_>, again: bool) -> bool
 /// option is not recognised (RFC 7252, sections 5.4.1, 5.4.3 and 5.4.5): an option is recognised
 /// where it has a rule for the direction, its value has an allowed length, and it is repeatable or
 /// the first of its number, those of a wrong length included.
+#[inline(always)]
 pub fn recognised<'a, I: Iterator<Item = Opt<'a>> + Drop, A: Allocator + Copy>(
     alloc: A,
     direction: Direction,

@@ -1,6 +1,6 @@
 -- What clap's clauses say of the words of this program.
 use Rattle.std.proofs.Common.{◌≡◌, ◌∙◌, ◌⊎◌, ap, ap₂, sym, refl, subst, Bool, true, false, ◌||◌, List, [], Option}
-use Rattle.std.proofs.Common.{arith, Some, None, option_map, unwrap_or, codes, inl, inr, Result, Ok, Err}
+use Rattle.std.proofs.Common.{arith, length, Some, None, option_map, unwrap_or, codes, inl, inr, Result, Ok, Err}
 use Rattle.std.specs.List.{find, list_all}
 use Rattle.std.specs.Prelude.{option_and_then, slice_get}
 use Rattle.std.specs.Str.{bytes_eq}
@@ -13,19 +13,28 @@ use Rattle.clap.specs.Words.{is_simple_and_free, kind_of, subcommand_name_of, su
 use Rattle.clap.specs.declared.error.Error.{Error}
 use Rattle.clap.specs.declared.parser.matches.ArgMatches.{ArgMatches}
 use Rattle.coap_words.specs.CommandLine.{coap_app}
-use Rattle.coap_words.specs.Asking.{AreNoTags, AsksChange, HasNoTags, IsAsk, SendsBody, texts_of, tags_argument_of}
+use Rattle.coap_words.specs.Addresses.{address_argument_of}
+use Rattle.coap_words.specs.Asking.{AreNoTags, AsksChange, HasNoTags, IsAsk, SendsBody, tags_argument_of}
 use Rattle.coap_words.specs.Numbers.{argument_of}
-use Rattle.coap_words.specs.Taking.{IsWrongOption, MakesEnd, TakesItsOwn, TakesNumber, TakesTags}
+use Rattle.coap_words.specs.Plains.{IsWrongPlain}
+use Rattle.coap_words.specs.Serving.{HasNoSetting, setting_argument_of}
+use Rattle.coap_words.specs.Taking.{IsWrongOption, IsWrongServing, MakesEnd, TakesAddress, TakesItsOwn, TakesNumber}
+use Rattle.coap_words.specs.Taking.{TakesPlains, TakesTags}
+use Rattle.coap_words.specs.Texts.{texts_of}
 use Rattle.coap_words.specs.Values.{Enters, IsGiven, IsValue}
 use Rattle.coap_words.specs.Words.{AsksFor, AsksForIn, IsWrong, IsWrongIn}
 use Rattle.coap_words.specs.Wrongs.{IsWrongOfClap}
+use Rattle.coap_words.specs.declared.orders.AddressRefusal.{AddressRefusal}
+use Rattle.coap_words.specs.declared.orders.AddressRefusal.TheVariants.{Host, Address as Own}
 use Rattle.coap_words.specs.declared.orders.NumberRefusal.{NumberRefusal}
-use Rattle.coap_words.specs.declared.orders.NumberRefusal.TheVariants.{Port, Count, Limit, Format, Accept, Times, Seconds, GiveUp}
+use Rattle.coap_words.specs.declared.orders.NumberRefusal.TheVariants.{Port, Count, Limit, Remember, Format, Accept, Times, Seconds, GiveUp}
 use Rattle.coap_words.specs.declared.orders.Order.{Order}
+use Rattle.coap_words.specs.declared.orders.SettingRefusal.{SettingRefusal}
+use Rattle.coap_words.specs.declared.orders.SettingRefusal.TheVariants as setting
 use Rattle.coap_words.specs.declared.orders.TagsRefusal.{TagsRefusal}
 use Rattle.coap_words.specs.declared.orders.TagsRefusal.TheVariants.{Etag, IfMatch}
 use Rattle.coap_words.specs.declared.orders.Wrong.{Wrong}
-use Rattle.coap_words.specs.declared.orders.Wrong.TheVariants.{Words, Path, Number, Word, Tags, Body, Store, Plains}
+use Rattle.coap_words.specs.declared.orders.Wrong.TheVariants.{Words, Path, Number, Word, Address, Size, Tags, Setting, Body, Store, Plains}
 use Rattle.coap_words.specs.declared.orders.Wrong.TheVariants.{Hex, Memory}
 use Rattle.coap_words.proofs.Entered.{enters}
 use Rattle.coap_words.proofs.GivenWords.{asks, required_word}
@@ -57,8 +66,8 @@ is_free_coap = refl
 -- the names of the subcommands, but for `help`
 abbrev pub IsOurs : Text → Type 0
 IsOurs name =
-    (name ≡ codes "show") ⊎ ((name ≡ codes "answer")
-    ⊎ ((name ≡ codes "pair") ⊎ ((name ≡ codes "serve") ⊎ ((name ≡ codes "sim") ⊎ IsAsk name))))
+    (name ≡ codes "show") ⊎ ((name ≡ codes "answer") ⊎ ((name ≡ codes "pair")
+    ⊎ ((name ≡ codes "serve") ⊎ ((name ≡ codes "sim") ⊎ ((name ≡ codes "dump") ⊎ IsAsk name)))))
 
 -- the same as tests
 abbrev sends_body : Text → Bool
@@ -74,13 +83,16 @@ abbrev is_ours : Text → Bool
 is_ours name =
     bytes_eq name (codes "show")
     || (bytes_eq name (codes "answer") || (bytes_eq name (codes "pair")
-    || (bytes_eq name (codes "serve") || (bytes_eq name (codes "sim") || is_ask name))))
+    || (bytes_eq name (codes "serve") || (bytes_eq name (codes "sim") || (bytes_eq name (codes "dump") || is_ask name)))))
 
 abbrev serves_or_asks : Text → Bool
 serves_or_asks name = bytes_eq name (codes "serve") || is_ask name
 
 abbrev makes_end : Text → Bool
 makes_end name = bytes_eq name (codes "pair") || serves_or_asks name
+
+abbrev remembers : Text → Bool
+remembers name = bytes_eq name (codes "sim") || makes_end name
 
 -- the name is this one, or the other test holds
 first_or : (P : Type 0) (name known : Text) (rest : Bool) → (rest ≡ true → P) → (bytes_eq name known || rest) ≡ true
@@ -109,13 +121,17 @@ one_serves_or_asks name is = first_or _ name (codes "serve") _ (one_asks name) i
 one_makes_end : (name : Text) → makes_end name ≡ true → MakesEnd name
 one_makes_end name is = first_or _ name (codes "pair") _ (one_serves_or_asks name) is
 
+one_remembers : (name : Text) → remembers name ≡ true → (name ≡ codes "sim") ⊎ MakesEnd name
+one_remembers name is = first_or _ name (codes "sim") _ (one_makes_end name) is
+
 one_of_ours : (name : Text) → is_ours name ≡ true → IsOurs name
 one_of_ours name is =
     first_or _ name (codes "show") _
     (first_or _ name (codes "answer") _
     (first_or _ name (codes "pair") _
     (first_or _ name (codes "serve") _
-    (first_or _ name (codes "sim") _ (one_asks name))))) is
+    (first_or _ name (codes "sim") _
+    (first_or _ name (codes "dump") _ (one_asks name)))))) is
 
 -- words that clap takes enter one of them
 enters_ours : (words : List Text) → fault_of coap_app words ≡ []
@@ -217,6 +233,8 @@ takes_number words name rows e Count = taken_by
     (λ n is. is_name n (codes "serve") is) refl e
 takes_number words name rows e Limit =
     taken_by makes_end (TakesNumber Limit) (codes "limit") words name rows one_makes_end refl e
+takes_number words name rows e Remember =
+    taken_by remembers (TakesNumber Remember) (codes "remember") words name rows one_remembers refl e
 takes_number words name rows e Format =
     taken_by sends_body (TakesNumber Format) (codes "format") words name rows one_sends refl e
 takes_number words name rows e Accept = taken_by
@@ -236,6 +254,29 @@ takes_word : (words : List Text) (name : Text) (rows : List Row) → Enters word
 unfolding clap_on_literals
 takes_word words name rows e = taken_by makes_end MakesEnd (codes "word") words name rows one_makes_end refl e
 
+takes_address : (words : List Text) (name : Text) (rows : List Row) → Enters words name rows → (why : AddressRefusal)
+    → (all_of (address_argument_of why) rows ≡ None) ⊎ TakesAddress why name
+unfolding clap_on_literals
+takes_address words name rows e Host = taken_by is_ask (TakesAddress Host) (codes "host") words name rows one_asks refl e
+takes_address words name rows e Own = taken_by
+    (λ n. bytes_eq n (codes "serve")) (TakesAddress Own) (codes "address") words name rows
+    (λ n is. is_name n (codes "serve") is) refl e
+
+takes_size : (words : List Text) (name : Text) (rows : List Row) → Enters words name rows
+    → (all_of (codes "size") rows ≡ None) ⊎ IsAsk name
+unfolding clap_on_literals
+takes_size words name rows e = taken_by is_ask IsAsk (codes "size") words name rows one_asks refl e
+
+takes_setting : (words : List Text) (name : Text) (rows : List Row) → Enters words name rows → (why : SettingRefusal)
+    → (all_of (setting_argument_of why) rows ≡ None) ⊎ (name ≡ codes "serve")
+unfolding clap_on_literals
+takes_setting words name rows e setting.Hold = taken_by
+    (λ n. bytes_eq n (codes "serve")) (λ n. n ≡ codes "serve") (codes "hold") words name rows
+    (λ n is. is_name n (codes "serve") is) refl e
+takes_setting words name rows e setting.Delay = taken_by
+    (λ n. bytes_eq n (codes "serve")) (λ n. n ≡ codes "serve") (codes "delay") words name rows
+    (λ n is. is_name n (codes "serve") is) refl e
+
 takes_tags : (words : List Text) (name : Text) (rows : List Row) → Enters words name rows → (why : TagsRefusal)
     → (all_of (tags_argument_of why) rows ≡ None) ⊎ TakesTags why name
 unfolding clap_on_literals
@@ -251,6 +292,9 @@ takes_its_own words name rows e =
     record {
       numbers = takes_number words name rows e;
       word = takes_word words name rows e;
+      addresses = takes_address words name rows e;
+      size = takes_size words name rows e;
+      settings = takes_setting words name rows e;
       tags = takes_tags words name rows e;
     }
 
@@ -271,6 +315,17 @@ no_tags_there why rows h none =
       | inr some ↦ absurd (omega (arith, some.2))
     ]
 
+no_setting_there : (why : SettingRefusal) (rows : List Row) → HasNoSetting why rows
+    → all_of (setting_argument_of why) rows ≡ None → ⊥
+no_setting_there setting.Hold rows h none =
+    let texts : texts_of (codes "hold") rows ≡ [] = ap (λ (o : Option (List Text)). unwrap_or o []) none in
+    let fewer : length (texts_of (codes "hold") rows) ≡ 0 = ap length texts in
+    absurd (omega (arith, fewer, h.2))
+no_setting_there setting.Delay rows h none =
+    let texts : texts_of (codes "delay") rows ≡ [] = ap (λ (o : Option (List Text)). unwrap_or o []) none in
+    let fewer : length (texts_of (codes "delay") rows) ≡ 0 = ap length texts in
+    elim h [ inl more ↦ absurd (omega (arith, fewer, more)) | inr some ↦ absurd (omega (arith, fewer, some.2)) ]
+
 -- what is wrong in the value of an option is wrong in the subcommand, which takes it
 pub value_wrong : (name : Text) (rows : List Row) (w : Wrong) → TakesItsOwn name rows → IsWrongOption rows w
     → IsWrongIn name rows w
@@ -284,8 +339,20 @@ value_wrong name rows Word own h = elim own.word [
   | inl none ↦ absurd (is_there (codes "word") rows h.0 h.1 none)
   | inr takes ↦ (takes, h)
 ]
+value_wrong name rows (Address refusal) own h = elim (own.addresses refusal) [
+  | inl none ↦ absurd (is_there (address_argument_of refusal) rows h.0 h.1 none)
+  | inr takes ↦ (takes, h)
+]
+value_wrong name rows Size own h = elim own.size [
+  | inl none ↦ absurd (is_there (codes "size") rows h.0 h.1 none)
+  | inr takes ↦ (takes, h)
+]
 value_wrong name rows (Tags refusal) own h = elim (own.tags refusal) [
   | inl none ↦ absurd (no_tags_there refusal rows h none)
+  | inr takes ↦ (takes, h)
+]
+value_wrong name rows (Setting refusal) own h = elim (own.settings refusal) [
+  | inl none ↦ absurd (no_setting_there refusal rows h none)
   | inr takes ↦ (takes, h)
 ]
 value_wrong name rows Body own h = absurd h
@@ -293,6 +360,27 @@ value_wrong name rows Store own h = absurd h
 value_wrong name rows Plains own h = absurd h
 value_wrong name rows Hex own h = absurd h
 value_wrong name rows Memory own h = tt
+
+plain_wrong : (name : Text) (rows : List Row) (w : Wrong) → TakesPlains name → IsWrongPlain rows w → IsWrongIn name rows w
+plain_wrong name rows (Words error) takes h = absurd h
+plain_wrong name rows (Path refusal) takes h = inr (takes, h)
+plain_wrong name rows (Number refusal) takes h = absurd h
+plain_wrong name rows Word takes h = absurd h
+plain_wrong name rows (Address refusal) takes h = absurd h
+plain_wrong name rows Size takes h = absurd h
+plain_wrong name rows (Tags refusal) takes h = absurd h
+plain_wrong name rows (Setting refusal) takes h = absurd h
+plain_wrong name rows Body takes h = absurd h
+plain_wrong name rows Store takes h = absurd h
+plain_wrong name rows Plains takes h = (takes, h)
+plain_wrong name rows Hex takes h = absurd h
+plain_wrong name rows Memory takes h = tt
+
+-- so is what is wrong in the values by which a server is set up
+pub serving_wrong : (rows : List Row) (w : Wrong) → TakesItsOwn (codes "serve") rows → IsWrongServing rows w
+    → IsWrongIn (codes "serve") rows w
+serving_wrong rows w own (inl h) = value_wrong (codes "serve") rows w own h
+serving_wrong rows w own (inr h) = plain_wrong (codes "serve") rows w (inr refl) h
 
 -- ---- a parse that succeeds
 
@@ -333,7 +421,10 @@ wrong_in words name rows (Words error) e h = absurd h
 wrong_in words name rows (Path refusal) e h = (name, rows, e, h)
 wrong_in words name rows (Number refusal) e h = (name, rows, e, h)
 wrong_in words name rows Word e h = (name, rows, e, h)
+wrong_in words name rows (Address refusal) e h = (name, rows, e, h)
+wrong_in words name rows Size e h = (name, rows, e, h)
 wrong_in words name rows (Tags refusal) e h = (name, rows, e, h)
+wrong_in words name rows (Setting refusal) e h = (name, rows, e, h)
 wrong_in words name rows Body e h = (name, rows, e, h)
 wrong_in words name rows Store e h = (name, rows, e, h)
 wrong_in words name rows Plains e h = (name, rows, e, h)
@@ -355,7 +446,10 @@ wrong_of_clap words faults e (Words own) same h kind =
 wrong_of_clap words faults e (Path refusal) same h kind = absurd h
 wrong_of_clap words faults e (Number refusal) same h kind = absurd h
 wrong_of_clap words faults e Word same h kind = absurd h
+wrong_of_clap words faults e (Address refusal) same h kind = absurd h
+wrong_of_clap words faults e Size same h kind = absurd h
 wrong_of_clap words faults e (Tags refusal) same h kind = absurd h
+wrong_of_clap words faults e (Setting refusal) same h kind = absurd h
 wrong_of_clap words faults e Body same h kind = absurd h
 wrong_of_clap words faults e Store same h kind = absurd h
 wrong_of_clap words faults e Plains same h kind = absurd h

@@ -1,2 +1,3 @@
 pub mod NamedPaths
 pub mod PathTexts
+pub mod SaidTexts

@@ -2,7 +2,7 @@ pub mod CoapWords
 pub mod Entered
 pub mod Facts
 pub mod FilledRows
+pub mod GivenTexts
 pub mod GivenWords
 pub mod NamingPaths
 pub mod OwnRows
-pub mod Tags

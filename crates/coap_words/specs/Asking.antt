@@ -1,11 +1,15 @@
 -- What the words of a subcommand ask of a server.
-use Rattle.std.specs.Prelude.{ℕ, Bool, ◌↔◌, IsTrue, List, [], ◌∷◌, ◌≡◌, ◌⊎◌, ◌<◌, ◌≤◌, ⊤, Option, Some, None, Ok}
-use Rattle.std.specs.Prelude.{Any, codes, length, unwrap_or}
-use Rattle.clap.specs.Words.{Row, Text, all_of, first_of}
+use Rattle.std.specs.Prelude.{ℕ, Bool, ◌↔◌, IsTrue, List, ◌≡◌, ◌⊎◌, ◌<◌, ◌≤◌, Option, Some, None, Ok}
+use Rattle.std.specs.Prelude.{codes, length}
+use Rattle.clap.specs.Words.{Row, Text, first_of}
 use Rattle.coap_types.specs.declared.tag.TheConstants.{MAX_TAG_LEN as max_tag_len, MAX_TAGS as max_tags}
 use Rattle.hex.specs.Hex.{decode_of}
+use Rattle.coap_words.specs.Addresses.{HasAddress}
 use Rattle.coap_words.specs.Numbers.{argument_of}
-use Rattle.coap_words.specs.Values.{HasLimit, HasNumber, HasWord, IsValue}
+use Rattle.coap_words.specs.Sizes.{HasSize}
+use Rattle.coap_words.specs.Texts.{AreTexts, SomeSaysNone, texts_of}
+use Rattle.coap_words.specs.Values.{HasLimit, HasNumber, HasRemembered, HasWord, IsValue}
+use Rattle.coap_words.specs.declared.orders.AddressRefusal.TheVariants.{Host}
 use Rattle.coap_words.specs.declared.orders.AskOptions.{AskOptions}
 use Rattle.coap_words.specs.declared.orders.Content.{Content}
 use Rattle.coap_words.specs.declared.orders.Content.TheVariants as content
@@ -58,28 +62,18 @@ abbrev pub tags_argument_of : TagsRefusal → Text
 tags_argument_of Etag = codes "etag"
 tags_argument_of IfMatch = codes "if-match"
 
--- the values of an argument that may be given again and again
-abbrev pub texts_of : Text → List Row → List Text
-texts_of name values = unwrap_or (all_of name values) []
-
 -- the text is the hex of this entity-tag
 abbrev pub IsTagText : Text → List ℕ → Type 0
 IsTagText text tag = (decode_of text ≡ Ok tag) × (1 ≤ length tag) × (length tag ≤ max_tag_len)
 
--- each text is the hex of the tag in its place
-abbrev pub AreTagTexts : List Text → List (List ℕ) → Type 0
-AreTagTexts [] [] = ⊤
-AreTagTexts [] (tag ∷ tags) = ⊥
-AreTagTexts (text ∷ texts) [] = ⊥
-AreTagTexts (text ∷ texts) (tag ∷ tags) = IsTagText text tag × AreTagTexts texts tags
-
 -- the argument has these entity-tags, in order
 abbrev pub HasTags : TagsRefusal → List Row → List (List ℕ) → Type 0
-HasTags argument values tags = AreTagTexts (texts_of (tags_argument_of argument) values) tags × (length tags ≤ max_tags)
+HasTags argument values tags = AreTexts IsTagText (texts_of (tags_argument_of argument) values) tags
+    × (length tags ≤ max_tags)
 
 -- there are more than a request has, or a text is the hex of none
 abbrev pub AreNoTags : List Text → Type 0
-AreNoTags texts = (max_tags < length texts) ⊎ Any (λ text. (tag : List ℕ) → IsTagText text tag → ⊥) texts
+AreNoTags texts = (max_tags < length texts) ⊎ SomeSaysNone IsTagText texts
 
 abbrev pub HasNoTags : TagsRefusal → List Row → Type 0
 HasNoTags argument values = AreNoTags (texts_of (tags_argument_of argument) values)
@@ -104,6 +98,9 @@ usual_word Delete = Random
 usual_word Observe = Random
 
 pub record HasOptions (usual : WordChoice) (values : List Row) (options : AskOptions) : Type 0 where
+  pub host : HasAddress Host values options.host
+  pub size : HasSize values options.size
+  pub trace : HasFlag (codes "trace") values options.trace
   pub format : HasOptionalNumber Format values options.format
   pub accept : HasOptionalNumber Accept values options.accept
   pub etags : HasTags Etag values options.etags
@@ -115,3 +112,4 @@ pub record HasOptions (usual : WordChoice) (values : List Row) (options : AskOpt
   pub give_up : HasOptionalNumber GiveUp values options.give_up
   pub word : HasWord usual values options.word
   pub limit : HasLimit values options.limit
+  pub remembered : HasRemembered values options.remembered

@@ -1,4 +1,4 @@
--- The command line of the program, as a value: the arguments of each subcommand. The program builds it of a table of its
+-- The command line of the program, as a value: the arguments of each subcommand. The program builds it of tables of its
 -- own.
 use Rattle.std.specs.Prelude.{List, [], ◌∷◌, Some, true, false, codes}
 use Rattle.clap.specs.Simple.{new_shape}
@@ -25,13 +25,15 @@ repeated_of name = record (new_rule name) { long = Some name; action = Some Appe
 abbrev pub flag_of : Text → Rule
 flag_of name = record (new_rule name) { long = Some name; action = Some SetTrue }
 
--- what each subcommand takes that makes an end: `--word N` and `--limit N`
+-- what each subcommand takes that makes an end: `--word N`, `--limit N` and `--remember N`
 abbrev pub of_an_end : List Rule
-of_an_end = option_of (codes "word") ∷ option_of (codes "limit") ∷ []
+of_an_end = option_of (codes "word") ∷ option_of (codes "limit") ∷ option_of (codes "remember") ∷ []
 
--- what each subcommand takes besides that asks something of a server: `--give-up SECONDS`
+-- what each subcommand takes besides that asks something of a server: `--host A.B.C.D`, `--size N`, `--trace` and
+-- `--give-up SECONDS`
 abbrev pub of_a_client : List Rule
-of_a_client = option_of (codes "give-up") ∷ of_an_end
+of_a_client = option_of (codes "host") ∷ option_of (codes "size") ∷ flag_of (codes "trace") ∷ option_of (codes "give-up")
+    ∷ of_an_end
 
 -- on what a change is made: `--if-match HEX`, again and again, and `--if-none-match`
 abbrev pub conditions : List Rule → List Rule
@@ -45,12 +47,21 @@ with_body rest = optional_word (codes "BODY") ∷ option_of (codes "file") ∷ o
 abbrev pub asking : List Rule → List Rule
 asking rest = required_word (codes "PORT") ∷ required_word (codes "PATH") ∷ rest
 
+-- how a server is set up: `--address A.B.C.D`, and `--hold PATH=BODY`, `--delay PATH=MS` and `--plain PATH`, each again
+-- and again, `--trace` and `--changes`
+abbrev pub setting_up : List Rule → List Rule
+setting_up rest = option_of (codes "address") ∷ repeated_of (codes "hold") ∷ repeated_of (codes "delay")
+    ∷ repeated_of (codes "plain") ∷ flag_of (codes "trace") ∷ flag_of (codes "changes") ∷ rest
+
 -- a command with these arguments and no subcommand
 abbrev pub leaf : Text → List Rule → App
 leaf name rules = record { top = record (new_shape name) { rules = rules }; subs = [] }
 
 abbrev pub show_app : App
 show_app = leaf (codes "show") (required_word (codes "HEX") ∷ [])
+
+abbrev pub dump_app : App
+dump_app = leaf (codes "dump") []
 
 abbrev pub answer_app : App
 answer_app = leaf (codes "answer")
@@ -60,7 +71,7 @@ abbrev pub pair_app : App
 pair_app = leaf (codes "pair") (required_word (codes "PATH") ∷ required_word (codes "BODY") ∷ of_an_end)
 
 abbrev pub serve_app : App
-serve_app = leaf (codes "serve") (required_word (codes "PORT") ∷ required_word (codes "COUNT") ∷ of_an_end)
+serve_app = leaf (codes "serve") (required_word (codes "PORT") ∷ required_word (codes "COUNT") ∷ setting_up of_an_end)
 
 -- `coap get PORT PATH --accept N --etag HEX`, the latter again and again, and the options of a client
 abbrev pub get_app : App
@@ -80,10 +91,11 @@ abbrev pub observe_app : App
 observe_app = leaf (codes "observe")
     (asking (option_of (codes "count") ∷ option_of (codes "seconds") ∷ flag_of (codes "hex") ∷ of_a_client))
 
--- `coap sim FILE --store list|map`, and `--plain PATH`, again and again
+-- `coap sim FILE --store list|map`, `--plain PATH`, again and again, and `--remember N`
 abbrev pub sim_app : App
 sim_app = leaf (codes "sim")
-    (required_word (codes "FILE") ∷ option_of (codes "store") ∷ repeated_of (codes "plain") ∷ [])
+    (required_word (codes "FILE") ∷ option_of (codes "store") ∷ repeated_of (codes "plain")
+    ∷ option_of (codes "remember") ∷ [])
 
 -- the program, without its subcommands
 abbrev pub base_app : App
@@ -93,6 +105,6 @@ base_app = record (new_app (codes "coap")) { top = record (new_app (codes "coap"
 abbrev pub coap_app : App
 coap_app = record {
   top = record base_app.top { is_leaf = false };
-  subs = show_app.top ∷ answer_app.top ∷ pair_app.top ∷ serve_app.top ∷ get_app.top ∷ put_app.top ∷ post_app.top
-      ∷ delete_app.top ∷ observe_app.top ∷ sim_app.top ∷ [];
+  subs = show_app.top ∷ dump_app.top ∷ answer_app.top ∷ pair_app.top ∷ serve_app.top ∷ sim_app.top ∷ get_app.top
+      ∷ put_app.top ∷ post_app.top ∷ delete_app.top ∷ observe_app.top ∷ [];
 }

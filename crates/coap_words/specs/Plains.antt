@@ -6,11 +6,11 @@ use Rattle.coap_types.specs.Path.{HoldsAtMost, same_path}
 use Rattle.coap_types.specs.declared.path.PathRefusal.{PathRefusal}
 use Rattle.coap_types.specs.declared.path.TheConstants.{MAX_SEGMENT_LEN as max_segment_len}
 use Rattle.coap_types.specs.declared.path.TheConstants.{MAX_SEGMENTS as max_segments}
-use Rattle.coap_words.specs.Asking.{texts_of}
 use Rattle.coap_words.specs.PathText.{IsNoPath, IsPathText, IsTrueOf}
+use Rattle.coap_words.specs.Texts.{texts_of}
 use Rattle.coap_words.specs.declared.orders.TheConstants.{MAX_PLAINS as max_plains}
 use Rattle.coap_words.specs.declared.orders.Wrong.{Wrong}
-use Rattle.coap_words.specs.declared.orders.Wrong.TheVariants.{Words, Path, Number, Word, Tags, Body, Store, Plains}
+use Rattle.coap_words.specs.declared.orders.Wrong.TheVariants.{Words, Path, Number, Word, Address, Size, Tags, Setting, Body, Store, Plains}
 use Rattle.coap_words.specs.declared.orders.Wrong.TheVariants.{Hex, Memory}
 
 -- the path is one of these
@@ -50,7 +50,10 @@ IsWrongPlain values (Words error) = ⊥
 IsWrongPlain values (Path refusal) = HasNoPlain values refusal
 IsWrongPlain values (Number refusal) = ⊥
 IsWrongPlain values Word = ⊥
+IsWrongPlain values (Address refusal) = ⊥
+IsWrongPlain values Size = ⊥
 IsWrongPlain values (Tags refusal) = ⊥
+IsWrongPlain values (Setting refusal) = ⊥
 IsWrongPlain values Body = ⊥
 IsWrongPlain values Store = ⊥
 IsWrongPlain values Plains = HasTooManyPlains values

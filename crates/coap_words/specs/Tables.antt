@@ -1,6 +1,6 @@
--- What the table of subcommands is to clap.
-use Rattle.std.specs.Prelude.{map}
-use Rattle.clap.specs.Words.{App, Rule, Text}
+-- What the tables of subcommands are to clap.
+use Rattle.std.specs.Prelude.{List, fold, map}
+use Rattle.clap.specs.Words.{App, Rule, Text, with_subcommand}
 use Rattle.coap_words.specs.CommandLine.{flag_of, leaf, option_of, optional_word, repeated_of, required_word}
 use Rattle.coap_words.specs.declared.arguments.Argument.{Argument}
 use Rattle.coap_words.specs.declared.arguments.Form.{Form}
@@ -22,3 +22,8 @@ rule_in argument = rule_by argument.form argument.name.now
 -- a subcommand
 abbrev pub app_in : Subcommand → App
 app_in subcommand = leaf subcommand.name.now (map rule_in subcommand.arguments.now)
+
+-- a program with the subcommands of a table, in order
+abbrev pub with_subcommands : App → List Subcommand → App
+with_subcommands program subcommands =
+    fold (λ program subcommand. with_subcommand program (app_in subcommand).top) program subcommands

@@ -3,12 +3,13 @@ use Rattle.std.specs.Prelude.{ℕ, List, [], ◌≡◌, ◌≢◌, ◌⊎◌, �
 use Rattle.clap.specs.Words.{Row, Text, fault_of, first_of, subcommand_of}
 use Rattle.coap_types.specs.declared.body_limit.TheConstants.{DEFAULT_BODY_LIMIT as default_body_limit}
 use Rattle.coap_types.specs.declared.path.PathRefusal.{PathRefusal}
+use Rattle.coap_types.specs.declared.remembered.TheConstants.{DEFAULT_REMEMBERED as default_remembered}
 use Rattle.hex.specs.Hex.{decode_of}
 use Rattle.coap_words.specs.CommandLine.{coap_app}
 use Rattle.coap_words.specs.Numbers.{IsInRange, IsNumber, IsOutOfRange, argument_of}
 use Rattle.coap_words.specs.PathText.{IsNoPath, IsPathText, IsTrueOf}
 use Rattle.coap_words.specs.declared.orders.NumberRefusal.{NumberRefusal}
-use Rattle.coap_words.specs.declared.orders.NumberRefusal.TheVariants.{Limit}
+use Rattle.coap_words.specs.declared.orders.NumberRefusal.TheVariants.{Limit, Remember}
 use Rattle.coap_words.specs.declared.orders.StoreKind.{StoreKind}
 use Rattle.coap_words.specs.declared.orders.StoreKind.TheVariants as kind
 use Rattle.coap_words.specs.declared.orders.WordChoice.{WordChoice}
@@ -54,6 +55,11 @@ HasNoNumber argument values = (text : Text) × IsValue (argument_of argument) va
 -- `--limit` has this number, or is left out and stands for the default
 abbrev pub HasLimit : List Row → ℕ → Type 0
 HasLimit values n = ((first_of (codes "limit") values ≡ None) × (n ≡ default_body_limit)) ⊎ HasNumber Limit values n
+
+-- `--remember` has this number, or is left out and stands for the default
+abbrev pub HasRemembered : List Row → ℕ → Type 0
+HasRemembered values n = ((first_of (codes "remember") values ≡ None) × (n ≡ default_remembered))
+    ⊎ HasNumber Remember values n
 
 -- the text says this choice of a word
 abbrev pub IsChoice : Text → WordChoice → Type 0

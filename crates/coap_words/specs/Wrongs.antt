@@ -8,7 +8,7 @@ use Rattle.coap_types.specs.declared.path.PathRefusal.TheVariants as refusal
 use Rattle.hex.specs.declared.FromHexError.{FromHexError}
 use Rattle.hex.specs.declared.FromHexError.TheVariants as hex
 use Rattle.coap_words.specs.declared.orders.Wrong.{Wrong}
-use Rattle.coap_words.specs.declared.orders.Wrong.TheVariants.{Words, Path, Number, Word, Tags, Body, Store, Plains}
+use Rattle.coap_words.specs.declared.orders.Wrong.TheVariants.{Words, Path, Number, Word, Address, Size, Tags, Setting, Body, Store, Plains}
 use Rattle.coap_words.specs.declared.orders.Wrong.TheVariants.{Hex, Memory}
 
 -- the number of a refusal: that of the words has a text for each cause
@@ -17,7 +17,10 @@ wrong_number (Words error) = 1
 wrong_number (Path refusal) = 1
 wrong_number (Number refusal) = 1
 wrong_number Word = 1
+wrong_number (Address refusal) = 1
+wrong_number Size = 1
 wrong_number (Tags refusal) = 1
+wrong_number (Setting refusal) = 1
 wrong_number Body = 1
 wrong_number Store = 1
 wrong_number Plains = 1
@@ -31,7 +34,10 @@ IsWrongOfClap error Memory = kind_of error ≡ kind.OutOfMemory
 IsWrongOfClap error (Path refusal) = ⊥
 IsWrongOfClap error (Number refusal) = ⊥
 IsWrongOfClap error Word = ⊥
+IsWrongOfClap error (Address refusal) = ⊥
+IsWrongOfClap error Size = ⊥
 IsWrongOfClap error (Tags refusal) = ⊥
+IsWrongOfClap error (Setting refusal) = ⊥
 IsWrongOfClap error Body = ⊥
 IsWrongOfClap error Store = ⊥
 IsWrongOfClap error Plains = ⊥

@@ -3,15 +3,22 @@ ghost use Rattle.std.specs.Prelude.{◌≡◌, ◌-◌, ◌^◌, ◌↔◌, ℕ,
 ghost use Rattle.clap.specs.Words.{found_of, rows_of};
 ghost use Rattle.coap_words.specs.Asking.{HasContent, HasFlag, HasNoContent, HasOptionalNumber, HasOptions, HasTags};
 ghost use Rattle.coap_words.specs.Asking.{IsTagText};
-ghost use Rattle.coap_words.specs.Numbers.{least_of, most_of};
+ghost use Rattle.coap_words.specs.Addresses.{HasAddress};
+ghost use Rattle.coap_words.specs.Formats.{IsFormatName};
+ghost use Rattle.coap_words.specs.Numbers.{IsWordFor, least_of, most_of};
 ghost use Rattle.coap_words.specs.Taking.{IsWrongOption};
 
-use crate::orders::{AskOptions, Content, NumberRefusal, TagsRefusal, WordChoice, Wrong};
-use crate::words::{limit, number, optional, small_number, word};
+use crate::formats::format_in;
+use crate::orders::{
+    AddressRefusal, AskOptions, Content, NumberRefusal, TagsRefusal, WordChoice, Wrong,
+};
+use crate::sizes::size_of;
+use crate::words::{limit, number, optional, remembered, word};
 use clap::ArgMatches;
 use coap_types::{Tag, Tags};
 use hex::FromHexError;
 use std::alloc::{AllocError, Global};
+use std::net::Ipv4Addr;
 
 /// The body that is sent, where there is just one.
 pub(crate) fn content_of<'a>(given: &ArgMatches<'a>) -> Option<Content<'a>>
@@ -36,8 +43,13 @@ pub(crate) fn options_of(
     ensures { MatchResult result (HasOptions usual (rows_of (found_of given.now)))
         (IsWrongOption (rows_of (found_of given.now))) }
 {
-    let format = small_of(given, NumberRefusal::Format)?;
-    let accept = small_of(given, NumberRefusal::Accept)?;
+    let host = address_of(given, AddressRefusal::Host)?;
+    let Some(size) = size_of(given) else {
+        return Err(Wrong::Size);
+    };
+    let trace = is_set(given, "trace");
+    let format = format_of(given, NumberRefusal::Format)?;
+    let accept = format_of(given, NumberRefusal::Accept)?;
     let etags = tags_of(alloc, given, TagsRefusal::Etag)?;
     let if_match = tags_of(alloc, given, TagsRefusal::IfMatch)?;
     let if_none_match = is_set(given, "if-none-match");
@@ -51,7 +63,13 @@ pub(crate) fn options_of(
     let Some(limit) = limit(given) else {
         return Err(Wrong::Number(NumberRefusal::Limit));
     };
+    let Some(remembered) = remembered(given) else {
+        return Err(Wrong::Number(NumberRefusal::Remember));
+    };
     Ok(AskOptions {
+        host,
+        size,
+        trace,
         format,
         accept,
         etags,
@@ -63,20 +81,39 @@ pub(crate) fn options_of(
         give_up,
         word,
         limit,
+        remembered,
     })
 }
 
-// A number of 16 bits, where it is there.
-fn small_of(given: &ArgMatches<'_>, argument: NumberRefusal) -> Result<Option<u16>, Wrong>
+// An address: that of this machine to itself where it is left out.
+pub(crate) fn address_of(
+    given: &ArgMatches<'_>,
+    argument: AddressRefusal,
+) -> Result<Ipv4Addr, Wrong>
+    ensures { MatchResult result (HasAddress argument (rows_of (found_of given.now)))
+        (IsWrongOption (rows_of (found_of given.now))) }
+{
+    let Some(text) = optional(given, argument.name()) else {
+        return Ok(Ipv4Addr::new(127, 0, 0, 1));
+    };
+    match text.parse::<Ipv4Addr>() {
+        Ok(address) => Ok(address),
+        Err(_) => Err(Wrong::Address(argument)),
+    }
+}
+
+// A format, by its name or its number, where it is there.
+fn format_of(given: &ArgMatches<'_>, argument: NumberRefusal) -> Result<Option<u16>, Wrong>
     requires least { least_of argument ≡ 0 }
     requires most { most_of argument ≡ 2 ^ 16 - 1 }
+    requires names { (text : List ℕ) (n : ℕ) → IsWordFor argument text n ↔ IsFormatName text n }
     ensures { MatchResult result (HasOptionalNumber argument (rows_of (found_of given.now)))
         (IsWrongOption (rows_of (found_of given.now))) }
 {
     let Some(text) = optional(given, argument.name()) else {
         return Ok(None);
     };
-    match small_number(text) {
+    match format_in(text) {
         Some(n) => Ok(Some(n)),
         None => Err(Wrong::Number(argument)),
     }
@@ -86,6 +123,7 @@ fn small_of(given: &ArgMatches<'_>, argument: NumberRefusal) -> Result<Option<u1
 fn number_of(given: &ArgMatches<'_>, argument: NumberRefusal) -> Result<Option<u64>, Wrong>
     requires least { least_of argument ≡ 0 }
     requires most { most_of argument ≡ 2 ^ 64 - 1 }
+    requires digits { (text : List ℕ) (n : ℕ) → IsWordFor argument text n → ⊥ }
     ensures { MatchResult result (HasOptionalNumber argument (rows_of (found_of given.now)))
         (IsWrongOption (rows_of (found_of given.now))) }
 {
@@ -99,7 +137,7 @@ fn number_of(given: &ArgMatches<'_>, argument: NumberRefusal) -> Result<Option<u
 }
 
 // Whether a flag is given.
-fn is_set(given: &ArgMatches<'_>, name: &str) -> bool
+pub(crate) fn is_set(given: &ArgMatches<'_>, name: &str) -> bool
     ensures { HasFlag name.now (rows_of (found_of given.now)) result }
 {
     match optional(given, name) {

@@ -1,14 +1,14 @@
-//! The command line that the program takes, built of the table of its subcommands.
+//! The command line that the program takes, built of the tables of its subcommands.
 ghost use Rattle.std.specs.Prelude.{◌≡◌, IfOk, false};
 ghost use Rattle.clap.specs.Words.{app_of, rule_of, with_rule, with_subcommand};
 ghost use Rattle.clap.specs.declared.builder.command.Command.TheViews.{out-Command};
 ghost use Rattle.coap_words.specs.CommandLine.{coap_app, flag_of, option_of, optional_word, repeated_of};
 ghost use Rattle.coap_words.specs.CommandLine.{required_word};
-ghost use Rattle.coap_words.specs.Tables.{app_in, rule_in};
+ghost use Rattle.coap_words.specs.Tables.{app_in, rule_in, with_subcommands};
 
 use crate::arguments::{Argument, Form, Subcommand};
 use crate::put_away::put_away;
-use crate::tables::SUBCOMMANDS;
+use crate::tables::{ASKING, OTHERS};
 use clap::{Arg, ArgAction, Command};
 use std::alloc::{AllocError, Global};
 
@@ -121,15 +121,27 @@ fn add_subcommand<'a>(
     }
 }
 
+// A program with the subcommands of a table.
+fn with_table<'a>(
+    alloc: Global,
+    program: Command<'a>,
+    subcommands: &[Subcommand],
+) -> Result<Command<'a>, AllocError>
+    ensures { IfOk result (λ c. app_of c ≡ with_subcommands (app_of program.entry) subcommands.now) }
+{
+    let mut program = program;
+    for subcommand in subcommands {
+        program = add_subcommand(alloc, program, subcommand)?;
+    }
+    Ok(program)
+}
+
 /// The command line that the program takes: its words name a subcommand.
 pub fn coap_command<'a>(alloc: Global) -> Result<Command<'a>, AllocError>
     // The command line is the one that the definitions have: its subcommands with their words.
     ensures { IfOk result (λ c. app_of c ≡ coap_app) }
 {
-    let mut program = Command::new(alloc, "coap").subcommand_required(true);
-    let subcommands = SUBCOMMANDS.as_slice();
-    for subcommand in subcommands {
-        program = add_subcommand(alloc, program, subcommand)?;
-    }
-    Ok(program)
+    let program = Command::new(alloc, "coap").subcommand_required(true);
+    let program = with_table(alloc, program, OTHERS.as_slice())?;
+    with_table(alloc, program, ASKING.as_slice())
 }

@@ -5,17 +5,21 @@
 mod arguments;
 mod asking;
 mod command_line;
+mod formats;
 mod orders;
 mod path_text;
 mod plains;
 mod put_away;
+mod serving;
+mod sizes;
 mod tables;
 mod words;
 
 pub use command_line::coap_command;
 pub use orders::{
-    AskOptions, Content, DEFAULT_WORD, MAX_PLAINS, NumberRefusal, Order, StoreKind, TagsRefusal,
-    What, WordChoice, Wrong,
+    AddressRefusal, AskOptions, Content, DEFAULT_WORD, Delay, Hold, MAX_DELAYS, MAX_PLAINS,
+    NumberRefusal, Order, ServeOptions, SettingRefusal, StoreKind, TagsRefusal, What, WordChoice,
+    Wrong,
 };
 pub use path_text::path_of_text;
 pub use words::order;

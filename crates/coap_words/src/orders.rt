@@ -2,12 +2,15 @@
 ghost use Rattle.std.specs.Prelude.{◌≡◌};
 ghost use Rattle.coap_words.specs.Numbers.{argument_of};
 ghost use Rattle.coap_words.specs.Asking.{tags_argument_of, usual_word};
+ghost use Rattle.coap_words.specs.Addresses.{address_argument_of};
+ghost use Rattle.coap_words.specs.Serving.{setting_argument_of};
 ghost use Rattle.coap_words.specs.Wrongs.{wrong_number};
 
 use clap::error::ErrorKind;
-use coap_types::{BodyLimit, Path, PathRefusal, Tags};
+use coap_types::{BodyLimit, Path, PathRefusal, Remembered, Szx, Tags};
 use hex::FromHexError;
 use std::alloc::AllocError;
+use std::net::Ipv4Addr;
 use thiserror::Error;
 
 /// What the program is asked to do.
@@ -18,6 +21,8 @@ pub enum Order<'a> {
         /// The datagram.
         datagram: Vec<u8>,
     },
+    /// Show what the datagrams say that standard input has in hex, one a line.
+    Dump,
     /// Answer a datagram as a server with one resource does.
     Answer {
         /// Where the resource is.
@@ -37,17 +42,17 @@ pub enum Order<'a> {
         word: WordChoice,
         /// The longest body that each end takes.
         limit: BodyLimit,
+        /// How many messages each end remembers.
+        remembered: Remembered,
     },
-    /// Serve a resource until so many datagrams came.
+    /// Serve until so many datagrams came.
     Serve {
         /// The UDP port.
         port: u16,
-        /// How many datagrams.
+        /// How many datagrams; the most that there can be for `forever`.
         count: u64,
-        /// The word that the server begins with.
-        word: WordChoice,
-        /// The longest body that the server takes.
-        limit: BodyLimit,
+        /// How it is served, and what.
+        options: ServeOptions,
     },
     /// Ask something of a server.
     Ask {
@@ -69,6 +74,8 @@ pub enum Order<'a> {
         /// The paths whose observers are told in Non-confirmable messages where they may be: at most
         /// `MAX_PLAINS`, each once, in the order in which they are named first.
         plains: Vec<Path>,
+        /// How many messages each of its ends remembers.
+        remembered: Remembered,
     },
 }
 
@@ -113,6 +120,12 @@ pub enum Content<'a> {
 /// How something is asked for. What a subcommand does not take is left out.
 #[derive(Drop)]
 pub struct AskOptions {
+    /// The server's address.
+    pub host: Ipv4Addr,
+    /// The size of the client's blocks.
+    pub size: Szx,
+    /// Whether each datagram is told of.
+    pub trace: bool,
     /// The format of the body.
     pub format: Option<u16>,
     /// The format that is wanted.
@@ -135,6 +148,50 @@ pub struct AskOptions {
     pub word: WordChoice,
     /// The longest body that the client takes.
     pub limit: BodyLimit,
+    /// How many messages the client remembers.
+    pub remembered: Remembered,
+}
+
+/// How something is served, and what.
+#[derive(Drop)]
+pub struct ServeOptions {
+    /// The address that is served at.
+    pub address: Ipv4Addr,
+    /// What the server holds besides its own resource, in order.
+    pub holds: Vec<Hold>,
+    /// The paths whose requests wait, in order: at most `MAX_DELAYS`.
+    pub delays: Vec<Delay>,
+    /// The paths whose observers are told in Non-confirmable messages where they may be: at most
+    /// `MAX_PLAINS`, each once, in the order in which they are named first.
+    pub plains: Vec<Path>,
+    /// Whether each datagram is told of.
+    pub trace: bool,
+    /// Whether each request that is applied is told of.
+    pub changes: bool,
+    /// The word that the server begins with.
+    pub word: WordChoice,
+    /// The longest body that the server takes.
+    pub limit: BodyLimit,
+    /// How many messages the server remembers.
+    pub remembered: Remembered,
+}
+
+/// What a server holds at a path.
+#[derive(Drop)]
+pub struct Hold {
+    /// Where.
+    pub path: Path,
+    /// What.
+    pub body: Vec<u8>,
+}
+
+/// How long a request of a path waits.
+#[derive(Drop)]
+pub struct Delay {
+    /// The path.
+    pub path: Path,
+    /// So many milliseconds.
+    pub ms: u64,
 }
 
 /// The word that an end begins with.
@@ -166,6 +223,11 @@ pub const MAX_PLAINS: usize = 16;
 
 const _: () = prove!(MAX_PLAINS == 16);
 
+/// How many paths of a server have a delay at most.
+pub const MAX_DELAYS: usize = 16;
+
+const _: () = prove!(MAX_DELAYS == 16);
+
 /// Which argument is no number in its range.
 #[derive(Clone, Copy, Debug, PartialEq, Eq, Error)]
 pub enum NumberRefusal {
@@ -173,16 +235,19 @@ pub enum NumberRefusal {
     #[error("PORT is no number from 0 to 65535")]
     Port,
     /// A number of datagrams.
-    #[error("COUNT is no number from 0 to 18446744073709551615")]
+    #[error("COUNT is neither forever nor a number from 0 to 18446744073709551615")]
     Count,
     /// The longest body.
     #[error("--limit is no number from 1 to 1048576")]
     Limit,
+    /// How many messages an end remembers.
+    #[error("--remember is no number from 1 to 1048576")]
+    Remember,
     /// The format of a body.
-    #[error("--format is no number from 0 to 65535")]
+    #[error("--format is neither a number from 0 to 65535 nor the name of a format, as text/plain")]
     Format,
     /// The format that is wanted.
-    #[error("--accept is no number from 0 to 65535")]
+    #[error("--accept is neither a number from 0 to 65535 nor the name of a format, as text/plain")]
     Accept,
     /// After how many values an observation ends.
     #[error("--count is no number from 0 to 18446744073709551615")]
@@ -204,6 +269,7 @@ impl NumberRefusal {
             NumberRefusal::Port => "PORT",
             NumberRefusal::Count => "COUNT",
             NumberRefusal::Limit => "limit",
+            NumberRefusal::Remember => "remember",
             NumberRefusal::Format => "format",
             NumberRefusal::Accept => "accept",
             NumberRefusal::Times => "count",
@@ -236,9 +302,55 @@ impl TagsRefusal {
     }
 }
 
-/// Why the words give no order. `Words`, `Path`, `Number`, `Word`, `Tags`, `Body`, `Store` and `Plains`
-/// are one refusal, that of wrong words, with a text of its own for each. The refusals are tested in the
-/// order of their numbers.
+/// Which argument is no address of IPv4. A name of a host is none.
+#[derive(Clone, Copy, Debug, PartialEq, Eq, Error)]
+pub enum AddressRefusal {
+    /// That of the server that is asked.
+    #[error("--host is no IPv4 address, as 192.0.2.1; a name is none")]
+    Host,
+    /// The one that is served at.
+    #[error("--address is no IPv4 address, as 192.0.2.1; a name is none")]
+    Address,
+}
+
+impl AddressRefusal {
+    // The argument, by its name in clap.
+    pub(crate) fn name(self) -> &'static str
+        ensures { result.now ≡ address_argument_of self }
+    {
+        match self {
+            AddressRefusal::Host => "host",
+            AddressRefusal::Address => "address",
+        }
+    }
+}
+
+/// Which argument has a value that says nothing of how a server is set up, or too many of them.
+#[derive(Clone, Copy, Debug, PartialEq, Eq, Error)]
+pub enum SettingRefusal {
+    /// What the server holds.
+    #[error("--hold is not PATH=BODY, where PATH is a path")]
+    Hold,
+    /// How long requests wait.
+    #[error("--delay is not PATH=MS, where PATH is a path and MS a number from 0 to 18446744073709551615, or is given more than 16 times")]
+    Delay,
+}
+
+impl SettingRefusal {
+    // The argument, by its name in clap.
+    pub(crate) fn name(self) -> &'static str
+        ensures { result.now ≡ setting_argument_of self }
+    {
+        match self {
+            SettingRefusal::Hold => "hold",
+            SettingRefusal::Delay => "delay",
+        }
+    }
+}
+
+/// Why the words give no order. `Words`, `Path`, `Number`, `Word`, `Address`, `Size`, `Tags`, `Setting`,
+/// `Body`, `Store` and `Plains` are one refusal, that of wrong words, with a text of its own for each.
+/// The refusals are tested in the order of their numbers.
 #[derive(Debug, Drop, Error)]
 pub enum Wrong {
     /// The words are no command line of the program, or ask for help.
@@ -253,9 +365,18 @@ pub enum Wrong {
     /// `--word` is no choice of a word.
     #[error("--word is neither random nor a number from 0 to 18446744073709551615")]
     Word,
+    /// An address is none.
+    #[error("{0}")]
+    Address(AddressRefusal),
+    /// `--size` is no size of a block.
+    #[error("--size is none of 16, 32, 64, 128, 256, 512 and 1024")]
+    Size,
     /// Entity-tags are none, or too many.
     #[error("{0}")]
     Tags(TagsRefusal),
+    /// A value says nothing of how a server is set up, or there are too many.
+    #[error("{0}")]
+    Setting(SettingRefusal),
     /// Both of BODY and `--file` are there, or neither.
     #[error("give either BODY or --file")]
     Body,
@@ -276,7 +397,7 @@ pub enum Wrong {
 impl Wrong {
     /// The number of the refusal: 1 for wrong words, 2 for wrong hex, 3 for want of memory.
     pub fn number(&self) -> u8
-        // The number of what is wrong is its place among the six.
+        // Wrong words of each kind have number 1, hex that is none 2, and want of memory 3.
         ensures { result ≡ wrong_number self.now }
     {
         match self {
@@ -284,7 +405,10 @@ impl Wrong {
             | Wrong::Path(_)
             | Wrong::Number(_)
             | Wrong::Word
+            | Wrong::Address(_)
+            | Wrong::Size
             | Wrong::Tags(_)
+            | Wrong::Setting(_)
             | Wrong::Body
             | Wrong::Store
             | Wrong::Plains => 1,

@@ -51,7 +51,7 @@ const SERVER_PORT: Argument = Argument {
 const COUNT: Argument = Argument {
     form: Form::Required,
     name: "COUNT",
-    help: "how many datagrams",
+    help: "how many datagrams, or forever",
 };
 
 const FILE: Argument = Argument {
@@ -67,15 +67,21 @@ const BODY_FILE: Argument = Argument {
 };
 
 const FORMAT: Argument = Argument {
-    form: Form::Single { value_name: "N" },
+    form: Form::Single {
+        value_name: "N|NAME",
+    },
     name: "format",
-    help: "the format of the body, as 0 for text/plain or 50 for application/json",
+    help: "the format of the body: a number, or one of text/plain, application/link-format, application/xml, \
+           application/octet-stream, application/json and application/cbor",
 };
 
 const ACCEPT: Argument = Argument {
-    form: Form::Single { value_name: "N" },
+    form: Form::Single {
+        value_name: "N|NAME",
+    },
     name: "accept",
-    help: "the format that is wanted, as 0 for text/plain or 50 for application/json",
+    help: "the format that is wanted: a number, or one of text/plain, application/link-format, application/xml, \
+           application/octet-stream, application/json and application/cbor",
 };
 
 const ETAG: Argument = Argument {
@@ -107,6 +113,61 @@ const SECONDS: Argument = Argument {
     form: Form::Single { value_name: "N" },
     name: "seconds",
     help: "ends after so many seconds",
+};
+
+const SIZE: Argument = Argument {
+    form: Form::Single { value_name: "N" },
+    name: "size",
+    help: "how many bytes a block has at most that the client sends, or asks for behind the first: 16, 32, 64, 128, 256, \
+           512, or 1024, which stands where it is left out",
+};
+
+const HOST: Argument = Argument {
+    form: Form::Single {
+        value_name: "A.B.C.D",
+    },
+    name: "host",
+    help: "the server's IPv4 address, as 192.0.2.1; 127.0.0.1 where it is left out",
+};
+
+const ADDRESS: Argument = Argument {
+    form: Form::Single {
+        value_name: "A.B.C.D",
+    },
+    name: "address",
+    help: "the IPv4 address of this machine that is served at, 127.0.0.1 where it is left out; 0.0.0.0 is each of them, \
+           and an answer may leave from another one than was asked, which the client then doesn't take. On an address \
+           other than 127.0.0.1 whoever reaches the port may write, make and delete every path",
+};
+
+const HOLD: Argument = Argument {
+    form: Form::Repeated {
+        value_name: "PATH=BODY",
+    },
+    name: "hold",
+    help: "the server holds BODY at PATH, as text, and so at each other path that is given, as in: coap serve 5683 forever --hold lamp=off",
+};
+
+const DELAY: Argument = Argument {
+    form: Form::Repeated {
+        value_name: "PATH=MS",
+    },
+    name: "delay",
+    help: "a request of PATH waits for so many milliseconds, and so for each other path that is given; at most 16",
+};
+
+const TRACE: Argument = Argument {
+    form: Form::Flag,
+    name: "trace",
+    help: "tells on standard error of each datagram as it goes and comes: the moment in milliseconds, > or <, the address, \
+           and the message in words",
+};
+
+const CHANGES: Argument = Argument {
+    form: Form::Flag,
+    name: "changes",
+    help: "tells on standard error of each request that is applied: the moment in milliseconds, the method, the path, v and \
+           the version, and the first 64 bytes of the body, with .. behind a longer one",
 };
 
 // --give-up of a request.
@@ -157,6 +218,13 @@ const LIMIT: Argument = Argument {
     help: "the longest body in bytes, from 1 to 1048576, 65536 where it is left out",
 };
 
+const REMEMBER: Argument = Argument {
+    form: Form::Single { value_name: "N" },
+    name: "remember",
+    help: "how many messages an end remembers to tell duplicates, from 1 to 1048576, 4096 where it is left out; each for 247 \
+           seconds, and while it remembers so many it takes no new one",
+};
+
 const STORE: Argument = Argument {
     form: Form::Single {
         value_name: "list|map",
@@ -171,12 +239,17 @@ const PLAIN: Argument = Argument {
     help: "tells observers of PATH in Non-confirmable messages where it may, and so of each other path that is given; at most 16",
 };
 
-/// The subcommands, in the order in which help lists them.
-pub(crate) static SUBCOMMANDS: [Subcommand; 10] = [
+/// The subcommands that ask nothing of a server elsewhere, in the order in which help lists them.
+pub(crate) static OTHERS: [Subcommand; 6] = [
     Subcommand {
         name: "show",
         about: "Prints the message in a datagram, or its first fault",
         arguments: &[HEX],
+    },
+    Subcommand {
+        name: "dump",
+        about: "Prints the messages in the datagrams that standard input has in hex, one a line, behind the line's number",
+        arguments: &[],
     },
     Subcommand {
         name: "answer",
@@ -186,21 +259,44 @@ pub(crate) static SUBCOMMANDS: [Subcommand; 10] = [
     Subcommand {
         name: "pair",
         about: "Puts BODY at PATH and gets it back, between a client and a server of this program over UDP",
-        arguments: &[PATH, PAIR_BODY, WORD, LIMIT],
+        arguments: &[PATH, PAIR_BODY, WORD, LIMIT, REMEMBER],
     },
     Subcommand {
         name: "serve",
-        about: "Serves the resource temperature on 127.0.0.1 until COUNT datagrams came",
-        arguments: &[OWN_PORT, COUNT, WORD, LIMIT],
+        about: "Serves the resource temperature, and what --hold names, until COUNT datagrams came",
+        arguments: &[
+            OWN_PORT, COUNT, ADDRESS, HOLD, DELAY, PLAIN, TRACE, CHANGES, WORD, LIMIT, REMEMBER,
+        ],
     },
     Subcommand {
+        name: "sim",
+        about: "Runs a script over a client and a server, and prints what comes of it",
+        arguments: &[FILE, STORE, PLAIN, REMEMBER],
+    },
+];
+
+/// The subcommands that ask something of a server, in the order in which help lists them behind the others.
+pub(crate) static ASKING: [Subcommand; 5] = [
+    Subcommand {
         name: "get",
-        about: "Prints what the server at a port of 127.0.0.1 holds at PATH",
-        arguments: &[SERVER_PORT, PATH, ACCEPT, ETAG, GIVE_UP, WORD, LIMIT],
+        about: "Prints what a server holds at PATH",
+        arguments: &[
+            SERVER_PORT,
+            PATH,
+            ACCEPT,
+            ETAG,
+            HOST,
+            SIZE,
+            TRACE,
+            GIVE_UP,
+            WORD,
+            LIMIT,
+            REMEMBER,
+        ],
     },
     Subcommand {
         name: "put",
-        about: "Puts BODY at PATH, at the server at a port of 127.0.0.1, and prints what came of it",
+        about: "Puts BODY at PATH at a server, and prints what came of it",
         arguments: &[
             SERVER_PORT,
             PATH,
@@ -209,14 +305,18 @@ pub(crate) static SUBCOMMANDS: [Subcommand; 10] = [
             FORMAT,
             IF_MATCH,
             IF_NONE_MATCH,
+            HOST,
+            SIZE,
+            TRACE,
             GIVE_UP,
             DRAWN_WORD,
             LIMIT,
+            REMEMBER,
         ],
     },
     Subcommand {
         name: "post",
-        about: "Has the server at a port of 127.0.0.1 process BODY at PATH, and prints what came of it",
+        about: "Has a server process BODY at PATH, and prints what came of it",
         arguments: &[
             SERVER_PORT,
             PATH,
@@ -225,41 +325,48 @@ pub(crate) static SUBCOMMANDS: [Subcommand; 10] = [
             FORMAT,
             IF_MATCH,
             IF_NONE_MATCH,
+            HOST,
+            SIZE,
+            TRACE,
             GIVE_UP,
             DRAWN_WORD,
             LIMIT,
+            REMEMBER,
         ],
     },
     Subcommand {
         name: "delete",
-        about: "Deletes what the server at a port of 127.0.0.1 holds at PATH, and prints what came of it",
+        about: "Deletes what a server holds at PATH, and prints what came of it",
         arguments: &[
             SERVER_PORT,
             PATH,
             IF_MATCH,
             IF_NONE_MATCH,
+            HOST,
+            SIZE,
+            TRACE,
             GIVE_UP,
             DRAWN_WORD,
             LIMIT,
+            REMEMBER,
         ],
     },
     Subcommand {
         name: "observe",
-        about: "Prints what the server at a port of 127.0.0.1 holds at PATH, each time that it changes",
+        about: "Prints what a server holds at PATH, each time that it changes",
         arguments: &[
             SERVER_PORT,
             PATH,
             TIMES,
             SECONDS,
             IN_HEX,
+            HOST,
+            SIZE,
+            TRACE,
             GIVE_UP_OBSERVING,
             DRAWN_WORD,
             LIMIT,
+            REMEMBER,
         ],
-    },
-    Subcommand {
-        name: "sim",
-        about: "Runs a script over a client and a server, and prints what comes of it",
-        arguments: &[FILE, STORE, PLAIN],
     },
 ];

@@ -5,10 +5,10 @@ ghost use Rattle.clap.specs.Words.{first_of, found_of, rows_of};
 ghost use Rattle.coap_words.specs.Asking.{IsAsk, IsWhat};
 ghost use Rattle.coap_words.specs.Numbers.{IsInRange, IsNumber, IsOutOfRange};
 ghost use Rattle.coap_words.specs.Taking.{TakesItsOwn};
-ghost use Rattle.coap_words.specs.Values.{HasLimit, HasNoNumber, HasNoStore, HasNoWord, HasNumber, HasStore, HasWord};
-ghost use Rattle.coap_words.specs.Values.{IsChoice, IsGiven, IsValue};
+ghost use Rattle.coap_words.specs.Values.{HasLimit, HasNoNumber, HasNoStore, HasNoWord, HasNumber, HasRemembered};
+ghost use Rattle.coap_words.specs.Values.{HasStore, HasWord, IsChoice, IsGiven, IsValue};
 ghost use Rattle.coap_words.specs.Words.{AsksFor, AsksForIn, IsWrong, IsWrongIn};
-ghost use Rattle.coap_words.specs.declared.orders.NumberRefusal.TheVariants.{Count, Limit, Port};
+ghost use Rattle.coap_words.specs.declared.orders.NumberRefusal.TheVariants.{Count, Limit, Port, Remember};
 ghost use Rattle.coap_words.specs.declared.orders.WordChoice.{WordChoice as WordChoiceSpec};
 
 use crate::asking::{content_of, options_of};
@@ -16,8 +16,9 @@ use crate::command_line::coap_command;
 use crate::orders::{DEFAULT_WORD, NumberRefusal, Order, StoreKind, What, WordChoice, Wrong};
 use crate::path_text::path_of_text;
 use crate::plains::plains_of;
+use crate::serving::serve_options_of;
 use clap::ArgMatches;
-use coap_types::BodyLimit;
+use coap_types::{BodyLimit, Remembered};
 use std::alloc::Global;
 
 /// The order that the words give, of which the first is the program's own name. `clap` reads them,
@@ -30,7 +31,10 @@ pub fn order<'a>(alloc: Global, words: &'a [String]) -> Result<Order<'a>, Wrong>
     // they call for. `Path`: clap takes them, and PATH or a value of `--plain` is no path, for the reason that is given.
     // `Number`: clap takes them, and an argument is no number in its range.
     // `Word`: clap takes them, and `--word` is no choice of a word.
+    // `Address`: clap takes them, and an argument is no address of IPv4.
+    // `Size`: clap takes them, and `--size` is no size of a block.
     // `Tags`: clap takes them, and an argument is no entity-tag, or given more than four times.
+    // `Setting`: clap takes them, and a value of `--hold` or `--delay` says nothing, or `--delay` is given more than 16 times.
     // `Body`: clap takes them, and both of BODY and `--file` are there, or neither.
     // `Store`: clap takes them, and `--store` names no store.
     // `Plains`: clap takes them, and `--plain` names more than 16 paths.
@@ -44,9 +48,10 @@ pub fn order<'a>(alloc: Global, words: &'a [String]) -> Result<Order<'a>, Wrong>
     };
     match subcommand {
         "show" => show_order(alloc, given),
+        "dump" => Ok(Order::Dump),
         "answer" => answer_order(alloc, given),
         "pair" => pair_order(alloc, given),
-        "serve" => serve_order(given),
+        "serve" => serve_order(alloc, given),
         "sim" => sim_order(alloc, given),
         _ => ask_order(alloc, subcommand, given),
     }
@@ -94,19 +99,25 @@ fn pair_order<'a>(alloc: Global, given: &ArgMatches<'a>) -> Result<Order<'a>, Wr
     let Some(limit) = limit(given) else {
         return Err(Wrong::Number(NumberRefusal::Limit));
     };
+    let Some(remembered) = remembered(given) else {
+        return Err(Wrong::Number(NumberRefusal::Remember));
+    };
     let body = value(given, "BODY");
     Ok(Order::Pair {
         path,
         body,
         word,
         limit,
+        remembered,
     })
 }
 
 // `coap serve PORT COUNT`
-fn serve_order<'a>(given: &ArgMatches<'a>) -> Result<Order<'a>, Wrong>
+#[tactic(auto, using(crate::proofs::CoapWords::serving_wrong))]
+fn serve_order<'a>(alloc: Global, given: &ArgMatches<'a>) -> Result<Order<'a>, Wrong>
     requires port { IsGiven (codes "PORT") (rows_of (found_of given.now)) }
     requires count { IsGiven (codes "COUNT") (rows_of (found_of given.now)) }
+    requires own { TakesItsOwn (codes "serve") (rows_of (found_of given.now)) }
     ensures { MatchResult result (AsksForIn (codes "serve") (rows_of (found_of given.now)))
         (IsWrongIn (codes "serve") (rows_of (found_of given.now))) }
 {
@@ -116,17 +127,11 @@ fn serve_order<'a>(given: &ArgMatches<'a>) -> Result<Order<'a>, Wrong>
     let Some(count) = count(given) else {
         return Err(Wrong::Number(NumberRefusal::Count));
     };
-    let Some(word) = word(given, WordChoice::Given(DEFAULT_WORD)) else {
-        return Err(Wrong::Word);
-    };
-    let Some(limit) = limit(given) else {
-        return Err(Wrong::Number(NumberRefusal::Limit));
-    };
+    let options = serve_options_of(alloc, given)?;
     Ok(Order::Serve {
         port,
         count,
-        word,
-        limit,
+        options,
     })
 }
 
@@ -190,12 +195,16 @@ fn sim_order<'a>(alloc: Global, given: &ArgMatches<'a>) -> Result<Order<'a>, Wro
     let Some(store) = store(given) else {
         return Err(Wrong::Store);
     };
+    let Some(remembered) = remembered(given) else {
+        return Err(Wrong::Number(NumberRefusal::Remember));
+    };
     let plains = plains_of(alloc, given)?;
     let file = value(given, "FILE");
     Ok(Order::Sim {
         file,
         store,
         plains,
+        remembered,
     })
 }
 
@@ -221,7 +230,17 @@ fn count(given: &ArgMatches<'_>) -> Option<u64>
     ensures { MatchOption result (HasNoNumber Count (rows_of (found_of given.now)))
         (HasNumber Count (rows_of (found_of given.now))) }
 {
-    number(value(given, "COUNT"))
+    count_in(value(given, "COUNT"))
+}
+
+// The number that a text says, or the most that there can be.
+fn count_in(text: &str) -> Option<u64>
+    ensures { MatchOption result (IsOutOfRange Count text.now) (IsInRange Count text.now) }
+{
+    if text == "forever" {
+        return Some(u64::MAX);
+    }
+    number(text)
 }
 
 // The word that an end begins with, where it is one; this where it is left out.
@@ -271,6 +290,25 @@ fn limit_of(text: &str) -> Option<BodyLimit>
 {
     let number = number(text)?;
     BodyLimit::new(usize::try_from(number).ok()?)
+}
+
+// How many messages an end remembers, where it is in range.
+pub(crate) fn remembered(given: &ArgMatches<'_>) -> Option<Remembered>
+    ensures { MatchOption result (HasNoNumber Remember (rows_of (found_of given.now)))
+        (HasRemembered (rows_of (found_of given.now))) }
+{
+    match optional(given, "remember") {
+        Some(text) => remembered_of(text),
+        None => Some(Remembered::default()),
+    }
+}
+
+// The number of remembered messages that a text says.
+fn remembered_of(text: &str) -> Option<Remembered>
+    ensures { MatchOption result (IsOutOfRange Remember text.now) (IsInRange Remember text.now) }
+{
+    let number = number(text)?;
+    Remembered::new(u32::try_from(number).ok()?)
 }
 
 // The store that a script is run over, where `--store` names one.

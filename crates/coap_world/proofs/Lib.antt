@@ -7,3 +7,4 @@ pub mod Observations
 pub mod Uploads
 pub mod Recording
 pub mod Smoothly
+pub mod Watching

@@ -4,6 +4,7 @@ pub mod ChangesOwned
 pub mod ServedLeaves
 pub mod CameFrom
 pub mod CallsInRange
+pub mod OptionsKept
 pub mod AllRecognised
 pub mod ReadBack
 pub mod GetRead

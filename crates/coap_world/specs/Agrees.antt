@@ -50,7 +50,7 @@ module _ (config : Config) where
     -- it is served or answered, or waits; one that waits is served when its delay has passed and it can be answered
     pub attended : AllAttended config.limits config.server_szx (server_trace config all)
     pub ready_served : ReadyAreServed config.limits config.server_szx (server_trace config all)
-    pub first_answered : FirstIsAnswered config.limits config.server_szx config.server_word (server_trace config all)
+    pub first_answered : FirstIsAnswered config.limits config.server_szx config.server_setup (server_trace config all)
     -- each answer and each notification that the client takes was made by the server before
     pub answered : AllAnswered config all
     pub noticed : AllNoticed config all
@@ -65,6 +65,6 @@ module _ (config : Config) where
     -- a number is given once, and has at most one last report, behind which nothing is sent for it; all reports are
     -- taken
     pub one_number : NumbersOnce (client_of all)
-    pub one_report : ReportedOnce server_end config.client_sizes config.client_word (client_of all)
-    pub none_after : NoneAfter server_end config.client_sizes config.client_word (client_of all)
+    pub one_report : ReportedOnce server_end config.client_sizes config.client_setup (client_of all)
+    pub none_after : NoneAfter server_end config.client_sizes config.client_setup (client_of all)
     pub all_given : AllGiven config all

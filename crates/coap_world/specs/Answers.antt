@@ -46,7 +46,7 @@ module _ (config : Config) (m : Message) (past : List S.Call) (c : S.Call) where
         → IsResponse m x.asked.from x.asked.token (continuing size
         (record { num = x.part.num; more = true; szx = x.part.szx })) → IsAnswer
     refuses :
-        (a : Asked) (v : Verdict) (code : ℕ) → Comes config.limits config.server_szx config.server_word past c a v
+        (a : Asked) (v : Verdict) (code : ℕ) → Comes config.limits config.server_szx config.server_setup past c a v
         → hands c ≡ Some a → serving own c ≡ None → refusal_in own c ≡ Some code
         → IsResponse m a.from a.token (bare code) → IsAnswer
     notifies :

@@ -7,7 +7,6 @@ use Rattle.coap_codec.specs.Message.{Message, Spells}
 use Rattle.coap_layer.specs.Channel.{OnFar, HandsUpAs, ChannelLaw, near_of}
 use Rattle.coap_layer.specs.Trace.{with_head}
 use Rattle.coap_layer.specs.Words.{Open, begun}
-use Rattle.coap_layer.specs.Machine.State.{usual}
 use Rattle.coap_exchange.specs.declared.answerer.Asked.{Asked}
 use Rattle.coap_exchange.specs.AskerRequests.{content_of}
 use Rattle.coap_exchange.specs.AnswererSteps.{asked_of}
@@ -25,13 +24,13 @@ request_of id x = with_head Con id (content_of x.token x.request)
 
 -- no datagram is older than 100,000 ms, and each layer replies at once
 abbrev pub IsChannel : Config → List Entry → Type 0
-IsChannel config all = ChannelLaw (usual config.client_word) (usual config.server_word) client_end server_end (hops_in config all)
+IsChannel config all = ChannelLaw config.client_setup config.server_setup client_end server_end (hops_in config all)
 
 module _ (config : Config) where
   -- here the server's message layer hands up this request, and it comes to this
   abbrev pub ComesAt : Asked → Verdict → List Entry → Entry → Type 0
   ComesAt a v past (OfClient c) = ⊥
-  ComesAt a v past (OfServer c) = Comes config.limits config.server_szx config.server_word
+  ComesAt a v past (OfServer c) = Comes config.limits config.server_szx config.server_setup
       (server_trace config past) c a v
 
   -- It is a request that the client sent before, as a CON; it arrives here, at most 147,000 ms after that was sent

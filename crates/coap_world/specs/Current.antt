@@ -1,16 +1,16 @@
 -- Who watches a path in a smooth run sees what it holds: 5,000 ms after the path's last change, the last value of the
 -- observation is the current representation (RFC 7641, sections 1.3, 3.4 and 4.4; the bound is a profile).
-use Rattle.std.specs.Prelude.{◌≡◌, ◌⊎◌, ◌≤◌, ℕ, ◌+◌, ◌^◌, ◌==◌, Bool, true, false, Option, Some, None, List, [], ◌∷◌}
-use Rattle.std.specs.Prelude.{length, if◌then◌else◌, Ok}
+use Rattle.std.specs.Prelude.{◌≡◌, ◌⊎◌, ◌≤◌, ℕ, ◌+◌, ◌^◌, Bool, true, false, Option, Some, None, List, [], ◌∷◌}
+use Rattle.std.specs.Prelude.{length, Ok}
 use Rattle.coap_types.specs.Past.{Always}
 use Rattle.coap_observe.specs.Versions.{sequence_number}
 use Rattle.coap_resource.specs.Content.{Held}
 use Rattle.coap_resource.specs.RequestOptions.{tag_of}
 use Rattle.coap_client.specs.Follows.OfObservations.{Observed, observes, WasObserved}
-use Rattle.coap_client.specs.Law.{own_of}
-use Rattle.coap_client.specs.Steps.{reports}
+use Rattle.coap_client.specs.Follows.Gives.{forgotten}
+use Rattle.coap_client.specs.Follows.LastValue.{last_value}
 use Rattle.coap_client.specs.Trace as C
-use Rattle.coap_client.specs.Trace.{Report, Reported, Value, is_value}
+use Rattle.coap_client.specs.Trace.{Report, Value, is_value}
 use Rattle.coap_world.specs.Events.{Config}
 use Rattle.coap_world.specs.Record.{Entry, Turn, entries_of, client_of}
 use Rattle.coap_world.specs.Words.{ReportsAt, holds_at}
@@ -26,16 +26,19 @@ is_taken (C.Observes now path (Ok number)) = true
 is_taken (C.Cancels now number None) = true
 is_taken c = false
 
--- Of all of these it takes on this one observation (what is refused may stand in the run).
+-- It takes on nothing but this observation, and that once (what is refused may stand in the run) ..
+abbrev pub Alone : Observed → List C.Call → Type 0
+Alone x calls =
+    Always (λ past c. is_taken c ≡ true → (observes c ≡ Some x) × Always (λ before b. is_taken b ≡ false) past) calls
+
+-- .. and does so.
 pub record ObservesAlone (x : Observed) (calls : List C.Call) : Type 0 where
   pub taken : WasObserved x calls
-  pub alone :
-      Always (λ past c. is_taken c ≡ true → (observes c ≡ Some x) × Always (λ before b. is_taken b ≡ false) past) calls
+  pub alone : Alone x calls
 
--- the observation was forgotten
-abbrev pub forgotten : C.Call → Option ℕ
-forgotten (C.Forgets number kept true) = Some number
-forgotten c = None
+-- the value that shows this: its sequence number, entity-tag, format and body
+abbrev pub shown_as : Held → Report
+shown_as held = Value (sequence_number held.version) (Some (tag_of held.version)) held.format held.body
 
 module _ (config : Config) where
   -- Each representation of the path fits one block of the server (RFC 7959, section 2.2).
@@ -49,23 +52,9 @@ module _ (config : Config) where
   HoldsFor path held at (t ∷ past) = (holds_at config path (entries_of (t ∷ past)) ≡ Some held)
       × ((t.event.at + settles ≤ at) ⊎ HoldsFor path held at past)
 
-  -- the values that are reported of an observation, and the last of them
-
-  abbrev pub value_of : ℕ → Option Reported → Option Report
-  value_of number None = None
-  value_of number (Some r) = if r.number == number then (if is_value r.report then Some r.report else None) else None
-
-  abbrev pub or_before : Option Report → Option Report → Option Report
-  or_before (Some value) last = Some value
-  or_before None last = last
-
-  abbrev pub last_value : ℕ → List C.Call → Option Report
-  last_value number [] = None
-  last_value number (c ∷ past) = or_before (value_of number (reports (own_of config.client_sizes past) c))
-      (last_value number past)
-
+  -- the last value that was reported of an observation
   abbrev pub last_shown : ℕ → List Turn → Option Report
-  last_shown number turns = last_value number (client_of (entries_of turns))
+  last_shown number turns = last_value config.client_sizes number (client_of (entries_of turns))
 
   -- a value was reported 5,000 ms before, or earlier
   abbrev pub WasShown : ℕ → ℕ → List Turn → Type 0
@@ -79,10 +68,6 @@ module _ (config : Config) where
     pub kept : Always (λ past c. forgotten c ≡ Some number → ⊥) (client_of all)
     pub still : Always (λ past e. (report : Report) → ReportsAt config (record { number = number; report = report }) past e
         → is_value report ≡ true) all
-
-  -- the value that shows this: its sequence number, entity-tag, format and body
-  abbrev pub shown_as : Held → Report
-  shown_as held = Value (sequence_number held.version) (Some (tag_of held.version)) held.format held.body
 
   -- Where the path held this for 5,000 ms, a first value was reported 5,000 ms before, and the observation goes on, its
   -- last value is that.

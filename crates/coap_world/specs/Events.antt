@@ -2,6 +2,7 @@
 -- 7641; RFC 7959).
 use Rattle.std.specs.Prelude.{ℕ, List, [], ◌∷◌, Option}
 use Rattle.coap_types.specs.declared.endpoint.Endpoint.{Endpoint}
+use Rattle.coap_layer.specs.declared.setup.Setup.{Setup}
 use Rattle.coap_block.specs.Sizes.{Sizes}
 use Rattle.coap_resource.specs.Limits.{Limits}
 use Rattle.coap_client.specs.Trace.{Request}
@@ -17,12 +18,12 @@ client_end = record { ip = localhost; port = 40001 }
 abbrev pub server_end : Endpoint
 server_end = record { ip = localhost; port = 5683 }
 
--- with which words, sizes of blocks and limits of bodies the ends begin; how many changes a window takes; the delays of
--- paths, and the paths that are plain
+-- with which words, numbers of remembered messages, sizes of blocks and limits of bodies the ends begin; how many
+-- changes a window takes; the delays of paths, and the paths that are plain
 pub record Config : Type 0 where
-  pub client_word : ℕ
+  pub client_setup : Setup
   pub client_sizes : Sizes
-  pub server_word : ℕ
+  pub server_setup : Setup
   pub server_szx : ℕ
   pub limits : Limits
   pub delays : List Delay

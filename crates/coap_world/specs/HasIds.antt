@@ -11,4 +11,4 @@ abbrev pub HasIds : Config → List Turn → Type 0
 HasIds config turns =
     Always (λ past (turn : Turn). turn.event.what ≡ TickServer → (later t : List S.Call)
     → server_trace config (turn.entries ++ entries_of past) ≡ later ++ t
-    → NoId config.limits config.server_szx config.server_word t turn.event.at → ⊥) turns
+    → NoId config.limits config.server_szx config.server_setup t turn.event.at → ⊥) turns

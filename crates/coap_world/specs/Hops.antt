@@ -6,7 +6,7 @@ use Rattle.coap_layer.specs.Sends.{IsIn}
 use Rattle.coap_world.specs.Events.{client_end, server_end, Config}
 use Rattle.coap_world.specs.Record.{Given, Entry, OfClient, OfServer, client_of, server_trace, Turn, given_in}
 use Rattle.coap_world.specs.Record.{entries_of}
-use Rattle.coap_layer.specs.Machine.State.{start, usual}
+use Rattle.coap_layer.specs.Machine.State.{start}
 use Rattle.coap_layer.specs.Machine.Steps.{Asked, left_after, entries}
 use Rattle.coap_common.specs.Adds.{asked_by_server}
 use Rattle.coap_layer.specs.Trace as L
@@ -36,13 +36,13 @@ SentIn hops g = ((g.from ≡ client_end) × Ever (OnNear (SendsAt g.at g.packet)
 module _ (config : Config) where
   -- what a call of the client asks of its layer, and the entries that it adds to it
   abbrev pub client_asks : List C.Call → C.Call → List Asked
-  client_asks past c = adds.call_asks server_end config.client_sizes config.client_word past c
+  client_asks past c = adds.call_asks server_end config.client_sizes config.client_setup past c
 
   abbrev pub client_asked : List C.Call → List Asked
-  client_asked past = adds.all_asked server_end config.client_sizes config.client_word past
+  client_asked past = adds.all_asked server_end config.client_sizes config.client_setup past
 
   abbrev pub client_adds : List C.Call → C.Call → List L.Entry
-  client_adds past c = adds.call_adds server_end config.client_sizes config.client_word past c
+  client_adds past c = adds.call_adds server_end config.client_sizes config.client_setup past c
 
   -- .. and of the server
   abbrev pub server_asks : List S.Call → S.Call → List Asked
@@ -53,7 +53,7 @@ module _ (config : Config) where
   server_asked past = answerer.lower_of (server.lower_of config.limits config.server_szx past)
 
   abbrev pub server_adds : List S.Call → S.Call → List L.Entry
-  server_adds past c = entries (left_after (start (usual config.server_word)) (server_asked past)) (server_asks past c)
+  server_adds past c = entries (left_after (start config.server_setup) (server_asked past)) (server_asks past c)
 
   -- the client's layer is the near one, the server's the far one
   abbrev pub hops_at : List Entry → Entry → List Hop

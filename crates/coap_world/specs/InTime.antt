@@ -2,13 +2,12 @@
 -- and few messages come (RFC 7252, sections 4.2 and 4.5).
 use Rattle.std.specs.Prelude.{List}
 use Rattle.coap_types.specs.Past.{Always}
-use Rattle.coap_types.specs.declared.remembered.TheConstants.{DEFAULT_REMEMBERED as max_remembered}
 use Rattle.coap_layer.specs.Channel.{near_of, far_of}
 use Rattle.coap_layer.specs.Taking.{ArriveWithin, ComeBackWithin, FewCome}
 use Rattle.coap_world.specs.Events.{client_end, server_end, Config}
 use Rattle.coap_world.specs.Hops.{hops_of, across}
 use Rattle.coap_world.specs.Record.{Turn}
-use Rattle.coap_world.specs.Smooth.{max_age}
+use Rattle.coap_world.specs.Smooth.{max_age, most_that_come}
 
 module _ (config : Config) where
   -- what was sent more than 1,000 ms ago arrived, at most 1,000 ms later ..
@@ -22,7 +21,10 @@ module _ (config : Config) where
   abbrev pub AllInTime : List Turn → Type 0
   AllInTime turns = Always ArriveInTime turns
 
-  -- in EXCHANGE_LIFETIME fewer messages come than can be remembered
+  -- in EXCHANGE_LIFETIME fewer messages come than can be remembered ..
   pub record FewArrive (turns : List Turn) : Type 0 where
-    pub at_server : FewCome max_remembered (far_of (hops_of config turns))
-    pub at_client : FewCome max_remembered (near_of (hops_of config turns))
+    pub at_server : FewCome config.server_setup.remembered (far_of (hops_of config turns))
+    pub at_client : FewCome config.client_setup.remembered (near_of (hops_of config turns))
+    -- .. and than there are Message IDs for their answers
+    pub with_ids_at_server : FewCome most_that_come (far_of (hops_of config turns))
+    pub with_ids_at_client : FewCome most_that_come (near_of (hops_of config turns))

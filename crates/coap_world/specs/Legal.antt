@@ -3,7 +3,9 @@
 use Rattle.std.specs.Prelude.{◌≡◌, ◌≢◌, ◌⊎◌, ◌≤◌, ◌<◌, ℕ, ◌+◌, ◌^◌, [], ◌∷◌, length, IfSome, List, All}
 use Rattle.coap_types.specs.declared.body_limit.TheConstants.{MAX_BODY_LIMIT as max_limit}
 use Rattle.coap_types.specs.declared.endpoint.Endpoint.{Endpoint}
+use Rattle.coap_types.specs.declared.remembered.TheConstants.{MAX_REMEMBERED as max_remembered}
 use Rattle.coap_types.specs.declared.transmission.TheConstants.{MAX_LATENCY_MS as max_latency}
+use Rattle.coap_layer.specs.declared.setup.Setup.{Setup}
 use Rattle.coap_types.specs.Bytes.{AreBytes}
 use Rattle.coap_types.specs.EntityTag.{AreTags}
 use Rattle.coap_types.specs.Past.{Always}
@@ -71,7 +73,7 @@ pub record IsLegal (past : List Turn) (turn : Turn) : Type 0 where
 abbrev pub AllLegal : List Turn → Type 0
 AllLegal turns = Always IsLegal turns
 
--- the words, sizes and limits with which the ends begin, how many changes a window takes, at most 16 delays and at most
+-- the setups, sizes and limits with which the ends begin, how many changes a window takes, at most 16 delays and at most
 -- 16 plain paths (profile)
 
 -- a limit that can be chosen
@@ -82,11 +84,17 @@ pub record IsDelay (d : Delay) : Type 0 where
   pub path : IsPath d.path
   pub ms : d.ms < 2 ^ 64
 
+-- a word of 64 bits, and a number of remembered messages that can be chosen
+pub record IsSetup (setup : Setup) : Type 0 where
+  pub word : setup.word < 2 ^ 64
+  pub some : 1 ≤ setup.remembered
+  pub few : setup.remembered ≤ max_remembered
+
 pub record IsConfig (config : Config) : Type 0 where
-  pub client_word : config.client_word < 2 ^ 64
+  pub client_setup : IsSetup config.client_setup
   pub client_szx : config.client_sizes.szx ≤ 6
   pub client_limit : IsLimit config.client_sizes.limit
-  pub server_word : config.server_word < 2 ^ 64
+  pub server_setup : IsSetup config.server_setup
   pub server_szx : config.server_szx ≤ 6
   pub some : 1 ≤ config.limits.changes
   pub limit : config.limits.changes ≤ max_changes

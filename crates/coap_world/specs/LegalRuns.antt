@@ -4,6 +4,7 @@ use Rattle.std.specs.Prelude.{◌≡◌, ◌≤◌, ℕ, false, Option, Some, No
 use Rattle.coap_types.specs.Past.{all_of}
 use Rattle.coap_types.specs.declared.endpoint.Endpoint.{Endpoint}
 use Rattle.coap_types.specs.declared.request.Method.TheVariants.{Get, Post}
+use Rattle.coap_layer.specs.Machine.State.{usual}
 use Rattle.coap_block.specs.Sizes.{Sizes, usual_sizes}
 use Rattle.coap_resource.specs.Limits.{Limits, usual_limits}
 use Rattle.coap_resource.specs.declared.tally.TheConstants.{MAX_CHANGES_PER_WINDOW as max_changes}
@@ -28,9 +29,9 @@ limits = usual_limits max_changes
 -- with words 0
 abbrev pub with_delays : List Delay → Config
 with_delays delays = record {
-  client_word = 0;
+  client_setup = usual 0;
   client_sizes = sizes;
-  server_word = 0;
+  server_setup = usual 0;
   server_szx = 6;
   limits = limits;
   delays = delays;

@@ -39,3 +39,9 @@ pub mod TicksLeave
 pub mod HasIds
 pub mod Current
 pub mod CurrentRuns
+pub mod NoticesCome
+pub mod NoticesTaken
+pub mod ShowsHeld
+pub mod HeldVersions
+pub mod HadIds
+pub mod StillThere

@@ -18,7 +18,7 @@ pub record ReceivesAt (t : ℕ) (from : Endpoint) (bytes : List ℕ) (e : L.Entr
 -- .. behind the record of a legal run, at a moment that is not before its last
 abbrev pub AreReceived : Config → List Turn → Type 0
 AreReceived config turns =
-    (t word : ℕ) (from : Endpoint) (bytes : List ℕ) → NotBefore turns t
+    (t : ℕ) (word : ℕ) (from : Endpoint) (bytes : List ℕ) → NotBefore turns t
     → ((c : S.Call) → FeedsServer t word from bytes c
     → Ever (ReceivesAt t from bytes) (server_adds config (server_trace config (entries_of turns)) c))
     × ((c : C.Call) → FeedsClient t word from bytes c

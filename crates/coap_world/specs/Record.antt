@@ -158,5 +158,5 @@ Makes past at word (StrangerToServer from bytes) refused entries = (calls : List
 pub record RecordOf (config : Config) (events : List Event) (turns : List Turn) : Type 0 where
   pub events_are : map (λ (t : Turn). t.event) turns ≡ events
   pub made : Always (λ past t. Makes past t.event.at t.event.word t.event.what t.refused t.entries) turns
-  pub client : ClientLaw server_end config.client_sizes config.client_word (client_of (entries_of turns))
-  pub server : ServerLaw config.limits config.server_szx config.server_word (server_trace config (entries_of turns))
+  pub client : ClientLaw server_end config.client_sizes config.client_setup (client_of (entries_of turns))
+  pub server : ServerLaw config.limits config.server_szx config.server_setup (server_trace config (entries_of turns))

@@ -23,7 +23,7 @@ module _ (config : Config) where
   -- here the request is handed up, or the last block of its body, and this is what is asked of the store
   abbrev pub BroughtAt : Asked → Question → List Entry → Entry → Type 0
   BroughtAt a q past (OfClient c) = ⊥
-  BroughtAt a q past (OfServer c) = Brings config.limits config.server_szx config.server_word
+  BroughtAt a q past (OfServer c) = Brings config.limits config.server_szx config.server_setup
       (server_trace config past) c a q
 
   -- A request that is handed up and asks whole is served here, unless it has to wait: then it waits.

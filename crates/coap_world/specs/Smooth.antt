@@ -4,10 +4,10 @@
 use Rattle.std.specs.Prelude.{◌≡◌, ◌⊎◌, ◌≤◌, ◌<◌, ℕ, ◌+◌, ◌^◌, nat_le, Bool, false, ◌&&◌, Option, Some, None, List, []}
 use Rattle.std.specs.Prelude.{◌∷◌, All, if◌then◌else◌}
 use Rattle.coap_types.specs.Past.{Ever, Always}
-use Rattle.coap_types.specs.declared.remembered.TheConstants.{DEFAULT_REMEMBERED as max_remembered}
 use Rattle.coap_types.specs.declared.transmission.TheConstants.{EXCHANGE_LIFETIME_MS as exchange_lifetime}
 use Rattle.coap_layer.specs.Trace as L
 use Rattle.coap_layer.specs.Words.{handed_by}
+use Rattle.coap_layer.specs.declared.setup.Setup.{Setup}
 pub use Rattle.coap_client.specs.Follows.CallsAlone.{TakesNoObservation}
 use Rattle.coap_client.specs.Follows.CallsAlone.{NoneIsTaken}
 use Rattle.coap_client.specs.Trace as C
@@ -63,8 +63,12 @@ pub record GoesSmoothly (past : List Turn) (turn : Turn) : Type 0 where
   pub of_an_end : IsOfAnEnd turn.event.what
   pub all_made : turn.refused ≡ false
 
--- how many messages come to an end for the first time in EXCHANGE_LIFETIME: fewer than it remembers. Its message layer
--- hands them up (what it remembers, and an acknowledgement, it does not: RFC 7252, section 4.5).
+-- how many messages come to an end for the first time in EXCHANGE_LIFETIME: fewer than it remembers, and than there are
+-- Message IDs for their answers (RFC 7252, section 4.4). Its message layer hands them up (what it remembers, and an
+-- acknowledgement, it does not: section 4.5).
+
+abbrev pub most_that_come : ℕ
+most_that_come = 4096
 
 abbrev pub came_at : ℕ → L.Answer → Option ℕ
 came_at now up = elim (handed_by up) [ Some m ↦ Some now | None ↦ None ]
@@ -87,13 +91,14 @@ count_came came since [] = 0
 count_came came since (c ∷ past) =
     if is_then since (came c) then 1 + count_came came since past else count_came came since past
 
-abbrev pub FewCome : {X : Type 0} → (X → Option ℕ) → List X → Type 0
-FewCome came calls = (since : ℕ) → count_came came since calls < max_remembered
+abbrev pub FewCome : {X : Type 0} → Setup → (X → Option ℕ) → List X → Type 0
+FewCome setup came calls =
+    (since : ℕ) → (count_came came since calls < setup.remembered) × (count_came came since calls < most_that_come)
 
 pub record Smooth (config : Config) (turns : List Turn) : Type 0 where
   pub goes : Always GoesSmoothly turns
-  pub few_to_client : FewCome to_client (client_of (entries_of turns))
-  pub few_to_server : FewCome to_server (server_of (entries_of turns))
+  pub few_to_client : FewCome config.client_setup to_client (client_of (entries_of turns))
+  pub few_to_server : FewCome config.server_setup to_server (server_of (entries_of turns))
   pub delays : All (λ (d : Delay). d.ms ≤ max_delay) config.delays
   -- half of the sequence numbers of notifications (RFC 7641, section 3.4)
   pub versions : changes_in config (entries_of turns) < 2 ^ 23

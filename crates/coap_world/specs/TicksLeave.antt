@@ -24,8 +24,8 @@ module _ (config : Config) where
     pub is : after ≡ later ++ (ticks ++ t)
     pub each : Each (IsTick now true) ticks
     pub none_in : Each IsNoFeed later
-    pub none : NoId config.limits config.server_szx config.server_word (ticks ++ t) now
-        ⊎ NoneToAnswer config.limits config.server_szx config.server_word (ticks ++ t) now
+    pub none : NoId config.limits config.server_szx config.server_setup (ticks ++ t) now
+        ⊎ NoneToAnswer config.limits config.server_szx config.server_setup (ticks ++ t) now
 
   -- Each tick of the server for which there was memory leaves none.
   abbrev pub TicksLeaveNone : List Turn → Type 0

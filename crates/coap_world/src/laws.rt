@@ -1,7 +1,6 @@
 ghost use Rattle.std.specs.Prelude.{◌≡◌, List};
 ghost use Rattle.coap_types.specs.declared.transmission.TheConstants.{MAX_LATENCY_MS as max_latency};
 ghost use Rattle.coap_layer.specs.Channel.{ChannelLaw, near_of, far_of};
-ghost use Rattle.coap_layer.specs.Machine.State.{usual};
 ghost use Rattle.coap_client.specs.Law as clients;
 ghost use Rattle.coap_server.specs.Law as servers;
 ghost use Rattle.coap_world.specs.Applied.{AppliedWhole, AtMostOnce, EachBelongs};
@@ -9,6 +8,7 @@ ghost use Rattle.coap_world.specs.Agrees.{Agrees};
 ghost use Rattle.coap_world.specs.Answers.{AllAnswered};
 ghost use Rattle.coap_world.specs.Bounds.{AreBounded, AreShort};
 ghost use Rattle.coap_world.specs.CameFrom.{CamesFrom};
+ghost use Rattle.coap_world.specs.Current.{CurrentAlone};
 ghost use Rattle.coap_world.specs.Delivery.{AllFair};
 ghost use Rattle.coap_world.specs.Done.{NeverFailed, OnceDone};
 ghost use Rattle.coap_world.specs.Events.{client_end, server_end, Config};
@@ -31,6 +31,7 @@ ghost use Rattle.coap_world.specs.Smooth.{NoneObserved, Smooth};
 ghost use Rattle.coap_world.specs.SmoothAnswers.{AnsweredSmoothly};
 
 use crate::smooth::{answered_law, open_law, sent_law};
+use crate::watches::watch_law;
 
 /// What comes from an end's address was given out by that end, for the one that it comes to, at most 100,000 ms before.
 pub fn delivery_law()
@@ -42,15 +43,15 @@ pub fn delivery_law()
 pub fn hops_law()
     // The near hops are the entries of the client's layer, the far ones of the server's.
     ensures near { (config : Config) (turns : List Turn) → near_of (hops_of config turns)
-        ≡ clients.layer_of server_end config.client_sizes config.client_word (client_of (entries_of turns)) }
+        ≡ clients.layer_of server_end config.client_sizes config.client_setup (client_of (entries_of turns)) }
     // The far hops are the entries of the server's message layer.
     ensures far { (config : Config) (turns : List Turn) → far_of (hops_of config turns)
-        ≡ servers.layer_of config.limits config.server_szx config.server_word (server_trace config (entries_of turns)) }
+        ≡ servers.layer_of config.limits config.server_szx config.server_setup (server_trace config (entries_of turns)) }
     // In a legal run they stand in the law of two layers and the datagrams between them.
-    ensures channel { OfLegalRuns (λ config turns. ChannelLaw (usual config.client_word) (usual config.server_word)
+    ensures channel { OfLegalRuns (λ config turns. ChannelLaw config.client_setup config.server_setup
         client_end server_end (hops_of config turns)) }
     // They stand in the law of two layers the other way round, too.
-    ensures back { OfLegalRuns (λ config turns. ChannelLaw (usual config.server_word) (usual config.client_word)
+    ensures back { OfLegalRuns (λ config turns. ChannelLaw config.server_setup config.client_setup
         server_end client_end (across (hops_of config turns))) }
     // What an end gives out in a turn was sent by its layer in that turn, at its moment.
     ensures at_once { OfLegalRuns (λ config turns. TakenAtOnce (hops_of config turns) turns) }
@@ -233,8 +234,13 @@ pub fn agreement()
     // 5.8; RFC 7959, section 2).
     ensures smooth { OfLegalRuns (λ config turns. Smooth config turns → NoneObserved turns
         → AnsweredSmoothly config turns) }
+    // In a smooth run in which the client takes on one observation and nothing else, of a path whose representations fit
+    // one block, the last value is what the path holds, once that has stood for 5,000 ms and a first value was reported
+    // 5,000 ms before, while the observation goes on (RFC 7641, sections 1.3, 3.4 and 4.5).
+    ensures current { OfLegalRuns (λ config turns. Smooth config turns → CurrentAlone config turns) }
 {
     open_law();
     sent_law();
     answered_law();
+    watch_law();
 }

@@ -6,6 +6,7 @@ mod laws;
 mod running;
 mod runs;
 mod smooth;
+mod watches;
 
 pub use laws::{
     agreement, answers_law, applied_law, changes_law, delivery_law, held_law, hops_law, legal_law,
@@ -17,3 +18,4 @@ pub use running::{
 };
 pub use runs::{runs_law, witness_law};
 pub use smooth::{answered_law, open_law, received_law, sent_law, smooth_witness};
+pub use watches::watch_law;

@@ -10,16 +10,33 @@ use std::test::Fail;
 // No run takes so many growths.
 const MANY: u64 = 1_000_000;
 
+// Two responses are due at one tick (RFC 7252, section 5.2.2).
+const TWO: &str = "two_are_responded_to
+delay /t 1000
+0 set /t 0 hi
+> puts 1
+> changes /t 1 0 6869
+0 stranger server 9 40010001b174
+> out 0 0 S 9 60000001
+0 stranger server 10 40010001b174
+> out 1 0 S 10 60000001
+1000 tick server
+> out 2 1000 S 9 4045_0000_480000000000000001_80_ff6869
+> out 3 1000 S 10 4045_0001_480000000000000001_80_ff6869
+";
+
 // A tick keeps what its steps did before the one that meets want of memory.
-const KEPT: &str = "a_tick_of_two_steps
-0 call get /t
-> takes 0
-0 call get /t
-> takes 1
-0 tick client
-> out 0 0 C S 4801_0000_0000000000000000_b174
-62000 tick client
-> reports 0 timeout
+const KEPT: &str = "two_are_responded_to
+delay /t 1000
+0 set /t 0 hi
+> puts 1
+> changes /t 1 0 6869
+0 stranger server 9 40010001b174
+> out 0 0 S 9 60000001
+0 stranger server 10 40010001b174
+> out 1 0 S 10 60000001
+1000 tick server
+> out 2 1000 S 9 4045_0000_480000000000000001_80_ff6869
 > memory
 ";
 
@@ -64,7 +81,8 @@ fn each_growth_is_refused(rt: HostRuntime) -> Result<(), Fail> {
         "",
     )?;
     refuse_each(alloc, AGAIN, AGAIN)?;
-    refuse_each(alloc, find(calls::RUNS, "a_tick_of_two_steps")?, KEPT)
+    refuse_each(alloc, find(calls::RUNS, "a_tick_of_two_steps")?, "")?;
+    refuse_each(alloc, TWO, KEPT)
 }
 
 // Refuses the growths of the run one after the other, each in a run of its own, until there is no
@@ -121,13 +139,15 @@ fn run_over<A: Allocator + Copy>(
 }
 
 // What may be told where a growth of an end was refused: what a tick keeps, or what is told where the
-// first, the second and so on of the events is lost.
+// first, the second and so on of the events is lost, or none, where a message was sent from the room that was
+// made for it.
 fn allowed(alloc: Global, text: &str, kept: &str) -> Result<Vec<String>, Fail> {
     let mut allowed = Vec::new(alloc);
     allowed.push(wanted(alloc, kept)?)?;
     for lost in 0..events_of(alloc, alloc, text, None)?.len() {
         allowed.push(run_text::<MapStore, Global>(alloc, alloc, text, Some(lost))?)?;
     }
+    allowed.push(run_text::<MapStore, Global>(alloc, alloc, text, None)?)?;
     Ok(allowed)
 }
 

@@ -280,4 +280,118 @@ delay /t 10000
 33000 tick server
 34000 tick client
 34000 tick server
+
+== five_changes_of_a_plain_path_are_observed
+# The same, where the notifications go in NONs: nothing is acknowledged.
+plain /t
+0 set /t 0 a
+> puts 1
+> changes /t 1 0 61
+0 observe /t
+> takes 0
+0 tick client
+> out 0 0 C S 4801_0000_0000000000000000_60_5174
+0 tick server
+1000 deliver 0
+> out 1 1000 S C 6845_0000_0000000000000000_480000000000000001_2101_60_ff61
+1000 tick client
+1000 tick server
+2000 deliver 1
+> reports 0 value 1 0000000000000001 0 61
+2000 tick client
+2000 tick server
+3000 tick client
+3000 tick server
+4000 tick client
+4000 tick server
+5000 tick client
+5000 tick server
+6000 tick client
+6000 tick server
+6000 set /t 0 b
+> puts 2
+> changes /t 2 0 62
+7000 tick client
+7000 tick server
+> out 2 7000 S C 5845_0000_0000000000000000_480000000000000002_2102_60_ff62
+8000 deliver 2
+> reports 0 value 2 0000000000000002 0 62
+8000 tick client
+8000 tick server
+9000 tick client
+9000 tick server
+10000 tick client
+10000 tick server
+11000 tick client
+11000 tick server
+12000 tick client
+12000 tick server
+12000 set /t 0 c
+> puts 3
+> changes /t 3 0 63
+13000 tick client
+13000 tick server
+> out 3 13000 S C 5845_0001_0000000000000000_480000000000000003_2103_60_ff63
+14000 deliver 3
+> reports 0 value 3 0000000000000003 0 63
+14000 tick client
+14000 tick server
+15000 tick client
+15000 tick server
+16000 tick client
+16000 tick server
+17000 tick client
+17000 tick server
+18000 tick client
+18000 tick server
+18000 set /t 0 d
+> puts 4
+> changes /t 4 0 64
+19000 tick client
+19000 tick server
+> out 4 19000 S C 5845_0002_0000000000000000_480000000000000004_2104_60_ff64
+20000 deliver 4
+> reports 0 value 4 0000000000000004 0 64
+20000 tick client
+20000 tick server
+21000 tick client
+21000 tick server
+22000 tick client
+22000 tick server
+23000 tick client
+23000 tick server
+24000 tick client
+24000 tick server
+24000 set /t 0 e
+> puts 5
+> changes /t 5 0 65
+25000 tick client
+25000 tick server
+> out 5 25000 S C 5845_0003_0000000000000000_480000000000000005_2105_60_ff65
+26000 deliver 5
+> reports 0 value 5 0000000000000005 0 65
+26000 tick client
+26000 tick server
+27000 tick client
+27000 tick server
+28000 tick client
+28000 tick server
+29000 tick client
+29000 tick server
+30000 tick client
+30000 tick server
+30000 set /t 0 f
+> puts 6
+> changes /t 6 0 66
+31000 tick client
+31000 tick server
+> out 6 31000 S C 5845_0004_0000000000000000_480000000000000006_2106_60_ff66
+32000 deliver 6
+> reports 0 value 6 0000000000000006 0 66
+32000 tick client
+32000 tick server
+33000 tick client
+33000 tick server
+34000 tick client
+34000 tick server
 ";

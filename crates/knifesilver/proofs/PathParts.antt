@@ -11,13 +11,15 @@ no_slash b e = grind (arith, nat_tests)
 bare : (bytes : List ℕ) → HasNoSlash bytes → All (λ b. is_slash b ≡ false) bytes
 bare bytes h = λ k d lt. no_slash _ (h k d lt)
 
+-- the first one
+pub first_part : (left first rest : List ℕ) → IsCut left first rest → parts left ≡ first ∷ parts rest
+first_part left first rest cut = ap parts cut.0 ∙ slice_split_at is_slash first 47 rest (bare first cut.1) refl
+
 -- a segment more, of those that are left
 pub one_on : (path whole : List (List ℕ)) (left first rest : List ℕ) → path ++ parts left ≡ whole
     → IsCut left first rest → (path ++ first ∷ []) ++ parts rest ≡ whole
 one_on path whole left first rest so cut =
-    let cut_off : parts left ≡ first ∷ parts rest =
-    ap parts cut.0 ∙ slice_split_at is_slash first 47 rest (bare first cut.1) refl in
-    append_assoc path (first ∷ []) (parts rest) ∙ ap (λ ps. path ++ ps) (sym cut_off) ∙ so
+    append_assoc path (first ∷ []) (parts rest) ∙ ap (λ ps. path ++ ps) (sym (first_part left first rest cut)) ∙ so
 
 -- the last one
 pub the_last : (path whole : List (List ℕ)) (left : List ℕ) → path ++ parts left ≡ whole → HasNoSlash left

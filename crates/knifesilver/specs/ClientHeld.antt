@@ -1,7 +1,8 @@
 -- What a handle of a client holds, and what a call of it did.
-use Rattle.std.specs.Prelude.{ℕ, ⊤, List, ◌∷◌, Option, Some, None}
+use Rattle.std.specs.Prelude.{⊤, List, ◌∷◌, Option, Some, None}
 use Rattle.coap_types.specs.declared.endpoint.Endpoint.{Endpoint}
 use Rattle.coap_block.specs.Sizes.{Sizes}
+use Rattle.coap_layer.specs.declared.setup.Setup.{Setup}
 use Rattle.coap_client.specs.Led.{Led, State}
 use Rattle.coap_client.specs.Trace.{Call}
 use Rattle.knifesilver.specs.declared.held.Held.{Held}
@@ -26,11 +27,11 @@ HoldsClientIn P None = ⊥
 HoldsClientIn P (Some held) = IsClientIn P held
 
 -- these calls can leave a client as what is held (RFC 7252, section 5)
-abbrev pub HoldsLed : Endpoint → (sizes : Sizes) (word : ℕ) → List Call → Option Held → Type 0
-HoldsLed server sizes word t held = HoldsClientIn (Led server sizes word t) held
+abbrev pub HoldsLed : Endpoint → (sizes : Sizes) (setup : Setup) → List Call → Option Held → Type 0
+HoldsLed server sizes setup t held = HoldsClientIn (Led server sizes setup t) held
 
 -- One call like this was made, of the client that was held: whatever led to it before leads, with that call, to what is
 -- held then.
 abbrev pub Made : (Call → Type 0) → Option Held → Option Held → Type 0
-Made like old new = (server : Endpoint) (sizes : Sizes) (word : ℕ) (t : List Call) → HoldsLed server sizes word t old
-    → (call : Call) × like call × HoldsLed server sizes word (call ∷ t) new
+Made like old new = (server : Endpoint) (sizes : Sizes) (setup : Setup) (t : List Call) → HoldsLed server sizes setup t old
+    → (call : Call) × like call × HoldsLed server sizes setup (call ∷ t) new

@@ -1,5 +1,6 @@
 pub mod Answers
 pub mod Applied
+pub mod CallArguments
 pub mod ClientCalls
 pub mod ClientHeld
 pub mod Configs
@@ -9,7 +10,9 @@ pub mod Outgoing
 pub mod Owned
 pub mod PathTexts
 pub mod Peeks
+pub mod Quiet
 pub mod Reports
+pub mod Seeds
 pub mod ServerCalls
 pub mod ServerHeld
 pub mod ShortBytes

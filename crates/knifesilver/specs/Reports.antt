@@ -3,6 +3,7 @@ use Rattle.std.specs.Prelude.{◌≡◌, ◌<◌, ℕ, ℤ, pos, List, [], lengt
 use Rattle.std.specs.Option.{option_map}
 use Rattle.coap_types.specs.declared.endpoint.Endpoint.{Endpoint}
 use Rattle.coap_block.specs.Sizes.{Sizes}
+use Rattle.coap_layer.specs.declared.setup.Setup.{Setup}
 use Rattle.coap_client.specs.Object.Shown.{shown_reported}
 use Rattle.coap_client.specs.Trace.{Call, NextReport, Report, Reported, Body, Valid, Done, Value, Ended, Cancelled}
 use Rattle.coap_client.specs.Trace.{Failed, Timeout, Reset, NoResponse, Changed, BadBlock, NoTag, TooLarge, NoIds}
@@ -86,8 +87,8 @@ beside (Some (Client c)) = option_map shown_reported c.report
 
 -- no call was made of the client that was held
 abbrev pub Unmoved : Option Held → Option Held → Type 0
-Unmoved old new = (server : Endpoint) (sizes : Sizes) (word : ℕ) (t : List Call) → HoldsLed server sizes word t old
-    → HoldsLed server sizes word t new
+Unmoved old new = (server : Endpoint) (sizes : Sizes) (setup : Setup) (t : List Call) → HoldsLed server sizes setup t old
+    → HoldsLed server sizes setup t new
 
 -- a report is taken: that which waits beside the client, and the client isn't called; or else the client's next one
 abbrev pub TakenFrom : (waits next : Option Reported) → Option Held → Option Held → Type 0

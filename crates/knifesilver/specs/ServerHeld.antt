@@ -2,6 +2,7 @@
 use Rattle.std.specs.Prelude.{ℕ, ⊤, List, ◌∷◌, Option, Some, None}
 use Rattle.coap_resource.specs.Entries.{content_of}
 use Rattle.coap_resource.specs.Limits.{Limits}
+use Rattle.coap_layer.specs.declared.setup.Setup.{Setup}
 use Rattle.coap_server.specs.Led.{Led, State}
 use Rattle.coap_server.specs.Object.Shown.{state_of}
 use Rattle.coap_server.specs.Trace.{Call}
@@ -27,11 +28,11 @@ HoldsServerIn P None = ⊥
 HoldsServerIn P (Some held) = IsServerIn P held
 
 -- these calls can leave a server as what is held (RFC 7252, section 5)
-abbrev pub HoldsLed : Limits → (szx word : ℕ) → List Call → Option Held → Type 0
-HoldsLed limits szx word t held = HoldsServerIn (Led limits szx word t) held
+abbrev pub HoldsLed : Limits → (szx : ℕ) (setup : Setup) → List Call → Option Held → Type 0
+HoldsLed limits szx setup t held = HoldsServerIn (Led limits szx setup t) held
 
 -- One call like this was made, of the server that was held: whatever led to it before leads, with that call, to what is
 -- held then.
 abbrev pub Made : (Call → Type 0) → Option Held → Option Held → Type 0
-Made like old new = (limits : Limits) (szx word : ℕ) (t : List Call) → HoldsLed limits szx word t old
-    → (call : Call) × like call × HoldsLed limits szx word (call ∷ t) new
+Made like old new = (limits : Limits) (szx : ℕ) (setup : Setup) (t : List Call) → HoldsLed limits szx setup t old
+    → (call : Call) × like call × HoldsLed limits szx setup (call ∷ t) new

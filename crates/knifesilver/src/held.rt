@@ -1,16 +1,16 @@
+use crate::seed::SeededHash;
 use coap_ends::{CallId, Client, Report, Server};
 use coap_resource::MapStore;
 use std::alloc::Global;
-use std::hash::RandomState;
 
 /// A server, with its resources in a map.
-pub(crate) type OurServer = Server<MapStore, Global, RandomState>;
+pub(crate) type OurServer = Server<MapStore, Global, SeededHash>;
 
 /// A client, and the report that was taken from it and is still to be given out.
 #[derive(Drop)]
 pub struct OurClient {
     /// The client.
-    pub client: Client<Global, RandomState>,
+    pub client: Client<Global, SeededHash>,
     /// The report, for which the room was too small.
     pub report: Option<(CallId, Report)>,
 }

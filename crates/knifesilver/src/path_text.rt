@@ -1,11 +1,14 @@
 //! The text of a path: its segments, with `/` between each two.
-ghost use Rattle.std.specs.Prelude.{◌≡◌, ◌≢◌, ◌<◌, ◌+◌, ◌++◌, ◌∷◌, length, take, IfOk, IfErr, IfSome, IfNone};
+ghost use Rattle.std.specs.Prelude.{◌≡◌, ◌≢◌, ◌<◌, ◌≤◌, ◌+◌, ◌++◌, ◌∷◌, ◌⊎◌, ◌↔◌, true, length, take};
+ghost use Rattle.std.specs.Prelude.{IfOk, IfErr, IfSome, IfNone, OnOk};
+ghost use Rattle.coap_types.specs.Path.{HoldsAtMost};
 ghost use Rattle.knifesilver.specs.Answers.{IsRefused};
-ghost use Rattle.knifesilver.specs.PathTexts.{HasNoSlash, IsCut, IsText, spelled, text_of, without_slash};
+ghost use Rattle.knifesilver.specs.PathTexts.{HasNoSlash, IsCut, IsText, RefusesPath, SpellsPath, parts, spelled};
+ghost use Rattle.knifesilver.specs.PathTexts.{text_of, without_slash};
 
 use crate::answers::{BAD_PATH, NO_MEMORY, NOT_LIVE, SMALL_ROOM};
 use crate::crossing::copy_out;
-use coap_types::{Path, PathRefusal};
+use coap_types::{MAX_SEGMENT_LEN, MAX_SEGMENTS, Path};
 use std::alloc::Global;
 
 // What stands between two segments.
@@ -27,21 +30,35 @@ fn cut(text: &[u8]) -> Option<(&[u8], &[u8])>
     Some((&text[..at], &text[at + 1..]))
 }
 
-// What a call answers where a path takes no further segment.
-fn refused(why: PathRefusal) -> i32
-    ensures refused { IsRefused result }
-    ensures live { result ≢ NOT_LIVE }
-    ensures room { result ≢ SMALL_ROOM }
+// Whether the segment makes a path with so many before it.
+fn fits(segment: &[u8], before: usize) -> bool
+    ensures { (result ≡ true) ↔ ((length segment.now ≤ MAX_SEGMENT_LEN) × (before < MAX_SEGMENTS)) }
 {
-    match why {
-        PathRefusal::Memory => NO_MEMORY,
-        _ => BAD_PATH,
+    segment.len() <= MAX_SEGMENT_LEN && before < MAX_SEGMENTS
+}
+
+// Whether what stands between slashes makes a path.
+fn makes_path(text: &[u8]) -> bool
+    ensures { (result ≡ true) ↔ HoldsAtMost MAX_SEGMENTS MAX_SEGMENT_LEN (parts text.now) }
+{
+    let mut left = text;
+    let mut before = 0usize;
+    'segments: while let Some((segment, behind)) = cut(left) {
+        if !fits(segment, before) {
+            return false;
+        }
+        before += 1;
+        left = behind;
     }
+    fits(left, before)
 }
 
 /// The path that a text says, else what the call answers.
 pub(crate) fn path_of(alloc: Global, text: &[u8]) -> Result<Path, i32>
     ensures spelled { IfOk result (λ path. path ≡ spelled text.now) }
+    ensures fits { OnOk result (SpellsPath text.now) }
+    ensures path { IfErr result (RefusesPath text.now) }
+    ensures either { IfErr result (λ answer. (answer ≡ BAD_PATH) ⊎ (answer ≡ NO_MEMORY)) }
     ensures refused { IfErr result IsRefused }
     ensures live { IfErr result (λ answer. answer ≢ NOT_LIVE) }
     ensures room { IfErr result (λ answer. answer ≢ SMALL_ROOM) }
@@ -51,15 +68,18 @@ pub(crate) fn path_of(alloc: Global, text: &[u8]) -> Result<Path, i32>
     if rest.is_empty() {
         return Ok(path);
     }
+    if !makes_path(rest) {
+        return Err(BAD_PATH);
+    }
     let mut left = rest;
     'segments: while let Some((segment, behind)) = cut(left) {
-        if let Err(why) = path.push(segment) {
-            return Err(refused(why));
+        if let Err(_no_memory) = path.push(segment) {
+            return Err(NO_MEMORY);
         }
         left = behind;
     }
-    if let Err(why) = path.push(left) {
-        return Err(refused(why));
+    if let Err(_no_memory) = path.push(left) {
+        return Err(NO_MEMORY);
     }
     Ok(path)
 }

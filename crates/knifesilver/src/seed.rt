@@ -1,6 +1,9 @@
-use std::hash::RandomState;
-use std::io;
-use std::random::RandomSource;
+//! What an end begins with that a stranger must not guess.
+ghost use Rattle.std.specs.Prelude.{◌≡◌};
+ghost use Rattle.knifesilver.specs.Seeds.{first_state};
+
+use core::hash::keyed_hasher;
+use std::hash::{BuildHasher, DefaultHasher};
 
 /// C's `ks_seed`: what an end begins with that a stranger must not guess, 24 random bytes.
 #[repr(C)]
@@ -14,21 +17,31 @@ pub struct KsSeed {
     pub key1: u64,
 }
 
-// The keys, as what a hash takes them from.
-#[derive(Drop)]
-struct Keys(u128);
+/// The hash with the keys of a seed.
+#[derive(Clone, Copy)]
+pub struct SeededHash {
+    /// The first key.
+    pub key0: u64,
+    /// The second key.
+    pub key1: u64,
+}
 
-impl RandomSource for Keys {
-    fn fill_bytes(&self, buf: &mut [u8]) -> io::Result<()> {
-        for (place, byte) in buf.iter_mut().zip(&self.0.to_le_bytes()) {
-            *place = *byte;
-        }
-        Ok(())
+impl BuildHasher for SeededHash {
+    type Hasher = DefaultHasher;
+
+    ghost build_hasher = { first_state };
+
+    fn build_hasher(&self) -> DefaultHasher {
+        keyed_hasher(self.key0, self.key1)
     }
 }
 
-/// The hash with these keys. None where a source fails, which this one never does.
-pub(crate) fn hasher(seed: &KsSeed) -> Option<RandomState> {
-    let keys = u128::from(seed.key1) << 64 | u128::from(seed.key0);
-    RandomState::new(&Keys(keys)).ok()
+/// The hash of a seed.
+pub(crate) fn hash_of(seed: &KsSeed) -> SeededHash
+    ensures { result ≡ record { key0 = seed.now.key0; key1 = seed.now.key1 } }
+{
+    SeededHash {
+        key0: seed.key0,
+        key1: seed.key1,
+    }
 }

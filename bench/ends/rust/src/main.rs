@@ -3,6 +3,8 @@
 mod block;
 mod client;
 mod codec;
+mod forgetting;
+mod memory;
 mod message;
 mod plain;
 mod proved;
@@ -17,11 +19,6 @@ const TIMINGS: usize = 301;
 
 /// How many requests are timed.
 const REQUESTS: u32 = 64;
-
-/// So far apart, in milliseconds, requests come of which each forgets one, once 3,984 are remembered.
-const DENSE: u64 = 62;
-/// The same, once two are remembered.
-const SPARSE: u64 = 130_000;
 
 /// How many bytes a body has that goes in blocks, and a long one.
 const BODY_LEN: usize = 65_536;
@@ -115,15 +112,10 @@ fn rows() -> Vec<Row> {
         Row::new("GET of 1,048,576 bytes, a block", Work::Get(LONG_BODY_LEN)),
         Row::new("GET, 256 paths in a list", Work::GetsOfMany(Store::List)),
         Row::new("GET, 256 paths in a map", Work::GetsOfMany(Store::Map)),
-        Row::new("GET, 2 remembered, one forgotten", Work::Gets(10, SPARSE)),
-        Row::new(
-            "GET, 3,984 remembered, one forgotten",
-            Work::Gets(4_100, DENSE),
-        ),
     ]
 }
 
-fn main() {
+fn time_all() {
     let mut rows = rows();
     for _ in 0..TIMINGS {
         rows.iter_mut().for_each(Row::time);
@@ -131,6 +123,50 @@ fn main() {
     println!("| nanoseconds an exchange | proved | plain Rust | ratio |");
     println!("|---|---:|---:|---:|");
     rows.iter().for_each(Row::print);
+    forgetting::rows().iter().for_each(forgetting::Row::print);
+}
+
+/// Does the work of one row three times, that of requests that forget one once, with one pair of
+/// ends: for a program that counts the instructions between two readings of the clock.
+fn repeat(row: &str, ends: &str) {
+    let row: usize = row.parse().expect("the number of a row, from 0 on");
+    let rows = rows();
+    if row >= rows.len() {
+        forgetting::rows()[row - rows.len()].count(match ends {
+            "proved" => proved::paced_gets,
+            "plain" => plain::paced_gets,
+            _ => panic!("proved or plain"),
+        });
+        return;
+    }
+    let work = rows[row].work;
+    for _ in 0..3 {
+        black_box(match ends {
+            "proved" => black_box(work).of_proved(),
+            "plain" => black_box(work).of_plain(),
+            _ => panic!("proved or plain"),
+        });
+    }
+}
+
+/// Prints the rows of so many remembered messages alone.
+fn print_forgetting(held: &str) {
+    let held = held.parse().expect("how many are remembered");
+    forgetting::rows()
+        .iter()
+        .filter(|row| row.remembers(held))
+        .for_each(forgetting::Row::print);
+}
+
+fn main() {
+    let words: Vec<String> = std::env::args().skip(1).collect();
+    match words.as_slice() {
+        [] => time_all(),
+        [word, held] if word == "forgetting" => print_forgetting(held),
+        [word, count, len] if word == "keep" => memory::print(count, len),
+        [row, ends] => repeat(row, ends),
+        _ => panic!("forgetting HELD, ROW proved, ROW plain, keep COUNT LEN, or nothing"),
+    }
 }
 
 #[test]

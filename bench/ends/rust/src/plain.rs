@@ -3,7 +3,7 @@
 use crate::client::{Client, Report};
 use crate::message::Endpoint;
 use crate::server::Server;
-use crate::work::{GET_LAST, GET_ONE, Timed, numbered};
+use crate::work::{FORGOTTEN_AFTER_MS, GET_LAST, GET_ONE, Timed, numbered};
 use std::time::Instant;
 
 const CLIENT: Endpoint = ([127, 0, 0, 1], 40_001);
@@ -14,7 +14,11 @@ const BODY: &[u8] = b"22.3 C";
 const MAX_PATHS: u32 = 256;
 
 fn get(server: &mut Server, datagram: &[u8], now: u64) -> u64 {
-    server.feed(now, CLIENT, datagram);
+    get_from(server, CLIENT, datagram, now)
+}
+
+fn get_from(server: &mut Server, from: Endpoint, datagram: &[u8], now: u64) -> u64 {
+    server.feed(now, from, datagram);
     server.next_out().map_or(0, |(_, bytes)| bytes.len() as u64)
 }
 
@@ -35,6 +39,35 @@ pub fn gets(before: u32, timed: u32, step: u64) -> Timed {
     }
     let nanoseconds = begin.elapsed().as_nanos() as u64;
     Timed { sum, nanoseconds }
+}
+
+/// Has the server take one of the requests of which `held` come in each 247 s.
+fn paced(server: &mut Server, held: u32, number: u32) -> u64 {
+    let (ip, port) = CLIENT;
+    let from = (ip, port.wrapping_add((number >> 16) as u16));
+    let now = u64::from(number) * FORGOTTEN_AFTER_MS / u64::from(held);
+    get_from(server, from, &numbered(GET_ONE, number), now)
+}
+
+fn run(server: &mut Server, held: u32, first: u32, count: u32) -> u64 {
+    (first..first + count)
+        .map(|number| paced(server, held, number))
+        .sum()
+}
+
+/// The same as `proved::paced_gets`.
+pub fn paced_gets(held: u32, before: u32, count: u32, times: &mut [u64]) -> u64 {
+    let mut server = Server::new(held as usize);
+    server.set(&PATH, BODY);
+    let mut sum = run(&mut server, held, 0, before);
+    let mut first = before;
+    for least in times {
+        let begin = Instant::now();
+        sum += run(&mut server, held, first, count);
+        *least = (begin.elapsed().as_nanos() as u64).min(*least);
+        first += count;
+    }
+    sum
 }
 
 /// The same as `proved::gets_of_many`, in a list.

@@ -17,6 +17,18 @@ mod library {
         pub safe fn coap_bench_in_list(timed: u32, nanoseconds: &mut u64) -> u64;
 
         /// The length must be that of the memory at the pointer.
+        pub fn coap_bench_paced(
+            held: u32,
+            before: u32,
+            count: u32,
+            times: *mut u64,
+            len: usize,
+        ) -> u64;
+
+        /// The length must be that of the memory at the pointer.
+        pub fn coap_bench_keep(count: u32, body: *const u8, len: usize) -> u64;
+
+        /// The length must be that of the memory at the pointer.
         pub fn coap_bench_bodies(body: *const u8, len: usize, put: &mut u64, get: &mut u64) -> u64;
     }
 }
@@ -27,6 +39,21 @@ pub fn gets(before: u32, timed: u32, step: u64) -> Timed {
     let mut nanoseconds = 0;
     let sum = library::coap_bench_gets(before, timed, step, &mut nanoseconds);
     Timed { sum, nanoseconds }
+}
+
+/// Hands a server that remembers `held` messages `before` GET requests, of which so many come in
+/// each 247 s, and then `count` for each of the times: how many bytes go out. What these took, in
+/// nanoseconds, is kept where it is less than before.
+pub fn paced_gets(held: u32, before: u32, count: u32, times: &mut [u64]) -> u64 {
+    // SAFETY: the pointer and the length are those of one slice.
+    unsafe { library::coap_bench_paced(held, before, count, times.as_mut_ptr(), times.len()) }
+}
+
+/// Hands a server that holds this body and remembers so many messages as many GET requests, and
+/// keeps it for good: how many bytes go out.
+pub fn keep(count: u32, body: &[u8]) -> u64 {
+    // SAFETY: the pointer and the length are those of one slice.
+    unsafe { library::coap_bench_keep(count, body.as_ptr(), body.len()) }
 }
 
 /// Hands a server that holds 256 paths, in that store, GET requests of the last: how many bytes go

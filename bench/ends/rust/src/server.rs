@@ -7,8 +7,8 @@ use std::collections::{HashMap, VecDeque};
 
 /// For so long a message is remembered, and a partial body is kept, in milliseconds.
 const LIFETIME: u64 = 247_000;
-/// So many messages are remembered at most.
-const MAX_REMEMBERED: usize = 4_096;
+/// So many messages are remembered at most, where no other number is chosen.
+const DEFAULT_REMEMBERED: usize = 4_096;
 /// The size exponent of the server's blocks.
 const SZX: u8 = 6;
 const MAX_BODY: usize = 1_048_576;
@@ -41,8 +41,8 @@ struct Request<'a> {
     body: &'a [u8],
 }
 
-#[derive(Default)]
 pub struct Server {
+    most: usize,
     replies: HashMap<Key, Vec<u8>>,
     order: VecDeque<(u64, Key)>,
     resources: Vec<Resource>,
@@ -64,7 +64,26 @@ fn coded(code: u8) -> (u8, Content<'static>) {
     (code, Content::default())
 }
 
+impl Default for Server {
+    fn default() -> Server {
+        Server::new(DEFAULT_REMEMBERED)
+    }
+}
+
 impl Server {
+    /// A server that remembers at most so many messages.
+    pub fn new(most: usize) -> Server {
+        Server {
+            most,
+            replies: HashMap::new(),
+            order: VecDeque::new(),
+            resources: Vec::new(),
+            partials: Vec::new(),
+            version: 0,
+            waiting: VecDeque::new(),
+        }
+    }
+
     /// Has a path hold a body of format 0.
     pub fn set(&mut self, path: &[&[u8]], body: &[u8]) {
         self.put(path, Some(0), body);
@@ -97,7 +116,7 @@ impl Server {
             self.waiting.push_back((from, reply.clone()));
             return;
         }
-        if self.replies.len() >= MAX_REMEMBERED {
+        if self.replies.len() >= self.most {
             return;
         }
         let reply = self.reply(now, from, &message);

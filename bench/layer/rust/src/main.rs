@@ -1,5 +1,7 @@
 //! Times the proved message layer and a plain one on the same datagrams, and prints a table.
 
+mod forgetting;
+mod memory;
 mod plain;
 mod proved;
 
@@ -9,10 +11,8 @@ use std::time::Instant;
 /// How many timings the least is taken of.
 const TIMINGS: usize = 301;
 
-/// So far apart, in milliseconds, requests come of which each forgets one, once 3,984 are remembered.
-const DENSE: u64 = 62;
-/// The same, once two are remembered.
-const SPARSE: u64 = 130_000;
+/// Of so many remembered messages the dearest datagram is sought.
+const REMEMBERED: [u32; 2] = [4_096, 1_048_576];
 
 /// What a layer is asked for.
 #[derive(Clone, Copy)]
@@ -113,18 +113,6 @@ fn rows() -> Vec<Row> {
             Requests(4_000, 0, 1),
             4_000,
         ),
-        Row::new(
-            "a new request, 2 remembered, one forgotten",
-            Requests(10, SPARSE, 0),
-            Requests(510, SPARSE, 0),
-            500,
-        ),
-        Row::new(
-            "a new request, 3,984 remembered, one forgotten",
-            Requests(4_100, DENSE, 0),
-            Requests(4_600, DENSE, 0),
-            500,
-        ),
         Row::new("a tick, 1 outstanding", Ticks(1, 0), Ticks(1, 1_000), 1_000),
         Row::new(
             "a tick, 1,000 outstanding",
@@ -135,7 +123,7 @@ fn rows() -> Vec<Row> {
     ]
 }
 
-fn main() {
+fn time_all() {
     let mut rows = rows();
     for _ in 0..TIMINGS {
         rows.iter_mut().for_each(Row::time);
@@ -143,6 +131,59 @@ fn main() {
     println!("| nanoseconds | proved | plain Rust | ratio |");
     println!("|---|---:|---:|---:|");
     rows.iter().for_each(Row::print);
+    forgetting::rows().iter().for_each(forgetting::Row::print);
+    println!("\n| microseconds of the dearest datagram | proved | plain Rust |");
+    println!("|---|---:|---:|");
+    REMEMBERED.into_iter().for_each(forgetting::print_dearest);
+}
+
+/// Does the two works of one row, each twice, with one layer, or the work of a row of requests that
+/// forget one once: for a program that counts the instructions between two readings of the clock.
+fn repeat(row: &str, layer: &str) {
+    let row: usize = row.parse().expect("the number of a row, from 0 on");
+    let rows = rows();
+    if row >= rows.len() {
+        forgetting::rows()[row - rows.len()].count(match layer {
+            "proved" => proved::paced,
+            "plain" => plain::paced,
+            _ => panic!("proved or plain"),
+        });
+        return;
+    }
+    for work in rows[row].works {
+        for _ in 0..2 {
+            nanoseconds(|| match layer {
+                "proved" => black_box(work).of_proved(),
+                "plain" => black_box(work).of_plain(),
+                _ => panic!("proved or plain"),
+            });
+        }
+    }
+}
+
+/// Prints the rows of so many remembered messages alone.
+fn print_forgetting(held: &str) {
+    let held = held.parse().expect("how many are remembered");
+    forgetting::rows()
+        .iter()
+        .filter(|row| row.remembers(held))
+        .for_each(forgetting::Row::print);
+}
+
+fn main() {
+    let words: Vec<String> = std::env::args().skip(1).collect();
+    match words.as_slice() {
+        [] => time_all(),
+        [word, held] if word == "forgetting" => print_forgetting(held),
+        [word, held] if word == "dearest" => {
+            forgetting::print_dearest(held.parse().expect("how many are remembered"));
+        }
+        [word, count, len] if word == "keep" => memory::print(count, len),
+        [row, layer] => repeat(row, layer),
+        _ => panic!(
+            "forgetting HELD, dearest HELD, ROW proved, ROW plain, keep COUNT LEN, or nothing"
+        ),
+    }
 }
 
 #[test]
@@ -150,9 +191,9 @@ fn both_answer_alike() {
     for work in [
         Work::Requests(1, 0, 3),
         Work::Requests(4_200, 0, 2),
-        Work::Requests(5_000, DENSE, 1),
+        Work::Requests(5_000, 62, 1),
         Work::Requests(300, 1_000, 1),
-        Work::Requests(20, SPARSE, 1),
+        Work::Requests(20, 130_000, 1),
         Work::Ticks(1_000, 3),
     ] {
         assert_eq!(work.of_proved(), work.of_plain());

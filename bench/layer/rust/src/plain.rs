@@ -1,12 +1,14 @@
 //! A message layer in plain Rust: a table of what is remembered, a list of what is outstanding, and
 //! a queue of what waits.
 
+use crate::forgetting::Pace;
 use std::collections::{HashMap, VecDeque};
+use std::time::Instant;
 
 /// For so long a message is remembered, in milliseconds.
 const LIFETIME: u64 = 247_000;
-/// So many messages are remembered at most.
-const MAX_REMEMBERED: usize = 4_096;
+/// So many messages are remembered at most, where no other number is chosen.
+const DEFAULT_REMEMBERED: usize = 4_096;
 
 /// An address and a port.
 type Endpoint = ([u8; 4], u16);
@@ -22,8 +24,8 @@ struct Sending {
     last: u64,
 }
 
-#[derive(Default)]
 struct Layer {
+    most: usize,
     replies: HashMap<Key, Option<Vec<u8>>>,
     order: VecDeque<(u64, Key)>,
     sendings: Vec<Sending>,
@@ -31,6 +33,17 @@ struct Layer {
 }
 
 impl Layer {
+    /// A layer that remembers at most so many messages.
+    fn new(most: usize) -> Layer {
+        Layer {
+            most,
+            replies: HashMap::new(),
+            order: VecDeque::new(),
+            sendings: Vec::new(),
+            waiting: VecDeque::new(),
+        }
+    }
+
     fn forget(&mut self, now: u64) {
         while let Some((at, key)) = self.order.front() {
             if now - at <= LIFETIME {
@@ -57,7 +70,7 @@ impl Layer {
             }
             return None;
         }
-        if self.replies.len() >= MAX_REMEMBERED {
+        if self.replies.len() >= self.most {
             return None;
         }
         self.replies.insert((from, id), None);
@@ -112,7 +125,7 @@ fn endpoint(number: u32) -> Endpoint {
 
 fn request(layer: &mut Layer, number: u32, now: u64) -> usize {
     let [_, _, high, low] = number.to_be_bytes();
-    let from = endpoint(0);
+    let from = endpoint(number >> 16);
     if let Some(id) = layer.receive(now, from, &[0x40, 0x01, high, low]) {
         layer.reply(from, id, &[0x60, 0x45, high, low]);
     }
@@ -124,7 +137,7 @@ fn request(layer: &mut Layer, number: u32, now: u64) -> usize {
 
 /// The same as `proved::requests`.
 pub fn requests(count: u32, step: u64, again: u32) -> u64 {
-    let mut layer = Layer::default();
+    let mut layer = Layer::new(DEFAULT_REMEMBERED);
     let mut now = 0;
     let mut sum = 0;
     for number in 0..count {
@@ -141,7 +154,7 @@ pub fn requests(count: u32, step: u64, again: u32) -> u64 {
 
 /// The same as `proved::ticks`.
 pub fn ticks(outstanding: u32, ticks: u32) -> u64 {
-    let mut layer = Layer::default();
+    let mut layer = Layer::new(DEFAULT_REMEMBERED);
     for number in 0..outstanding {
         layer.confirm(0, endpoint(number), number as u16);
         layer.waiting.pop_front();
@@ -150,4 +163,24 @@ pub fn ticks(outstanding: u32, ticks: u32) -> u64 {
         assert_eq!(layer.tick(1), None);
     }
     layer.sendings.len() as u64
+}
+
+fn run(layer: &mut Layer, pace: Pace, first: u32, count: u32) -> u64 {
+    (first..first + count)
+        .map(|number| request(layer, pace.number(number), pace.moment(number)) as u64)
+        .sum()
+}
+
+/// The same as `proved::paced`.
+pub fn paced(pace: Pace, before: u32, count: u32, times: &mut [u64]) -> u64 {
+    let mut layer = Layer::new(pace.held as usize);
+    let mut sum = run(&mut layer, pace, 0, before);
+    let mut first = before;
+    for least in times {
+        let begin = Instant::now();
+        sum += run(&mut layer, pace, first, count);
+        *least = (begin.elapsed().as_nanos() as u64).min(*least);
+        first += count;
+    }
+    sum
 }

@@ -160,9 +160,7 @@ good_before : (method : Method) (r : Request) (os : List CoapOption) → All IsT
     → IsGood 5 os → IsGood 0 (before_path method r ++ os)
 good_before Get r os e i g = good_run 0 4 r.etags os (omega arith) (tags_short r.etags e) (omega arith)
     (good_weaken 4 5 os (omega arith) g)
-good_before Post r os e i g = good_conditions r os i g
-good_before Put r os e i g = good_conditions r os i g
-good_before Delete r os e i g = good_conditions r os i g
+good_before _ r os e i g = good_conditions r os i g
 
 pub record Ranges (r : Request) : Type 0 where
   pub path : All (λ v. length v ≤ 255) r.path
@@ -237,9 +235,7 @@ upload_method : (m : Method) (t : Transfer) → FitsMethod m t
 upload_method m (Fetches f) h = inl refl
 upload_method m Single h = inl refl
 upload_method Get (Uploads u) h = absurd h
-upload_method Post (Uploads u) h = inr refl
-upload_method Put (Uploads u) h = inr refl
-upload_method Delete (Uploads u) h = inr refl
+upload_method _ (Uploads u) h = inr refl
 
 fits_with : (n : ℕ) (o : Option (List ℕ)) (os : List CoapOption) → IsFew o
     → length (options_bytes 0 (os ++ option_with n o))

@@ -10,6 +10,7 @@ use Rattle.coap_types.specs.FirstMoment.{HoldsFirst, HoldsNever, HoldsOn, IsFirs
 use Rattle.coap_layer.specs.Trace as L
 use Rattle.coap_block.specs.Sizes.{Sizes}
 use Rattle.coap_types.proofs.Facts.FirstMoments.{same_first}
+use Rattle.coap_layer.specs.declared.setup.Setup.{Setup}
 use Rattle.coap_exchange.specs.declared.asker.AskRefusal.{AskRefusal}
 use Rattle.coap_exchange.specs.declared.asker.Turn.{Turn}
 use Rattle.coap_exchange.specs.declared.asker.Turn.TheVariants as turn
@@ -145,13 +146,13 @@ begins_on s now later le h = go s.running (to_fetch s.observations) refl refl h
         ∙ (begins_is s later ∙ start_on s.queue was)
 
 -- the exchanges of a client were led
-module _ (server : Endpoint) (sizes : Sizes) (word : ℕ) (t : List Call) (s : State) (led : Led server sizes word t s) where
+module _ (server : Endpoint) (sizes : Sizes) (setup : Setup) (t : List Call) (s : State) (led : Led server sizes setup t s) where
   abbrev asked : List E.Call
   asked = asked_by (start sizes) after lower t ++ []
 
-  led_below : X.Led server word asked s.layer
-  led_below = led_exchanged server word [] (asked_by (start sizes) after lower t) (X.fresh_state server word) s.layer
-      (led_start server word) led.layer
+  led_below : X.Led server setup asked s.layer
+  led_below = led_exchanged server setup [] (asked_by (start sizes) after lower t) (X.fresh_state server setup) s.layer
+      (led_start server setup) led.layer
 
   -- one tick
   module _ (now w : ℕ) (below : L.Answer) (u : Turn) (sent : L.Answer) (token : Result (List ℕ) AskRefusal)
@@ -177,12 +178,12 @@ module _ (server : Endpoint) (sizes : Sizes) (word : ℕ) (t : List Call) (s : S
         → begins s.own (max s.own.clock now) ≡ false → did ≡ false
     idles none nothing =
         let idle : u ≡ turn.Idle =
-        rests_led server word asked s.layer led_below (max s.own.clock now) none below u turned.0 turned.1 in
+        rests_led server setup asked s.layer led_below (max s.own.clock now) none below u turned.0 turned.1 in
         did_is ∙ (ap (λ k. not (is_idle k) || asks (passes (at now s.own) (max s.own.clock now) k).deed) idle ∙ nothing)
 
     does_turn : has_turn s.layer (max s.layer.own.clock (max s.own.clock now)) ≡ true → did ≡ true
     does_turn some = go u refl
-        (turns_led server word asked s.layer led_below (max s.own.clock now) some below u turned.0 turned.1)
+        (turns_led server setup asked s.layer led_below (max s.own.clock now) some below u turned.0 turned.1)
       where
         go : (k : Turn) → u ≡ k → u ≢ turn.Idle → did ≡ true
         go turn.Idle is other = absurd (other is)

@@ -92,16 +92,12 @@ fetch_asks : (number : ℕ) (n new : Notified) (s : Own) (m : Message) (v : Verd
     → Some new ≡ rest n.sequence n.fetch m v → fetch_by number n s m v
     ≡ runs (Fetching number) (resting number (Some new) s)
 fetch_asks number n new s m (verdict.Ask num szx) h = ap (λ r. runs (Fetching number) (resting number r s)) (sym h)
-fetch_asks number n new s m (verdict.Refuse why) h = absurd (cc h)
-fetch_asks number n new s m verdict.Again h = absurd (cc h)
-fetch_asks number n new s m verdict.Done h = absurd (cc h)
+fetch_asks number n new s m _ h = absurd (cc h)
 
 fetch_ends : (number : ℕ) (n : Notified) (s : Own) (m : Message) (v : Verdict) → None ≡ rest n.sequence n.fetch m v
     → fetch_by number n s m v ≡ fetch_over number (value number n.sequence n.fetch m v) s
 fetch_ends number n s m (verdict.Ask num szx) h = absurd (cc h)
-fetch_ends number n s m (verdict.Refuse why) h = refl
-fetch_ends number n s m verdict.Again h = refl
-fetch_ends number n s m verdict.Done h = refl
+fetch_ends number n s m _ h = refl
 
 -- it asks for the next block
 pub asks_next : (x : X.State) (number : ℕ) (n new : Notified) (s t : Own) (m : Message) (at word : ℕ)

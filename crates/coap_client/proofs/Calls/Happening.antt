@@ -12,8 +12,8 @@ use Rattle.coap_exchange.specs.AskerTrace as E
 use Rattle.coap_exchange.specs.AskerLaw as X
 use Rattle.coap_exchange.specs.AskerLaw.{Exchanged}
 use Rattle.coap_client.specs.Trace.{Request, Report, Reported, Requested, Feeds, Ended}
-use Rattle.coap_client.specs.Own.{Transfer, Operation, Calling, Registering, Fetching, Cancelling}
-use Rattle.coap_client.specs.Own.{Dropped, Observation, Own, clocked}
+use Rattle.coap_client.specs.Own.{Transfer, Operation, Calling, Cancelling}
+use Rattle.coap_client.specs.Own.{Observation, Own, clocked}
 use Rattle.coap_codec.specs.Message.{Message}
 use Rattle.coap_client.specs.Observing.{begun, first_value, is_over, registered, releases}
 use Rattle.coap_client.specs.Observations.{observation_of}
@@ -45,41 +45,8 @@ AsksNothing (Releases t) = Unit {0}
 done_by : (x y : X.State) (o : Own) (r : Option Reported) (d : Deed) (m word : ℕ) (own : Own) → AsksNothing d
     → IsDone x d y → own ≡ reporting (record { own = o; report = r; deed = d })
     → Happens x (record { own = o; report = r; deed = d }) m word None (left own y)
-done_by x y o r Rests m word own n k is = record {
-  sent = L.Nothing;
-  token = Ok [];
-  kept = k.0;
-  between = y;
-  first = k.1 o m word L.Nothing (Ok []);
-  last =
-      refl;
-  own_is = is;
-  asked_is = refl;
-}
-done_by x y o r (Keeps t) m word own n k is = record {
-  sent = L.Nothing;
-  token = Ok [];
-  kept = k.0;
-  between = y;
-  first = k.1 o m word L.Nothing (Ok []);
-  last =
-      refl;
-  own_is = is;
-  asked_is = refl;
-}
-done_by x y o r (Releases t) m word own n k is =
-    record {
-      sent = L.Nothing;
-      token = Ok [];
-      kept = k.0;
-      between = y;
-      first = k.1 o m word L.Nothing (Ok []);
-      last =
-          refl;
-      own_is = is;
-      asked_is = refl;
-    }
 done_by x y o r (Asks op) m word own n k is = absurd n
+done_by x y o r _ m word own n k is = record { sent = L.Nothing; token = Ok []; kept = k.0; between = y; first = k.1 o m word L.Nothing (Ok []); last = refl; own_is = is; asked_is = refl }
 
 pub deed_happens : (x y : X.State) (e : Effect) (m word : ℕ) (own : Own) → AsksNothing e.deed → IsDone x e.deed y
     → own ≡ reporting e → Happens x e m word None (left own y)
@@ -236,18 +203,14 @@ was_registered x y number path s own m word a told k kept is some step own_is =
 
 -- what runs failed
 
-releases_quiet : (o : Option Observation) → AsksNothing (releases o)
+pub releases_quiet : (o : Option Observation) → AsksNothing (releases o)
 releases_quiet None = tt
 releases_quiet (Some o) = tt
 
 failed_quiet : (u : Transfer → Bool) (report : Report) (s : Own) (running : Option Operation)
     → AsksNothing (failed u report s running).deed
-failed_quiet u report s None = tt
-failed_quiet u report s (Some (Calling number r t)) = tt
-failed_quiet u report s (Some (Registering number path)) = tt
-failed_quiet u report s (Some (Fetching number)) = tt
 failed_quiet u report s (Some (Cancelling number)) = releases_quiet (observation_of number s.observations)
-failed_quiet u report s (Some Dropped) = tt
+failed_quiet u report s _ = tt
 
 pub failed_happens : (x y : X.State) (s own : Own) (report : Report) (m word : ℕ)
     → IsDone x (failing false report s).deed y → own ≡ reporting (failing false report s)

@@ -15,13 +15,8 @@ same_led old new led same = subst WasLed (sym same) led
 -- a call was refused memory, or not
 pub closes_call : {X : Type 0} {P : Type 0} (r : Result X CallRefusal) → (r ≢ Err refusals.Memory → P)
     → (r ≡ Err refusals.Memory → P) → P
-closes_call (Ok x) other memory = other (λ e. cc e)
-closes_call (Err refusals.QueueFull) other memory = other (λ e. cc e)
-closes_call (Err refusals.BodyTooLarge) other memory = other (λ e. cc e)
-closes_call (Err refusals.BadPath) other memory = other (λ e. cc e)
 closes_call (Err refusals.Memory) other memory = memory refl
-closes_call (Err refusals.WatchesFull) other memory = other (λ e. cc e)
-closes_call (Err refusals.CallsSpent) other memory = other (λ e. cc e)
+closes_call _ other memory = other (λ e. cc e)
 
 -- what is seen of a client is what it is
 pub seen_step : (inside outside : State) (c : Call) (new : State) → inside ≡ outside → Step inside c new

@@ -9,8 +9,8 @@ use Rattle.coap_operations.specs.declared.queued.Queued.{Queued}
 use Rattle.coap_operations.specs.declared.queued.Queued.TheVariants.{Starts, Cancels}
 use Rattle.coap_operations.specs.Listed.{first_runs}
 use Rattle.coap_client.specs.Trace.{Report}
-use Rattle.coap_client.specs.Own.{Transfer, Observation, Operation, Calling, Registering, Fetching}
-use Rattle.coap_client.specs.Own.{Cancelling, Dropped, Own, clocked}
+use Rattle.coap_client.specs.Own.{Transfer, Observation, Operation, Fetching}
+use Rattle.coap_client.specs.Own.{Cancelling, Own, clocked}
 use Rattle.coap_client.specs.Observations.{observation_of}
 use Rattle.coap_client.specs.Effects.{Effect, stays, runs}
 use Rattle.coap_client.specs.Events.{failed, idle, is_held, is_upload_op, starts}
@@ -21,6 +21,7 @@ use Rattle.coap_client.specs.Object.Happens.{Comes, left}
 use Rattle.coap_client.specs.Object.Shown.{shown_operation, shown_queued, shown_waiting}
 use Rattle.coap_client.proofs.Calls.Happening.{AsksNothing, rests_happens}
 use Rattle.coap_client.specs.Object.Starts.{may_start}
+use Rattle.coap_client.proofs.Calls.Happening.{releases_quiet as releases_nothing}
 
 -- nothing is sent or reported
 pub rest_comes : (t own : Own) (x : X.State) (e : Effect) (m word : ℕ) → e ≡ stays t → own ≡ asking None t
@@ -37,18 +38,10 @@ rest_comes t own x e m word is own_is =
 
 -- what ran is over, for which nothing is sent
 
-releases_nothing : (o : Option Observation) → AsksNothing (releases o)
-releases_nothing None = tt
-releases_nothing (Some o) = tt
-
 pub fails_silently : (f : Transfer → Bool) (report : Report) (s : Own) (r : Option Operation)
     → AsksNothing (failed f report s r).deed
-fails_silently f report s None = tt
-fails_silently f report s (Some (Calling n r t)) = tt
-fails_silently f report s (Some (Registering n p)) = tt
-fails_silently f report s (Some (Fetching n)) = tt
 fails_silently f report s (Some (Cancelling n)) = releases_nothing (observation_of n s.observations)
-fails_silently f report s (Some Dropped) = tt
+fails_silently f report s _ = tt
 
 -- what starts
 

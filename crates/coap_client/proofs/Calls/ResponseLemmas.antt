@@ -43,9 +43,7 @@ found d number (p ∷ ps) v h = by (found d number ps v) (is_recognised d p.0 p.
 
 last_two : (a b c : Bool) → (a && b && c) ≡ true → (b ≡ true) × (c ≡ true)
 last_two true true true h = (refl, refl)
-last_two true true false h = absurd (cc h)
-last_two true false c h = absurd (cc h)
-last_two false b c h = absurd (cc h)
+last_two _ _ _ h = absurd (cc h)
 
 pub etag_few : (options : List CoapOption) (v : List ℕ) → value_of 4 (recognised direction.Response options) ≡ Some v
     → (1 ≤ length v) × (length v ≤ 8)

@@ -17,10 +17,10 @@ use Rattle.coap_common.proofs.Facts.FirstOut.{only_live}
 -- datagrams
 
 live : (s : State) → WasLed s → OnlyLive s.layer.layer
-live s (server, sizes, word, t, led) =
-    only_live (S.usual word) _ s.layer.layer (led_exchanged server word [] (lower_of sizes t)
-    (X.fresh_state server word) s.layer
-    (led_start server word) led.layer).layer
+live s (server, sizes, setup, t, led) =
+    only_live setup _ s.layer.layer (led_exchanged server setup [] (lower_of sizes t)
+    (X.fresh_state server setup) s.layer
+    (led_start server setup) led.layer).layer
 
 module _ (old new : State) where
   layer_step : (answer : Option L.Packet) → Step old (NextOut answer) new

@@ -9,6 +9,7 @@ use Rattle.coap_block.specs.declared.fetch_verdict.Verdict.{Verdict}
 use Rattle.coap_block.specs.declared.fetch_verdict.Verdict.TheVariants as verdict
 use Rattle.coap_observe.specs.Newer.{Watched as Mark, arrived, is_newer}
 use Rattle.coap_layer.specs.Trace as L
+use Rattle.coap_layer.specs.declared.setup.Setup.{Setup}
 use Rattle.coap_exchange.specs.AskerTrace as E
 use Rattle.coap_exchange.specs.AskerLaw as X
 use Rattle.coap_exchange.specs.declared.asker.AskRefusal.{AskRefusal}
@@ -22,7 +23,7 @@ use Rattle.coap_client.specs.Own.{Transfer, Operation, Calling, Registering, Fet
 use Rattle.coap_client.specs.Own.{Dropped, Notified, Observation, Own, start}
 use Rattle.coap_client.specs.Observations.{observation_with, over, to_fetch, with_rest}
 use Rattle.coap_client.specs.Calls as calls
-use Rattle.coap_client.specs.Effects.{Deed, Rests, Asks, Keeps, Releases, Effect, has_sent, is_upload}
+use Rattle.coap_client.specs.Effects.{Deed, Rests, Asks, Effect, has_sent, is_upload}
 use Rattle.coap_client.specs.Events.{answered, called, closed, failed, happened, idle, is_held}
 use Rattle.coap_client.specs.Events.{is_upload_op, passes, starts}
 use Rattle.coap_client.specs.Fetching.{fetch_answered, fetch_by}
@@ -36,6 +37,7 @@ use Rattle.coap_client.specs.Led.{State, Step, Led}
 use Rattle.coap_client.proofs.Turning.Leading.{led_client, client_stands}
 use Rattle.coap_client.proofs.Places.Once.{known}
 use Rattle.coap_client.specs.Object.Happens.{Apart, AreFresh, WasLed, Watched, left}
+use Rattle.coap_client.proofs.Places.Once.{at_most_one}
 
 abbrev Fresh : ℕ → List Observation → Type 0
 Fresh t os = AreFresh t os
@@ -91,12 +93,10 @@ over_fresh t number s f = (f.0, filtered t (λ o. not (o.number == number)) s.ob
 
 failed_fresh : (t : ℕ) (u : Transfer → Bool) (report : Report) (s : Own) (running : Option Operation) → Seen t s
     → Seen t (failed u report s running).own
-failed_fresh t u report s None f = f
 failed_fresh t u report s (Some (Calling number r w)) f = held_fresh t (u w && is_upload w) s (Some s.sent) f
-failed_fresh t u report s (Some (Registering number path)) f = f
 failed_fresh t u report s (Some (Fetching number)) f = (f.0, rested t number None s.observations f.1)
 failed_fresh t u report s (Some (Cancelling number)) f = over_fresh t number (record s { running = None }) f
-failed_fresh t u report s (Some Dropped) f = f
+failed_fresh t u report s _ f = f
 
 called_fresh : (t number : ℕ) (r : Request) (w : Transfer) (s : Own) (next : calls.Next) → Seen t s
     → Seen t (called number r w s next).own
@@ -114,9 +114,7 @@ registered_fresh t number path s m f = if_own (is_notification m) _ _ (λ o. See
 fetch_by_fresh : (t number : ℕ) (n : Notified) (s : Own) (m : Message) (v : Verdict) → Seen t s
     → Seen t (fetch_by number n s m v).own
 fetch_by_fresh t number n s m (verdict.Ask num szx) f = (f.0, rested t number _ s.observations f.1)
-fetch_by_fresh t number n s m (verdict.Refuse why) f = (f.0, rested t number None s.observations f.1)
-fetch_by_fresh t number n s m verdict.Again f = (f.0, rested t number None s.observations f.1)
-fetch_by_fresh t number n s m verdict.Done f = (f.0, rested t number None s.observations f.1)
+fetch_by_fresh t number n s m _ f = (f.0, rested t number None s.observations f.1)
 
 fetched_fresh : (t number : ℕ) (n : Option Notified) (s : Own) (m : Message) → Seen t s
     → Seen t (fetch_answered number n s m).own
@@ -177,11 +175,8 @@ passes_fresh t s (turn.End e) f = failed_fresh t (λ w. true) (lapse e) s s.runn
 
 closed_fresh : (t u : ℕ) (e : Effect) (d : Deed) (token : Result (List ℕ) AskRefusal) → Seen t e.own
     → Seen t (closed u e d token).own
-closed_fresh t u e (Asks op) (Ok token) f = f
 closed_fresh t u e (Asks op) (Err why) f = failed_fresh t has_sent NoIds e.own (Some op) f
-closed_fresh t u e Rests token f = f
-closed_fresh t u e (Keeps k) token f = f
-closed_fresh t u e (Releases k) token f = f
+closed_fresh t u e _ _ f = f
 
 own_fresh : (sizes : Sizes) (t : List Call) → Fresh (own_of sizes t).clock (own_of sizes t).observations
 own_fresh sizes [] = tt
@@ -225,10 +220,6 @@ watched s now led =
     subst (λ (o : Own). Watched (max o.clock now) o) (sym l.own_is)
     (later _ _ (own_of led.1 led.3).observations (omega arith) (own_fresh led.1 led.3))
 
-at_most_one : (a b : ℕ) (c : Bool) → a + b ≡ cond c 1 0 → a ≤ 1
-at_most_one a b true h = omega (arith, h)
-at_most_one a b false h = omega (arith, h)
-
 pub apart : (s : State) → WasLed s → Apart s.own
 apart s led n =
     let l = led.4 in
@@ -239,10 +230,10 @@ apart s led n =
 pub led_step : (old new : State) (c : Call) → WasLed old → Step old c new → WasLed new
 led_step old new c led step = (led.0, led.1, led.2, c ∷ led.3, led_client led.0 led.1 led.2 led.3 c old new led.4 step)
 
-pub led_new : (server : Endpoint) (sizes : Sizes) (word : ℕ) (s : Own) (x : X.State) → s ≡ start sizes
-    → x ≡ X.fresh_state server word
-    → Led server sizes word [] (left s x)
-led_new server sizes word s x own_is layer_is = record { rows = tt; own_is = own_is; layer = layer_is }
+pub led_new : (server : Endpoint) (sizes : Sizes) (setup : Setup) (s : Own) (x : X.State) → s ≡ start sizes
+    → x ≡ X.fresh_state server setup
+    → Led server sizes setup [] (left s x)
+led_new server sizes setup s x own_is layer_is = record { rows = tt; own_is = own_is; layer = layer_is }
 
 pub taken_out : (s : Own) (x y : X.State) (answer : Option L.Packet) → X.Step x (E.Take answer) y
     → Step (left s x) (NextOut answer) (left s y)

@@ -179,10 +179,8 @@ idle_fewer m s token None None is h = starts_fewer m m s token s.queue h
 
 silent_own : (m : ℕ) (e : Effect) (token : Result (List ℕ) AskRefusal) (d : Deed) → AsksNothing d
     → (closed m e d token).own ≡ e.own
-silent_own m e token Rests n = refl
-silent_own m e token (Keeps t) n = refl
-silent_own m e token (Releases t) n = refl
 silent_own m e token (Asks op) n = absurd n
+silent_own m e token _ n = refl
 
 -- what is asked of the exchanges has no step due
 
@@ -236,10 +234,6 @@ module _ (m w : ℕ) (sent : L.Answer) (token : Result (List ℕ) AskRefusal) (k
   -- .. nor a wait that is due
   deed_wait : (d : Deed) (o : Own) (x y : X.State) → Done d o x y → wait m y.own ≤ wait m x.own
   deed_wait Rests o x y h = let k = ap (λ (z : X.State). wait m z.own) h in omega (arith, k)
-  deed_wait (Keeps t) o x y h = let k = ap (wait m) h.2.own_is in let j = ap (λ (z : X.State). wait m z.own) h.1 in
-      omega (arith, k, j)
-  deed_wait (Releases t) o x y h = let k = ap (wait m) h.2.own_is in let j = ap (λ (z : X.State). wait m z.own) h.1 in
-      omega (arith, k, j)
   deed_wait (Asks op) o x y h =
       let e = h.0.own in
       let r = message_of o.observations op in
@@ -247,6 +241,7 @@ module _ (m w : ℕ) (sent : L.Answer) (token : Result (List ℕ) AskRefusal) (k
       let j = ap (λ (z : X.State). wait m z.own) h.1 in
       let l = opened_wait m e r (Q.sent_as (Q.opening_of e r) sent) in
       omega (arith, k, j, l)
+  deed_wait _ o x y h = let k = ap (wait m) h.2.own_is in let j = ap (λ (z : X.State). wait m z.own) h.1 in omega (arith, k, j)
 
 -- a tick
 

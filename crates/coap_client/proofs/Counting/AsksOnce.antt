@@ -2,10 +2,10 @@
 use Rattle.std.proofs.Common.{◌≡◌, ◌⊎◌, inl, inr, ℕ, max, true, Option, Some, None, List, [], ◌∷◌, ap, sym, subst, ◌∙◌}
 use Rattle.std.proofs.Common.{arith}
 use Rattle.coap_types.specs.declared.endpoint.Endpoint.{Endpoint}
+use Rattle.coap_layer.specs.declared.setup.Setup.{Setup}
 use Rattle.coap_block.specs.Sizes.{Sizes}
 use Rattle.coap_exchange.specs.declared.asker.Event.{Event}
-use Rattle.coap_client.specs.Trace.{Call, Calls, Observes, Cancels, Forgets, Feeds, Ticks, NextOut}
-use Rattle.coap_client.specs.Trace.{NextReport, Asked}
+use Rattle.coap_client.specs.Trace.{Call, Feeds, Ticks}
 use Rattle.coap_client.specs.Own.{Operation, Calling, Registering, Fetching, Cancelling, Dropped, Own}
 use Rattle.coap_client.specs.Reports.{lapse}
 use Rattle.coap_client.specs.Effects.{Asks, Effect}
@@ -29,24 +29,10 @@ use Rattle.coap_client.proofs.Sending.Tokens.{one_cancel}
 first_waits : (s : Own) (now : ℕ) (told : Option Event) (mo : Move s now told) (n : ℕ) (path : List (List ℕ))
     → (left_by s now told mo).deed ≡ Asks (Registering n path)
     → (queue : List Operation) × (s.queue ≡ Registering n path ∷ queue)
-first_waits s now told (mv.rests un) n path h = absurd (cc h)
-first_waits s now told (mv.copies quiet_so) n path h = absurd (cc h)
 first_waits s now told (mv.starts_next op queue none rest first quiet_so) n path h = let e : op
     ≡ Registering n path = cc h in (queue, first ∙ ap (λ o. o ∷ queue) e)
-first_waits s now told (mv.fetches k none rest quiet_so) n path h = absurd (cc h)
-first_waits s now told (mv.goes_on k r tr next a hears runs asks) n path h = absurd (cc h)
-first_waits s now told (mv.is_done k r tr final rep a hears runs ends_so) n path h = absurd (cc h)
-first_waits s now told (mv.registers k p a hears runs note) n path h = absurd (cc h)
-first_waits s now told (mv.refuses k p a hears runs note) n path h = absurd (cc h)
-first_waits s now told (mv.fetches_on k m a num size hears runs rest code asks) n path h = absurd (cc h)
-first_waits s now told (mv.fetched k m a hears runs rest code done) n path h = absurd (cc h)
-first_waits s now told (mv.gives_up k a hears runs) n path h = absurd (cc h)
-first_waits s now told (mv.fetched_none k a hears runs) n path h = absurd (cc h)
 first_waits s now told (mv.cancels k a hears runs) n path h = absurd (releases_none _ _ h)
-first_waits s now told (mv.is_dropped a hears runs) n path h = absurd (cc h)
 first_waits s now told (mv.is_ended o a notes found note) n path h = absurd (releases_none _ _ h)
-first_waits s now told (mv.renews o a notes found note newer) n path h = absurd (cc h)
-first_waits s now told (mv.passes_by o a notes found note newer) n path h = absurd (cc h)
 first_waits s now told (mv.fails e un) n path h = absurd (by s.running h)
   where
     by : (running : Option Operation) → (failed (λ t. true) (lapse e) s running).deed ≡ Asks (Registering n path) → ⊥
@@ -56,20 +42,15 @@ first_waits s now told (mv.fails e un) n path h = absurd (by s.running h)
     by (Some (Fetching k)) h = cc h
     by (Some Dropped) h = cc h
     by (Some (Cancelling k)) h = releases_none _ _ h
+first_waits s now told _ n path h = absurd (cc h)
 
 the_registration : (op : Operation) (n : ℕ) → registers op ≡ Some n → (path : List (List ℕ)) × (op ≡ Registering n path)
 the_registration (Registering k path) n is = let e : k ≡ n = cc is in (path, ap (λ i. Registering i path) e)
-the_registration (Calling k r t) n is = absurd (cc is)
-the_registration (Fetching k) n is = absurd (cc is)
-the_registration (Cancelling k) n is = absurd (cc is)
-the_registration Dropped n is = absurd (cc is)
+the_registration _ n is = absurd (cc is)
 
 the_cancel : (op : Operation) (n : ℕ) → cancels op ≡ Some n → op ≡ Cancelling n
 the_cancel (Cancelling k) n is = let e : k ≡ n = cc is in ap Cancelling e
-the_cancel (Calling k r t) n is = absurd (cc is)
-the_cancel (Registering k path) n is = absurd (cc is)
-the_cancel (Fetching k) n is = absurd (cc is)
-the_cancel Dropped n is = absurd (cc is)
+the_cancel _ n is = absurd (cc is)
 
 module _ (sizes : Sizes) where
   abbrev Waits : List Call → Sending → Type 0
@@ -99,13 +80,7 @@ module _ (sizes : Sizes) where
       waits_by t _ y (fed_turned sizes t now from bytes w up settled event sent token was) h
   waits t (Ticks now w below turn sent token was answer) y h =
       waits_by t _ y (ticked_turned sizes t now w below turn sent token was answer) h
-  waits t (Calls now r answer) y h = absurd (cc h)
-  waits t (Observes now path answer) y h = absurd (cc h)
-  waits t (Cancels now n answer) y h = absurd (cc h)
-  waits t (Forgets n was answer) y h = absurd (cc h)
-  waits t (NextOut answer) y h = absurd (cc h)
-  waits t (NextReport answer) y h = absurd (cc h)
-  waits t (Asked answer) y h = absurd (cc h)
+  waits t _ y h = absurd (cc h)
 
   -- what waits was not sent
   registered_once : (t : List Call) (c : Call) → ClientRows sizes t → (x y : Sending)
@@ -122,17 +97,17 @@ module _ (sizes : Sizes) where
       let less = z.sent x h.0 was (ap turn_of a.1) in
       omega (arith, low, less)
 
-pub ask_once : (server : Endpoint) (sizes : Sizes) (word : ℕ) (t : List Call) → ClientLaw server sizes word t
+pub ask_once : (server : Endpoint) (sizes : Sizes) (setup : Setup) (t : List Call) → ClientLaw server sizes setup t
     → AskOnce sizes t
-ask_once server sizes word [] law = tt
-ask_once server sizes word (c ∷ t) law = (
+ask_once server sizes setup [] law = tt
+ask_once server sizes setup (c ∷ t) law = (
   here,
-  ask_once server sizes word t
-      (client_back server sizes word (c ∷ []) t law),
+  ask_once server sizes setup t
+      (client_back server sizes setup (c ∷ []) t law),
 )
   where
     here : (x y : Sending) → sends (own_of sizes t) c ≡ Some y → WasSent sizes x t
         → (BothDo registers x y ⊎ BothDo cancels x y) → ⊥
     here x y is was (inl h) = registered_once sizes t c law.rows.1 x y is was h
-    here x y is was (inr h) = one_cancel sizes server word t c law y x h.0 is (the_cancel y.operation h.0 h.2) was
+    here x y is was (inr h) = one_cancel sizes server setup t c law y x h.0 is (the_cancel y.operation h.0 h.2) was
         (the_cancel x.operation h.0 h.1)

@@ -6,6 +6,7 @@ use Rattle.std.proofs.lemmas.Bool.{ltb-true}
 use Rattle.coap_types.specs.Piece.{size_of}
 use Rattle.coap_types.specs.declared.block.Block.{Block}
 use Rattle.coap_types.specs.declared.endpoint.Endpoint.{Endpoint}
+use Rattle.coap_layer.specs.declared.setup.Setup.{Setup}
 use Rattle.coap_codec.specs.Message.{Message}
 use Rattle.coap_block.specs.Sizes.{Sizes}
 use Rattle.coap_block.specs.declared.fetch_verdict.Verdict.TheVariants as verdict
@@ -141,8 +142,8 @@ module _ (sizes : Sizes) where
   all_within [] rows answers k = inl (omega arith)
   all_within (c ∷ t) rows answers k = step t c k rows answers.0 (all_within t rows.1 answers.1 k)
 
-pub within_or_beyond : (server : Endpoint) (sizes : Sizes) (word : ℕ) (t : List Call) → ClientLaw server sizes word t
+pub within_or_beyond : (server : Endpoint) (sizes : Sizes) (setup : Setup) (t : List Call) → ClientLaw server sizes setup t
     → (number : ℕ)
     → IsWithin sizes number t
-within_or_beyond server sizes word t law number = all_within sizes t law.rows
-    (answers_last sizes server word t law) number
+within_or_beyond server sizes setup t law number = all_within sizes t law.rows
+    (answers_last sizes server setup t law) number

@@ -11,6 +11,7 @@ use Rattle.coap_types.specs.declared.option_number.TheConstants.{BLOCK1 as block
 use Rattle.coap_types.specs.declared.request.Method.{Method}
 use Rattle.coap_types.specs.declared.request.Method.TheVariants.{Get, Post, Put, Delete}
 use Rattle.coap_types.specs.Piece.{size_of}
+use Rattle.coap_layer.specs.declared.setup.Setup.{Setup}
 use Rattle.coap_codec.specs.Message.{Message}
 use Rattle.coap_block.specs.Sizes.{Sizes}
 use Rattle.coap_block.specs.declared.fetch_verdict.Verdict.{Verdict}
@@ -26,7 +27,7 @@ use Rattle.coap_client.specs.Trace.{Calls, Observes, Cancels, Forgets, Feeds, Ti
 use Rattle.coap_client.specs.Trace.{NextReport}
 use Rattle.coap_client.specs.Trace.{Asked}
 use Rattle.coap_client.specs.Own.{Transfer, Fetches, Uploads, Single, Operation, Calling, Registering}
-use Rattle.coap_client.specs.Own.{Fetching, Cancelling, Dropped, Own}
+use Rattle.coap_client.specs.Own.{Cancelling, Own}
 use Rattle.coap_client.specs.Requests.{options_of, is_longer}
 use Rattle.coap_client.specs.Responses.{content, valid, continue, tag_in, block_at, part}
 use Rattle.coap_client.specs.Reports.{lapse, done}
@@ -165,34 +166,15 @@ sizes_held s false report = refl
 
 sizes_failed : (u : Transfer → Bool) (report : Report) (s : Own) (running : Option Operation)
     → (failed u report s running).own.sizes ≡ s.sizes
-sizes_failed u report s None = refl
 sizes_failed u report s (Some (Calling k r t)) = sizes_held s (u t && is_upload t) (of k report)
-sizes_failed u report s (Some (Registering k path)) = refl
-sizes_failed u report s (Some (Fetching k)) = refl
-sizes_failed u report s (Some (Cancelling k)) = refl
-sizes_failed u report s (Some Dropped) = refl
+sizes_failed u report s _ = refl
 
 sizes_moves : (s : Own) (now : ℕ) (told : Option Event) (mo : Move s now told)
     → (left_by s now told mo).own.sizes ≡ s.sizes
-sizes_moves s now told (mv.rests un) = refl
-sizes_moves s now told (mv.copies q) = refl
-sizes_moves s now told (mv.starts_next op queue none rest first q) = refl
-sizes_moves s now told (mv.fetches k none rest q) = refl
-sizes_moves s now told (mv.goes_on k r tr next a hears runs asks) = refl
 sizes_moves s now told (mv.is_done k r tr final rep a hears runs ends_so) =
     sizes_held s (not final && is_upload tr) (of k rep)
-sizes_moves s now told (mv.registers k path a hears runs note) = refl
-sizes_moves s now told (mv.refuses k path a hears runs note) = refl
-sizes_moves s now told (mv.fetches_on k n a num size hears runs rest code asks) = refl
-sizes_moves s now told (mv.fetched k n a hears runs rest code done_so) = refl
-sizes_moves s now told (mv.gives_up k a hears runs) = refl
-sizes_moves s now told (mv.fetched_none k a hears runs) = refl
-sizes_moves s now told (mv.cancels k a hears runs) = refl
-sizes_moves s now told (mv.is_dropped a hears runs) = refl
 sizes_moves s now told (mv.fails e un) = sizes_failed (λ t. true) (lapse e) s s.running
-sizes_moves s now told (mv.is_ended o a notes found note) = refl
-sizes_moves s now told (mv.renews o a notes found note newer) = refl
-sizes_moves s now told (mv.passes_by o a notes found note newer) = refl
+sizes_moves s now told _ = refl
 
 sizes_closed : (now : ℕ) (e : Effect) (token : Result (List ℕ) AskRefusal) → Closing now e token
     → (closed now e e.deed token).own.sizes ≡ e.own.sizes
@@ -242,10 +224,7 @@ Waits sizes t op = Unit {0}
 
 waits_later : (sizes : Sizes) (t : List Call) (c : Call) (op : Operation) → Waits sizes t op → Waits sizes (c ∷ t) op
 waits_later sizes t c (Calling k r tr) h = (h.0, inr h.1, h.2, h.3)
-waits_later sizes t c (Registering k path) h = tt
-waits_later sizes t c (Fetching k) h = tt
-waits_later sizes t c (Cancelling k) h = tt
-waits_later sizes t c Dropped h = tt
+waits_later sizes t c _ h = tt
 
 -- a call that is taken has a body that can be joined
 body_small : (s : Own) (r : Request) (n : ℕ) → Ok n ≡ call_answer s r → length r.body ≤ s.sizes.limit
@@ -261,17 +240,11 @@ body_small s r n is = by (is_full s) (nat_lt s.sizes.limit (length r.body))
 
 call_turns : (op : Operation) (k : ℕ) → call_of op ≡ Some k → turn_of op ≡ Some k
 call_turns (Calling n r t) k is = is
-call_turns (Registering n path) k is = absurd (cc is)
-call_turns (Fetching n) k is = absurd (cc is)
-call_turns (Cancelling n) k is = absurd (cc is)
-call_turns Dropped k is = absurd (cc is)
+call_turns _ k is = absurd (cc is)
 
 pub the_call : (op : Operation) (k : ℕ) → call_of op ≡ Some k → (r : Request) × (tr : Transfer) × (op ≡ Calling k r tr)
 the_call (Calling n r t) k is = let e : n ≡ k = cc is in (r, t, ap (λ i. Calling i r t) e)
-the_call (Registering n path) k is = absurd (cc is)
-the_call (Fetching n) k is = absurd (cc is)
-the_call (Cancelling n) k is = absurd (cc is)
-the_call Dropped k is = absurd (cc is)
+the_call _ k is = absurd (cc is)
 
 -- counting
 
@@ -324,19 +297,12 @@ module _ (sizes : Sizes) where
         subst (λ (z : Sizes). length r.body ≤ z.limit) (sizes_same sizes t) (body_small (own_of sizes t) r n right),
         ap (λ i. transfer_of i r r.method) (sizes_same sizes t),
       )
-  waits_step t (Calls now r (Err why)) right h = h
   waits_step t (Observes now path (Ok n)) right h =
       all_more (Waits sizes (Observes now path (Ok n) ∷ t)) (own_of sizes t).queue (Registering n path) h tt
-  waits_step t (Observes now path (Err why)) right h = h
   waits_step t (Cancels now k None) right h = all_more (Waits sizes (Cancels now k None ∷ t)) (own_of sizes t).queue
       (Cancelling k) h tt
-  waits_step t (Cancels now k (Some why)) right h = h
   waits_step t (Forgets k was true) right h = all_uncancelled k (Waits sizes (Forgets k was true ∷ t))
       (own_of sizes t).queue h
-  waits_step t (Forgets k was false) right h = h
-  waits_step t (NextOut answer) right h = h
-  waits_step t (NextReport answer) right h = h
-  waits_step t (Asked answer) right h = h
   waits_step t (Feeds now from bytes w up settled event sent token was) right h =
       let s : Own = own_of sizes t in
       let m : ℕ = max s.clock now in
@@ -349,6 +315,7 @@ module _ (sizes : Sizes) where
       let e : Effect = passes (at now s) m turn in
       let P : Operation → Type 0 = Waits sizes (Ticks now w below turn sent token was answer ∷ t) in
       waits_closed P m e token ((passes_runs (at now s) m turn).waits P h) (closing m e token)
+  waits_step t _ right h = h
 
   all_wait : (t : List Call) → ClientRows sizes t → AllOf (Waits sizes t) (own_of sizes t).queue
   all_wait [] rows = tt
@@ -439,15 +406,7 @@ module _ (sizes : Sizes) where
 gives_number : (k : ℕ) (q : Request) (c : Call) → takes c ≡ Some (taken k q) → number_given c ≡ Some k
 gives_number k q (Calls now r (Ok n)) is = let e : ◌≡◌ {A = Taken} (taken n r) (taken k q) =
     cc is in ap (λ (x : Taken). Some x.number) e
-gives_number k q (Calls now r (Err why)) is = absurd (cc is)
-gives_number k q (Observes now path answer) is = absurd (cc is)
-gives_number k q (Cancels now n answer) is = absurd (cc is)
-gives_number k q (Forgets n was answer) is = absurd (cc is)
-gives_number k q (Feeds now from bytes w up settled event sent token was) is = absurd (cc is)
-gives_number k q (Ticks now w below turn sent token was answer) is = absurd (cc is)
-gives_number k q (NextOut answer) is = absurd (cc is)
-gives_number k q (NextReport answer) is = absurd (cc is)
-gives_number k q (Asked answer) is = absurd (cc is)
+gives_number k q _ is = absurd (cc is)
 
 given_before : (k : ℕ) (q : Request) (t : List Call) → WasTaken (taken k q) t → Ever (λ b. number_given b ≡ Some k) t
 given_before k q t h = Ever_map (λ b. takes b ≡ Some (taken k q)) (λ b. number_given b ≡ Some k)
@@ -464,13 +423,13 @@ one_request k a b (c ∷ t) once (inl h) (inr i) = absurd (once.0 k (gives_numbe
 one_request k a b (c ∷ t) once (inr h) (inl i) = absurd (once.0 k (gives_number k b c i) (given_before k a t h))
 one_request k a b (c ∷ t) once (inr h) (inr i) = one_request k a b t once.1 h i
 
-pub are_bounded : (server : Endpoint) (sizes : Sizes) (word : ℕ) (t : List Call) → ClientLaw server sizes word t
+pub are_bounded : (server : Endpoint) (sizes : Sizes) (setup : Setup) (t : List Call) → ClientLaw server sizes setup t
     → AreBounded sizes t
-are_bounded server sizes word t law x was = by (bounded sizes t law.rows x.number)
+are_bounded server sizes setup t law x was = by (bounded sizes t law.rows x.number)
   where
     by : Bounded sizes x.number t → requests sizes x.number t ≤ most_requests sizes x.request x.request.method
     by (inl none) = omega (arith, none)
     by (inr h) =
         let same : h.0 ≡ x.request = one_request x.number h.0 x.request t
-        (numbers_once server sizes word t law.rows law.exchanges.rows) h.1 was in
+        (numbers_once server sizes setup t law.rows law.exchanges.rows) h.1 was in
         subst (λ (q : Request). requests sizes x.number t ≤ most_requests sizes q q.method) same h.2

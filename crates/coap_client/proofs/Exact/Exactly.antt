@@ -16,6 +16,7 @@ use Rattle.coap_exchange.specs.AskerLaw as E
 use Rattle.coap_exchange.specs.AskerLaw.{ExchangeLaw}
 use Rattle.coap_exchange.proofs.Facts.ClientSide.{exact}
 use Rattle.coap_layer.proofs.Facts.StepsOfLayer.{steps_split}
+use Rattle.coap_layer.specs.declared.setup.Setup.{Setup}
 use Rattle.coap_client.specs.Trace.{Call, Forgets, Feeds, Ticks}
 use Rattle.coap_client.specs.Own.{Own}
 use Rattle.coap_client.specs.Requests.{message_of}
@@ -26,14 +27,14 @@ use Rattle.coap_client.specs.Deeds.{at, close, deeds, done_for, forgets}
 use Rattle.coap_client.specs.Law.{ClientLaw, own_of, lower_of}
 use Rattle.coap_client.specs.Follows.Exact.{LeaveAlike, IsExact}
 
-module _ (server : Endpoint) (word : ℕ) where
+module _ (server : Endpoint) (setup : Setup) where
   abbrev Law : List A.Call → Type 0
-  Law calls = ExchangeLaw server word calls
+  Law calls = ExchangeLaw server setup calls
 
   one_back : (c : A.Call) (calls : List A.Call) → Law (c ∷ calls) → Law calls
   one_back c calls law =
-      let k = steps_split (S.start (S.usual word)) law.left (P.lower (E.own_of server word calls) c)
-      (E.lower_of server word calls) law.layer in
+      let k = steps_split (S.start setup) law.left (P.lower (E.own_of server setup calls) c)
+      (E.lower_of server setup calls) law.layer in
       record { rows = law.rows.1; left = k.0; layer = k.1 }
 
   back : (cs calls : List A.Call) → Law (cs ++ calls) → Law calls
@@ -42,8 +43,8 @@ module _ (server : Endpoint) (word : ℕ) where
 
   -- calls that leave the same
   pub record Same (xs ys : List A.Call) : Type 0 where
-    pub own : E.own_of server word xs ≡ E.own_of server word ys
-    pub beneath : E.lower_of server word xs ≡ E.lower_of server word ys
+    pub own : E.own_of server setup xs ≡ E.own_of server setup ys
+    pub beneath : E.lower_of server setup xs ≡ E.lower_of server setup ys
 
   same_behind : (cs xs ys : List A.Call) → Same xs ys → Same (cs ++ xs) (cs ++ ys)
   same_behind [] xs ys s = s
@@ -51,23 +52,23 @@ module _ (server : Endpoint) (word : ℕ) where
       let k = same_behind cs xs ys s in
       record {
         own = ap (λ o. P.after o c) k.own;
-        beneath = ap (λ o. P.lower o c ++ E.lower_of server word (cs ++ xs)) k.own
-            ∙ ap (λ l. P.lower (E.own_of server word (cs ++ ys)) c ++ l) k.beneath;
+        beneath = ap (λ o. P.lower o c ++ E.lower_of server setup (cs ++ xs)) k.own
+            ∙ ap (λ l. P.lower (E.own_of server setup (cs ++ ys)) c ++ l) k.beneath;
       }
 
-  rows_moved : (cs xs ys : List A.Call) → Same xs ys → E.AskerLaw server word xs → E.AskerLaw server word (cs ++ ys)
-      → E.AskerLaw server word (cs ++ xs)
+  rows_moved : (cs xs ys : List A.Call) → Same xs ys → E.AskerLaw server setup xs → E.AskerLaw server setup (cs ++ ys)
+      → E.AskerLaw server setup (cs ++ xs)
   rows_moved [] xs ys s rows k = rows
   rows_moved (c ∷ cs) xs ys s rows k = (
     subst (λ o. P.IsRight o c) (sym (same_behind cs xs ys s).own) k.0,
     rows_moved cs xs ys s rows k.1,
   )
 
-  moved : (cs xs ys : List A.Call) → Same xs ys → E.AskerLaw server word xs → Law (cs ++ ys) → Law (cs ++ xs)
+  moved : (cs xs ys : List A.Call) → Same xs ys → E.AskerLaw server setup xs → Law (cs ++ ys) → Law (cs ++ xs)
   moved cs xs ys s rows law = record {
     rows = rows_moved cs xs ys s rows law.rows;
     left = law.left;
-    layer = subst (λ l. Steps (S.start (S.usual word)) l law.left) (sym (same_behind cs xs ys s).beneath) law.layer;
+    layer = subst (λ l. Steps (S.start setup) l law.left) (sym (same_behind cs xs ys s).beneath) law.layer;
   }
 
   -- what is asked for a deed, and what becomes of it
@@ -76,31 +77,27 @@ module _ (server : Endpoint) (word : ℕ) where
         → Law (deeds d s now w gone key left ++ calls) → deeds d s now w sent token kept ≡ deeds d s now w gone key left
     deeds_alike Rests s calls p q = refl
     deeds_alike (Asks op) s calls p q =
-        let e = (exact server word calls).ask now w (message_of s.observations op) sent gone token key p q in
+        let e = (exact server setup calls).ask now w (message_of s.observations op) sent gone token key p q in
         ap (λ x. A.Ask now (message_of s.observations op) w x token ∷ []) e.0
         ∙ ap (λ x. A.Ask now (message_of s.observations op) w gone x ∷ []) e.1
-    deeds_alike (Keeps t) s calls p q = ap (λ x. A.Keep t x ∷ []) ((exact server word calls).keep t kept left p q)
+    deeds_alike (Keeps t) s calls p q = ap (λ x. A.Keep t x ∷ []) ((exact server setup calls).keep t kept left p q)
     deeds_alike (Releases t) s calls p q = ap (λ x. A.Release t x ∷ [])
-        ((exact server word calls).release t kept left p q)
+        ((exact server setup calls).release t kept left p q)
 
     closed_alike : (d : Deed) (s : Own) (e : Effect) → deeds d s now w sent token kept ≡ deeds d s now w gone key left
         → closed now e d token ≡ closed now e d key
-    closed_alike Rests s e same = refl
     closed_alike (Asks op) s e same = let k : token ≡ key = cc same in ap (closed now e (Asks op)) k
-    closed_alike (Keeps t) s e same = refl
-    closed_alike (Releases t) s e same = refl
+    closed_alike _ s e same = refl
 
     requested_alike : (d : Deed) (s : Own) → deeds d s now w sent token kept ≡ deeds d s now w gone key left
         → requested d token ≡ requested d key
-    requested_alike Rests s same = refl
     requested_alike (Asks op) s same = let k : token ≡ key = cc same in ap (requested (Asks op)) k
-    requested_alike (Keeps t) s same = refl
-    requested_alike (Releases t) s same = refl
+    requested_alike _ s same = refl
 
     -- the input alone
     pub stripped : (e : Effect) (input : A.Call) (calls : List A.Call)
-        → ExchangeLaw server word (done_for e now w sent token kept input ++ calls)
-        → ExchangeLaw server word (input ∷ calls)
+        → ExchangeLaw server setup (done_for e now w sent token kept input ++ calls)
+        → ExchangeLaw server setup (input ∷ calls)
     stripped e input calls p =
         let c = close now e token in
         let later = deeds c.deed c.own now w sent token kept in
@@ -147,7 +144,7 @@ module _ (server : Endpoint) (word : ℕ) where
               ∙ ap (λ l. deeds d.deed d.own now w gone key left ++ (l ++ i ∷ [])) one);
         }
 
-module _ (server : Endpoint) (sizes : Sizes) (word : ℕ) (past : List Call) where
+module _ (server : Endpoint) (sizes : Sizes) (setup : Setup) (past : List Call) where
   abbrev own : Own
   own = own_of sizes past
 
@@ -155,20 +152,20 @@ module _ (server : Endpoint) (sizes : Sizes) (word : ℕ) (past : List Call) whe
   calls = lower_of sizes past
 
   abbrev Stands : Call → Type 0
-  Stands c = ClientLaw server sizes word (c ∷ past)
+  Stands c = ClientLaw server sizes setup (c ∷ past)
 
   abbrev Alike : Call → Call → Type 0
-  Alike c d = LeaveAlike server sizes word past c d
+  Alike c d = LeaveAlike server sizes setup past c d
 
   forgotten_alike : (number : ℕ) (kept left answer : Bool) → Stands (Forgets number kept answer)
       → Stands (Forgets number left answer) → Alike (Forgets number kept answer) (Forgets number left answer)
   forgotten_alike number kept left answer p q =
-      let e = deeds_alike server word 0 0 L.Nothing L.Nothing (Ok []) (Ok []) kept left
+      let e = deeds_alike server setup 0 0 L.Nothing L.Nothing (Ok []) (Ok []) kept left
       (forgets answer number own) own calls p.exchanges q.exchanges in
       record {
         own = refl;
-        exchanges = ap (λ x. E.own_of server word (x ++ calls)) e;
-        beneath = ap (λ x. E.lower_of server word (x ++ calls)) e;
+        exchanges = ap (λ x. E.own_of server setup (x ++ calls)) e;
+        beneath = ap (λ x. E.lower_of server setup (x ++ calls)) e;
       }
 
   forgot : (number : ℕ) (kept left answer another : Bool) → Stands (Forgets number kept answer)
@@ -192,8 +189,8 @@ module _ (server : Endpoint) (sizes : Sizes) (word : ℕ) (past : List Call) whe
 
     fed_alike : (event : Option Event) → up ≡ other → Stands (Feeds now from bytes w up settled event sent token kept)
         → Stands (Feeds now from bytes w other ended event gone key left)
-        → P.lower (E.own_of server word calls) (taken up settled event)
-        ≡ P.lower (E.own_of server word calls) (taken other ended event)
+        → P.lower (E.own_of server setup calls) (taken up settled event)
+        ≡ P.lower (E.own_of server setup calls) (taken other ended event)
         → Alike (Feeds now from bytes w up settled event sent token kept)
         (Feeds now from bytes w other ended event gone key left)
     fed_alike event same p q below =
@@ -202,40 +199,40 @@ module _ (server : Endpoint) (sizes : Sizes) (word : ℕ) (past : List Call) whe
         let d : Effect = close moment e key in
         let x : List A.Call = taken up settled event ∷ calls in
         let y : List A.Call = taken other ended event ∷ calls in
-        let alike : Same server word x y = record {
-          own = ap (λ u. P.after (E.own_of server word calls) (A.Receive moment from bytes u settled event)) same;
-          beneath = ap (λ l. l ++ E.lower_of server word calls) below;
+        let alike : Same server setup x y = record {
+          own = ap (λ u. P.after (E.own_of server setup calls) (A.Receive moment from bytes u settled event)) same;
+          beneath = ap (λ l. l ++ E.lower_of server setup calls) below;
         } in
         let split : (a b : List A.Call) (i : A.Call) → (a ++ (b ++ i ∷ [])) ++ calls ≡ (a ++ b) ++ (i ∷ calls) =
         λ a b i. append_assoc a (b ++ i ∷ []) calls
         ∙ (ap (λ l. a ++ l) (append_assoc b (i ∷ []) calls) ∙ sym (append_assoc a b (i ∷ calls))) in
         let before : List A.Call = deeds d.deed d.own moment w gone key left
         ++ deeds e.deed e.own moment w gone key left in
-        let q1 = moved server word before x y alike
-        (back server word (deeds c.deed c.own moment w sent token kept
+        let q1 = moved server setup before x y alike
+        (back server setup (deeds c.deed c.own moment w sent token kept
         ++ deeds e.deed e.own moment w sent token kept) x
-        (subst (ExchangeLaw server word) (split (deeds c.deed c.own moment w sent token kept)
+        (subst (ExchangeLaw server setup) (split (deeds c.deed c.own moment w sent token kept)
         (deeds e.deed e.own moment w sent token kept) (taken up settled event)) p.exchanges)).rows
-        (subst (ExchangeLaw server word) (split (deeds d.deed d.own moment w gone key left)
+        (subst (ExchangeLaw server setup) (split (deeds d.deed d.own moment w gone key left)
         (deeds e.deed e.own moment w gone key left) (taken other ended event)) q.exchanges) in
-        let q2 = subst (ExchangeLaw server word) (sym
+        let q2 = subst (ExchangeLaw server setup) (sym
         (split (deeds d.deed d.own moment w gone key left) (deeds e.deed e.own moment w gone key left)
         (taken up settled event))) q1 in
-        let done = done_alike server word moment w sent gone token key kept left e
+        let done = done_alike server setup moment w sent gone token key kept left e
         (taken up settled event) calls p.exchanges q2 in
         let last : (i : A.Call) → done_for e moment w gone key left i ++ calls ≡ before
         ++ (i ∷ calls) = λ i. split (deeds d.deed d.own moment w gone key left)
         (deeds e.deed e.own moment w gone key left) i in
-        let k = same_behind server word before x y alike in
+        let k = same_behind server setup before x y alike in
         record {
           own = ap (λ x. asking (requested e.deed token) (reporting x)) done.left_alike
               ∙ ap (λ r. asking r (reporting (close moment e key))) done.sent_alike;
-          exchanges = ap (λ l. E.own_of server word (l ++ calls)) (done.asked (taken up settled event))
-              ∙ (ap (E.own_of server word) (last (taken up settled event))
-              ∙ (k.own ∙ sym (ap (E.own_of server word) (last (taken other ended event)))));
-          beneath = ap (λ l. E.lower_of server word (l ++ calls)) (done.asked (taken up settled event))
-              ∙ (ap (E.lower_of server word) (last (taken up settled event))
-              ∙ (k.beneath ∙ sym (ap (E.lower_of server word) (last (taken other ended event)))));
+          exchanges = ap (λ l. E.own_of server setup (l ++ calls)) (done.asked (taken up settled event))
+              ∙ (ap (E.own_of server setup) (last (taken up settled event))
+              ∙ (k.own ∙ sym (ap (E.own_of server setup) (last (taken other ended event)))));
+          beneath = ap (λ l. E.lower_of server setup (l ++ calls)) (done.asked (taken up settled event))
+              ∙ (ap (E.lower_of server setup) (last (taken up settled event))
+              ∙ (k.beneath ∙ sym (ap (E.lower_of server setup) (last (taken other ended event)))));
         }
 
   fed : (now : ℕ) (from : Endpoint) (bytes : List ℕ) (w : ℕ) (up other : L.Answer) (settled ended : Bool)
@@ -246,11 +243,11 @@ module _ (server : Endpoint) (sizes : Sizes) (word : ℕ) (past : List Call) whe
       (Feeds now from bytes w other ended another gone key left)
   fed now from bytes w up other settled ended event another sent gone token key kept left p q =
       let moment : ℕ = max own.clock now in
-      let p1 = stripped server word moment w sent sent token token kept kept (happened (at now own) moment event)
+      let p1 = stripped server setup moment w sent sent token token kept kept (happened (at now own) moment event)
       (A.Receive moment from bytes up settled event) calls p.exchanges in
-      let q1 = stripped server word moment w gone gone key key left left (happened (at now own) moment another)
+      let q1 = stripped server setup moment w gone gone key key left left (happened (at now own) moment another)
       (A.Receive moment from bytes other ended another) calls q.exchanges in
-      let e = (exact server word calls).receive moment from bytes up other settled ended event another p1 q1 in
+      let e = (exact server setup calls).receive moment from bytes up other settled ended event another p1 q1 in
       let same : Stands (Feeds now from bytes w other ended event gone key left) =
       subst (λ x. Stands (Feeds now from bytes w other ended x gone key left)) (sym e.1) q in
       let k = fed_alike now from bytes w up other settled ended sent gone token key kept left event e.0 p same e.2 in (
@@ -269,12 +266,12 @@ module _ (server : Endpoint) (sizes : Sizes) (word : ℕ) (past : List Call) whe
       let moment : ℕ = max own.clock now in
       let input : A.Call = A.Ticks moment below turn in
       let e : Effect = passes (at now own) moment turn in
-      let done = done_alike server word moment w sent gone token key kept left e input calls p.exchanges q.exchanges in
+      let done = done_alike server setup moment w sent gone token key kept left e input calls p.exchanges q.exchanges in
       record {
         own = ap (λ x. asking (requested e.deed token) (reporting x)) done.left_alike
             ∙ ap (λ r. asking r (reporting (close moment e key))) done.sent_alike;
-        exchanges = ap (λ l. E.own_of server word (l ++ calls)) (done.asked input);
-        beneath = ap (λ l. E.lower_of server word (l ++ calls)) (done.asked input);
+        exchanges = ap (λ l. E.own_of server setup (l ++ calls)) (done.asked input);
+        beneath = ap (λ l. E.lower_of server setup (l ++ calls)) (done.asked input);
       }
 
   ticked : (now w : ℕ) (below other : L.Answer) (turn turned : Turn) (sent gone : L.Answer)
@@ -284,11 +281,11 @@ module _ (server : Endpoint) (sizes : Sizes) (word : ℕ) (past : List Call) whe
       × Alike (Ticks now w below turn sent token kept answer) (Ticks now w other turned gone key left another)
   ticked now w below other turn turned sent gone token key kept left answer another p q =
       let moment : ℕ = max own.clock now in
-      let p1 = stripped server word moment w sent sent token token kept kept (passes (at now own) moment turn)
+      let p1 = stripped server setup moment w sent sent token token kept kept (passes (at now own) moment turn)
       (A.Ticks moment below turn) calls p.exchanges in
-      let q1 = stripped server word moment w gone gone key key left left (passes (at now own) moment turned)
+      let q1 = stripped server setup moment w gone gone key key left left (passes (at now own) moment turned)
       (A.Ticks moment other turned) calls q.exchanges in
-      let e = (exact server word calls).ticks moment below other turn turned p1 q1 in
+      let e = (exact server setup calls).ticks moment below other turn turned p1 q1 in
       let f : answer ≡ another = p.rows.0 ∙ (ap (λ t. not (is_idle t) || asks (passes (at now own) moment t).deed) e.1
       ∙ sym q.rows.0) in
       let same : Stands (Ticks now w below turn gone key left another) =
@@ -307,7 +304,7 @@ module _ (server : Endpoint) (sizes : Sizes) (word : ℕ) (past : List Call) whe
             (Ticks now w x turn gone key left another)) e.0 r),
       )
 
-  pub is_exact : IsExact server sizes word past
+  pub is_exact : IsExact server sizes setup past
   is_exact = record {
     calls = λ now r answer another p q. p.rows.0 ∙ sym q.rows.0;
     observes = λ now path answer another p q. p.rows.0 ∙ sym q.rows.0;
@@ -315,7 +312,7 @@ module _ (server : Endpoint) (sizes : Sizes) (word : ℕ) (past : List Call) whe
     forgets = forgot;
     feeds = fed;
     ticks = ticked;
-    next_out = λ answer another p q. (exact server word calls).take answer another p.exchanges q.exchanges;
+    next_out = λ answer another p q. (exact server setup calls).take answer another p.exchanges q.exchanges;
     next_report = λ answer another p q. p.rows.0 ∙ sym q.rows.0;
     asked = λ answer another p q. p.rows.0 ∙ sym q.rows.0;
   }

@@ -24,6 +24,6 @@ pub use Rattle.coap_client.proofs.Turning.Turns.{closing}
 pub use Rattle.coap_client.proofs.Hearing.Types.{are_of_types}
 pub use Rattle.coap_client.proofs.Observing.Values.{values_are_whole}
 pub use Rattle.coap_client.proofs.Places.PlaceLemmas.{same_number}
-pub use Rattle.coap_client.proofs.Uploading.TransferSteps.{lt_not}
+pub use Rattle.coap_client.proofs.Uploading.TransferSteps.{AsksMore, asks_more}
 pub use Rattle.coap_client.proofs.Uploading.UploadSteps.{continues_is}
 pub use Rattle.coap_client.proofs.Turning.Leading.{client_stands, led_client}

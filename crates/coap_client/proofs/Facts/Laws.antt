@@ -1,11 +1,11 @@
 -- What follows from the whole law of a client: the clauses of `client_law` and `client_follows_law`, for proofs above;
 -- and what its calls add to its message layer, and when.
-use Rattle.std.proofs.Common.{◌≡◌, ℕ, max, true, false, Some, None, List, ◌∷◌, ◌++◌, refl, Ok, Err}
+use Rattle.std.proofs.Common.{◌≡◌, max, true, false, Some, None, List, ◌∷◌, ◌++◌, refl, Ok, Err}
 use Rattle.coap_types.specs.Past.{Always}
 use Rattle.coap_types.specs.declared.endpoint.Endpoint.{Endpoint}
 use Rattle.coap_layer.specs.Channel.{RepliesSo}
-use Rattle.coap_layer.specs.Machine.State.{usual}
 use Rattle.coap_layer.specs.Rows.{LayerLaw}
+use Rattle.coap_layer.specs.declared.setup.Setup.{Setup}
 use Rattle.coap_block.specs.Sizes.{Sizes}
 use Rattle.coap_client.specs.Follows.Sendings.{NoNons}
 use Rattle.coap_client.specs.Follows.Adds.{call_asks, all_asked, call_adds}
@@ -48,74 +48,74 @@ use Rattle.coap_client.proofs.Uploading.Pieces as blocks
 use Rattle.coap_client.proofs.Sending.Tokens as token
 use Rattle.coap_client.proofs.Reporting.Valid.{valid_of_tags}
 
-module _ (server : Endpoint) (sizes : Sizes) (word : ℕ) where
-  pub back : (calls t : List Call) → ClientLaw server sizes word (calls ++ t) → ClientLaw server sizes word t
-  back calls t law = client_back server sizes word calls t law
+module _ (server : Endpoint) (sizes : Sizes) (setup : Setup) where
+  pub back : (calls t : List Call) → ClientLaw server sizes setup (calls ++ t) → ClientLaw server sizes setup t
+  back calls t law = client_back server sizes setup calls t law
 
   -- whatever the calls are
-  pub nons : (t : List Call) → NoNons (layer_of server sizes word t)
-  nons t = no_nons server word (lower_of sizes t)
+  pub nons : (t : List Call) → NoNons (layer_of server sizes setup t)
+  nons t = no_nons server setup (lower_of sizes t)
 
   -- what a call asks of the layer, and adds there, stands in front
   pub asked_next : (past : List Call) (c : Call)
-      → all_asked server sizes word (c ∷ past) ≡ call_asks server sizes word past c ++ all_asked server sizes word past
-  asked_next past c = begun.adds_front server sizes word past c
+      → all_asked server sizes setup (c ∷ past) ≡ call_asks server sizes setup past c ++ all_asked server sizes setup past
+  asked_next past c = begun.adds_front server sizes setup past c
 
   pub layer_next : (past : List Call) (c : Call)
-      → layer_of server sizes word (c ∷ past) ≡ call_adds server sizes word past c ++ layer_of server sizes word past
-  layer_next past c = begun.layer_next server sizes word past c
+      → layer_of server sizes setup (c ∷ past) ≡ call_adds server sizes setup past c ++ layer_of server sizes setup past
+  layer_next past c = begun.layer_next server sizes setup past c
 
-  module _ (t : List Call) (law : ClientLaw server sizes word t) where
-    pub layer : LayerLaw (usual word) (layer_of server sizes word t)
-    layer = client_layer server sizes word t law
+  module _ (t : List Call) (law : ClientLaw server sizes setup t) where
+    pub layer : LayerLaw setup (layer_of server sizes setup t)
+    layer = client_layer server sizes setup t law
 
-    pub replies : Always RepliesSo (layer_of server sizes word t)
-    replies = replies_so server word (lower_of sizes t) law.exchanges.rows law.exchanges.left law.exchanges.layer
+    pub replies : Always RepliesSo (layer_of server sizes setup t)
+    replies = replies_so server setup (lower_of sizes t) law.exchanges.rows law.exchanges.left law.exchanges.layer
 
-    pub begins : ConsAreRequests server sizes word t
-    begins = begun.cons_are_requests server sizes word t law
+    pub begins : ConsAreRequests server sizes setup t
+    begins = begun.cons_are_requests server sizes setup t law
 
-    pub begins_now : BeginAtOnce server sizes word t
-    begins_now = begun.begin_at_once server sizes word t law
+    pub begins_now : BeginAtOnce server sizes setup t
+    begins_now = begun.begin_at_once server sizes setup t law
 
-    pub one_con : OneConOrCancel server sizes word t
-    one_con = cons.one_con server sizes word t law
+    pub one_con : OneConOrCancel server sizes setup t
+    one_con = cons.one_con server sizes setup t law
 
     pub tokens : OneOfToken sizes t
-    tokens = token.one_of_token sizes server word t law
+    tokens = token.one_of_token sizes server setup t law
 
     pub order : AreInOrder sizes t
-    order = one_by_one.are_in_order sizes server word t law
+    order = one_by_one.are_in_order sizes server setup t law
 
     pub one_last : OneLast sizes t
-    one_last = one_by_one.one_last sizes server word t law
+    one_last = one_by_one.one_last sizes server setup t law
 
-    pub handed_up : AreHandedUp server sizes word t
-    handed_up = are_handed_up server sizes word t law
+    pub handed_up : AreHandedUp server sizes setup t
+    handed_up = are_handed_up server sizes setup t law
 
     pub from_server : AreFromServer server t
-    from_server = are_from_server server sizes word t law
+    from_server = are_from_server server sizes setup t law
 
     pub pieces : SendsPieces sizes t
-    pieces = blocks.sends_pieces sizes server word t law
+    pieces = blocks.sends_pieces sizes server setup t law
 
     pub continued : AreContinued sizes t
-    continued = are_continued server sizes word t law
+    continued = are_continued server sizes setup t law
 
     pub numbers : NumbersOnce t
-    numbers = numbers_once server sizes word t law.rows law.exchanges.rows
+    numbers = numbers_once server sizes setup t law.rows law.exchanges.rows
 
-    pub once : ReportedOnce server sizes word t
-    once = once_of.reported_once server sizes word t law
+    pub once : ReportedOnce server sizes setup t
+    once = once_of.reported_once server sizes setup t law
 
-    pub none_after : NoneAfter server sizes word t
-    none_after = blocks.none_after sizes server word t law
+    pub none_after : NoneAfter server sizes setup t
+    none_after = blocks.none_after sizes server setup t law
 
     pub bodies : BodiesAreWhole sizes t
-    bodies = bodies_are_whole server sizes word t law
+    bodies = bodies_are_whole server sizes setup t law
 
     pub valid : ValidOfTags sizes t
-    valid = valid_of_tags server sizes word t law
+    valid = valid_of_tags server sizes setup t law
 
 -- whatever the calls are
 pub of_calls : (sizes : Sizes) (t : List Call) → AreOfCalls sizes t

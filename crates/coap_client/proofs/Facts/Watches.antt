@@ -3,8 +3,10 @@ pub use Rattle.coap_client.proofs.Hearing.Acked.{are_acked}
 pub use Rattle.coap_client.proofs.Hearing.NoticesHeard.{notices_are_heard}
 pub use Rattle.coap_client.proofs.Observing.AreThere.{are_there}
 pub use Rattle.coap_client.proofs.Observing.LastValue.{last_is_newest}
+pub use Rattle.coap_client.proofs.Observing.NoneFetched.{none_fetched}
 pub use Rattle.coap_client.proofs.Observing.Noticed.{are_answered, are_noticed, are_shown}
 pub use Rattle.coap_client.proofs.Observing.Notified.{newest_kept, newest_now}
+pub use Rattle.coap_client.proofs.Observing.Registered.{IsAwaited, registered}
 pub use Rattle.coap_client.proofs.Observing.Rising.{newest_came}
 pub use Rattle.coap_client.proofs.Observing.StaysLive.{stay_live}
 pub use Rattle.coap_client.proofs.Observing.TokensKept.{tokens_are_kept}

@@ -61,7 +61,7 @@ joins : (body gathered : List ℕ) (size : ℕ) → gathered ≡ take (length ga
 joins body gathered size is = ap (λ l. l ++ take size (drop (length gathered) body)) is
     ∙ sym (take-add (length gathered) size body)
 
-or_right : (b : Bool) → (b || true) ≡ true
+pub or_right : (b : Bool) → (b || true) ≡ true
 or_right true = refl
 or_right false = refl
 

@@ -10,7 +10,8 @@ use Rattle.coap_types.specs.declared.block.Block.{Block}
 use Rattle.coap_types.specs.declared.endpoint.Endpoint.{Endpoint}
 use Rattle.coap_types.specs.declared.option_number.TheConstants.{BLOCK2 as block2}
 use Rattle.coap_types.specs.declared.request.Method.{Method}
-use Rattle.coap_types.specs.declared.request.Method.TheVariants.{Get, Post, Put, Delete}
+use Rattle.coap_types.specs.declared.request.Method.TheVariants.{Get}
+use Rattle.coap_layer.specs.declared.setup.Setup.{Setup}
 use Rattle.coap_codec.specs.Message.{Message}
 use Rattle.coap_block.specs.FetchStep.{FetchState}
 use Rattle.coap_block.specs.FetchStep as F
@@ -101,9 +102,7 @@ comes held szx r f m small fetches says =
 fetch_sizes : (sizes : Sizes) (method : Method) (body : List ℕ) (f : FetchState)
     → CarriesBody sizes method body (Fetches f) → F.sizes_of f ≡ sizes
 fetch_sizes sizes Get body f h = h
-fetch_sizes sizes Post body f h = absurd h
-fetch_sizes sizes Put body f h = absurd h
-fetch_sizes sizes Delete body f h = absurd h
+fetch_sizes sizes _ body f h = absurd h
 
 abbrev fetch_in : calls.Next → Option FetchState
 fetch_in (calls.Asks (Fetches f)) = Some f
@@ -113,12 +112,12 @@ abbrev report_in : calls.Next → Option Report
 report_in (calls.Ends final report) = Some report
 report_in n = None
 
-module _ (server : Endpoint) (sizes : Sizes) (word : ℕ) (held : Held) (szx k : ℕ) (small : length held.body ≤ sizes.limit)
+module _ (server : Endpoint) (sizes : Sizes) (setup : Setup) (held : Held) (szx k : ℕ) (small : length held.body ≤ sizes.limit)
   where
-    within : (t : List Call) → ClientLaw server sizes word t → (r : Request) (f : FetchState)
+    within : (t : List Call) → ClientLaw server sizes setup t → (r : Request) (f : FetchState)
         → (own_of sizes t).running ≡ Some (Calling k r (Fetches f)) → length held.body ≤ f.limit
     within t law r f runs =
-        let x = runs_as sizes server word t law k r (Fetches f) runs in
+        let x = runs_as sizes server setup t law k r (Fetches f) runs in
         let same : f.limit ≡ sizes.limit =
         ap (λ (z : Sizes). z.limit) (fetch_sizes sizes r.method x.body f x.carries) in
         omega (arith, same, small)
@@ -127,7 +126,7 @@ module _ (server : Endpoint) (sizes : Sizes) (word : ℕ) (held : Held) (szx k :
     Here t = (r : Request) (f : FetchState) → (own_of sizes t).running ≡ Some (Calling k r (Fetches f))
         → FetchesOf held szx f
 
-    goes_here : (t : List Call) (c : Call) → ClientLaw server sizes word t
+    goes_here : (t : List Call) (c : Call) → ClientLaw server sizes setup t
         → ((r : Request) (f : FetchState) (m : Message) → (own_of sizes t).running ≡ Some (Calling k r (Fetches f))
         → hears c ≡ Some m → SaysReply (reply_to held szx f.asked) m) → Here t → (r : Request) (f : FetchState)
         → Origin sizes t c k r (Fetches f) → FetchesOf held szx f
@@ -148,13 +147,13 @@ module _ (server : Endpoint) (sizes : Sizes) (word : ℕ) (held : Held) (szx k :
         (comes held szx r n.before m (within t law r n.before runs_so) (ih r n.before runs_so)
         (says r n.before m runs_so heard))
 
-    fetches : (t : List Call) → ClientLaw server sizes word t → HearsReplies sizes held szx k t → Here t
+    fetches : (t : List Call) → ClientLaw server sizes setup t → HearsReplies sizes held szx k t → Here t
     fetches [] law hears_all r f runs = absurd (cc runs)
     fetches (c ∷ t) law hears_all r f runs =
-        let before = client_back server sizes word (c ∷ []) t law in
+        let before = client_back server sizes setup (c ∷ []) t law in
         goes_here t c before hears_all.0 (fetches t before hears_all.1) r f (origin sizes t c k r (Fetches f) runs)
 
-    whole_here : (t : List Call) (c : Call) → ClientLaw server sizes word t
+    whole_here : (t : List Call) (c : Call) → ClientLaw server sizes setup t
         → ((r : Request) (f : FetchState) (m : Message) → (own_of sizes t).running ≡ Some (Calling k r (Fetches f))
         → hears c ≡ Some m → SaysReply (reply_to held szx f.asked) m) → Here t → (r : Request) (f : FetchState)
         (report : Report) → (own_of sizes t).running ≡ Some (Calling k r (Fetches f))
@@ -174,13 +173,13 @@ module _ (server : Endpoint) (sizes : Sizes) (word : ℕ) (held : Held) (szx k :
         (λ more. let e = sym more.1 ∙ ends_so in absurd (cc e))
         (comes held szx r f g.message (within t law r f runs) (ih r f runs) (says r f g.message runs g.heard_it))
 
-    whole : (t : List Call) → ClientLaw server sizes word t → HearsReplies sizes held szx k t
+    whole : (t : List Call) → ClientLaw server sizes setup t → HearsReplies sizes held szx k t
         → Always (λ past c. (r : Request) (f : FetchState) (report : Report)
         → (own_of sizes past).running ≡ Some (Calling k r (Fetches f)) → reports (own_of sizes past) c ≡ of k report
         → is_by_answer report ≡ true → report ≡ Body (Some (tag_of held.version)) held.format held.body) t
     whole [] law hears_all = tt
     whole (c ∷ t) law hears_all =
-        let before = client_back server sizes word (c ∷ []) t law in
+        let before = client_back server sizes setup (c ∷ []) t law in
         (whole_here t c before hears_all.0 (fetches t before hears_all.1), whole t before hears_all.1)
 
     below_of : (f : FetchState) (a : Asked) → FetchesOf held szx f → f.asked ≡ Some a
@@ -193,7 +192,7 @@ module _ (server : Endpoint) (sizes : Sizes) (word : ℕ) (held : Held) (szx k :
         let left = h.1.left in
         subst (λ (x : Asked). offset_of x.num x.szx < length held.body) same (omega (arith, place, left))
 
-    unchanged : (t : List Call) → ClientLaw server sizes word t → HearsReplies sizes held szx k t
+    unchanged : (t : List Call) → ClientLaw server sizes setup t → HearsReplies sizes held szx k t
         → IsUnchanged sizes held szx k t
     unchanged t law hears_all = record {
       fetches = fetches t law hears_all;
@@ -201,7 +200,7 @@ module _ (server : Endpoint) (sizes : Sizes) (word : ℕ) (held : Held) (szx k :
       whole = whole t law hears_all;
     }
 
-pub are_unchanged : (server : Endpoint) (sizes : Sizes) (word : ℕ) (t : List Call) → ClientLaw server sizes word t
+pub are_unchanged : (server : Endpoint) (sizes : Sizes) (setup : Setup) (t : List Call) → ClientLaw server sizes setup t
     → AreUnchanged sizes t
-are_unchanged server sizes word t law held szx number small hears_all =
-    unchanged server sizes word held szx number small t law hears_all
+are_unchanged server sizes setup t law held szx number small hears_all =
+    unchanged server sizes setup held szx number small t law hears_all

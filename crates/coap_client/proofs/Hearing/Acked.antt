@@ -13,6 +13,7 @@ use Rattle.coap_layer.specs.Machine.State as S
 use Rattle.coap_layer.specs.Machine.Steps.{entries}
 use Rattle.coap_layer.specs.Machine.Steps as G
 use Rattle.coap_layer.specs.Trace as L
+use Rattle.coap_layer.specs.declared.setup.Setup.{Setup}
 use Rattle.coap_block.specs.Sizes.{Sizes}
 use Rattle.coap_exchange.specs.declared.asker.AskRefusal.{AskRefusal}
 use Rattle.coap_exchange.specs.declared.asker.Event.{Event}
@@ -20,7 +21,6 @@ use Rattle.coap_exchange.specs.declared.asker.Event.TheVariants as event_of
 use Rattle.coap_exchange.specs.declared.matching.Opening.{Opening}
 use Rattle.coap_exchange.specs.declared.matching.Opening.TheVariants.{Running, Spent, Sends}
 use Rattle.coap_exchange.specs.declared.matching.Verdict.{Verdict}
-use Rattle.coap_exchange.specs.declared.matching.Verdict.TheVariants.{Ignore, Reject, Acknowledge, Await, EndByReset}
 use Rattle.coap_exchange.specs.declared.matching.Verdict.TheVariants.{AnswerCon, Answer, NoticeCon, Notice}
 use Rattle.coap_exchange.specs.AskerArrivals.{told, verdict_on}
 use Rattle.coap_exchange.specs.AskerEmpties.{AreReplied, RepliesBy, RepliesRightly, RepliesTo}
@@ -35,7 +35,7 @@ use Rattle.coap_common.specs.Adds.{asked_by_client}
 use Rattle.coap_client.specs.Trace.{Call, Calls, Observes, Cancels, Forgets, Feeds, Ticks, NextOut, NextReport, Asked}
 use Rattle.coap_client.specs.Own.{Own}
 use Rattle.coap_client.specs.Requests.{message_of}
-use Rattle.coap_client.specs.Effects.{Deed, Rests, Asks, Keeps, Releases, Effect}
+use Rattle.coap_client.specs.Effects.{Deed, Asks, Effect}
 use Rattle.coap_client.specs.Events.{happened}
 use Rattle.coap_client.specs.Deeds.{at, close, deeds}
 use Rattle.coap_client.specs.Law.{ClientLaw, own_of, lower_of}
@@ -49,11 +49,6 @@ use Rattle.coap_client.proofs.Turning.Leading.{client_back}
 -- what is told was handed up
 told_up : (s : E.Own) (from : Endpoint) (up : L.Answer) (m : Message) (v : Verdict) → Fits s from up v
     → message_told (told v up) ≡ Some m → up ≡ L.Becomes (L.Response m)
-told_up s from up m Ignore f h = absurd (cc h)
-told_up s from up m Reject f h = absurd (cc h)
-told_up s from up m Acknowledge f h = absurd (cc h)
-told_up s from up m Await f h = absurd (cc h)
-told_up s from up m EndByReset f h = absurd (cc h)
 told_up s from up m AnswerCon f h =
     let e : Some f.message ≡ Some m = sym (ap (λ u. message_told (told AnswerCon u)) f.is) ∙ h in
     let same : f.message ≡ m = cc e in
@@ -70,6 +65,7 @@ told_up s from up m Notice f h =
     let e : Some f.message ≡ Some m = sym (ap (λ u. message_told (told Notice u)) f.is) ∙ h in
     let same : f.message ≡ m = cc e in
     f.is ∙ ap (λ x. L.Becomes (L.Response x)) same
+told_up s from up m _ f h = absurd (cc h)
 
 module _ (to : Endpoint) (id : ℕ) (bytes : List ℕ) where
   -- a reply is asked for
@@ -108,22 +104,20 @@ module _ (to : Endpoint) (id : ℕ) (bytes : List ℕ) where
   beneath_none now Spent server content word below (inr h) = h
   beneath_none now Sends server content word below (inr h) = h
 
-  module _ (server : Endpoint) (word : ℕ) (past : List E.Call) where
+  module _ (server : Endpoint) (setup : Setup) (past : List E.Call) where
     deed_none : (d : Deed) (o : Own) (now w : ℕ) (sent : L.Answer) (token : Result (List ℕ) AskRefusal) (was : Bool)
-        (rest : List E.Call) → IsAsked (asked_by_client server word past (deeds d o now w sent token was ++ rest))
-        → IsAsked (asked_by_client server word past rest)
-    deed_none Rests o now w sent token was rest h = h
-    deed_none (Keeps key) o now w sent token was rest h = h
-    deed_none (Releases key) o now w sent token was rest h = h
+        (rest : List E.Call) → IsAsked (asked_by_client server setup past (deeds d o now w sent token was ++ rest))
+        → IsAsked (asked_by_client server setup past rest)
     deed_none (Asks op) o now w sent token was rest h =
-        let y : E.Own = X.own_of server word (rest ++ past) in
+        let y : E.Own = X.own_of server setup (rest ++ past) in
         let r : E.Request = message_of o.observations op in
         elim (Ever_append (λ (a : G.Asked). a.call ≡ L.Reply to id bytes)
-        (P.lower y (E.Ask now r w sent token)) (asked_by_client server word past rest) h) [
+        (P.lower y (E.Ask now r w sent token)) (asked_by_client server setup past rest) h) [
           | inl here ↦ absurd (beneath_none now (Q.opening_of y r) y.server (Q.content_of (Q.request_token y r) r) w sent
               here)
           | inr there ↦ there
         ]
+    deed_none _ o now w sent token was rest h = h
 
 -- by the replies to what is told
 acked_by : (s : E.Own) (from : Endpoint) (m : Message) (event : Option Event) (out : List L.Packet)
@@ -147,7 +141,7 @@ acked_by s from m event out replies is bytes there = by m.kind refl
     by Ack e = silent (λ k. (let z : Con ≡ Ack = sym k ∙ e in cc z))
     by Rst e = silent (λ k. (let z : Con ≡ Rst = sym k ∙ e in cc z))
 
-module _ (server : Endpoint) (sizes : Sizes) (word : ℕ) where
+module _ (server : Endpoint) (sizes : Sizes) (setup : Setup) where
   module _ (t : List Call) (now : ℕ) (from : Endpoint) (bytes : List ℕ) (w : ℕ) (up : L.Answer) (settled : Bool)
       (event : Option Event) (sent : L.Answer) (token : Result (List ℕ) AskRefusal) (kept : Bool) where
     abbrev feed : Call
@@ -172,25 +166,25 @@ module _ (server : Endpoint) (sizes : Sizes) (word : ℕ) where
     input = E.Receive moment from bytes up settled event
 
     abbrev s : E.Own
-    s = X.own_of server word (lower_of sizes t)
+    s = X.own_of server setup (lower_of sizes t)
 
-    fed : ClientLaw server sizes word (feed ∷ t) → AreReplied server word (lower_of sizes (feed ∷ t)) → (m : Message)
+    fed : ClientLaw server sizes setup (feed ∷ t) → AreReplied server setup (lower_of sizes (feed ∷ t)) → (m : Message)
         → message_told event ≡ Some m → (to : Endpoint) (id : ℕ) (reply : List ℕ)
-        → Ever (λ (e : L.Entry). e.call ≡ L.Reply to id reply) (call_adds server sizes word t feed)
+        → Ever (λ (e : L.Entry). e.call ≡ L.Reply to id reply) (call_adds server sizes setup t feed)
         → (m.kind ≡ Con) × (reply ≡ ack_bytes m.id)
     fed law replied m is to id reply there =
         let right : event ≡ told (verdict_on s from up) up =
-        (at_input (λ past c. P.IsRight (X.own_of server word past) c) later first input (lower_of sizes t)
+        (at_input (λ past c. P.IsRight (X.own_of server setup past) c) later first input (lower_of sizes t)
         law.exchanges.rows).0 in
         let handed : up ≡ L.Becomes (L.Response m) = told_up s from up m (verdict_on s from up) (verdict_fits s from up)
         (ap message_told (sym right) ∙ is) in
         let out : List L.Packet = replies_in (P.lower s input) in
         let replies : RepliesBy s from up event out =
-        (at_input (RepliesRightly server word) later first input (lower_of sizes t) replied).0 in
-        let asks = entry_asked to id reply _ (call_asks server sizes word t feed) there in
-        let behind = deed_none to id reply server word (lower_of sizes t) effect.deed effect.own moment w sent token kept
+        (at_input (RepliesRightly server setup) later first input (lower_of sizes t) replied).0 in
+        let asks = entry_asked to id reply _ (call_asks server sizes setup t feed) there in
+        let behind = deed_none to id reply server setup (lower_of sizes t) effect.deed effect.own moment w sent token kept
         (input ∷ [])
-        (deed_none to id reply server word (lower_of sizes t) closed_so.deed closed_so.own moment w sent token kept
+        (deed_none to id reply server setup (lower_of sizes t) closed_so.deed closed_so.own moment w sent token kept
         (first ++ input ∷ []) asks) in
         elim (Ever_append (λ (a : G.Asked). a.call ≡ L.Reply to id reply) (P.lower s input) [] behind) [
           | inl here ↦ acked_by s from m event out (subst (λ u. RepliesBy s from u event out) handed replies) is reply
@@ -198,10 +192,10 @@ module _ (server : Endpoint) (sizes : Sizes) (word : ℕ) where
           | inr none ↦ absurd none
         ]
 
-  here : (t : List Call) (c : Call) → ClientLaw server sizes word (c ∷ t)
-      → AreReplied server word (lower_of sizes (c ∷ t)) → (m : Message) → (hears c ≡ Some m) ⊎ (notes c ≡ Some m)
+  here : (t : List Call) (c : Call) → ClientLaw server sizes setup (c ∷ t)
+      → AreReplied server setup (lower_of sizes (c ∷ t)) → (m : Message) → (hears c ≡ Some m) ⊎ (notes c ≡ Some m)
       → (to : Endpoint) (id : ℕ) (reply : List ℕ)
-      → Ever (λ (e : L.Entry). e.call ≡ L.Reply to id reply) (call_adds server sizes word t c)
+      → Ever (λ (e : L.Entry). e.call ≡ L.Reply to id reply) (call_adds server sizes setup t c)
       → (m.kind ≡ Con) × (reply ≡ ack_bytes m.id)
   here t (Feeds now from bytes w up settled (Some (event_of.Answer a)) sent token kept) law replied m (inl h) =
       fed t now from bytes w up settled (Some (event_of.Answer a)) sent token kept law replied m h
@@ -240,11 +234,11 @@ module _ (server : Endpoint) (sizes : Sizes) (word : ℕ) where
   here t (Asked answer) law replied m (inl h) = absurd (cc h)
   here t (Asked answer) law replied m (inr h) = absurd (cc h)
 
-  pub are_acked : (t : List Call) → ClientLaw server sizes word t → AreReplied server word (lower_of sizes t)
-      → AreAcked server sizes word t
+  pub are_acked : (t : List Call) → ClientLaw server sizes setup t → AreReplied server setup (lower_of sizes t)
+      → AreAcked server sizes setup t
   are_acked [] law replied = tt
   are_acked (c ∷ t) law replied = (
     here t c law replied,
-    are_acked t (client_back server sizes word (c ∷ []) t law)
-        (Always_back (RepliesRightly server word) _ (lower_of sizes t) replied),
+    are_acked t (client_back server sizes setup (c ∷ []) t law)
+        (Always_back (RepliesRightly server setup) _ (lower_of sizes t) replied),
   )

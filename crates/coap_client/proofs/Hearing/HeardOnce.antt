@@ -1,16 +1,16 @@
 -- A request of a call is answered once.
 use Rattle.std.proofs.Common.{◌≡◌, ◌⊎◌, inl, inr, ℕ, max, true, false, Some, None, List, ◌∷◌, ◌++◌, []}
-use Rattle.std.proofs.Common.{refl, ap, sym, subst, ◌∙◌, Ok, Err}
+use Rattle.std.proofs.Common.{refl, ap, sym, subst, ◌∙◌, Ok}
 use Rattle.coap_types.specs.Past.{Ever, Since}
 use Rattle.coap_types.proofs.Facts.Traces.{Ever_back, Ever_map}
 use Rattle.coap_types.specs.declared.endpoint.Endpoint.{Endpoint}
+use Rattle.coap_layer.specs.declared.setup.Setup.{Setup}
 use Rattle.coap_block.specs.Sizes.{Sizes}
 use Rattle.coap_exchange.specs.declared.asker.Event.TheVariants as event_of
 use Rattle.coap_exchange.specs.AskerTrace as E
 use Rattle.coap_exchange.specs.AskerFollows as F
 use Rattle.coap_exchange.proofs.Facts.ClientSide.{are_exchanges}
-use Rattle.coap_client.specs.Trace.{Call, Calls, Observes, Cancels, Forgets, Feeds, Ticks, NextOut}
-use Rattle.coap_client.specs.Trace.{NextReport, Asked}
+use Rattle.coap_client.specs.Trace.{Call, Feeds}
 use Rattle.coap_client.specs.Own.{Registering, Own}
 use Rattle.coap_client.specs.Follows.AnswersLastRequest.{AnswersLast}
 use Rattle.coap_client.specs.Effects.{Effect}
@@ -26,6 +26,7 @@ use Rattle.coap_client.specs.Follows.Order.{call_of, HearsBy, HeardOnce}
 use Rattle.coap_client.specs.Follows.Tokens.{OwnTokens}
 use Rattle.coap_client.proofs.Sending.Asked.{AsksFor, sent_if_asked}
 use Rattle.coap_client.proofs.Sending.Tokens.{last_was_sent, own_tokens, one_of_token}
+use Rattle.coap_client.proofs.Hearing.Noted.{last_there}
 
 -- something since began among these, or it did before and these keep it
 since_split : {X : Type 0} (B K : X → Type 0) (xs ys : List X) → Since B K (xs ++ ys)
@@ -40,12 +41,7 @@ since_split B K (x ∷ xs) ys (inr h) = elim (since_split B K xs ys h.1) [
 asks_if_begun : (token : List ℕ) (c : E.Call) → F.Begins token c → (r : E.Request) × AsksFor r token c
 asks_if_begun token (E.Ask now r w below (Ok k)) h = let e : k
     ≡ token = cc h in (r, record { now = now; word = w; below = below; is = ap (λ z. E.Ask now r w below (Ok z)) e })
-asks_if_begun token (E.Ask now r w below (Err why)) h = absurd (cc h)
-asks_if_begun token (E.Receive now from bytes up settled answer) h = absurd (cc h)
-asks_if_begun token (E.Ticks now below answer) h = absurd (cc h)
-asks_if_begun token (E.Keep k answer) h = absurd (cc h)
-asks_if_begun token (E.Release k answer) h = absurd (cc h)
-asks_if_begun token (E.Take answer) h = absurd (cc h)
+asks_if_begun token _ h = absurd (cc h)
 
 -- which of them
 first_of : (token : List ℕ) (xs : List E.Call) → Ever (F.Begins token) xs → (r : E.Request) × Ever (AsksFor r token) xs
@@ -57,20 +53,7 @@ first_of token (c ∷ xs) (inr h) = let k = first_of token xs h in (k.0, inr k.1
 
 ends_it : (c : E.Call) (m : _) → F.answered c ≡ Some m → F.ends c ≡ true
 ends_it (E.Receive now from bytes up settled (Some (event_of.Answer a))) m h = refl
-ends_it (E.Receive now from bytes up settled (Some (event_of.Notice a))) m h = absurd (cc h)
-ends_it (E.Receive now from bytes up settled (Some event_of.Reset)) m h = absurd (cc h)
-ends_it (E.Receive now from bytes up settled (Some event_of.Timeout)) m h = absurd (cc h)
-ends_it (E.Receive now from bytes up settled (Some event_of.NoResponse)) m h = absurd (cc h)
-ends_it (E.Receive now from bytes up settled None) m h = absurd (cc h)
-ends_it (E.Ask now r w below answer) m h = absurd (cc h)
-ends_it (E.Ticks now below answer) m h = absurd (cc h)
-ends_it (E.Keep k answer) m h = absurd (cc h)
-ends_it (E.Release k answer) m h = absurd (cc h)
-ends_it (E.Take answer) m h = absurd (cc h)
-
-last_there : {X : Type 0} (P : X → Type 0) (xs : List X) (x : X) → P x → Ever P (xs ++ x ∷ [])
-last_there P [] x h = inl h
-last_there P (y ∷ xs) x h = inr (last_there P xs x h)
+ends_it _ m h = absurd (cc h)
 
 -- what a call hears is answered by the exchange that it hands it to
 pub heard_beneath : (s : Own) (c : Call) (m : _) → hears c ≡ Some m → Ever (λ b. F.answered b ≡ Some m) (lower s c)
@@ -82,19 +65,7 @@ heard_beneath s (Feeds now from bytes w up settled (Some (event_of.Answer a)) se
     (deeds e.deed e.own z w sent token kept ++ E.Receive z from bytes up settled (Some (event_of.Answer a)) ∷ [])
     (last_there (λ b. F.answered b ≡ Some m) (deeds e.deed e.own z w sent token kept)
     (E.Receive z from bytes up settled (Some (event_of.Answer a))) h)
-heard_beneath s (Feeds now from bytes w up settled (Some (event_of.Notice a)) sent token kept) m h = absurd (cc h)
-heard_beneath s (Feeds now from bytes w up settled (Some event_of.Reset) sent token kept) m h = absurd (cc h)
-heard_beneath s (Feeds now from bytes w up settled (Some event_of.Timeout) sent token kept) m h = absurd (cc h)
-heard_beneath s (Feeds now from bytes w up settled (Some event_of.NoResponse) sent token kept) m h = absurd (cc h)
-heard_beneath s (Feeds now from bytes w up settled None sent token kept) m h = absurd (cc h)
-heard_beneath s (Calls now r answer) m h = absurd (cc h)
-heard_beneath s (Observes now path answer) m h = absurd (cc h)
-heard_beneath s (Cancels now k answer) m h = absurd (cc h)
-heard_beneath s (Forgets k kept answer) m h = absurd (cc h)
-heard_beneath s (Ticks now w below turn sent token kept answer) m h = absurd (cc h)
-heard_beneath s (NextOut answer) m h = absurd (cc h)
-heard_beneath s (NextReport answer) m h = absurd (cc h)
-heard_beneath s (Asked answer) m h = absurd (cc h)
+heard_beneath s _ m h = absurd (cc h)
 
 -- at the input of a feed, what was open is so behind the calls before
 open_before : (s : Own) (c : Call) (ys : List E.Call) (m : _) → hears c ≡ Some m → F.AreExchanges (lower s c ++ ys)
@@ -116,19 +87,7 @@ open_before s (Feeds now from bytes w up settled (Some (event_of.Answer a)) sent
         → F.Open m.token ys
     by [] first law = second first law
     by (x ∷ later) first law = by later first law.1
-open_before s (Feeds now from bytes w up settled (Some (event_of.Notice a)) sent token kept) ys m h law = absurd (cc h)
-open_before s (Feeds now from bytes w up settled (Some event_of.Reset) sent token kept) ys m h law = absurd (cc h)
-open_before s (Feeds now from bytes w up settled (Some event_of.Timeout) sent token kept) ys m h law = absurd (cc h)
-open_before s (Feeds now from bytes w up settled (Some event_of.NoResponse) sent token kept) ys m h law = absurd (cc h)
-open_before s (Feeds now from bytes w up settled None sent token kept) ys m h law = absurd (cc h)
-open_before s (Calls now r answer) ys m h law = absurd (cc h)
-open_before s (Observes now path answer) ys m h law = absurd (cc h)
-open_before s (Cancels now k answer) ys m h law = absurd (cc h)
-open_before s (Forgets k kept answer) ys m h law = absurd (cc h)
-open_before s (Ticks now w below turn sent token kept answer) ys m h law = absurd (cc h)
-open_before s (NextOut answer) ys m h law = absurd (cc h)
-open_before s (NextReport answer) ys m h law = absurd (cc h)
-open_before s (Asked answer) ys m h law = absurd (cc h)
+open_before s _ ys m h law = absurd (cc h)
 
 module _ (sizes : Sizes) where
   -- what was heard with a token answers a request that was sent with it
@@ -203,19 +162,19 @@ module _ (sizes : Sizes) where
           (λ e is f. (let z = ends_it e now.0 is in cc (z, f))) (lower (own_of sizes t) c)
           (heard_beneath (own_of sizes t) c now.0 now.1)))
 
-once_here : (server : Endpoint) (sizes : Sizes) (word : ℕ) (t : List Call) (c : Call)
-    → ClientLaw server sizes word (c ∷ t)
+once_here : (server : Endpoint) (sizes : Sizes) (setup : Setup) (t : List Call) (c : Call)
+    → ClientLaw server sizes setup (c ∷ t)
     → (x : Sending) (k : ℕ) → WasSent sizes x t → call_of x.operation ≡ Some k → HearsBy x.token c
     → Ever (HearsBy x.token) t → ⊥
-once_here server sizes word t c law x k was is now before =
-    let past = client_back server sizes word (c ∷ []) t law in
-    let exchanges = are_exchanges server word (lower_of sizes (c ∷ t)) law.exchanges.rows in
+once_here server sizes setup t c law x k was is now before =
+    let past = client_back server sizes setup (c ∷ []) t law in
+    let exchanges = are_exchanges server setup (lower_of sizes (c ∷ t)) law.exchanges.rows in
     let open_now : F.Open x.token (lower_of sizes t) =
     subst (λ z. F.Open z (lower_of sizes t)) now.2
     (open_before (own_of sizes t) c (lower_of sizes t) now.0 now.1 exchanges) in
-    let z = open_again sizes t x.token (own_tokens sizes server word t past)
-    (answers_last sizes server word t past) open_now before in
-    elim (one_of_token sizes server word t past x z.sending was z.sent (sym z.token_is)) [
+    let z = open_again sizes t x.token (own_tokens sizes server setup t past)
+    (answers_last sizes server setup t past) open_now before in
+    elim (one_of_token sizes server setup t past x z.sending was z.sent (sym z.token_is)) [
       | inl e ↦ (let w : call_of x.operation ≡ None = ap (λ (y : Sending). call_of y.operation) e
           ∙ ap call_of z.operation in cc (w, is))
       | inr r ↦ elim r [
@@ -224,10 +183,10 @@ once_here server sizes word t c law x k was is now before =
       ]
     ]
 
-pub heard_once : (server : Endpoint) (sizes : Sizes) (word : ℕ) (t : List Call) → ClientLaw server sizes word t
+pub heard_once : (server : Endpoint) (sizes : Sizes) (setup : Setup) (t : List Call) → ClientLaw server sizes setup t
     → HeardOnce sizes t
-heard_once server sizes word [] law = tt
-heard_once server sizes word (c ∷ t) law = (
-  once_here server sizes word t c law,
-  heard_once server sizes word t (client_back server sizes word (c ∷ []) t law),
+heard_once server sizes setup [] law = tt
+heard_once server sizes setup (c ∷ t) law = (
+  once_here server sizes setup t c law,
+  heard_once server sizes setup t (client_back server sizes setup (c ∷ []) t law),
 )

@@ -5,6 +5,7 @@ use Rattle.std.proofs.Common.{Result}
 use Rattle.coap_types.specs.declared.endpoint.Endpoint.{Endpoint}
 use Rattle.coap_codec.specs.Message.{Message}
 use Rattle.coap_layer.specs.Trace as L
+use Rattle.coap_layer.specs.declared.setup.Setup.{Setup}
 use Rattle.coap_block.specs.Sizes.{Sizes}
 use Rattle.coap_exchange.specs.declared.asker.AskRefusal.{AskRefusal}
 use Rattle.coap_exchange.specs.declared.asker.Event.{Event}
@@ -14,8 +15,7 @@ use Rattle.coap_exchange.specs.declared.asker.Turn.{Turn}
 use Rattle.coap_exchange.specs.AskerArrivals.{running_after, turn_of, verdict_on}
 use Rattle.coap_exchange.specs.AskerTrace as E
 use Rattle.coap_exchange.specs.AskerLaw as X
-use Rattle.coap_client.specs.Trace.{Request, Call, Calls, Observes, Cancels, Forgets, Feeds, Ticks, NextOut}
-use Rattle.coap_client.specs.Trace.{NextReport, Asked}
+use Rattle.coap_client.specs.Trace.{Request, Call, Feeds, Ticks}
 use Rattle.coap_client.specs.Own.{Transfer, Operation, Calling}
 use Rattle.coap_client.specs.Effects.{Effect}
 use Rattle.coap_client.specs.Events.{happened, passes}
@@ -36,19 +36,19 @@ use Rattle.coap_client.proofs.Sending.Tokens.{last_was_sent, one_of_token}
 use Rattle.coap_client.proofs.Turning.ExchangeCame.{Came, came}
 use Rattle.coap_client.proofs.Turning.Leading.{client_back}
 
-module _ (sizes : Sizes) (server : Endpoint) (word : ℕ) where
+module _ (sizes : Sizes) (server : Endpoint) (setup : Setup) where
   -- it has the token of the exchange that runs
   abbrev HasExchange : List Call → Message → Type 0
-  HasExchange t m = (x : Exchange) × ((beneath server sizes word t).running ≡ Some x) × (m.token ≡ x.token)
+  HasExchange t m = (x : Exchange) × ((beneath server sizes setup t).running ≡ Some x) × (m.token ≡ x.token)
 
   -- what a datagram tells
   pub fed_came :
       (t : List Call) (now : ℕ) (from : Endpoint) (bytes : List ℕ) (w : ℕ) (up : L.Answer) (settled : Bool)
       (event : Option Event) (sent : L.Answer) (token : Result (List ℕ) AskRefusal) (kept : Bool)
-      → X.AskerLaw server word (lower_of sizes (Feeds now from bytes w up settled event sent token kept ∷ t))
-      → Came (beneath server sizes word t).running
-      (running_after (max (own_of sizes t).clock now) (verdict_on (beneath server sizes word t) from up)
-      (beneath server sizes word t).running) event
+      → X.AskerLaw server setup (lower_of sizes (Feeds now from bytes w up settled event sent token kept ∷ t))
+      → Came (beneath server sizes setup t).running
+      (running_after (max (own_of sizes t).clock now) (verdict_on (beneath server sizes setup t) from up)
+      (beneath server sizes setup t).running) event
   fed_came t now from bytes w up settled event sent token kept law =
       let moment : ℕ = max (own_of sizes t).clock now in
       let e : Effect = happened (at now (own_of sizes t)) moment event in
@@ -56,17 +56,17 @@ module _ (sizes : Sizes) (server : Endpoint) (word : ℕ) where
       let later : List E.Call = deeds k.deed k.own moment w sent token kept in
       let first : List E.Call = deeds e.deed e.own moment w sent token kept in
       let input : E.Call = E.Receive moment from bytes up settled event in
-      let right = done_right (beneath server sizes word t) later first input
-      (law_front server word (later ++ (first ++ input ∷ [])) (lower_of sizes t) law) in
-      came (beneath server sizes word t) from moment up event right.0
+      let right = done_right (beneath server sizes setup t) later first input
+      (law_front server setup (later ++ (first ++ input ∷ [])) (lower_of sizes t) law) in
+      came (beneath server sizes setup t) from moment up event right.0
 
   -- .. and what a tick does
   pub ticked_turn :
       (t : List Call) (now w : ℕ) (below : L.Answer) (turn : Turn) (sent : L.Answer)
       (token : Result (List ℕ) AskRefusal) (kept did : Bool)
-      → X.AskerLaw server word (lower_of sizes (Ticks now w below turn sent token kept did ∷ t))
-      → turn ≡ turn_of (beneath server sizes word t)
-      (max (beneath server sizes word t).clock (max (own_of sizes t).clock now)) below
+      → X.AskerLaw server setup (lower_of sizes (Ticks now w below turn sent token kept did ∷ t))
+      → turn ≡ turn_of (beneath server sizes setup t)
+      (max (beneath server sizes setup t).clock (max (own_of sizes t).clock now)) below
   ticked_turn t now w below turn sent token kept did law =
       let moment : ℕ = max (own_of sizes t).clock now in
       let e : Effect = passes (at now (own_of sizes t)) moment turn in
@@ -74,31 +74,17 @@ module _ (sizes : Sizes) (server : Endpoint) (word : ℕ) where
       let later : List E.Call = deeds k.deed k.own moment w sent token kept in
       let first : List E.Call = deeds e.deed e.own moment w sent token kept in
       let input : E.Call = E.Ticks moment below turn in
-      let right = done_right (beneath server sizes word t) later first input
-      (law_front server word (later ++ (first ++ input ∷ [])) (lower_of sizes t) law) in
+      let right = done_right (beneath server sizes setup t) later first input
+      (law_front server setup (later ++ (first ++ input ∷ [])) (lower_of sizes t) law) in
       right.0
 
-  heard_exchange : (t : List Call) (c : Call) → X.AskerLaw server word (lower_of sizes (c ∷ t)) → (m : Message)
+  heard_exchange : (t : List Call) (c : Call) → X.AskerLaw server setup (lower_of sizes (c ∷ t)) → (m : Message)
       → hears c ≡ Some m → HasExchange t m
   heard_exchange t (Feeds now from bytes w up settled (Some (event_of.Answer a)) sent token kept) law m h =
       let g = fed_came t now from bytes w up settled (Some (event_of.Answer a)) sent token kept law in
       let same : m ≡ a = cc h in
       (g.0, g.1, ap (λ (z : Message). z.token) same ∙ g.2)
-  heard_exchange t (Feeds now from bytes w up settled (Some (event_of.Notice a)) sent token kept) law m h =
-      absurd (cc h)
-  heard_exchange t (Feeds now from bytes w up settled (Some event_of.Reset) sent token kept) law m h = absurd (cc h)
-  heard_exchange t (Feeds now from bytes w up settled (Some event_of.Timeout) sent token kept) law m h = absurd (cc h)
-  heard_exchange t (Feeds now from bytes w up settled (Some event_of.NoResponse) sent token kept) law m h =
-      absurd (cc h)
-  heard_exchange t (Feeds now from bytes w up settled None sent token kept) law m h = absurd (cc h)
-  heard_exchange t (Calls now r answer) law m h = absurd (cc h)
-  heard_exchange t (Observes now path answer) law m h = absurd (cc h)
-  heard_exchange t (Cancels now k answer) law m h = absurd (cc h)
-  heard_exchange t (Forgets k kept answer) law m h = absurd (cc h)
-  heard_exchange t (Ticks now w below turn sent token kept answer) law m h = absurd (cc h)
-  heard_exchange t (NextOut answer) law m h = absurd (cc h)
-  heard_exchange t (NextReport answer) law m h = absurd (cc h)
-  heard_exchange t (Asked answer) law m h = absurd (cc h)
+  heard_exchange t _ law m h = absurd (cc h)
 
   pub record HeardRuns (t : List Call) (m : Message) : Type 0 where
     pub operation : Operation
@@ -108,12 +94,12 @@ module _ (sizes : Sizes) (server : Endpoint) (word : ℕ) where
     pub is_for : IsSentFor operation sending
     pub token : sending.token ≡ m.token
 
-  pub heard_runs : (t : List Call) (c : Call) → ClientLaw server sizes word (c ∷ t) → (m : Message) → hears c ≡ Some m
+  pub heard_runs : (t : List Call) (c : Call) → ClientLaw server sizes setup (c ∷ t) → (m : Message) → hears c ≡ Some m
       → HeardRuns t m
   heard_runs t c law m h =
-      let past = client_back server sizes word (c ∷ []) t law in
+      let past = client_back server sizes setup (c ∷ []) t law in
       let x = heard_exchange t c law.exchanges.rows m h in
-      let z = sent_for sizes server word t past.rows past.exchanges.rows x.0 x.1 in
+      let z = sent_for sizes server setup t past.rows past.exchanges.rows x.0 x.1 in
       record {
         operation = z.operation;
         runs = z.runs;
@@ -151,10 +137,10 @@ module _ (sizes : Sizes) (server : Endpoint) (word : ℕ) where
     pub carries : CarriesBody sizes x.request.method x.request.body transfer
 
   -- the request that a heard answer is for was sent last
-  pub sent_last : (t : List Call) → ClientLaw server sizes word t → (x z : Sending) (k : ℕ) → WasSent sizes x t
+  pub sent_last : (t : List Call) → ClientLaw server sizes setup t → (x z : Sending) (k : ℕ) → WasSent sizes x t
       → call_of x.operation ≡ Some k → last_sent sizes t ≡ Some z → x.token ≡ z.token → x ≡ z
   sent_last t law x z k was is last same =
-      elim (one_of_token sizes server word t law x z was (last_was_sent sizes t z last) same) [
+      elim (one_of_token sizes server setup t law x z was (last_was_sent sizes t z last) same) [
         | inl e ↦ e
         | inr r ↦ elim r [
           | inl d ↦ (let w : call_of x.operation ≡ None = ap call_of d.registers in absurd (cc (w, is)))
@@ -162,16 +148,16 @@ module _ (sizes : Sizes) (server : Endpoint) (word : ℕ) where
         ]
       ]
 
-  pub runs_call : (t : List Call) (c : Call) → ClientLaw server sizes word (c ∷ t) → (x : Taken) → WasTaken x t
+  pub runs_call : (t : List Call) (c : Call) → ClientLaw server sizes setup (c ∷ t) → (x : Taken) → WasTaken x t
       → (m : Message) → (h : HeardFor sizes x.number m t c) → RunsCall t x h.sending
   runs_call t c law x was m h =
-      let past = client_back server sizes word (c ∷ []) t law in
+      let past = client_back server sizes setup (c ∷ []) t law in
       let z = heard_runs t c law m h.heard in
       let g = of_taken t (are_of_calls sizes t) h.sending x.number h.sent h.of_call in
       let same : h.sending ≡ z.sending = sent_last t past h.sending z.sending x.number h.sent h.of_call z.last
       (h.token ∙ sym z.token) in
       let request_is : g.request ≡ x.request =
-      one_request x.number g.request x.request t (numbers_once server sizes word t past.rows past.exchanges.rows)
+      one_request x.number g.request x.request t (numbers_once server sizes setup t past.rows past.exchanges.rows)
       g.taken was in
       let op : h.sending.operation ≡ Calling x.number (record x.request { body = [] }) g.transfer =
       g.operation ∙ ap (λ (r : Request). Calling x.number (record r { body = [] }) g.transfer) request_is in

@@ -6,6 +6,7 @@ use Rattle.coap_types.specs.declared.message.Kind.TheVariants.{Con, Non}
 use Rattle.coap_types.proofs.Facts.Traces.{Always_back}
 use Rattle.coap_codec.specs.Message.{Message}
 use Rattle.coap_layer.specs.Trace as L
+use Rattle.coap_layer.specs.declared.setup.Setup.{Setup}
 use Rattle.coap_block.specs.Sizes.{Sizes}
 use Rattle.coap_exchange.specs.declared.asker.AskRefusal.{AskRefusal}
 use Rattle.coap_exchange.specs.declared.asker.Event.{Event}
@@ -33,29 +34,29 @@ use Rattle.coap_client.proofs.Sending.EndsInTime.{at_input}
 use Rattle.coap_client.proofs.Sending.OpenSince.{open_runs}
 use Rattle.coap_client.proofs.Turning.Leading.{client_back}
 
-module _ (server : Endpoint) (sizes : Sizes) (word : ℕ) where
+module _ (server : Endpoint) (sizes : Sizes) (setup : Setup) where
   -- it is not that of the exchange that runs
-  aside : (t : List Call) → ClientLaw server sizes word t → (number : ℕ) (path : List (List ℕ)) (token : List ℕ)
+  aside : (t : List Call) → ClientLaw server sizes setup t → (number : ℕ) (path : List (List ℕ)) (token : List ℕ)
       → IsLive sizes number path token t → ((own_of sizes t).running ≡ Some (Cancelling number) → ⊥)
-      → has_token (beneath server sizes word t).running token ≡ false
-  aside t law number path token l apart = by (beneath server sizes word t).running refl
+      → has_token (beneath server sizes setup t).running token ≡ false
+  aside t law number path token l apart = by (beneath server sizes setup t).running refl
     where
       f : In l.observation (own_of sizes t).observations × (l.observation.number ≡ number)
       f = found_in number (own_of sizes t).observations l.observation l.found
 
-      by : (o : Option Exchange) → (beneath server sizes word t).running ≡ o → has_token o token ≡ false
+      by : (o : Option Exchange) → (beneath server sizes setup t).running ≡ o → has_token o token ≡ false
       by None is = refl
       by (Some x) is = test (same_token token x.token) refl
         where
           test : (b : Bool) → same_token token x.token ≡ b → b ≡ false
           test false e = refl
           test true e =
-              let k = (open_runs server sizes word t law).is_open x is in
+              let k = (open_runs server sizes setup t law).is_open x is in
               let both : Some k.2.exchange ≡ Some x = sym k.2.runs ∙ is in
               let one : k.2.exchange ≡ x = cc both in
               let same : k.2.exchange.token ≡ l.observation.token = ap (λ (y : Exchange). y.token) one
               ∙ (sym (same_token_is token x.token e) ∙ sym l.token_is) in
-              let runs = only_cancel server sizes word t law k.0 k.2 l.observation f.0 same in
+              let runs = only_cancel server sizes setup t law k.0 k.2 l.observation f.0 same in
               absurd (apart (runs ∙ ap (λ i. Some (Cancelling i)) f.1))
 
   -- what its exchanges tell of an arrival
@@ -73,31 +74,31 @@ module _ (server : Endpoint) (sizes : Sizes) (word : ℕ) where
     abbrev first : List E.Call
     first = deeds effect.deed effect.own moment w sent token kept
 
-    told_here : AreToldAs server word (lower_of sizes (Feeds now from bytes w up settled event sent token kept ∷ t))
-        → TellsKind server word (lower_of sizes t) (E.Receive moment from bytes up settled event)
-    told_here told = (at_input (TellsKind server word) later first (E.Receive moment from bytes up settled event)
+    told_here : AreToldAs server setup (lower_of sizes (Feeds now from bytes w up settled event sent token kept ∷ t))
+        → TellsKind server setup (lower_of sizes t) (E.Receive moment from bytes up settled event)
+    told_here told = (at_input (TellsKind server setup) later first (E.Receive moment from bytes up settled event)
         (lower_of sizes t) told).0
 
-  here : (t : List Call) (c : Call) → ClientLaw server sizes word t → AreToldAs server word (lower_of sizes (c ∷ t))
+  here : (t : List Call) (c : Call) → ClientLaw server sizes setup t → AreToldAs server setup (lower_of sizes (c ∷ t))
       → (now : ℕ) (from : Endpoint) (bytes : List ℕ) (w : ℕ) (m : Message) (settled : Bool) (event : Option Event)
       (sent : L.Answer) (token : Result (List ℕ) AskRefusal) (kept : Bool) (number : ℕ) (path : List (List ℕ))
       → c ≡ Feeds now from bytes w (L.Becomes (L.Response m)) settled event sent token kept
-      → IsSound server word from m → IsLive sizes number path m.token t
+      → IsSound server setup from m → IsLive sizes number path m.token t
       → ((own_of sizes t).running ≡ Some (Cancelling number) → ⊥) → (m.kind ≡ Con) ⊎ (m.kind ≡ Non)
       → notes c ≡ Some m
   here t c law told now from bytes w m settled event sent token kept number path is sound live apart kind =
-      let told_so = subst (λ (d : Call). AreToldAs server word (lower_of sizes (d ∷ t))) is told in
+      let told_so = subst (λ (d : Call). AreToldAs server setup (lower_of sizes (d ∷ t))) is told in
       let k = told_here t now from bytes w (L.Becomes (L.Response m)) settled sent token kept event told_so in
       let notice : event ≡ Some (event_of.Notice m) =
       k.notice (max (own_of sizes t).clock now) from bytes settled event m refl sound
       (aside t law number path m.token live apart)
-      (tokens_are_kept server sizes word t law number path m.token live) kind in
+      (tokens_are_kept server sizes setup t law number path m.token live) kind in
       ap notes is
       ∙ ap (λ e. notes (Feeds now from bytes w (L.Becomes (L.Response m)) settled e sent token kept)) notice
 
-  pub notices_are_heard : (t : List Call) → ClientLaw server sizes word t → AreToldAs server word (lower_of sizes t)
-      → NoticesAreHeard server sizes word t
+  pub notices_are_heard : (t : List Call) → ClientLaw server sizes setup t → AreToldAs server setup (lower_of sizes t)
+      → NoticesAreHeard server sizes setup t
   notices_are_heard [] law told = tt
   notices_are_heard (c ∷ t) law told =
-      let past = client_back server sizes word (c ∷ []) t law in
-      (here t c past told, notices_are_heard t past (Always_back (TellsKind server word) _ (lower_of sizes t) told))
+      let past = client_back server sizes setup (c ∷ []) t law in
+      (here t c past told, notices_are_heard t past (Always_back (TellsKind server setup) _ (lower_of sizes t) told))

@@ -1,17 +1,18 @@
 -- Of which types the messages are that a client takes.
-use Rattle.std.proofs.Common.{◌≡◌, ◌⊎◌, inl, inr, ℕ, max, Bool, true, false, Option, Some, None, List, [], ◌∷◌, ◌++◌}
+use Rattle.std.proofs.Common.{◌≡◌, ◌⊎◌, inl, inr, ℕ, max, Bool, true, false, Option, Some, List, [], ◌∷◌, ◌++◌}
 use Rattle.std.proofs.Common.{refl, sym, subst}
 use Rattle.coap_types.specs.declared.endpoint.Endpoint.{Endpoint}
 use Rattle.coap_types.specs.declared.message.Kind.{Kind}
 use Rattle.coap_types.specs.declared.message.Kind.TheVariants.{Con, Non, Ack, Rst}
 use Rattle.coap_codec.specs.Message.{Message}
 use Rattle.coap_layer.specs.Trace as L
+use Rattle.coap_layer.specs.declared.setup.Setup.{Setup}
 use Rattle.coap_block.specs.Sizes.{Sizes}
 use Rattle.coap_exchange.specs.declared.asker.Event.{Event}
 use Rattle.coap_exchange.specs.declared.asker.Event.TheVariants as event
 use Rattle.coap_exchange.specs.declared.matching.Known.{Known}
 use Rattle.coap_exchange.specs.declared.matching.Verdict.{Verdict}
-use Rattle.coap_exchange.specs.declared.matching.Verdict.TheVariants.{Ignore, Reject, Acknowledge, Await, EndByReset}
+use Rattle.coap_exchange.specs.declared.matching.Verdict.TheVariants.{EndByReset}
 use Rattle.coap_exchange.specs.declared.matching.Verdict.TheVariants.{AnswerCon, Answer, NoticeCon, Notice}
 use Rattle.coap_exchange.specs.AskerTrace as E
 use Rattle.coap_exchange.specs.AskerArrivals.{told, verdict_on, known_of}
@@ -19,8 +20,7 @@ use Rattle.coap_exchange.specs.AskerSteps as P
 use Rattle.coap_exchange.specs.AskerLaw as W
 use Rattle.coap_exchange.specs.Matching.{judged}
 use Rattle.coap_exchange.proofs.Facts.Verdicts.{Fits, verdict_fits}
-use Rattle.coap_client.specs.Trace.{Call, Calls, Observes, Cancels, Forgets, Feeds, Ticks, NextOut}
-use Rattle.coap_client.specs.Trace.{NextReport, Asked}
+use Rattle.coap_client.specs.Trace.{Call, Feeds}
 use Rattle.coap_client.specs.Own.{Own}
 use Rattle.coap_client.specs.Effects.{Effect}
 use Rattle.coap_client.specs.Events.{happened}
@@ -72,38 +72,23 @@ answer_kind Rst k m n h = absurd (no_reset k.from_server k.of_exchange k.same_id
 -- only a response is told so
 response_up : (s : E.Own) (from : Endpoint) (up : L.Answer) (e : Event) (v : Verdict) → Fits s from up v
     → told v up ≡ Some e → (e ≡ event.Reset) ⊎ ((m : Message) × (up ≡ L.Becomes (L.Response m)))
-response_up s from up e Ignore f h = absurd (cc h)
-response_up s from up e Reject f h = absurd (cc h)
-response_up s from up e Acknowledge f h = absurd (cc h)
-response_up s from up e Await f h = absurd (cc h)
 response_up s from up e EndByReset f h = inl (cc h)
 response_up s from up e AnswerCon f h = inr (f.message, f.is)
 response_up s from up e Answer f h = inr (f.message, f.is)
 response_up s from up e NoticeCon f h = inr (f.message, f.is)
 response_up s from up e Notice f h = inr (f.message, f.is)
+response_up s from up e _ f h = absurd (cc h)
 
 -- and as itself
 same_notice : (v : Verdict) (m n : Message) → told v (L.Becomes (L.Response m)) ≡ Some (event.Notice n) → m ≡ n
-same_notice Ignore m n h = absurd (cc h)
-same_notice Reject m n h = absurd (cc h)
-same_notice Acknowledge m n h = absurd (cc h)
-same_notice Await m n h = absurd (cc h)
-same_notice EndByReset m n h = absurd (cc h)
-same_notice AnswerCon m n h = absurd (cc h)
-same_notice Answer m n h = absurd (cc h)
 same_notice NoticeCon m n h = cc h
 same_notice Notice m n h = cc h
+same_notice _ m n h = absurd (cc h)
 
 same_answer : (v : Verdict) (m n : Message) → told v (L.Becomes (L.Response m)) ≡ Some (event.Answer n) → m ≡ n
-same_answer Ignore m n h = absurd (cc h)
-same_answer Reject m n h = absurd (cc h)
-same_answer Acknowledge m n h = absurd (cc h)
-same_answer Await m n h = absurd (cc h)
-same_answer EndByReset m n h = absurd (cc h)
-same_answer NoticeCon m n h = absurd (cc h)
-same_answer Notice m n h = absurd (cc h)
 same_answer AnswerCon m n h = cc h
 same_answer Answer m n h = cc h
+same_answer _ m n h = absurd (cc h)
 
 abbrev Noted : Message → Type 0
 Noted m = (m.kind ≡ Con) ⊎ (m.kind ≡ Non)
@@ -136,37 +121,37 @@ module _ (s : E.Own) (from : Endpoint) (up : L.Answer) where
           (answer_kind m.kind (known_of s from m) m n k)
 
 -- the call's arrival stands last among what it asks of the exchanges
-last_row : (server : Endpoint) (word : ℕ) (later : List E.Call) (c : E.Call) (past : List E.Call)
-    → W.AskerLaw server word ((later ++ c ∷ []) ++ past) → P.IsRight (W.own_of server word past) c
-last_row server word [] c past law = law.0
-last_row server word (d ∷ later) c past law = last_row server word later c past law.1
+last_row : (server : Endpoint) (setup : Setup) (later : List E.Call) (c : E.Call) (past : List E.Call)
+    → W.AskerLaw server setup ((later ++ c ∷ []) ++ past) → P.IsRight (W.own_of server setup past) c
+last_row server setup [] c past law = law.0
+last_row server setup (d ∷ later) c past law = last_row server setup later c past law.1
 
-deeper : (server : Endpoint) (word : ℕ) (first later : List E.Call) (past : List E.Call)
-    → W.AskerLaw server word ((first ++ later) ++ past) → W.AskerLaw server word (later ++ past)
-deeper server word [] later past law = law
-deeper server word (d ∷ first) later past law = deeper server word first later past law.1
+deeper : (server : Endpoint) (setup : Setup) (first later : List E.Call) (past : List E.Call)
+    → W.AskerLaw server setup ((first ++ later) ++ past) → W.AskerLaw server setup (later ++ past)
+deeper server setup [] later past law = law
+deeper server setup (d ∷ first) later past law = deeper server setup first later past law.1
 
-module _ (server : Endpoint) (sizes : Sizes) (word : ℕ) (t : List Call) where
+module _ (server : Endpoint) (sizes : Sizes) (setup : Setup) (t : List Call) where
   -- what arrived had its row
   told_here : (now : ℕ) (from : Endpoint) (bytes : List ℕ) (w : ℕ) (up : L.Answer) (settled : Bool) (e : Option Event)
       (sent : L.Answer) (token : _) (was : Bool)
-      → ClientLaw server sizes word (Feeds now from bytes w up settled e sent token was ∷ t)
-      → e ≡ told (verdict_on (W.own_of server word (lower_of sizes t)) from up) up
+      → ClientLaw server sizes setup (Feeds now from bytes w up settled e sent token was ∷ t)
+      → e ≡ told (verdict_on (W.own_of server setup (lower_of sizes t)) from up) up
   told_here now from bytes w up settled e sent token was law =
       let s : Own = own_of sizes t in
       let z : ℕ = max s.clock now in
       let f : Effect = happened (at now s) z e in
       let k = close z f token in
       let arrival : E.Call = E.Receive z from bytes up settled e in
-      last_row server word (deeds f.deed f.own z w sent token was) arrival (lower_of sizes t)
-      (deeper server word (deeds k.deed k.own z w sent token was)
+      last_row server setup (deeds f.deed f.own z w sent token was) arrival (lower_of sizes t)
+      (deeper server setup (deeds k.deed k.own z w sent token was)
       (deeds f.deed f.own z w sent token was ++ arrival ∷ []) (lower_of sizes t) law.exchanges.rows)
 
-  of_type : (c : Call) → ClientLaw server sizes word (c ∷ t) → IsOfType c
+  of_type : (c : Call) → ClientLaw server sizes setup (c ∷ t) → IsOfType c
   of_type (Feeds now from bytes w up settled (Some (event.Notice a)) sent token was) law =
       record {
         noted = λ m h. (let same : a ≡ m = cc h in
-            subst Noted same (noted_so (W.own_of server word (lower_of sizes t)) from up a
+            subst Noted same (noted_so (W.own_of server setup (lower_of sizes t)) from up a
             (sym (told_here now from bytes w up settled (Some (event.Notice a)) sent token was law))));
         heard = λ m h. absurd (cc h);
       }
@@ -174,31 +159,15 @@ module _ (server : Endpoint) (sizes : Sizes) (word : ℕ) (t : List Call) where
       record {
         noted = λ m h. absurd (cc h);
         heard = λ m h. (let same : a ≡ m = cc h in
-            subst Heard same (heard_so (W.own_of server word (lower_of sizes t)) from up a
+            subst Heard same (heard_so (W.own_of server setup (lower_of sizes t)) from up a
             (sym (told_here now from bytes w up settled (Some (event.Answer a)) sent token was law))));
       }
-  of_type (Feeds now from bytes w up settled (Some event.Reset) sent token was) law =
-      record { noted = λ m h. absurd (cc h); heard = λ m h. absurd (cc h) }
-  of_type (Feeds now from bytes w up settled (Some event.Timeout) sent token was) law =
-      record { noted = λ m h. absurd (cc h); heard = λ m h. absurd (cc h) }
-  of_type (Feeds now from bytes w up settled (Some event.NoResponse) sent token was) law =
-      record { noted = λ m h. absurd (cc h); heard = λ m h. absurd (cc h) }
-  of_type (Feeds now from bytes w up settled None sent token was) law =
-      record { noted = λ m h. absurd (cc h); heard = λ m h. absurd (cc h) }
-  of_type (Calls now r answer) law = record { noted = λ m h. absurd (cc h); heard = λ m h. absurd (cc h) }
-  of_type (Observes now path answer) law = record { noted = λ m h. absurd (cc h); heard = λ m h. absurd (cc h) }
-  of_type (Cancels now k answer) law = record { noted = λ m h. absurd (cc h); heard = λ m h. absurd (cc h) }
-  of_type (Forgets k was answer) law = record { noted = λ m h. absurd (cc h); heard = λ m h. absurd (cc h) }
-  of_type (Ticks now w below turn sent token was answer) law =
-      record { noted = λ m h. absurd (cc h); heard = λ m h. absurd (cc h) }
-  of_type (NextOut answer) law = record { noted = λ m h. absurd (cc h); heard = λ m h. absurd (cc h) }
-  of_type (NextReport answer) law = record { noted = λ m h. absurd (cc h); heard = λ m h. absurd (cc h) }
-  of_type (Asked answer) law = record { noted = λ m h. absurd (cc h); heard = λ m h. absurd (cc h) }
+  of_type _ law = record { noted = λ m h. absurd (cc h); heard = λ m h. absurd (cc h) }
 
-pub are_of_types : (server : Endpoint) (sizes : Sizes) (word : ℕ) (t : List Call) → ClientLaw server sizes word t
+pub are_of_types : (server : Endpoint) (sizes : Sizes) (setup : Setup) (t : List Call) → ClientLaw server sizes setup t
     → AreOfTypes t
-are_of_types server sizes word [] law = tt
-are_of_types server sizes word (c ∷ t) law = (
-  of_type server sizes word t c law,
-  are_of_types server sizes word t (client_back server sizes word (c ∷ []) t law),
+are_of_types server sizes setup [] law = tt
+are_of_types server sizes setup (c ∷ t) law = (
+  of_type server sizes setup t c law,
+  are_of_types server sizes setup t (client_back server sizes setup (c ∷ []) t law),
 )

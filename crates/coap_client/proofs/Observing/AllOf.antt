@@ -19,6 +19,7 @@ use Rattle.coap_client.specs.Fetching.{value}
 use Rattle.coap_client.specs.Observing.{first_value}
 use Rattle.coap_client.specs.Responses.{said, part_by, part, sequence_in, tag_in, format_in}
 use Rattle.coap_client.specs.Follows.Noticed.{IsAllOf}
+use Rattle.coap_client.proofs.Fetching.FetchUnchanged.{or_right as or_true}
 
 done_if : (sized over : Bool) → sized ≡ true → over ≡ false
     → cond (not sized) (verdict.Refuse refusal.BadBlock) (cond over (verdict.Refuse refusal.TooLarge) verdict.Done)
@@ -26,10 +27,6 @@ done_if : (sized over : Bool) → sized ≡ true → over ≡ false
 done_if false over p q = absurd (cc p)
 done_if true true p q = absurd (cc q)
 done_if true false p q = refl
-
-or_true : (b : Bool) → (b || true) ≡ true
-or_true true = refl
-or_true false = refl
 
 module _ (sizes : Sizes) (tag : Option (List ℕ)) (len : ℕ) (short : len ≤ sizes.limit) where
   -- the first block, and no more

@@ -1,14 +1,14 @@
 -- An observation that was taken and is not over waits, runs or is live.
 use Rattle.std.proofs.Common.{◌≡◌, ◌≤◌, ◌⊎◌, inl, inr, ℕ, zero, suc, ◌+◌, Bool, true, false, cond, Option, Some, None, List}
-use Rattle.std.proofs.Common.{◌∷◌, [], refl, ap, sym, subst, ◌∙◌, Ok, Err, arith}
+use Rattle.std.proofs.Common.{◌∷◌, [], refl, ap, sym, subst, ◌∙◌, Ok, arith}
 use Rattle.std.specs.Prelude.{◌==◌, nat_lt}
 use Rattle.std.proofs.lemmas.Bool.{lt-ltb}
 use Rattle.coap_types.specs.Past.{Ever}
 use Rattle.coap_types.proofs.Facts.Traces.{Ever_map}
 use Rattle.coap_types.specs.declared.endpoint.Endpoint.{Endpoint}
+use Rattle.coap_layer.specs.declared.setup.Setup.{Setup}
 use Rattle.coap_block.specs.Sizes.{Sizes}
-use Rattle.coap_client.specs.Trace.{is_value, Request, Report, Call, Calls, Observes, Cancels, Forgets, Feeds, Ticks}
-use Rattle.coap_client.specs.Trace.{NextOut, NextReport, Asked}
+use Rattle.coap_client.specs.Trace.{is_value, Request, Report, Call, Calls, Observes}
 use Rattle.coap_client.specs.Own.{Operation, Calling, Registering, Fetching, Cancelling, Dropped, Observation}
 use Rattle.coap_client.specs.Effects.{of}
 use Rattle.coap_client.specs.Steps.{reports}
@@ -34,34 +34,19 @@ use Rattle.coap_client.proofs.Sending.OpenSince.{open_runs}
 use Rattle.coap_client.proofs.Sending.Tokens.{last_was_sent}
 use Rattle.coap_client.proofs.Turning.AllWaiting.{all_wait}
 use Rattle.coap_client.proofs.Turning.BlockByBlock.{AllOf}
+use Rattle.coap_client.proofs.Observing.Notified.{one_of_two}
 
 -- a number is given to one call, or to one observation
 
 taken_given : (c : Call) (y : Taken) → takes c ≡ Some y → (number_given c ≡ Some y.number) × (observes c ≡ None)
 taken_given (Calls now r (Ok n)) y h =
     let same : record { number = n; request = r } ≡ y = cc h in (ap (λ (z : Taken). Some z.number) same, refl)
-taken_given (Calls now r (Err why)) y h = absurd (cc h)
-taken_given (Observes now path answer) y h = absurd (cc h)
-taken_given (Cancels now k answer) y h = absurd (cc h)
-taken_given (Forgets k was answer) y h = absurd (cc h)
-taken_given (Feeds now from bytes w up settled event sent token was) y h = absurd (cc h)
-taken_given (Ticks now w below turn sent token was answer) y h = absurd (cc h)
-taken_given (NextOut answer) y h = absurd (cc h)
-taken_given (NextReport answer) y h = absurd (cc h)
-taken_given (Asked answer) y h = absurd (cc h)
+taken_given _ y h = absurd (cc h)
 
 observed_given : (c : Call) (x : Observed) → observes c ≡ Some x → number_given c ≡ Some x.number
 observed_given (Observes now path (Ok n)) x h =
     let same : record { number = n; path = path } ≡ x = cc h in ap (λ (z : Observed). Some z.number) same
-observed_given (Observes now path (Err why)) x h = absurd (cc h)
-observed_given (Calls now r answer) x h = absurd (cc h)
-observed_given (Cancels now k answer) x h = absurd (cc h)
-observed_given (Forgets k was answer) x h = absurd (cc h)
-observed_given (Feeds now from bytes w up settled event sent token was) x h = absurd (cc h)
-observed_given (Ticks now w below turn sent token was answer) x h = absurd (cc h)
-observed_given (NextOut answer) x h = absurd (cc h)
-observed_given (NextReport answer) x h = absurd (cc h)
-observed_given (Asked answer) x h = absurd (cc h)
+observed_given _ x h = absurd (cc h)
 
 pub was_given : (x : Observed) (t : List Call) → WasObserved x t → Ever (λ c. number_given c ≡ Some x.number) t
 was_given x t h = Ever_map (λ c. observes c ≡ Some x) (λ c. number_given c ≡ Some x.number)
@@ -98,9 +83,7 @@ IsOf t op = Unit {0}
 of_later : (t : List Call) (c : Call) (op : Operation) → IsOf t op → IsOf (c ∷ t) op
 of_later t c (Calling k r tr) h = (h.0, inr h.1)
 of_later t c (Registering k path) h = inr h
-of_later t c (Fetching k) h = tt
-of_later t c (Cancelling k) h = tt
-of_later t c Dropped h = tt
+of_later t c _ h = tt
 
 is_registration_of : (t : List Call) → NumbersOnce t → (x : Observed) → WasObserved x t → (op : Operation) → IsOf t op
     → 1 ≤ in_op x.number op → op ≡ Registering x.number x.path
@@ -115,13 +98,7 @@ is_registration_of t law x was (Registering k path) h hits = by (k == x.number) 
     by true e p = ap (λ (z : Observed). Registering z.number z.path)
         (one_path t law (record { number = k; path = path }) x h was (same_number k x.number e))
     by false e p = absurd (omega (arith, p))
-is_registration_of t law x was (Fetching k) h hits = absurd (omega (arith, hits))
-is_registration_of t law x was (Cancelling k) h hits = absurd (omega (arith, hits))
-is_registration_of t law x was Dropped h hits = absurd (omega (arith, hits))
-
-one_of_two : (a b : ℕ) → 1 ≤ a + b → (1 ≤ a) ⊎ (1 ≤ b)
-one_of_two zero b h = inr (omega (arith, h))
-one_of_two (suc a) b h = inl (omega arith)
+is_registration_of t law x was _ h hits = absurd (omega (arith, hits))
 
 in_the_queue : (t : List Call) → NumbersOnce t → (x : Observed) → WasObserved x t → (ops : List Operation)
     → AllOf (IsOf t) ops → 1 ≤ in_queue x.number ops → Ever (λ op. op ≡ Registering x.number x.path) ops
@@ -144,21 +121,19 @@ module _ (sizes : Sizes) where
       (z.request, inr z.taken)
   sent_call (c ∷ t) x k r tr (inr h) op = let z = sent_call t x k r tr h op in (z.0, inr z.1)
 
-  module _ (server : Endpoint) (word : ℕ) where
+  module _ (server : Endpoint) (setup : Setup) where
     sent_is_of : (t : List Call) (x : Sending) → WasSent sizes x t → (op : Operation) → IsSentFor op x → IsOf t op
     sent_is_of t x was (Calling k r tr) for = sent_call t x k r tr was for
     sent_is_of t x was (Registering k path) for = sent_taken sizes t x k path was for
-    sent_is_of t x was (Fetching k) for = tt
-    sent_is_of t x was (Cancelling k) for = tt
-    sent_is_of t x was Dropped for = tt
+    sent_is_of t x was _ for = tt
 
-    running_of : (t : List Call) → ClientLaw server sizes word t → (op : Operation)
+    running_of : (t : List Call) → ClientLaw server sizes setup t → (op : Operation)
         → (own_of sizes t).running ≡ Some op → IsOf t op
     running_of t law op runs =
-        let l : Linked (Some op) (own_of sizes t).observations (beneath server sizes word t).running =
-        subst (λ o. Linked o (own_of sizes t).observations (beneath server sizes word t).running) runs
-        (known server sizes word t law.rows law.exchanges.rows).linked in
-        let k = (open_runs server sizes word t law).is_open l.0 l.1 in
+        let l : Linked (Some op) (own_of sizes t).observations (beneath server sizes setup t).running =
+        subst (λ o. Linked o (own_of sizes t).observations (beneath server sizes setup t).running) runs
+        (known server sizes setup t law.rows law.exchanges.rows).linked in
+        let k = (open_runs server sizes setup t law).is_open l.0 l.1 in
         let both : Some k.2.operation ≡ Some op = sym k.2.operates ∙ runs in
         let same : k.2.operation ≡ op = cc both in
         subst (IsOf t) same (sent_is_of t k.2.sending (last_was_sent sizes t k.2.sending k.2.last_sent) k.2.operation
@@ -166,7 +141,7 @@ module _ (sizes : Sizes) where
 
     -- it is not over
     pub none_gone : (t : List Call) (number : ℕ) → (WasForgotten number t → ⊥)
-        → (HasReport server sizes word number t → ⊥) → gone sizes number t ≡ 0
+        → (HasReport server sizes setup number t → ⊥) → gone sizes number t ≡ 0
     none_gone [] number kept none = refl
     none_gone (c ∷ t) number kept none =
         let a = none_final number (reports (own_of sizes t) c) values in
@@ -186,14 +161,14 @@ module _ (sizes : Sizes) where
             )))
 
     -- .. of the path that was taken
-    pub live_where : (t : List Call) → ClientLaw server sizes word t → (x : Observed) → WasObserved x t
+    pub live_where : (t : List Call) → ClientLaw server sizes setup t → (x : Observed) → WasObserved x t
         → 1 ≤ in_observations x.number (own_of sizes t).observations
         → (token : List ℕ) × IsLive sizes x.number x.path token t
     live_where t law x was h =
         let p = found_there x.number (own_of sizes t).observations h in
         let f = found_in x.number (own_of sizes t).observations p.0 p.1 in
-        let r = registered server sizes word t law p.0 f.0 in
-        let once = numbers_once server sizes word t law.rows law.exchanges.rows in
+        let r = registered server sizes setup t law p.0 f.0 in
+        let once = numbers_once server sizes setup t law.rows law.exchanges.rows in
         let same = one_path t once (record { number = p.0.number; path = p.0.path }) x
         (sent_taken sizes t r.sending p.0.number p.0.path r.sent r.operation) was f.1 in (
           p.0.token,
@@ -205,7 +180,7 @@ module _ (sizes : Sizes) where
           },
         )
 
-    pub are_there : (t : List Call) → ClientLaw server sizes word t → AreThere sizes server word t
+    pub are_there : (t : List Call) → ClientLaw server sizes setup t → AreThere sizes server setup t
     are_there t law x was kept none = by (one_of_two (in_running n s.running)
         (in_queue n s.queue + in_observations n s.observations) somewhere)
       where
@@ -216,13 +191,13 @@ module _ (sizes : Sizes) where
         s = own_of sizes t
 
         once : NumbersOnce t
-        once = numbers_once server sizes word t law.rows law.exchanges.rows
+        once = numbers_once server sizes setup t law.rows law.exchanges.rows
 
         somewhere : 1 ≤ places n s
         somewhere =
-            let one = (known server sizes word t law.rows law.exchanges.rows).one n in
+            let one = (known server sizes setup t law.rows law.exchanges.rows).one n in
             let over = none_gone t n kept none in
-            let given = below server sizes word t law.rows law.exchanges.rows n (was_given x t was) in
+            let given = below server sizes setup t law.rows law.exchanges.rows n (was_given x t was) in
             let less : nat_lt n s.taken ≡ true = lt-ltb n s.taken (omega (arith, given)) in
             let places_one : places n s + gone sizes n t ≡ 1 = one ∙ ap (λ b. cond b 1 0) less in
             omega (arith, over, places_one)

@@ -4,6 +4,7 @@ use Rattle.std.proofs.Common.{[]}
 use Rattle.std.proofs.Common.{◌∷◌, ◌++◌, map, refl, ap, sym, subst, ◌∙◌, Result, Ok, Err, arith}
 use Rattle.std.specs.Prelude.{◌==◌, filter}
 use Rattle.coap_types.specs.declared.endpoint.Endpoint.{Endpoint}
+use Rattle.coap_layer.specs.declared.setup.Setup.{Setup}
 use Rattle.coap_block.specs.Sizes.{Sizes}
 use Rattle.coap_block.specs.declared.fetch_verdict.Verdict.TheVariants as verdict
 use Rattle.coap_exchange.specs.declared.asker.AskRefusal.{AskRefusal}
@@ -11,7 +12,7 @@ use Rattle.coap_exchange.specs.declared.asker.Event.{Event}
 use Rattle.coap_observe.specs.Newer.{arrived}
 use Rattle.coap_client.specs.Trace.{Report, NoIds, Call, Calls, Observes, Cancels, Forgets, Feeds, Ticks, NextOut}
 use Rattle.coap_client.specs.Trace.{NextReport, Asked}
-use Rattle.coap_client.specs.Own.{Transfer, Operation, Calling, Registering, Fetching, Cancelling, Dropped, Observation}
+use Rattle.coap_client.specs.Own.{Transfer, Operation, Calling, Registering, Fetching, Cancelling, Observation}
 use Rattle.coap_client.specs.Own.{Own}
 use Rattle.coap_client.specs.Observing.{begun, first_rest}
 use Rattle.coap_client.specs.Responses.{sequence_in}
@@ -103,27 +104,19 @@ ascends_held s false report h = h
 
 ascends_failed : (s : Own) (u : Transfer → Bool) (report : Report) (running : Option Operation)
     → Ascends s.observations → Ascends (failed u report s running).own.observations
-ascends_failed s u report None h = h
 ascends_failed s u report (Some (Calling k r t)) h = ascends_held s (u t && is_upload t) (of k report) h
-ascends_failed s u report (Some (Registering k path)) h = h
 ascends_failed s u report (Some (Fetching k)) h =
     ascends_changed k (λ o. record o { rest = None }) (λ o. refl) s.observations h
 ascends_failed s u report (Some (Cancelling k)) h = ascends_filter (λ o. not (o.number == k)) s.observations h
-ascends_failed s u report (Some Dropped) h = h
+ascends_failed s u report _ h = h
 
 module _ (s : Own) (now : ℕ) (told : Option Event) (h : Ascends s.observations)
     (new : (k : ℕ) (path : List (List ℕ)) → s.running ≡ Some (Registering k path) → AreBelow k s.observations) where
   ascends_moves : (mo : Move s now told) → Ascends (left_by s now told mo).own.observations
-  ascends_moves (mv.rests un) = h
-  ascends_moves (mv.copies q) = h
-  ascends_moves (mv.starts_next op queue none rest first q) = h
-  ascends_moves (mv.fetches k none rest q) = h
-  ascends_moves (mv.goes_on k r tr next a hears runs asks) = h
   ascends_moves (mv.is_done k r tr final rep a hears runs ends_so) = ascends_held s (not final && is_upload tr)
       (of k rep) h
   ascends_moves (mv.registers k path a hears runs note) =
       ascends_more s.observations (begun k path s.sizes now a) h (new k path runs)
-  ascends_moves (mv.refuses k path a hears runs note) = h
   ascends_moves (mv.fetches_on k n a num size hears runs rest code asks) =
       ascends_changed k (λ o. record o { rest = rest_left n.sequence n.fetch a (verdict.Ask num size) })
       (λ o. refl) s.observations h
@@ -131,9 +124,7 @@ module _ (s : Own) (now : ℕ) (told : Option Event) (h : Ascends s.observations
       ascends_changed k (λ o. record o { rest = None }) (λ o. refl) s.observations h
   ascends_moves (mv.gives_up k a hears runs) = ascends_changed k (λ o. record o { rest = None }) (λ o. refl)
       s.observations h
-  ascends_moves (mv.fetched_none k a hears runs) = h
   ascends_moves (mv.cancels k a hears runs) = ascends_filter (λ o. not (o.number == k)) s.observations h
-  ascends_moves (mv.is_dropped a hears runs) = h
   ascends_moves (mv.fails e un) = ascends_failed s (λ t. true) (lapse e) s.running h
   ascends_moves (mv.is_ended o a notes found note) = ascends_filter (λ x. not (x.number == o.number)) s.observations h
   ascends_moves (mv.renews o a notes found note newer) =
@@ -144,6 +135,7 @@ module _ (s : Own) (now : ℕ) (told : Option Event) (h : Ascends s.observations
   ascends_moves (mv.passes_by o a notes found note newer) =
       ascends_changed o.number (λ p. record p { watch = arrived p.watch (sequence_in a) now false })
       (λ p. refl) s.observations h
+  ascends_moves _ = h
 
   ascends_closed : (e : Effect) (token : Result (List ℕ) AskRefusal) → Ascends e.own.observations → Closing now e token
       → Ascends (closed now e e.deed token).own.observations
@@ -154,7 +146,7 @@ module _ (s : Own) (now : ℕ) (told : Option Event) (h : Ascends s.observations
   ascends_closed e token z (is_refused op why asks given none all) =
       subst (λ (c : Effect). Ascends c.own.observations) (sym all) (ascends_failed e.own has_sent NoIds (Some op) z)
 
-module _ (sizes : Sizes) (server : Endpoint) (word : ℕ) where
+module _ (sizes : Sizes) (server : Endpoint) (setup : Setup) where
   -- those that are live were registered before
 
   apart : (k n : ℕ) (o : Observation) (os : List Observation) → o.number ≡ n
@@ -175,18 +167,18 @@ module _ (sizes : Sizes) (server : Endpoint) (word : ℕ) where
       let rest : in_observations k os ≡ 0 = omega (arith, none) in
       (omega (arith, a, is, differ), below_low t low k lower is os h.1 rest)
 
-  new_above : (t : List Call) → ClientLaw server sizes word t → (k : ℕ) (path : List (List ℕ))
+  new_above : (t : List Call) → ClientLaw server sizes setup t → (k : ℕ) (path : List (List ℕ))
       → (own_of sizes t).running ≡ Some (Registering k path) → AreBelow k (own_of sizes t).observations
   new_above t law k path runs =
       let z = turns sizes t law.rows in
-      let at_most = most server sizes word t law k in
+      let at_most = most server sizes setup t law k in
       let here : in_running k (own_of sizes t).running ≡ hit k k = ap (in_running k) runs in
       let one = hit_self k in
       let none : in_observations k (own_of sizes t).observations ≡ 0 = omega (arith, at_most, here, one) in
       below_low t z.low k (λ n p token g. z.sent g.sending n g.sent (ap turn_of g.operation))
-      (z.running (Registering k path) k runs refl) (own_of sizes t).observations (live sizes server word t law) none
+      (z.running (Registering k path) k runs refl) (own_of sizes t).observations (live sizes server setup t law) none
 
-  ascends_turned : (t : List Call) (c : Call) → ClientLaw server sizes word t → (k : Turned sizes t c)
+  ascends_turned : (t : List Call) (c : Call) → ClientLaw server sizes setup t → (k : Turned sizes t c)
       → Ascends (own_of sizes t).observations → Ascends (own_of sizes (c ∷ t)).observations
   ascends_turned t c law k h =
       let m : ℕ = max (own_of sizes t).clock k.now in
@@ -196,11 +188,11 @@ module _ (sizes : Sizes) (server : Endpoint) (word : ℕ) where
       subst (λ (o : Own). Ascends o.observations) (sym k.own_is)
       (ascends_closed s m k.told h new e k.token (ascends_moves s m k.told h new k.move) k.closes)
 
-  pub ascends : (t : List Call) → ClientLaw server sizes word t → Ascends (own_of sizes t).observations
+  pub ascends : (t : List Call) → ClientLaw server sizes setup t → Ascends (own_of sizes t).observations
   ascends [] law = tt
-  ascends (c ∷ t) law = let past = client_back server sizes word (c ∷ []) t law in by c past (ascends t past)
+  ascends (c ∷ t) law = let past = client_back server sizes setup (c ∷ []) t law in by c past (ascends t past)
     where
-      by : (c : Call) → ClientLaw server sizes word t → Ascends (own_of sizes t).observations
+      by : (c : Call) → ClientLaw server sizes setup t → Ascends (own_of sizes t).observations
           → Ascends (own_of sizes (c ∷ t)).observations
       by (Calls now r (Ok n)) past h = h
       by (Calls now r (Err why)) past h = h

@@ -3,6 +3,7 @@ use Rattle.std.proofs.Common.{◌≡◌, ◌≤◌, inl, inr, ℕ, max, Bool, tr
 use Rattle.std.proofs.Common.{List, ◌∷◌, ◌++◌, [], refl, ap, sym, subst, ◌∙◌, drop, Ok, Err, arith}
 use Rattle.std.specs.Prelude.{◌==◌, filter, slice_get, option_to_list}
 use Rattle.coap_types.specs.declared.endpoint.Endpoint.{Endpoint}
+use Rattle.coap_layer.specs.declared.setup.Setup.{Setup}
 use Rattle.coap_block.specs.Sizes.{Sizes}
 use Rattle.coap_exchange.specs.declared.asker.Event.TheVariants as event_of
 use Rattle.coap_exchange.specs.AskerTrace as E
@@ -78,40 +79,32 @@ module _ (sizes : Sizes) where
   -- what was forgotten is gone
   forgets_one : (k : ℕ) (c : Call) → forgotten c ≡ Some k → forgotten_by k c ≡ 1
   forgets_one k (Forgets n was true) h = let e : n ≡ k = cc h in ap (λ i. hit i k) e ∙ hit_self k
-  forgets_one k (Forgets n was false) h = absurd (cc h)
-  forgets_one k (Calls now r answer) h = absurd (cc h)
-  forgets_one k (Observes now path answer) h = absurd (cc h)
-  forgets_one k (Cancels now n answer) h = absurd (cc h)
-  forgets_one k (Feeds now from bytes w up settled event sent token was) h = absurd (cc h)
-  forgets_one k (Ticks now w below turn sent token was answer) h = absurd (cc h)
-  forgets_one k (NextOut answer) h = absurd (cc h)
-  forgets_one k (NextReport answer) h = absurd (cc h)
-  forgets_one k (Asked answer) h = absurd (cc h)
+  forgets_one k _ h = absurd (cc h)
 
   forgotten_gone : (k : ℕ) (t : List Call) → WasForgotten k t → 1 ≤ gone sizes k t
   forgotten_gone k [] h = absurd h
   forgotten_gone k (c ∷ t) (inl h) = let a = forgets_one k c h in omega (arith, a)
   forgotten_gone k (c ∷ t) (inr h) = let a = forgotten_gone k t h in omega (arith, a)
 
-  module _ (server : Endpoint) (word : ℕ) where
-    under : (t : List Call) (c : Call) → ClientLaw server sizes word (c ∷ t) → Known server sizes word t
-    under t c law = known server sizes word t law.rows.1
-        (law_back server word (lower (own_of sizes t) c) (lower_of sizes t) law.exchanges.rows)
+  module _ (server : Endpoint) (setup : Setup) where
+    under : (t : List Call) (c : Call) → ClientLaw server sizes setup (c ∷ t) → Known server sizes setup t
+    under t c law = known server sizes setup t law.rows.1
+        (law_back server setup (lower (own_of sizes t) c) (lower_of sizes t) law.exchanges.rows)
 
     -- nothing is reported of what is gone
-    none_of_gone : (t : List Call) (c : Call) → ClientLaw server sizes word (c ∷ t) → (r : Reported)
+    none_of_gone : (t : List Call) (c : Call) → ClientLaw server sizes setup (c ∷ t) → (r : Reported)
         → 1 ≤ gone sizes r.number t → reports (own_of sizes t) c ≡ Some r → ⊥
     none_of_gone t c law r over is =
         let k = under t c law in
         both_one (places r.number (own_of sizes t)) (gone sizes r.number t) _ (k.one r.number)
-        (from_place server sizes word t c k law.exchanges.rows r is) over
+        (from_place server sizes setup t c k law.exchanges.rows r is) over
 
-    none_forgotten : (t : List Call) (c : Call) → ClientLaw server sizes word (c ∷ t) → (r : Reported)
+    none_forgotten : (t : List Call) (c : Call) → ClientLaw server sizes setup (c ∷ t) → (r : Reported)
         → WasForgotten r.number t → reports (own_of sizes t) c ≡ Some r → ⊥
     none_forgotten t c law r h is = none_of_gone t c law r (forgotten_gone r.number t h) is
 
     -- nothing of it waits to be given
-    none_waits : (t : List Call) → ClientLaw server sizes word t → (k : ℕ) → WasForgotten k t
+    none_waits : (t : List Call) → ClientLaw server sizes setup t → (k : ℕ) → WasForgotten k t
         → NoneOf k (own_of sizes t).reports
     none_waits [] law k h = absurd h
     none_waits (c ∷ t) law k (inl h) = by c h
@@ -130,7 +123,7 @@ module _ (sizes : Sizes) where
         by (NextReport answer) h = absurd (cc h)
         by (Asked answer) h = absurd (cc h)
     none_waits (c ∷ t) law k (inr h) = by c (λ r is n. none_forgotten t c law r
-        (subst (λ i. WasForgotten i t) (sym n) h) is) (none_waits t (client_back server sizes word (c ∷ []) t law) k h)
+        (subst (λ i. WasForgotten i t) (sym n) h) is) (none_waits t (client_back server sizes setup (c ∷ []) t law) k h)
       where
         by : (b : Call) → ((r : Reported) → reports (own_of sizes t) b ≡ Some r → r.number ≡ k → ⊥)
             → NoneOf k (own_of sizes t).reports → NoneOf k (own_of sizes (b ∷ t)).reports
@@ -158,15 +151,15 @@ module _ (sizes : Sizes) where
             let z = steadied (at now s) m e token e.deed refl (passes_steady (at now s) m turn) in
             none_more k (close m e token).own.reports (close m e token).report (subst (NoneOf k) (sym z.reports) ih) f
 
-    none_given : (t : List Call) (c : Call) → ClientLaw server sizes word (c ∷ t) → (r : Reported)
+    none_given : (t : List Call) (c : Call) → ClientLaw server sizes setup (c ∷ t) → (r : Reported)
         → WasForgotten r.number t → c ≡ NextReport (Some r) → ⊥
     none_given t c law r h is =
-        let right = subst (λ b. ClientLaw server sizes word (b ∷ t)) is law in
+        let right = subst (λ b. ClientLaw server sizes setup (b ∷ t)) is law in
         none_first r.number (own_of sizes t).reports r
-        (none_waits t (client_back server sizes word (c ∷ []) t law) r.number h) right.rows.0 refl
+        (none_waits t (client_back server sizes setup (c ∷ []) t law) r.number h) right.rows.0 refl
 
     -- no notification of an observation is taken while its cancel runs: it would have the token of that
-    none_noted : (t : List Call) (c : Call) → ClientLaw server sizes word (c ∷ t) → (k : ℕ) (n : Newly)
+    none_noted : (t : List Call) (c : Call) → ClientLaw server sizes setup (c ∷ t) → (k : ℕ) (n : Newly)
         → (own_of sizes t).running ≡ Some (Cancelling k) → notifies (own_of sizes t) c ≡ Some n → n.number ≡ k → ⊥
     none_noted t (Feeds now from bytes w up settled (Some (event_of.Answer m)) sent token was) law k n runs is number =
         let r = registers_as (own_of sizes t).running (max (own_of sizes t).clock now) m n is in let a : Some
@@ -179,40 +172,27 @@ module _ (sizes : Sizes) where
         let input : E.Call = E.Receive z from bytes up settled (Some (event_of.Notice m)) in
         let later : List E.Call = deeds (close z e token).deed (close z e token).own z w sent token was in
         let first : List E.Call = deeds e.deed e.own z w sent token was in
-        let right = done_right (beneath server sizes word t) later first input
-        (law_front server word (later ++ (first ++ input ∷ [])) (lower_of sizes t) law.exchanges.rows) in
-        let apart = (came (beneath server sizes word t) from z up (Some (event_of.Notice m)) right.0).0 in
+        let right = done_right (beneath server sizes setup t) later first input
+        (law_front server setup (later ++ (first ++ input ∷ [])) (lower_of sizes t) law.exchanges.rows) in
+        let apart = (came (beneath server sizes setup t) from z up (Some (event_of.Notice m)) right.0).0 in
         let known_so = under t c law in
         let r = renews_as (observation_with m.token s.observations) z m n is in
         let same : k ≡ r.observation.number = sym number ∙ ap (λ (x : Newly). x.number) r.is in
         let a : (k == r.observation.number) ≡ false =
-        apart_of s (beneath server sizes word t).running
-        (sound_of server sizes word t known_so) known_so.linked z m apart r.observation r.found k runs in
+        apart_of s (beneath server sizes setup t).running
+        (sound_of server sizes setup t known_so) known_so.linked z m apart r.observation r.found k runs in
         let b : (k == r.observation.number) ≡ true = ap (λ i. k == i) (sym same) ∙ number_self k in
         cc (a, b)
-    none_noted t (Feeds now from bytes w up settled (Some event_of.Reset) sent token was) law k n runs is number = cc is
-    none_noted t (Feeds now from bytes w up settled (Some event_of.Timeout) sent token was) law k n runs is number =
-        cc is
-    none_noted t (Feeds now from bytes w up settled (Some event_of.NoResponse) sent token was) law k n runs is number =
-        cc is
-    none_noted t (Feeds now from bytes w up settled None sent token was) law k n runs is number = cc is
-    none_noted t (Ticks now w below turn sent token was answer) law k n runs is number = cc is
-    none_noted t (Calls now r answer) law k n runs is number = cc is
-    none_noted t (Observes now path answer) law k n runs is number = cc is
-    none_noted t (Cancels now j answer) law k n runs is number = cc is
-    none_noted t (Forgets j was answer) law k n runs is number = cc is
-    none_noted t (NextOut answer) law k n runs is number = cc is
-    none_noted t (NextReport answer) law k n runs is number = cc is
-    none_noted t (Asked answer) law k n runs is number = cc is
+    none_noted t _ law k n runs is number = cc is
 
     came_one : (k : ℕ) (o : Option Newly) → is_newly_of k o ≡ true → (n : Newly) × (o ≡ Some n) × (n.number ≡ k)
     came_one k None h = absurd (cc h)
     came_one k (Some n) h = (n, refl, same_number n.number k h)
 
-    none_cancelled : (t : List Call) (c : Call) → ClientLaw server sizes word (c ∷ t) → (k : ℕ) → WasCancelled sizes k t
+    none_cancelled : (t : List Call) (c : Call) → ClientLaw server sizes setup (c ∷ t) → (k : ℕ) → WasCancelled sizes k t
         → ShowsValue sizes k t c → ⊥
-    none_cancelled t c law k h shows = elim (cancel_runs sizes server word t h.sending k h.sent h.cancels) [
-      | inl runs ↦ elim (shows_first sizes server word t c law k shows) [
+    none_cancelled t c law k h shows = elim (cancel_runs sizes server setup t h.sending k h.sent h.cancels) [
+      | inl runs ↦ elim (shows_first sizes server setup t c law k shows) [
         | inl e ↦ (let n = came_one k (notifies (own_of sizes t) c) e in none_noted t c law k n.0 runs n.1 n.2)
         | inr z ↦ (let a : Some (Fetching k) ≡ Some (Cancelling k) = sym z.2 ∙ runs in cc a)
       ]
@@ -220,13 +200,13 @@ module _ (sizes : Sizes) where
           (record { number = k; report = Value v.0 v.1 v.2 v.3 }) over v.4)
     ]
 
-    none_ended : (t : List Call) (c : Call) → ClientLaw server sizes word (c ∷ t) → (k : ℕ)
-        → HasReport server sizes word k t → ShowsValue sizes k t c → ⊥
+    none_ended : (t : List Call) (c : Call) → ClientLaw server sizes setup (c ∷ t) → (k : ℕ)
+        → HasReport server sizes setup k t → ShowsValue sizes k t c → ⊥
     none_ended t c law k h shows = let v = value_in
-        (reports (own_of sizes t) c) k shows in (reported_once server sizes word (c ∷ t) law).0
+        (reports (own_of sizes t) c) k shows in (reported_once server sizes setup (c ∷ t) law).0
         (record { number = k; report = Value v.0 v.1 v.2 v.3 }) v.4 h
 
-    pub are_over : (t : List Call) → ClientLaw server sizes word t → AreOver sizes server word t
+    pub are_over : (t : List Call) → ClientLaw server sizes setup t → AreOver sizes server setup t
     are_over [] law = tt
     are_over (c ∷ t) law = (
       record {
@@ -235,5 +215,5 @@ module _ (sizes : Sizes) where
         forgotten = none_forgotten t c law;
         none_given = none_given t c law;
       },
-      are_over t (client_back server sizes word (c ∷ []) t law),
+      are_over t (client_back server sizes setup (c ∷ []) t law),
     )

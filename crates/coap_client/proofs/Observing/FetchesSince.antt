@@ -36,17 +36,13 @@ record KeptFetch (running : Option Operation) (j k : ℕ) : Type 0 where
   apart : (k == j) ≡ false
 
 kept_fetch : (running : Option Operation) (j k : ℕ) → Runs (dropped j running) k → KeptFetch running j k
-kept_fetch None j k h = absurd (cc h)
-kept_fetch (Some (Calling n r t)) j k h = absurd (cc h)
-kept_fetch (Some (Registering n path)) j k h = absurd (cc h)
-kept_fetch (Some (Cancelling n)) j k h = absurd (cc h)
-kept_fetch (Some Dropped) j k h = absurd (cc h)
 kept_fetch (Some (Fetching n)) j k h = by (n == j) refl h
   where
     by : (b : Bool) → (n == j) ≡ b → Runs (cond b (Some Dropped) (Some (Fetching n))) k
         → KeptFetch (Some (Fetching n)) j k
     by true e h = absurd (cc h)
     by false e h = let same : n ≡ k = cc h in record { ran = h; apart = ap (λ i. i == j) (sym same) ∙ e }
+kept_fetch _ j k h = absurd (cc h)
 
 -- nothing runs behind a failure
 failed_idle : (u : Transfer → Bool) (report : Report) (s : Own) (running : Option Operation) → s.running ≡ running
@@ -58,7 +54,7 @@ failed_idle u report s (Some (Fetching k)) is = refl
 failed_idle u report s (Some (Cancelling k)) is = refl
 failed_idle u report s (Some Dropped) is = refl
 
-failed_some : (u : Transfer → Bool) (report : Report) (s : Own) (op : Operation)
+pub failed_some : (u : Transfer → Bool) (report : Report) (s : Own) (op : Operation)
     → (failed u report s (Some op)).own.running ≡ None
 failed_some u report s (Calling k r t) = refl
 failed_some u report s (Registering k path) = refl
@@ -86,20 +82,11 @@ module _ (s : Own) (now : ℕ) (told : Option Event) (k : ℕ) where
       ≡ Fetching k = cc h in record { apart = none_of (ap (taken_by s now) q); ran = inr (ap (λ o. Asks o) same) }
   moves_on (mv.fetches j none rest q) h = let same : Fetching j
       ≡ Fetching k = cc h in record { apart = none_of (ap (taken_by s now) q); ran = inr (ap (λ o. Asks o) same) }
-  moves_on (mv.goes_on j r tr next a hears_it runs asks) h = absurd (cc h)
-  moves_on (mv.is_done j r tr final rep a hears_it runs ends_so) h = absurd (cc h)
-  moves_on (mv.registers j path a hears_it runs note) h = absurd (cc h)
-  moves_on (mv.refuses j path a hears_it runs note) h = absurd (cc h)
   moves_on (mv.fetches_on j n a num size hears_it runs rest code asks) h =
       let same : Fetching j ≡ Fetching k = cc h in record {
         apart = none_of (answer_none s now told a (Fetching j) (λ z. refl) hears_it runs);
         ran = inr (ap (λ o. Asks o) same);
       }
-  moves_on (mv.fetched j n a hears_it runs rest code done) h = absurd (cc h)
-  moves_on (mv.gives_up j a hears_it runs) h = absurd (cc h)
-  moves_on (mv.fetched_none j a hears_it runs) h = absurd (cc h)
-  moves_on (mv.cancels j a hears_it runs) h = absurd (cc h)
-  moves_on (mv.is_dropped a hears_it runs) h = absurd (cc h)
   moves_on (mv.fails e un) h = no_fetch (failed (λ t. true) (lapse e) s s.running).own.running k
       (failed_idle (λ t. true) (lapse e) s s.running refl) h
   moves_on (mv.is_ended o a notes found note) h = record {
@@ -120,6 +107,7 @@ module _ (s : Own) (now : ℕ) (told : Option Event) (k : ℕ) where
         ∙ ap (λ b. cond b (newly o.number now a) None) newer)));
     ran = inl h;
   }
+  moves_on _ h = absurd (cc h)
 
 module _ (sizes : Sizes) where
   abbrev Since : List Call → ℕ → Type 0

@@ -77,16 +77,12 @@ reg_uncancelled k (op ∷ ops) = by (is_cancel_of k op) (reg_uncancelled k ops)
     by false ih = let a = reg_cons op ops in let b = reg_cons op fewer in omega (arith, a, b, ih)
 
 one_dropped : (k : ℕ) (running : Option Operation) → running_one (dropped k running) ≡ running_one running
-one_dropped k None = refl
-one_dropped k (Some (Calling number r t)) = refl
-one_dropped k (Some (Registering number path)) = refl
-one_dropped k (Some (Cancelling number)) = refl
-one_dropped k (Some Dropped) = refl
 one_dropped k (Some (Fetching number)) = by (number == k)
   where
     by : (b : Bool) → running_one (cond b (Some Dropped) (Some (Fetching number))) ≡ 0
     by true = refl
     by false = refl
+one_dropped k _ = refl
 
 same_length : {A : Type 0} (f : A → A) (xs : List A) → length (map f xs) ≡ length xs
 same_length f [] = refl
@@ -128,31 +124,24 @@ count_over k s =
 
 count_failed : (s : Own) (u : Transfer → Bool) (report : Report) (running : Option Operation)
     → count (failed u report s running).own ≤ count s
-count_failed s u report None = omega arith
 count_failed s u report (Some (Calling k r t)) = count_held s (u t && is_upload t) (of k report)
-count_failed s u report (Some (Registering k path)) = omega arith
 count_failed s u report (Some (Fetching k)) =
     count_changed s (λ (o : Observation). cond (o.number == k) (record o { rest = None }) o) None (omega arith)
 count_failed s u report (Some (Cancelling k)) = let a = count_over k (record s { running = None }) in omega (arith, a)
-count_failed s u report (Some Dropped) = omega arith
+count_failed s u report _ = omega arith
 
 module _ (s : Own) (now : ℕ) (told : Option Event) where
   count_moves : (mo : Move s now told) → count (left_by s now told mo).own ≤ count s
-  count_moves (mv.rests un) = omega arith
-  count_moves (mv.copies q) = omega arith
   count_moves (mv.starts_next op queue none rest first q) =
       let a = ap running_one none in
       let b = ap registrations first in
       let c = reg_cons op queue in
       omega (arith, a, b, c)
-  count_moves (mv.fetches k none rest q) = omega arith
-  count_moves (mv.goes_on k r tr next a hears_it runs asks) = omega arith
   count_moves (mv.is_done k r tr final rep a hears_it runs ends_so) = count_held s (not final && is_upload tr) (of k rep)
   count_moves (mv.registers k path a hears_it runs note) =
       let b : running_one s.running ≡ 1 = ap running_one runs in
       let c = one_more s.observations (begun k path s.sizes now a) in
       omega (arith, b, c)
-  count_moves (mv.refuses k path a hears_it runs note) = omega arith
   count_moves (mv.fetches_on k n a num size hears_it runs rest code asks) =
       count_changed s (λ (o : Observation). cond (o.number == k)
       (record o { rest = rest_left n.sequence n.fetch a (verdict.Ask num size) }) o) (Some (Fetching k)) (omega arith)
@@ -160,9 +149,7 @@ module _ (s : Own) (now : ℕ) (told : Option Event) where
       count_changed s (λ (o : Observation). cond (o.number == k) (record o { rest = None }) o) None (omega arith)
   count_moves (mv.gives_up k a hears_it runs) =
       count_changed s (λ (o : Observation). cond (o.number == k) (record o { rest = None }) o) None (omega arith)
-  count_moves (mv.fetched_none k a hears_it runs) = omega arith
   count_moves (mv.cancels k a hears_it runs) = let b = count_over k (record s { running = None }) in omega (arith, b)
-  count_moves (mv.is_dropped a hears_it runs) = omega arith
   count_moves (mv.fails e un) = count_failed s (λ t. true) (lapse e) s.running
   count_moves (mv.is_ended o a notes found note) = count_over o.number s
   count_moves (mv.renews o a notes found note newer) =
@@ -173,6 +160,7 @@ module _ (s : Own) (now : ℕ) (told : Option Event) where
   count_moves (mv.passes_by o a notes found note newer) =
       count_changed s (λ (p : Observation). cond (p.number == o.number)
       (record p { watch = arrived p.watch (sequence_in a) now false }) p) s.running (omega arith)
+  count_moves _ = omega arith
 
 count_closed : (now : ℕ) (e : Effect) (token : Result (List ℕ) AskRefusal) → Closing now e token
     → count (closed now e e.deed token).own ≤ count e.own
@@ -187,10 +175,8 @@ count_closed now e token (is_refused op why asks given none all) =
 -- an observation is taken where fewer are there
 few_if : (a b c d : Bool) (e f g i : CallRefusal) (k taken : ℕ)
     → Ok k ≡ cond a (Err e) (cond b (Err f) (cond c (Err g) (cond d (Err i) (Ok taken)))) → c ≡ false
-few_if true b c d e f g i k taken h = absurd (cc h)
-few_if false true c d e f g i k taken h = absurd (cc h)
-few_if false false true d e f g i k taken h = absurd (cc h)
 few_if false false false d e f g i k taken h = refl
+few_if _ _ _ d e f g i k taken h = absurd (cc h)
 
 module _ (sizes : Sizes) where
   count_turned : (t : List Call) (c : Call) → Turned sizes t c → count (own_of sizes (c ∷ t)) ≤ count (own_of sizes t)

@@ -14,7 +14,7 @@ use Rattle.coap_exchange.specs.Tokens.{same_token, is_kept, max_kept, kept_with,
 use Rattle.coap_exchange.proofs.Facts.SameToken.{same_token_is}
 use Rattle.coap_observe.specs.Newer.{arrived}
 use Rattle.coap_client.specs.Trace.{Report, Ended, Cancelled, Reported, NoIds}
-use Rattle.coap_client.specs.Own.{Transfer, Operation, Calling, Registering, Fetching, Cancelling, Dropped}
+use Rattle.coap_client.specs.Own.{Transfer, Operation, Calling, Registering, Fetching, Cancelling}
 use Rattle.coap_client.specs.Own.{Observation, Own}
 use Rattle.coap_client.specs.Observations.{observation_of}
 use Rattle.coap_client.specs.Requests.{message_of}
@@ -49,12 +49,10 @@ opened_kept y r (Some id) = refl
 
 pub deeds_kept : (at word : ℕ) (sent : L.Answer) (token : Result (List ℕ) AskRefusal) (was : Bool) (d : Deed)
     (o : Own) (y : E.Own) → (ran y (deeds d o at word sent token was)).kept ≡ kept_by d y.kept
-deeds_kept at word sent token was Rests o y = refl
-deeds_kept at word sent token was (Keeps key) o y = refl
-deeds_kept at word sent token was (Releases key) o y = refl
 deeds_kept at word sent token was (Asks op) o y =
     opened_kept y (message_of o.observations op)
     (Q.sent_as (Q.opening_of y (message_of o.observations op)) sent)
+deeds_kept at word sent token was _ o y = refl
 
 -- lists
 
@@ -142,14 +140,12 @@ held_keeps s false report = refl
 
 failed_keeps : (s : Own) (u : Transfer → Bool) (report : Report) (running : Option Operation)
     → ((k : ℕ) → running ≡ Some (Cancelling k) → TellApart k s.observations) → Keeping s (failed u report s running)
-failed_keeps s u report None tell = refl
 failed_keeps s u report (Some (Calling k r t)) tell = held_keeps s (u t && is_upload t) (of k report)
-failed_keeps s u report (Some (Registering k path)) tell = refl
 failed_keeps s u report (Some (Fetching k)) tell =
     tokens_changed k (λ o. record o { rest = None }) (λ o. refl) s.observations
 failed_keeps s u report (Some (Cancelling k)) tell =
     over_keeps k report (record s { running = None }) (tell k refl)
-failed_keeps s u report (Some Dropped) tell = refl
+failed_keeps s u report _ tell = refl
 
 module _ (s : Own) (now : ℕ) (told : Option Event)
     (fresh : (k : ℕ) (path : List (List ℕ)) (m : Message) → Hears told m → s.running ≡ Some (Registering k path)
@@ -158,17 +154,11 @@ module _ (s : Own) (now : ℕ) (told : Option Event)
     → nat_lt (length (tokens_of s.observations)) max_kept ≡ true)
     (tell : (k : ℕ) → TellApart k s.observations) where
   pub moves_keep : (mo : Move s now told) → Keeping s (left_by s now told mo)
-  moves_keep (mv.rests un) = refl
-  moves_keep (mv.copies q) = refl
-  moves_keep (mv.starts_next op queue none rest first q) = refl
-  moves_keep (mv.fetches k none rest q) = refl
-  moves_keep (mv.goes_on k r tr next a hears_it runs asks) = refl
   moves_keep (mv.is_done k r tr final rep a hears_it runs ends_so) =
       held_keeps s (not final && is_upload tr) (of k rep)
   moves_keep (mv.registers k path a hears_it runs note) =
       tokens_more s.observations (begun k path s.sizes now a)
       ∙ sym (kept_more a.token (tokens_of s.observations) (fresh k path a hears_it runs) (room k path runs))
-  moves_keep (mv.refuses k path a hears_it runs note) = refl
   moves_keep (mv.fetches_on k n a num size hears_it runs rest code asks) =
       tokens_changed k (λ o. record o { rest = rest_left n.sequence n.fetch a (verdict.Ask num size) })
       (λ o. refl) s.observations
@@ -176,9 +166,7 @@ module _ (s : Own) (now : ℕ) (told : Option Event)
       tokens_changed k (λ o. record o { rest = None }) (λ o. refl) s.observations
   moves_keep (mv.gives_up k a hears_it runs) =
       tokens_changed k (λ o. record o { rest = None }) (λ o. refl) s.observations
-  moves_keep (mv.fetched_none k a hears_it runs) = refl
   moves_keep (mv.cancels k a hears_it runs) = over_keeps k Cancelled (record s { running = None }) (tell k)
-  moves_keep (mv.is_dropped a hears_it runs) = refl
   moves_keep (mv.fails e un) = failed_keeps s (λ t. true) (lapse e) s.running (λ k is. tell k)
   moves_keep (mv.is_ended o a notes found note) = over_keeps o.number (Ended a.code) s (tell o.number)
   moves_keep (mv.renews o a notes found note newer) =
@@ -187,6 +175,7 @@ module _ (s : Own) (now : ℕ) (told : Option Event)
   moves_keep (mv.passes_by o a notes found note newer) =
       tokens_changed o.number (λ p. record p { watch = arrived p.watch (sequence_in a) now false }) (λ p. refl)
       s.observations
+  moves_keep _ = refl
 
 -- .. and what the sending makes of it
 pub closed_keeps : (now : ℕ) (e : Effect) (token : Result (List ℕ) AskRefusal)

@@ -4,6 +4,7 @@ use Rattle.std.proofs.Common.{refl, ap, sym, subst, ◌∙◌}
 use Rattle.std.specs.Prelude.{◌==◌}
 use Rattle.std.specs.Option.{option_map}
 use Rattle.coap_types.specs.declared.endpoint.Endpoint.{Endpoint}
+use Rattle.coap_layer.specs.declared.setup.Setup.{Setup}
 use Rattle.coap_block.specs.Sizes.{Sizes}
 use Rattle.coap_client.specs.Trace.{is_value, Report, Reported, Call}
 use Rattle.coap_client.specs.Own.{Fetching}
@@ -54,20 +55,20 @@ no_value number (Some r) none = by (r.number == number) refl (is_value r.report)
     by true e true f =
         absurd (none (ap (λ x. cond x (Some r.number) None) f ∙ ap (λ i. Some i) (same_number r.number number e)))
 
-module _ (server : Endpoint) (sizes : Sizes) (word : ℕ) (number : ℕ) where
+module _ (server : Endpoint) (sizes : Sizes) (setup : Setup) (number : ℕ) where
   -- what is taken of it is shown
-  shown_now : (t : List Call) (c : Call) → ClientLaw server sizes word (c ∷ t) → HaveAll sizes number (c ∷ t)
+  shown_now : (t : List Call) (c : Call) → ClientLaw server sizes setup (c ∷ t) → HaveAll sizes number (c ∷ t)
       → (n : Newly) → notifies (own_of sizes t) c ≡ Some n → n.number ≡ number
       → reports (own_of sizes t) c ≡ of n.number (shown_by n)
   shown_now t c law all n is same =
-      let a = all.0 n is same in (are_shown server sizes word (c ∷ t) law).0 n is a.0 a.1
+      let a = all.0 n is same in (are_shown server sizes setup (c ∷ t) law).0 n is a.0 a.1
 
   -- .. so a value was shown since the newest came
-  was_shown : (t : List Call) → ClientLaw server sizes word t → HaveAll sizes number t → (n : Newly)
+  pub was_shown : (t : List Call) → ClientLaw server sizes setup t → HaveAll sizes number t → (n : Newly)
       → newest sizes number t ≡ Some n → NoneShown sizes number t → ⊥
   was_shown [] law all n is none = cc is
   was_shown (c ∷ t) law all n is none = by (is_newly_of number (notifies (own_of sizes t) c)) refl none.1
-      (was_shown t (client_back server sizes word (c ∷ []) t law) all.1 n)
+      (was_shown t (client_back server sizes setup (c ∷ []) t law) all.1 n)
     where
       by : (b : Bool) → is_newly_of number (notifies (own_of sizes t) c) ≡ b
           → (is_newly_of number (notifies (own_of sizes t) c) ≡ true) ⊎ NoneShown sizes number t
@@ -80,12 +81,12 @@ module _ (server : Endpoint) (sizes : Sizes) (word : ℕ) (number : ℕ) where
       by false e (inr rest) ih = ih (sym (newest_kept sizes t c number e) ∙ is) rest
 
   -- where none is taken, none is shown
-  silent : (t : List Call) (c : Call) → ClientLaw server sizes word (c ∷ t) → HaveAll sizes number (c ∷ t)
+  silent : (t : List Call) (c : Call) → ClientLaw server sizes setup (c ∷ t) → HaveAll sizes number (c ∷ t)
       → is_newly_of number (notifies (own_of sizes t) c) ≡ false → ShowsValue sizes number t c → ⊥
-  silent t c law all apart h = by (shows_first sizes server word t c law number h)
+  silent t c law all apart h = by (shows_first sizes server setup t c law number h)
     where
-      past : ClientLaw server sizes word t
-      past = client_back server sizes word (c ∷ []) t law
+      past : ClientLaw server sizes setup t
+      past = client_back server sizes setup (c ∷ []) t law
 
       by : (is_newly_of number (notifies (own_of sizes t) c) ≡ true)
           ⊎ ((is_newly_of number (notifies (own_of sizes t) c) ≡ false) × NoneShown sizes number t
@@ -94,17 +95,17 @@ module _ (server : Endpoint) (sizes : Sizes) (word : ℕ) (number : ℕ) where
       by (inr f) =
           let there : IfRuns (own_of sizes t).observations (Some (Fetching number)) =
           subst (IfRuns (own_of sizes t).observations) f.2
-          (known server sizes word t past.rows past.exchanges.rows).runs_on in
+          (known server sizes setup t past.rows past.exchanges.rows).runs_on in
           let p = found_there number (own_of sizes t).observations there in
           let k = found_in number (own_of sizes t).observations p.0 p.1 in
-          let newer = has_newest server sizes word t past p.0 k.0 in
+          let newer = has_newest server sizes setup t past p.0 k.0 in
           was_shown t past all.1 newer.newly (ap (λ i. newest sizes i t) (sym k.1) ∙ newer.is) f.1
 
-  last_is : (t : List Call) → ClientLaw server sizes word t → HaveAll sizes number t
+  last_is : (t : List Call) → ClientLaw server sizes setup t → HaveAll sizes number t
       → last_value sizes number t ≡ option_map shown_by (newest sizes number t)
   last_is [] law all = refl
   last_is (c ∷ t) law all = by (is_newly_of number (notifies (own_of sizes t) c)) refl
-      (last_is t (client_back server sizes word (c ∷ []) t law) all.1)
+      (last_is t (client_back server sizes setup (c ∷ []) t law) all.1)
     where
       by : (b : Bool) → is_newly_of number (notifies (own_of sizes t) c) ≡ b
           → last_value sizes number t ≡ option_map shown_by (newest sizes number t)
@@ -120,6 +121,6 @@ module _ (server : Endpoint) (sizes : Sizes) (word : ℕ) (number : ℕ) where
           (no_value number (reports (own_of sizes t) c) (silent t c law all e))
           ∙ (ih ∙ sym (ap (option_map shown_by) (newest_kept sizes t c number e)))
 
-pub last_is_newest : (server : Endpoint) (sizes : Sizes) (word : ℕ) (t : List Call) → ClientLaw server sizes word t
+pub last_is_newest : (server : Endpoint) (sizes : Sizes) (setup : Setup) (t : List Call) → ClientLaw server sizes setup t
     → LastIsNewest sizes t
-last_is_newest server sizes word t law number all = last_is server sizes word number t law all
+last_is_newest server sizes setup t law number all = last_is server sizes setup number t law all

@@ -3,6 +3,7 @@ use Rattle.std.proofs.Common.{◌≡◌, ◌≤◌, ℕ, max, Bool, true, false,
 use Rattle.std.proofs.Common.{◌++◌, [], map, refl, ap, sym, subst, ◌∙◌, Result, Ok, Err, arith}
 use Rattle.std.specs.Prelude.{◌==◌, filter}
 use Rattle.coap_types.specs.declared.endpoint.Endpoint.{Endpoint}
+use Rattle.coap_layer.specs.declared.setup.Setup.{Setup}
 use Rattle.coap_codec.specs.Message.{Message}
 use Rattle.coap_block.specs.Sizes.{Sizes}
 use Rattle.coap_exchange.specs.declared.asker.AskRefusal.{AskRefusal}
@@ -15,7 +16,7 @@ use Rattle.coap_observe.proofs.Facts.Newer.{newer_is_decided}
 use Rattle.coap_client.specs.Trace.{Report, NoIds, Call, Calls, Observes, Cancels, Forgets, Feeds}
 use Rattle.coap_client.specs.Trace.{Ticks}
 use Rattle.coap_client.specs.Trace.{NextOut, NextReport, Asked}
-use Rattle.coap_client.specs.Own.{Transfer, Operation, Calling, Registering, Fetching, Cancelling}
+use Rattle.coap_client.specs.Own.{Transfer, Operation, Calling, Fetching, Cancelling}
 use Rattle.coap_client.specs.Own.{Dropped, Notified, Observation, Own}
 use Rattle.coap_client.specs.Observations.{observation_with}
 use Rattle.coap_client.specs.Reports.{lapse}
@@ -85,13 +86,11 @@ module _ (P : ℕ → Option Mark → Type 0) where
 
   marked_failed : (s : Own) (u : Transfer → Bool) (report : Report) (running : Option Operation)
       → AllMarked P s.observations → AllMarked P (failed u report s running).own.observations
-  marked_failed s u report None h = h
   marked_failed s u report (Some (Calling k r t)) h = marked_held s (u t && is_upload t) (of k report) h
-  marked_failed s u report (Some (Registering k path)) h = h
   marked_failed s u report (Some (Fetching k)) h =
       marked_changed k (λ o. record o { rest = None }) (λ o z. z) s.observations h
   marked_failed s u report (Some (Cancelling k)) h = marked_without k s.observations h
-  marked_failed s u report (Some Dropped) h = h
+  marked_failed s u report _ h = h
 
   marked_closed : (now : ℕ) (e : Effect) (token : Result (List ℕ) AskRefusal) → AllMarked P e.own.observations
       → Closing now e token → AllMarked P (closed now e e.deed token).own.observations
@@ -157,12 +156,9 @@ module _ (last : ℕ → Option Mark) (now : ℕ) where
 -- what is taken in each move
 module _ (s : Own) (now : ℕ) where
   pub unheard_none : (told : Option Event) → Unheard s told → taken_by s now told ≡ None
-  unheard_none None un = refl
   unheard_none (Some (event_of.Answer m)) un = ap (λ r. registers r now m) (un.answer m refl)
   unheard_none (Some (event_of.Notice m)) un = ap (λ o. renews o now m) (un.notice m refl)
-  unheard_none (Some event_of.Reset) un = refl
-  unheard_none (Some event_of.Timeout) un = refl
-  unheard_none (Some event_of.NoResponse) un = refl
+  unheard_none _ un = refl
 
   -- an answer to what is no registration
   pub answer_none : (told : Option Event) (m : Message) (op : Operation)
@@ -277,15 +273,15 @@ renew_newer (Some p) now m n is = by (is_notification m) (is_newer p.watch.mark 
               ((newer_is_decided p.watch.mark (sequence_in m) now).0 e),
         )
 
-module _ (server : Endpoint) (sizes : Sizes) (word : ℕ) where
+module _ (server : Endpoint) (sizes : Sizes) (setup : Setup) where
   abbrev lasts : List Call → ℕ → Option Mark
   lasts t n = last_mark sizes n t
 
   abbrev Marked : List Call → Type 0
   Marked t = AllMarked (IsLast (lasts t)) (own_of sizes t).observations
 
-  most : (t : List Call) → ClientLaw server sizes word t → (n : ℕ) → places n (own_of sizes t) ≤ 1
-  most t law = (sound_of server sizes word t (known server sizes word t law.rows law.exchanges.rows)).at_most
+  most : (t : List Call) → ClientLaw server sizes setup t → (n : ℕ) → places n (own_of sizes t) ≤ 1
+  most t law = (sound_of server sizes setup t (known server sizes setup t law.rows law.exchanges.rows)).at_most
 
   marked_turned : (t : List Call) (c : Call) → Turned sizes t c → ((n : ℕ) → places n (own_of sizes t) ≤ 1) → Marked t
       → Marked (c ∷ t)
@@ -317,9 +313,9 @@ module _ (server : Endpoint) (sizes : Sizes) (word : ℕ) where
       marked_turned t (Ticks now w below turn sent token was answer)
       (ticked_turned sizes t now w below turn sent token was answer) at_most h
 
-  pub marked : (t : List Call) → ClientLaw server sizes word t → Marked t
+  pub marked : (t : List Call) → ClientLaw server sizes setup t → Marked t
   marked [] law = tt
-  marked (c ∷ t) law = let past = client_back server sizes word (c ∷ []) t law in marked_step t c (most t past)
+  marked (c ∷ t) law = let past = client_back server sizes setup (c ∷ []) t law in marked_step t c (most t past)
       (marked t past)
 
   newer_here : (t : List Call) (c : Call) → Marked t → (n : Newly) → hears c ≡ None
@@ -332,21 +328,9 @@ module _ (server : Endpoint) (sizes : Sizes) (word : ℕ) where
       subst (λ z. IsNewer z n.mark.number n.mark.at) (mark_is ∙ ap (λ i. last_mark sizes i t) (sym k.2)) k.3
   newer_here t (Feeds now from bytes w up settled (Some (event_of.Answer m)) sent token was) h n none is =
       absurd (cc none)
-  newer_here t (Feeds now from bytes w up settled (Some event_of.Reset) sent token was) h n none is = absurd (cc is)
-  newer_here t (Feeds now from bytes w up settled (Some event_of.Timeout) sent token was) h n none is = absurd (cc is)
-  newer_here t (Feeds now from bytes w up settled (Some event_of.NoResponse) sent token was) h n none is =
-      absurd (cc is)
-  newer_here t (Feeds now from bytes w up settled None sent token was) h n none is = absurd (cc is)
-  newer_here t (Ticks now w below turn sent token was answer) h n none is = absurd (cc is)
-  newer_here t (Calls now r answer) h n none is = absurd (cc is)
-  newer_here t (Observes now path answer) h n none is = absurd (cc is)
-  newer_here t (Cancels now k answer) h n none is = absurd (cc is)
-  newer_here t (Forgets k was answer) h n none is = absurd (cc is)
-  newer_here t (NextOut answer) h n none is = absurd (cc is)
-  newer_here t (NextReport answer) h n none is = absurd (cc is)
-  newer_here t (Asked answer) h n none is = absurd (cc is)
+  newer_here t _ h n none is = absurd (cc is)
 
-  pub are_newer : (t : List Call) → ClientLaw server sizes word t → AreNewer sizes t
+  pub are_newer : (t : List Call) → ClientLaw server sizes setup t → AreNewer sizes t
   are_newer [] law = tt
-  are_newer (c ∷ t) law = let past = client_back server sizes word
+  are_newer (c ∷ t) law = let past = client_back server sizes setup
       (c ∷ []) t law in (newer_here t c (marked t past), are_newer t past)

@@ -5,14 +5,14 @@ use Rattle.std.specs.Prelude.{◌==◌}
 use Rattle.coap_types.specs.declared.endpoint.Endpoint.{Endpoint}
 use Rattle.coap_codec.specs.Message.{Message}
 use Rattle.coap_layer.specs.Trace as L
+use Rattle.coap_layer.specs.declared.setup.Setup.{Setup}
 use Rattle.coap_block.specs.Sizes.{Sizes}
 use Rattle.coap_exchange.specs.declared.asker.AskRefusal.{AskRefusal}
 use Rattle.coap_exchange.specs.declared.asker.Event.{Event}
 use Rattle.coap_exchange.specs.declared.asker.Event.TheVariants as event_of
 use Rattle.coap_observe.specs.Newer.{is_newer}
 use Rattle.coap_observe.proofs.Facts.Newer.{newer_is_decided}
-use Rattle.coap_client.specs.Trace.{Value, Ended, Reported, Call, Calls, Observes, Cancels, Forgets, Feeds, Ticks}
-use Rattle.coap_client.specs.Trace.{NextOut, NextReport, Asked}
+use Rattle.coap_client.specs.Trace.{Value, Ended, Reported, Call, Feeds}
 use Rattle.coap_client.specs.Own.{Registering, Observation, Own}
 use Rattle.coap_client.specs.Observations.{observation_of, observation_with}
 use Rattle.coap_client.specs.Responses.{is_notification, sequence_in, tag_in, format_in}
@@ -95,8 +95,8 @@ module _ (s : Own) (now : ℕ) (m : Message) where
   registers_it k path runs note =
       ap (λ r. registers r now m) runs ∙ ap (λ b. cond b (newly k now m) None) note
 
-module _ (server : Endpoint) (sizes : Sizes) (word : ℕ) where
-  module _ (t : List Call) (law : ClientLaw server sizes word t) (now : ℕ) (from : Endpoint) (bytes : List ℕ) (w : ℕ)
+module _ (server : Endpoint) (sizes : Sizes) (setup : Setup) where
+  module _ (t : List Call) (law : ClientLaw server sizes setup t) (now : ℕ) (from : Endpoint) (bytes : List ℕ) (w : ℕ)
       (up : L.Answer) (settled : Bool) (sent : L.Answer) (token : Result (List ℕ) AskRefusal) (kept : Bool)
       (m : Message) where
     abbrev fed : Event → Call
@@ -119,7 +119,7 @@ module _ (server : Endpoint) (sizes : Sizes) (word : ℕ) where
         o = live.observation
 
         found : observation_with m.token (own_of sizes t).observations ≡ Some o
-        found = found_with server sizes word t law number path m.token live
+        found = found_with server sizes setup t law number path m.token live
 
         there : In o (own_of sizes t).observations × (o.number ≡ number)
         there = found_in number (own_of sizes t).observations o live.found
@@ -137,7 +137,7 @@ module _ (server : Endpoint) (sizes : Sizes) (word : ℕ) where
             ⊎ IsNotNewer sizes number m t (fed (event_of.Notice m))
         by true newer note = inl (renews_it s z m o found note newer ∙ ap (λ i. newly i z m) there.1)
         by false newer note =
-            let h = has_newest server sizes word t law o there.0 in
+            let h = has_newest server sizes setup t law o there.0 in
             inr (record {
               before = h.newly;
               is_newest = ap (λ i. newest sizes i t) (sym there.1) ∙ h.is;
@@ -158,7 +158,7 @@ module _ (server : Endpoint) (sizes : Sizes) (word : ℕ) where
       where
         none : in_observations number (own_of sizes t).observations ≡ 0
         none =
-            let a = most server sizes word t law number in
+            let a = most server sizes setup t law number in
             let b = ap (in_running number) runs in
             let c = hit_self number in
             omega (arith, a, b, c)
@@ -203,37 +203,21 @@ module _ (server : Endpoint) (sizes : Sizes) (word : ℕ) where
         (sym r.is)
         (λ all short. ap made (renewed_effect s z m o r.found r.note r.newer) ∙ shown_by o.number all short)
 
-  noticed_here : (t : List Call) (c : Call) → ClientLaw server sizes word t → (m : Message) (number : ℕ)
+  noticed_here : (t : List Call) (c : Call) → ClientLaw server sizes setup t → (m : Message) (number : ℕ)
       (path : List (List ℕ)) → notes c ≡ Some m → IsLive sizes number path m.token t → IsNoticed sizes number m t c
   noticed_here t (Feeds now from bytes w up settled (Some (event_of.Notice a)) sent token was) law m number path h =
       let same : a ≡ m = cc h in
       subst (λ (x : Message). IsLive sizes number path x.token t → IsNoticed sizes number x t
       (Feeds now from bytes w up settled (Some (event_of.Notice a)) sent token was)) same
       (noticed_now t law now from bytes w up settled sent token was a number path)
-  noticed_here t (Feeds now from bytes w up settled (Some (event_of.Answer a)) sent token was) law m number path h =
-      absurd (cc h)
-  noticed_here t (Feeds now from bytes w up settled (Some event_of.Reset) sent token was) law m number path h =
-      absurd (cc h)
-  noticed_here t (Feeds now from bytes w up settled (Some event_of.Timeout) sent token was) law m number path h =
-      absurd (cc h)
-  noticed_here t (Feeds now from bytes w up settled (Some event_of.NoResponse) sent token was) law m number path h =
-      absurd (cc h)
-  noticed_here t (Feeds now from bytes w up settled None sent token was) law m number path h = absurd (cc h)
-  noticed_here t (Ticks now w below turn sent token was answer) law m number path h = absurd (cc h)
-  noticed_here t (Calls now r answer) law m number path h = absurd (cc h)
-  noticed_here t (Observes now p answer) law m number path h = absurd (cc h)
-  noticed_here t (Cancels now k answer) law m number path h = absurd (cc h)
-  noticed_here t (Forgets k was answer) law m number path h = absurd (cc h)
-  noticed_here t (NextOut answer) law m number path h = absurd (cc h)
-  noticed_here t (NextReport answer) law m number path h = absurd (cc h)
-  noticed_here t (Asked answer) law m number path h = absurd (cc h)
+  noticed_here t _ law m number path h = absurd (cc h)
 
-  pub are_noticed : (t : List Call) → ClientLaw server sizes word t → AreNoticed sizes t
+  pub are_noticed : (t : List Call) → ClientLaw server sizes setup t → AreNoticed sizes t
   are_noticed [] law = tt
   are_noticed (c ∷ t) law =
-      let past = client_back server sizes word (c ∷ []) t law in (noticed_here t c past, are_noticed t past)
+      let past = client_back server sizes setup (c ∷ []) t law in (noticed_here t c past, are_noticed t past)
 
-  answered_here : (t : List Call) (c : Call) → ClientLaw server sizes word t → (m : Message) (number : ℕ)
+  answered_here : (t : List Call) (c : Call) → ClientLaw server sizes setup t → (m : Message) (number : ℕ)
       (path : List (List ℕ)) → hears c ≡ Some m → (own_of sizes t).running ≡ Some (Registering number path)
       → IsAnswered sizes number path m t c
   answered_here t (Feeds now from bytes w up settled (Some (event_of.Answer a)) sent token was) law m number path h
@@ -242,30 +226,14 @@ module _ (server : Endpoint) (sizes : Sizes) (word : ℕ) where
       subst (λ (x : Message). IsAnswered sizes number path x t
       (Feeds now from bytes w up settled (Some (event_of.Answer a)) sent token was)) same
       (answered_now t law now from bytes w up settled sent token was a number path runs)
-  answered_here t (Feeds now from bytes w up settled (Some (event_of.Notice a)) sent token was) law m number path h runs =
-      absurd (cc h)
-  answered_here t (Feeds now from bytes w up settled (Some event_of.Reset) sent token was) law m number path h runs =
-      absurd (cc h)
-  answered_here t (Feeds now from bytes w up settled (Some event_of.Timeout) sent token was) law m number path h runs =
-      absurd (cc h)
-  answered_here t (Feeds now from bytes w up settled (Some event_of.NoResponse) sent token was) law m number path h runs =
-      absurd (cc h)
-  answered_here t (Feeds now from bytes w up settled None sent token was) law m number path h runs = absurd (cc h)
-  answered_here t (Ticks now w below turn sent token was answer) law m number path h runs = absurd (cc h)
-  answered_here t (Calls now r answer) law m number path h runs = absurd (cc h)
-  answered_here t (Observes now p answer) law m number path h runs = absurd (cc h)
-  answered_here t (Cancels now k answer) law m number path h runs = absurd (cc h)
-  answered_here t (Forgets k was answer) law m number path h runs = absurd (cc h)
-  answered_here t (NextOut answer) law m number path h runs = absurd (cc h)
-  answered_here t (NextReport answer) law m number path h runs = absurd (cc h)
-  answered_here t (Asked answer) law m number path h runs = absurd (cc h)
+  answered_here t _ law m number path h runs = absurd (cc h)
 
-  pub are_answered : (t : List Call) → ClientLaw server sizes word t → RegistrationsAreAnswered sizes t
+  pub are_answered : (t : List Call) → ClientLaw server sizes setup t → RegistrationsAreAnswered sizes t
   are_answered [] law = tt
   are_answered (c ∷ t) law =
-      let past = client_back server sizes word (c ∷ []) t law in (answered_here t c past, are_answered t past)
+      let past = client_back server sizes setup (c ∷ []) t law in (answered_here t c past, are_answered t past)
 
-  shown_here : (t : List Call) (c : Call) → ClientLaw server sizes word t → (n : Newly)
+  shown_here : (t : List Call) (c : Call) → ClientLaw server sizes setup t → (n : Newly)
       → notifies (own_of sizes t) c ≡ Some n → IsAllOf n.message → length n.message.payload ≤ sizes.limit
       → reports (own_of sizes t) c ≡ of n.number
       (Value (sequence_in n.message) (tag_in n.message) (format_in n.message) n.message.payload)
@@ -273,20 +241,9 @@ module _ (server : Endpoint) (sizes : Sizes) (word : ℕ) where
       shown_first t law now from bytes w up settled sent token was m n h
   shown_here t (Feeds now from bytes w up settled (Some (event_of.Notice m)) sent token was) law n h =
       shown_later t law now from bytes w up settled sent token was m n h
-  shown_here t (Feeds now from bytes w up settled (Some event_of.Reset) sent token was) law n h = absurd (cc h)
-  shown_here t (Feeds now from bytes w up settled (Some event_of.Timeout) sent token was) law n h = absurd (cc h)
-  shown_here t (Feeds now from bytes w up settled (Some event_of.NoResponse) sent token was) law n h = absurd (cc h)
-  shown_here t (Feeds now from bytes w up settled None sent token was) law n h = absurd (cc h)
-  shown_here t (Ticks now w below turn sent token was answer) law n h = absurd (cc h)
-  shown_here t (Calls now r answer) law n h = absurd (cc h)
-  shown_here t (Observes now p answer) law n h = absurd (cc h)
-  shown_here t (Cancels now k answer) law n h = absurd (cc h)
-  shown_here t (Forgets k was answer) law n h = absurd (cc h)
-  shown_here t (NextOut answer) law n h = absurd (cc h)
-  shown_here t (NextReport answer) law n h = absurd (cc h)
-  shown_here t (Asked answer) law n h = absurd (cc h)
+  shown_here t _ law n h = absurd (cc h)
 
-  pub are_shown : (t : List Call) → ClientLaw server sizes word t → AreShownAtOnce sizes t
+  pub are_shown : (t : List Call) → ClientLaw server sizes setup t → AreShownAtOnce sizes t
   are_shown [] law = tt
   are_shown (c ∷ t) law =
-      let past = client_back server sizes word (c ∷ []) t law in (shown_here t c past, are_shown t past)
+      let past = client_back server sizes setup (c ∷ []) t law in (shown_here t c past, are_shown t past)

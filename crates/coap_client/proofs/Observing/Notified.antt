@@ -4,15 +4,15 @@ use Rattle.std.proofs.Common.{◌≡◌, ◌≤◌, ◌⊎◌, inl, inr, ℕ, ze
 use Rattle.std.proofs.Common.{Some, None, List, ◌∷◌, ◌++◌, [], map, refl, ap, sym, subst, ◌∙◌, arith}
 use Rattle.std.specs.Prelude.{◌==◌, nat_lt}
 use Rattle.coap_types.specs.declared.endpoint.Endpoint.{Endpoint}
+use Rattle.coap_layer.specs.declared.setup.Setup.{Setup}
 use Rattle.coap_codec.specs.Message.{Message}
 use Rattle.coap_block.specs.Sizes.{Sizes}
 use Rattle.coap_exchange.specs.declared.asker.Event.TheVariants as event_of
 use Rattle.coap_exchange.specs.Tokens.{same_token}
 use Rattle.coap_observe.specs.Newer.{IsNewer, is_newer, arrived}
 use Rattle.coap_observe.proofs.Facts.Newer.{newer_is_decided}
-use Rattle.coap_client.specs.Trace.{Ended, Call, Calls, Observes, Cancels, Forgets, Feeds, Ticks}
-use Rattle.coap_client.specs.Trace.{NextOut, NextReport, Asked}
-use Rattle.coap_client.specs.Own.{Operation, Calling, Registering, Fetching, Cancelling, Dropped}
+use Rattle.coap_client.specs.Trace.{Ended, Call, Feeds}
+use Rattle.coap_client.specs.Own.{Operation, Registering}
 use Rattle.coap_client.specs.Own.{Observation, Own}
 use Rattle.coap_client.specs.Observations.{observation_with}
 use Rattle.coap_client.specs.Responses.{is_notification, sequence_in}
@@ -54,11 +54,6 @@ pub record RegistersAs (running : Option Operation) (now : ℕ) (m : Message) (n
 
 pub registers_as : (running : Option Operation) (now : ℕ) (m : Message) (n : Newly) → registers running now m ≡ Some n
     → RegistersAs running now m n
-registers_as None now m n h = absurd (cc h)
-registers_as (Some (Calling k r t)) now m n h = absurd (cc h)
-registers_as (Some (Fetching k)) now m n h = absurd (cc h)
-registers_as (Some (Cancelling k)) now m n h = absurd (cc h)
-registers_as (Some Dropped) now m n h = absurd (cc h)
 registers_as (Some (Registering k path)) now m n h = by (is_notification m) refl h
   where
     by : (b : Bool) → is_notification m ≡ b → cond b (newly k now m) None ≡ Some n
@@ -66,6 +61,7 @@ registers_as (Some (Registering k path)) now m n h = by (is_notification m) refl
     by false e h = absurd (cc h)
     by true e h = let same : newly_as k now m ≡ n =
         cc h in record { number = k; path = path; runs = refl; note = e; is = sym same }
+registers_as _ now m n h = absurd (cc h)
 
 pub record RenewsAs (o : Option Observation) (now : ℕ) (m : Message) (n : Newly) : Type 0 where
   pub observation : Observation
@@ -128,7 +124,7 @@ live_in P [] o h there = absurd there
 live_in P (p ∷ os) o h (inl e) = subst (λ (x : Observation). P x.number x.path x.token) e h.0
 live_in P (p ∷ os) o h (inr there) = live_in P os o h.1 there
 
-one_of_two : (a b : ℕ) → 1 ≤ a + b → (1 ≤ a) ⊎ (1 ≤ b)
+pub one_of_two : (a b : ℕ) → 1 ≤ a + b → (1 ≤ a) ⊎ (1 ≤ b)
 one_of_two zero b h = inr (omega (arith, h))
 one_of_two (suc a) b h = inl (omega arith)
 
@@ -191,18 +187,7 @@ module _ (sizes : Sizes) where
       let d = (found_by_token m.token s.observations o r.found).1 in
       subst (λ i. 1 ≤ in_observations i (own_of sizes (c ∷ t)).observations) (sym (ap (λ (x : Newly). x.number) r.is))
       (omega (arith, a, b, d))
-  live_now t (Feeds now from bytes w up settled (Some event_of.Reset) sent token was) n is = absurd (cc is)
-  live_now t (Feeds now from bytes w up settled (Some event_of.Timeout) sent token was) n is = absurd (cc is)
-  live_now t (Feeds now from bytes w up settled (Some event_of.NoResponse) sent token was) n is = absurd (cc is)
-  live_now t (Feeds now from bytes w up settled None sent token was) n is = absurd (cc is)
-  live_now t (Ticks now w below turn sent token was answer) n is = absurd (cc is)
-  live_now t (Calls now r answer) n is = absurd (cc is)
-  live_now t (Observes now path answer) n is = absurd (cc is)
-  live_now t (Cancels now k answer) n is = absurd (cc is)
-  live_now t (Forgets k was answer) n is = absurd (cc is)
-  live_now t (NextOut answer) n is = absurd (cc is)
-  live_now t (NextReport answer) n is = absurd (cc is)
-  live_now t (Asked answer) n is = absurd (cc is)
+  live_now t _ n is = absurd (cc is)
 
   -- .. or it is over
   pub live_or_gone : (t : List Call) (k : ℕ) (n : Newly) → newest sizes k t ≡ Some n
@@ -222,9 +207,9 @@ module _ (sizes : Sizes) where
             | inr over ↦ omega (arith, over)
           ]
 
-module _ (server : Endpoint) (sizes : Sizes) (word : ℕ) where
-  pub most : (t : List Call) → ClientLaw server sizes word t → (n : ℕ) → places n (own_of sizes t) ≤ 1
-  most t law = (sound_of server sizes word t (known server sizes word t law.rows law.exchanges.rows)).at_most
+module _ (server : Endpoint) (sizes : Sizes) (setup : Setup) where
+  pub most : (t : List Call) → ClientLaw server sizes setup t → (n : ℕ) → places n (own_of sizes t) ≤ 1
+  most t law = (sound_of server sizes setup t (known server sizes setup t law.rows law.exchanges.rows)).at_most
 
   -- the mark of a live observation is that of its newest notification
   pub record HasNewest (t : List Call) (x : Observation) : Type 0 where
@@ -240,11 +225,11 @@ module _ (server : Endpoint) (sizes : Sizes) (word : ℕ) where
     mark = same.mark ∙ h.mark;
   }
 
-  pub has_newest : (t : List Call) → ClientLaw server sizes word t → (x : Observation)
+  pub has_newest : (t : List Call) → ClientLaw server sizes setup t → (x : Observation)
       → In x (own_of sizes t).observations
       → HasNewest t x
   has_newest [] law x h = absurd h
-  has_newest (c ∷ t) law x h = let past = client_back server sizes word (c ∷ []) t law in by
+  has_newest (c ∷ t) law x h = let past = client_back server sizes setup (c ∷ []) t law in by
       (source sizes t c (most t past) x h) (has_newest t past)
     where
       by : Source (own_of sizes t).sizes (own_of sizes t).observations (own_of sizes t).running
@@ -259,7 +244,7 @@ module _ (server : Endpoint) (sizes : Sizes) (word : ℕ) where
           { newly = n; is = newest_now sizes t c x.number n is number; mark = mark }
 
   -- a registration that runs had no notification before
-  none_before : (t : List Call) → ClientLaw server sizes word t → (k : ℕ) (path : List (List ℕ))
+  none_before : (t : List Call) → ClientLaw server sizes setup t → (k : ℕ) (path : List (List ℕ))
       → (own_of sizes t).running ≡ Some (Registering k path) → newest sizes k t ≡ None
   none_before t law k path runs = by (newest sizes k t) refl
     where
@@ -267,22 +252,22 @@ module _ (server : Endpoint) (sizes : Sizes) (word : ℕ) where
       by None e = refl
       by (Some n) e =
           let a = live_or_gone sizes t k n e in
-          let b = (known server sizes word t law.rows law.exchanges.rows).one k in
+          let b = (known server sizes setup t law.rows law.exchanges.rows).one k in
           let d = at_most_one (nat_lt k (own_of sizes t).taken) in
           let f = ap (in_running k) runs in
           let g = hit_self k in
           absurd (omega (arith, a, b, d, f, g))
 
   -- its answer has the token under which it was sent
-  registration_sent : (t : List Call) (c : Call) → ClientLaw server sizes word (c ∷ t)
+  registration_sent : (t : List Call) (c : Call) → ClientLaw server sizes setup (c ∷ t)
       → (m : Message) (k : ℕ) (path : List (List ℕ)) → hears c ≡ Some m
       → (own_of sizes t).running ≡ Some (Registering k path) → WasRegistered sizes k m.token t
   registration_sent t c law m k path heard runs =
-      let past = law_back server word (lower (own_of sizes t) c) (lower_of sizes t) law.exchanges.rows in
-      let tracked : Tracked sizes t (Registering k path) (beneath server sizes word t).running =
-      subst (λ o. IfTracked sizes t o (beneath server sizes word t).running) runs
-      (all_sends sizes server word t law.rows.1 past).tracked in
-      let a : Answers sizes t c m = (answers_last sizes server word (c ∷ t) law).0 m heard in
+      let past = law_back server setup (lower (own_of sizes t) c) (lower_of sizes t) law.exchanges.rows in
+      let tracked : Tracked sizes t (Registering k path) (beneath server sizes setup t).running =
+      subst (λ o. IfTracked sizes t o (beneath server sizes setup t).running) runs
+      (all_sends sizes server setup t law.rows.1 past).tracked in
+      let a : Answers sizes t c m = (answers_last sizes server setup (c ∷ t) law).0 m heard in
       let same : a.sending ≡ tracked.sending = (let z : Some a.sending ≡ Some tracked.sending = sym a.last
       ∙ tracked.last in cc z) in
       record {
@@ -293,18 +278,18 @@ module _ (server : Endpoint) (sizes : Sizes) (word : ℕ) where
         token_is = a.token;
       }
 
-  live_token : (t : List Call) → ClientLaw server sizes word t → (o : Observation) → In o (own_of sizes t).observations
+  live_token : (t : List Call) → ClientLaw server sizes setup t → (o : Observation) → In o (own_of sizes t).observations
       → WasRegistered sizes o.number o.token t
   live_token t law o there =
       let r : Registered sizes t o.number o.path o.token =
-      live_in (Registered sizes t) (own_of sizes t).observations o (live sizes server word t law) there in
+      live_in (Registered sizes t) (own_of sizes t).observations o (live sizes server setup t law) there in
       record { path = o.path; sending = r.sending; sent = r.sent; registers = r.operation; token_is = r.token_is }
 
-  taken_here : (t : List Call) (c : Call) → ClientLaw server sizes word (c ∷ t) → (n : Newly)
+  taken_here : (t : List Call) (c : Call) → ClientLaw server sizes setup (c ∷ t) → (n : Newly)
       → notifies (own_of sizes t) c ≡ Some n → IsTaken sizes n t c
   taken_here t (Feeds now from bytes w up settled (Some (event_of.Answer m)) sent token was) law n is =
       let c : Call = Feeds now from bytes w up settled (Some (event_of.Answer m)) sent token was in
-      let past = client_back server sizes word (c ∷ []) t law in
+      let past = client_back server sizes setup (c ∷ []) t law in
       let z : ℕ = max (own_of sizes t).clock now in
       let r = registers_as (own_of sizes t).running z m n is in
       subst (λ x. IsTaken sizes x t c) (sym r.is) (record {
@@ -315,7 +300,7 @@ module _ (server : Endpoint) (sizes : Sizes) (word : ℕ) where
       })
   taken_here t (Feeds now from bytes w up settled (Some (event_of.Notice m)) sent token was) law n is =
       let c : Call = Feeds now from bytes w up settled (Some (event_of.Notice m)) sent token was in
-      let past = client_back server sizes word (c ∷ []) t law in
+      let past = client_back server sizes setup (c ∷ []) t law in
       let z : ℕ = max (own_of sizes t).clock now in
       let os : List Observation = (own_of sizes t).observations in
       let r = renews_as (observation_with m.token os) z m n is in
@@ -335,19 +320,8 @@ module _ (server : Endpoint) (sizes : Sizes) (word : ℕ) where
               ((newer_is_decided o.watch.mark (sequence_in m) z).0 r.newer);
         });
       })
-  taken_here t (Feeds now from bytes w up settled (Some event_of.Reset) sent token was) law n is = absurd (cc is)
-  taken_here t (Feeds now from bytes w up settled (Some event_of.Timeout) sent token was) law n is = absurd (cc is)
-  taken_here t (Feeds now from bytes w up settled (Some event_of.NoResponse) sent token was) law n is = absurd (cc is)
-  taken_here t (Feeds now from bytes w up settled None sent token was) law n is = absurd (cc is)
-  taken_here t (Ticks now w below turn sent token was answer) law n is = absurd (cc is)
-  taken_here t (Calls now r answer) law n is = absurd (cc is)
-  taken_here t (Observes now path answer) law n is = absurd (cc is)
-  taken_here t (Cancels now k answer) law n is = absurd (cc is)
-  taken_here t (Forgets k was answer) law n is = absurd (cc is)
-  taken_here t (NextOut answer) law n is = absurd (cc is)
-  taken_here t (NextReport answer) law n is = absurd (cc is)
-  taken_here t (Asked answer) law n is = absurd (cc is)
+  taken_here t _ law n is = absurd (cc is)
 
-  pub are_taken : (t : List Call) → ClientLaw server sizes word t → AreTaken sizes t
+  pub are_taken : (t : List Call) → ClientLaw server sizes setup t → AreTaken sizes t
   are_taken [] law = tt
-  are_taken (c ∷ t) law = (taken_here t c law, are_taken t (client_back server sizes word (c ∷ []) t law))
+  are_taken (c ∷ t) law = (taken_here t c law, are_taken t (client_back server sizes setup (c ∷ []) t law))

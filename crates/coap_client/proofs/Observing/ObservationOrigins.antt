@@ -153,14 +153,12 @@ in_held s false report x h = h
 in_failed : (u : Transfer → Bool) (report : Report) (s : Own) (running : Option Operation) (x : Observation)
     → In x (failed u report s running).own.observations
     → (o : Observation) × In o s.observations × ((x ≡ o) ⊎ (x ≡ record o { rest = None }))
-in_failed u report s None x h = (x, h, inl refl)
 in_failed u report s (Some (Calling k r t)) x h = (x, in_held s (u t && is_upload t) (of k report) x h, inl refl)
-in_failed u report s (Some (Registering k path)) x h = (x, h, inl refl)
 in_failed u report s (Some (Fetching k)) x h = let a =
     in_changed k (λ o. record o { rest = None }) s.observations x h
     in (a.0, a.1, elim a.2 [ inl e ↦ inr e.1 | inr e ↦ inl e.1 ])
 in_failed u report s (Some (Cancelling k)) x h = (x, in_without k s.observations x h, inl refl)
-in_failed u report s (Some Dropped) x h = (x, h, inl refl)
+in_failed u report s _ x h = (x, h, inl refl)
 
 -- .. and reports no value
 
@@ -169,21 +167,17 @@ last_value k report h = ap (λ b. cond b (Some k) None) h
 
 pub failed_value : (u : Transfer → Bool) (report : Report) (s : Own) (running : Option Operation)
     → is_value report ≡ false → value_reported (failed u report s running).report ≡ None
-failed_value u report s None h = refl
 failed_value u report s (Some (Calling k r t)) h = last_value k report h
 failed_value u report s (Some (Registering k path)) h = last_value k report h
-failed_value u report s (Some (Fetching k)) h = refl
 failed_value u report s (Some (Cancelling k)) h = last_value k report h
-failed_value u report s (Some Dropped) h = refl
+failed_value u report s _ h = refl
 
 -- which part gives a value, and which lets a fetch go on
 
 pub value_number : (k sequence : ℕ) (f : FetchState) (m : Message) (v : Verdict) (n : ℕ)
     → value_reported (value k sequence f m v) ≡ Some n → k ≡ n
 value_number k sequence f m verdict.Done n h = cc h
-value_number k sequence f m verdict.Again n h = absurd (cc h)
-value_number k sequence f m (verdict.Refuse why) n h = absurd (cc h)
-value_number k sequence f m (verdict.Ask num size) n h = absurd (cc h)
+value_number k sequence f m _ n h = absurd (cc h)
 
 -- more of it is to be fetched
 pub record AsksMore (sequence : ℕ) (f : FetchState) (m : Message) (v : Verdict) (r : Notified) : Type 0 where
@@ -194,9 +188,6 @@ pub record AsksMore (sequence : ℕ) (f : FetchState) (m : Message) (v : Verdict
 
 pub rest_asks : (sequence : ℕ) (f : FetchState) (m : Message) (v : Verdict) (r : Notified)
     → rest_left sequence f m v ≡ Some r → AsksMore sequence f m v r
-rest_asks sequence f m verdict.Done r h = absurd (cc h)
-rest_asks sequence f m verdict.Again r h = absurd (cc h)
-rest_asks sequence f m (verdict.Refuse why) r h = absurd (cc h)
 rest_asks sequence f m (verdict.Ask num size) r h = record {
   num = num;
   size = size;
@@ -206,6 +197,7 @@ rest_asks sequence f m (verdict.Ask num size) r h = record {
     fetch = F.after f (tag_in m) m.payload (verdict.Ask num size);
   }) r = cc h in sym e);
 }
+rest_asks sequence f m _ r h = absurd (cc h)
 
 -- a notification that leaves more to be fetched gives no value
 first_silent : (k : ℕ) (sizes : Sizes) (m : Message) (r : Notified) (n : ℕ) → first_rest sizes m ≡ Some r

@@ -9,6 +9,7 @@ use Rattle.coap_types.specs.declared.endpoint.Endpoint.{Endpoint}
 use Rattle.coap_types.specs.CoapOption.{option}
 use Rattle.coap_types.specs.Uint.{uint}
 use Rattle.coap_types.specs.declared.option_number.TheConstants.{OBSERVE as observe}
+use Rattle.coap_layer.specs.declared.setup.Setup.{Setup}
 use Rattle.coap_block.specs.Sizes.{Sizes}
 use Rattle.coap_block.specs.declared.fetch_progress.Asked.{Asked as Block}
 use Rattle.coap_block.specs.declared.fetch_verdict.Verdict.TheVariants as verdict
@@ -18,8 +19,7 @@ use Rattle.coap_exchange.specs.declared.asker.Event.{Event}
 use Rattle.coap_exchange.specs.AskerTrace as E
 use Rattle.coap_exchange.specs.AskerFollows as F
 use Rattle.coap_exchange.proofs.Facts.ClientSide.{are_tokens}
-use Rattle.coap_client.specs.Trace.{Call, Calls, Observes, Cancels, Forgets, Feeds, Ticks, NextOut}
-use Rattle.coap_client.specs.Trace.{NextReport, Asked}
+use Rattle.coap_client.specs.Trace.{Call, Feeds, Ticks}
 use Rattle.coap_client.specs.Own.{Operation, Calling, Registering, Fetching, Cancelling, Dropped}
 use Rattle.coap_client.specs.Own.{Notified, Observation, Own}
 use Rattle.coap_client.specs.Observations.{observation_of, observed_path, token_of, rest_of, fetch_of}
@@ -97,7 +97,7 @@ found_changed k f same (o ∷ os) p h = by (o.number == k) refl h (found_changed
         (ap (λ i. i == k) (same o) ∙ e) ∙ ap (λ x. Some (f x)) same_one
     by false e h ih = ap (λ b. cond b (Some o) (observation_of k rest)) e ∙ ih h
 
-waits_there : (os : List Observation) (k : ℕ) → to_fetch os ≡ Some k
+pub waits_there : (os : List Observation) (k : ℕ) → to_fetch os ≡ Some k
     → (p : Observation) × (n : Notified) × In p os × (p.number ≡ k) × (p.rest ≡ Some n)
 waits_there [] k h = absurd (cc h)
 waits_there (o ∷ os) k h = by o.rest refl h (waits_there os k)
@@ -135,16 +135,11 @@ pub data AskSource (s : Own) (e : Effect) (op : Operation) : Type 0 where
 
 ask_source : (s : Own) (now : ℕ) (told : Option Event) (mo : Move s now told) (op : Operation)
     → (left_by s now told mo).deed ≡ Asks op → AskSource s (left_by s now told mo) op
-ask_source s now told (mv.rests un) op h = absurd (cc h)
-ask_source s now told (mv.copies q) op h = absurd (cc h)
 ask_source s now told (mv.starts_next o queue none rest first q) op h = let e : o
     ≡ op = cc h in of_queue queue (first ∙ ap (λ x. x ∷ queue) e) refl
 ask_source s now told (mv.fetches k none rest q) op h = let e : Fetching k ≡ op = cc h in of_fetch k (sym e) rest refl
 ask_source s now told (mv.goes_on k r tr next a hears_it runs asks) op h = let e : Calling k r next
     ≡ op = cc h in of_call k r next (sym e)
-ask_source s now told (mv.is_done k r tr final rep a hears_it runs ends_so) op h = absurd (cc h)
-ask_source s now told (mv.registers k path a hears_it runs note) op h = absurd (cc h)
-ask_source s now told (mv.refuses k path a hears_it runs note) op h = absurd (cc h)
 ask_source s now told (mv.fetches_on k n a num size hears_it runs rest code asks) op h =
     let e : Fetching k ≡ op = cc h in of_part k n
     (record {
@@ -153,14 +148,8 @@ ask_source s now told (mv.fetches_on k n a num size hears_it runs rest code asks
           (Rattle.coap_client.specs.Responses.tag_in a) a.payload (verdict.Ask num size);
     })
     (record { num = num; szx = size }) (sym e) rest refl refl
-ask_source s now told (mv.fetched k n a hears_it runs rest code done) op h = absurd (cc h)
-ask_source s now told (mv.gives_up k a hears_it runs) op h = absurd (cc h)
-ask_source s now told (mv.fetched_none k a hears_it runs) op h = absurd (cc h)
 ask_source s now told (mv.cancels k a hears_it runs) op h = absurd (releases_none _ op h)
-ask_source s now told (mv.is_dropped a hears_it runs) op h = absurd (cc h)
 ask_source s now told (mv.is_ended o a notes found note) op h = absurd (releases_none _ op h)
-ask_source s now told (mv.renews o a notes found note newer) op h = absurd (cc h)
-ask_source s now told (mv.passes_by o a notes found note newer) op h = absurd (cc h)
 ask_source s now told (mv.fails e un) op h = absurd (by s.running h)
   where
     by : (running : Option Operation) → (failed (λ t. true) (lapse e) s running).deed ≡ Asks op → ⊥
@@ -170,6 +159,7 @@ ask_source s now told (mv.fails e un) op h = absurd (by s.running h)
     by (Some (Fetching k)) h = cc h
     by (Some Dropped) h = cc h
     by (Some (Cancelling k)) h = releases_none _ op h
+ask_source s now told _ op h = absurd (cc h)
 
 -- a registration that waits is of an observation that was taken
 abbrev IsTaken : List Call → Operation → Type 0
@@ -178,20 +168,17 @@ IsTaken t op = Unit {0}
 
 taken_later : (t : List Call) (c : Call) (op : Operation) → IsTaken t op → IsTaken (c ∷ t) op
 taken_later t c (Registering k path) h = inr h
-taken_later t c (Calling k r tr) h = tt
-taken_later t c (Fetching k) h = tt
-taken_later t c (Cancelling k) h = tt
-taken_later t c Dropped h = tt
+taken_later t c _ h = tt
 
 -- of a request with a token that was asked for, that is its token
-cancel_token : (word : ℕ) (calls : List E.Call) → F.AreTokens word calls → (r : E.Request) (token given : List ℕ)
+cancel_token : (setup : Setup) (calls : List E.Call) → F.AreTokens setup.word calls → (r : E.Request) (token given : List ℕ)
     → r.token ≡ Some given → Ever (asked.AsksFor r token) calls → token ≡ given
-cancel_token word [] law r token given has h = absurd h
-cancel_token word (b ∷ calls) law r token given has (inl h) =
+cancel_token setup [] law r token given has h = absurd h
+cancel_token setup (b ∷ calls) law r token given has (inl h) =
     let a = law.0.0.cancel given (ap F.cancels h.is ∙ has) in
     let e : Some token ≡ Some given = sym (ap F.begun h.is) ∙ a in
     cc e
-cancel_token word (b ∷ calls) law r token given has (inr h) = cancel_token word calls law.1 r token given has h
+cancel_token setup (b ∷ calls) law r token given has (inr h) = cancel_token setup calls law.1 r token given has h
 
 module _ (sizes : Sizes) where
   all_taken : (t : List Call) → AllOf (IsTaken t) (own_of sizes t).queue
@@ -233,13 +220,7 @@ module _ (sizes : Sizes) where
   sent_as t (Ticks now w below turn sent token was answer) x h =
       sent_turned t (Ticks now w below turn sent token was answer) x
       (ticked_turned sizes t now w below turn sent token was answer) h
-  sent_as t (Calls now r answer) x h = absurd (cc h)
-  sent_as t (Observes now path answer) x h = absurd (cc h)
-  sent_as t (Cancels now k answer) x h = absurd (cc h)
-  sent_as t (Forgets k was answer) x h = absurd (cc h)
-  sent_as t (NextOut answer) x h = absurd (cc h)
-  sent_as t (NextReport answer) x h = absurd (cc h)
-  sent_as t (Asked answer) x h = absurd (cc h)
+  sent_as t _ x h = absurd (cc h)
 
   -- a registration that is sent was the first of the queue
   registers_taken : (t : List Call) (x : Sending) (k : ℕ) (path : List (List ℕ)) → SentAs t x
@@ -270,27 +251,27 @@ module _ (sizes : Sizes) where
       → fetch_of k os ≡ block_of p.rest
   rest_is k os p h = ap (λ x. block_of (rest_in x)) h
 
-  module _ (server : Endpoint) (word : ℕ) where
+  module _ (server : Endpoint) (setup : Setup) where
     -- of one that is live
-    of_live : (t : List Call) → ClientLaw server sizes word t → (p : Observation) → In p (own_of sizes t).observations
+    of_live : (t : List Call) → ClientLaw server sizes setup t → (p : Observation) → In p (own_of sizes t).observations
         → Registered sizes t p.number p.path p.token
     of_live t law p there = live_in (Registered sizes t) (own_of sizes t).observations p
-        (live sizes server word t law) there
+        (live sizes server setup t law) there
 
-    one_of_number : (t : List Call) → ClientLaw server sizes word t → (p : Observation)
+    one_of_number : (t : List Call) → ClientLaw server sizes setup t → (p : Observation)
         → In p (own_of sizes t).observations
         → observation_of p.number (own_of sizes t).observations ≡ Some p
-    one_of_number t law p there = let a = most server sizes word t law p.number in of_number
+    one_of_number t law p there = let a = most server sizes setup t law p.number in of_number
         (own_of sizes t).observations p there (omega (arith, a))
 
-    path_taken : (t : List Call) → ClientLaw server sizes word t → (p : Observation)
+    path_taken : (t : List Call) → ClientLaw server sizes setup t → (p : Observation)
         → In p (own_of sizes t).observations
         → WasObserved (record { number = p.number; path = p.path }) t
     path_taken t law p there = let r = of_live t law p there in sent_taken t r.sending p.number p.path r.sent
         r.operation
 
     -- a fetch asks for the block that its observation waits for
-    fetch_asks : (t : List Call) → ClientLaw server sizes word t → (x : Sending) (k : ℕ)
+    fetch_asks : (t : List Call) → ClientLaw server sizes setup t → (x : Sending) (k : ℕ)
         → (os : List Observation) (p q : Observation) (b : Block) → x.operation ≡ Fetching k
         → x.request ≡ message_of os x.operation → In p (own_of sizes t).observations → p.number ≡ k
         → observation_of k os ≡ Some q → q.path ≡ p.path → block_of q.rest ≡ Some b → IsOfObservation sizes k x t
@@ -315,7 +296,7 @@ module _ (sizes : Sizes) where
           (refl, s.request ∙ ap (message_of s.effect.own.observations) op);
     }
 
-    fetch_here : (t : List Call) → ClientLaw server sizes word t → (x : Sending) (k : ℕ) → (s : SentAs t x)
+    fetch_here : (t : List Call) → ClientLaw server sizes setup t → (x : Sending) (k : ℕ) → (s : SentAs t x)
         → x.operation ≡ Fetching k → IsOfObservation sizes k x t
     fetch_here t law x k s op = by s.source
       where
@@ -325,13 +306,13 @@ module _ (sizes : Sizes) where
         by : AskSource (at s.now (own_of sizes t)) s.effect x.operation → IsOfObservation sizes k x t
         by (of_call j r tr is) = let e : Fetching k ≡ Calling j r tr = sym op ∙ is in absurd (cc e)
         by (of_queue queue first left) =
-            let waits = (known server sizes word t law.rows law.exchanges.rows).waits in
+            let waits = (known server sizes setup t law.rows law.exchanges.rows).waits in
             let h : AllWait os (Fetching k ∷ queue) = subst (AllWait os) (first ∙ ap (λ o. o ∷ queue) op) waits in
             absurd h.0
         by (of_fetch j is rest left) =
             let n : j ≡ k = (let e : Fetching j ≡ Fetching k = sym is ∙ op in cc e) in
             let p = waits_there os j rest in
-            let f : Fetched sizes t p.0.number p.1 = fetched sizes server word t law p.0 p.2 p.1 p.4 in
+            let f : Fetched sizes t p.0.number p.1 = fetched sizes server setup t law p.0 p.2 p.1 p.4 in
             let b = awaits_block p.1.fetch.asked p.1.fetch.tag f.part f.rest f.gathered.awaits in
             let number : p.0.number ≡ k = p.3 ∙ n in
             fetch_asks t law x k os p.0 p.0 b.0 op (s.request ∙ ap (λ o. message_of o x.operation) left) p.2 number
@@ -349,13 +330,13 @@ module _ (sizes : Sizes) where
             ∙ ap (λ i. message_of (with_rest i (Some new) os) x.operation) same)) p.1 number
             (found_changed k f (λ o. refl) os p.0 here) refl asks
 
-    cancel_here : (t : List Call) (c : Call) → ClientLaw server sizes word (c ∷ t) → (x : Sending) (k : ℕ)
+    cancel_here : (t : List Call) (c : Call) → ClientLaw server sizes setup (c ∷ t) → (x : Sending) (k : ℕ)
         → sends (own_of sizes t) c ≡ Some x → (s : SentAs t x) → x.operation ≡ Cancelling k
         → IsOfObservation sizes k x t
     cancel_here t c law x k is s op = by s.source
       where
-        past : ClientLaw server sizes word t
-        past = client_back server sizes word (c ∷ []) t law
+        past : ClientLaw server sizes setup t
+        past = client_back server sizes setup (c ∷ []) t law
 
         os : List Observation
         os = (own_of sizes t).observations
@@ -365,7 +346,7 @@ module _ (sizes : Sizes) where
         by (of_fetch j e rest left) = let z : Cancelling k ≡ Fetching j = sym op ∙ e in absurd (cc z)
         by (of_part j n new b e rest asks left) = let z : Cancelling k ≡ Fetching j = sym op ∙ e in absurd (cc z)
         by (of_queue queue first left) =
-            let waits = (known server sizes word t past.rows past.exchanges.rows).waits in
+            let waits = (known server sizes setup t past.rows past.exchanges.rows).waits in
             let h : AllWait os (Cancelling k ∷ queue) = subst (AllWait os) (first ∙ ap (λ o. o ∷ queue) op) waits in
             let p = found_of k os h.0 in
             let r = of_live t past p.0 p.1 in
@@ -375,8 +356,8 @@ module _ (sizes : Sizes) where
             ∙ (ap (λ z. get z (option observe (uint 1) ∷ path_options (observed_path k os))) token_is
             ∙ ap (λ path. get (Some p.0.token) (option observe (uint 1) ∷ path_options path))
             (path_is k os p.0 p.3)))) in
-            let key : x.token ≡ p.0.token = cancel_token word (lower_of sizes (c ∷ t))
-            (are_tokens server word (lower_of sizes (c ∷ t)) law.exchanges.rows) x.request x.token p.0.token
+            let key : x.token ≡ p.0.token = cancel_token setup (lower_of sizes (c ∷ t))
+            (are_tokens server setup (lower_of sizes (c ∷ t)) law.exchanges.rows) x.request x.token p.0.token
             (ap (λ (q : E.Request). q.token) request) (was_asked sizes (c ∷ t) x (inl is)) in
             record {
               path = p.0.path;
@@ -394,7 +375,7 @@ module _ (sizes : Sizes) where
               );
             }
 
-    here : (t : List Call) (c : Call) → ClientLaw server sizes word (c ∷ t) → (x : Sending) (number : ℕ)
+    here : (t : List Call) (c : Call) → ClientLaw server sizes setup (c ∷ t) → (x : Sending) (number : ℕ)
         → sends (own_of sizes t) c ≡ Some x → observation_for x.operation ≡ Some number
         → IsOfObservation sizes number x t
     here t c law x number is h = by x.operation refl h
@@ -404,16 +385,16 @@ module _ (sizes : Sizes) where
             cc h in subst (λ i. IsOfObservation sizes i x t) n (registration_here t x k path (sent_as t c x is) e)
         by (Fetching k) e h = let n : k ≡ number =
             cc h in subst (λ i. IsOfObservation sizes i x t) n
-            (fetch_here t (client_back server sizes word (c ∷ []) t law) x k (sent_as t c x is) e)
+            (fetch_here t (client_back server sizes setup (c ∷ []) t law) x k (sent_as t c x is) e)
         by (Cancelling k) e h = let n : k ≡ number =
             cc h in subst (λ i. IsOfObservation sizes i x t) n (cancel_here t c law x k is (sent_as t c x is) e)
         by (Calling k r tr) e h = absurd (cc h)
         by Dropped e h = absurd (cc h)
 
-    pub are_of_observations : (t : List Call) → ClientLaw server sizes word t → AreOfObservations sizes t
+    pub are_of_observations : (t : List Call) → ClientLaw server sizes setup t → AreOfObservations sizes t
     are_of_observations [] law = tt
     are_of_observations (c ∷ t) law = (
       here t c law,
       are_of_observations t
-          (client_back server sizes word (c ∷ []) t law),
+          (client_back server sizes setup (c ∷ []) t law),
     )

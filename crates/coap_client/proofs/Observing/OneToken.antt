@@ -2,6 +2,7 @@
 use Rattle.std.proofs.Common.{◌≡◌, inl, inr, ℕ, Bool, true, false, cond, Some, List, ◌∷◌, [], refl, ap, sym}
 use Rattle.std.proofs.Common.{◌∙◌}
 use Rattle.coap_types.specs.declared.endpoint.Endpoint.{Endpoint}
+use Rattle.coap_layer.specs.declared.setup.Setup.{Setup}
 use Rattle.coap_block.specs.Sizes.{Sizes}
 use Rattle.coap_exchange.specs.Tokens.{same_token}
 use Rattle.coap_exchange.proofs.Facts.SameToken.{same_token_self}
@@ -32,19 +33,19 @@ with_there (q ∷ os) o (inr h) = by (same_token o.token q.token) (with_there os
     by true ih = (q, refl)
     by false ih = ih
 
-module _ (server : Endpoint) (sizes : Sizes) (word : ℕ) (t : List Call) (law : ClientLaw server sizes word t) where
+module _ (server : Endpoint) (sizes : Sizes) (setup : Setup) (t : List Call) (law : ClientLaw server sizes setup t) where
   abbrev os : List Observation
   os = (own_of sizes t).observations
 
   pub registered : (o : Observation) → In o os → Registered sizes t o.number o.path o.token
-  registered o there = live_in (Registered sizes t) os o (live sizes server word t law) there
+  registered o there = live_in (Registered sizes t) os o (live sizes server setup t law) there
 
   -- two of one token have one number
   pub same_number_of : (o p : Observation) → In o os → In p os → o.token ≡ p.token → p.number ≡ o.number
   same_number_of o p there here same =
       let a = registered o there in
       let b = registered p here in
-      elim (one_of_token sizes server word t law a.sending b.sending a.sent b.sent
+      elim (one_of_token sizes server setup t law a.sending b.sending a.sent b.sent
       (a.token_is ∙ (same ∙ sym b.token_is))) [
         | inl e ↦ (
             let both : Registering p.number p.path ≡ Registering o.number o.path = sym b.operation
@@ -67,5 +68,5 @@ module _ (server : Endpoint) (sizes : Sizes) (word : ℕ) (t : List Call) (law :
       let same : o.token ≡ w.0.token = (found_by_token o.token os w.0 w.1).0 in
       let here = in_found o.token os w.0 w.1 in
       let number_is = same_number_of o w.0 f.0 here same ∙ f.1 in
-      let one : w.0 ≡ o = one_found number os o w.0 (once_there server sizes word t law number) l.found here number_is in
+      let one : w.0 ≡ o = one_found number os o w.0 (once_there server sizes setup t law number) l.found here number_is in
       ap (λ k. observation_with k os) (sym l.token_is) ∙ (w.1 ∙ ap (λ x. Some x) one)

@@ -4,6 +4,7 @@ use Rattle.std.proofs.Common.{sym, ◌∙◌}
 use Rattle.coap_types.specs.Past.{Sometime}
 use Rattle.coap_types.proofs.Facts.Traces.{Sometime_of_Sometime}
 use Rattle.coap_types.specs.declared.endpoint.Endpoint.{Endpoint}
+use Rattle.coap_layer.specs.declared.setup.Setup.{Setup}
 use Rattle.coap_block.specs.Sizes.{Sizes}
 use Rattle.coap_client.specs.Trace.{Call}
 use Rattle.coap_client.specs.Law.{ClientLaw, own_of}
@@ -56,14 +57,14 @@ module _ (sizes : Sizes) where
   shown_number (c ∷ t) k n (inl z) = (newest_came (c ∷ t) k n z.is_newest).1
   shown_number (c ∷ t) k n (inr h) = shown_number t k n h
 
-  module _ (server : Endpoint) (word : ℕ) where
+  module _ (server : Endpoint) (setup : Setup) where
     -- one that comes behind a value
-    comes_after : (t : List Call) (c : Call) → ClientLaw server sizes word (c ∷ t) → (k : ℕ) (earlier later : Newly)
+    comes_after : (t : List Call) (c : Call) → ClientLaw server sizes setup (c ∷ t) → (k : ℕ) (earlier later : Newly)
         → Came later t c → later.number ≡ k → Sometime (Shows sizes k earlier) t → ComesAfter sizes earlier later t c
     comes_after t c law k earlier later is number h =
         record {
           comes = is;
-          noted = by ((are_taken server sizes word (c ∷ t) law).0 later is).comes;
+          noted = by ((are_taken server sizes setup (c ∷ t) law).0 later is).comes;
           before = shown_came t k earlier h;
         }
       where
@@ -73,7 +74,7 @@ module _ (sizes : Sizes) where
         by (inr z) = z.noted
 
     -- behind the value before, the newest came
-    since_shown : (t : List Call) → ClientLaw server sizes word t → (k : ℕ) (earlier later : Newly)
+    since_shown : (t : List Call) → ClientLaw server sizes setup t → (k : ℕ) (earlier later : Newly)
         → NoneShown sizes k t
         → newest sizes k t ≡ Some later → Sometime (Shows sizes k earlier) t
         → Sometime (ComesAfter sizes earlier later) t
@@ -81,7 +82,7 @@ module _ (sizes : Sizes) where
     since_shown (c ∷ t) law k earlier later none is (inl h) = absurd (none.0 h.value)
     since_shown (c ∷ t) law k earlier later none is (inr h) =
         by (is_newly_of k (notifies (own_of sizes t) c)) refl none.1
-        (λ z e. since_shown t (client_back server sizes word (c ∷ []) t law) k earlier later z e h)
+        (λ z e. since_shown t (client_back server sizes setup (c ∷ []) t law) k earlier later z e h)
       where
         by : (b : Bool) → is_newly_of k (notifies (own_of sizes t) c) ≡ b
             → (is_newly_of k (notifies (own_of sizes t) c) ≡ true) ⊎ NoneShown sizes k t
@@ -91,16 +92,16 @@ module _ (sizes : Sizes) where
         by false e (inl z) ih = absurd (cc (e, z))
         by false e (inr z) ih = inr (ih z (sym (newest_kept sizes t c k e) ∙ is))
 
-    rises_here : (t : List Call) (c : Call) → ClientLaw server sizes word (c ∷ t) → (k : ℕ) (earlier later : Newly)
+    rises_here : (t : List Call) (c : Call) → ClientLaw server sizes setup (c ∷ t) → (k : ℕ) (earlier later : Newly)
         → Shows sizes k later t c → Sometime (Shows sizes k earlier) t
         → Sometime (ComesAfter sizes earlier later) (c ∷ t)
-    rises_here t c law k earlier later s h = elim (shows_first sizes server word t c law k s.value) [
+    rises_here t c law k earlier later s h = elim (shows_first sizes server setup t c law k s.value) [
       | inl e ↦ (let a = came_now sizes t c k later e s.is_newest in inl
           (comes_after t c law k earlier later a.0 a.1 h))
-      | inr z ↦ inr (since_shown t (client_back server sizes word (c ∷ []) t law) k earlier later z.1
+      | inr z ↦ inr (since_shown t (client_back server sizes setup (c ∷ []) t law) k earlier later z.1
           (sym (newest_kept sizes t c k z.0) ∙ s.is_newest) h)
     ]
 
-    pub values_rise : (t : List Call) → ClientLaw server sizes word t → ValuesRise sizes t
+    pub values_rise : (t : List Call) → ClientLaw server sizes setup t → ValuesRise sizes t
     values_rise [] law = tt
-    values_rise (c ∷ t) law = (rises_here t c law, values_rise t (client_back server sizes word (c ∷ []) t law))
+    values_rise (c ∷ t) law = (rises_here t c law, values_rise t (client_back server sizes setup (c ∷ []) t law))

@@ -3,6 +3,7 @@ use Rattle.std.proofs.Common.{◌≡◌, ◌≤◌, inl, inr, ℕ, Bool, true, f
 use Rattle.std.proofs.Common.{refl, ap, sym, subst, ◌∙◌, Ok, Err, arith}
 use Rattle.std.specs.Prelude.{◌==◌}
 use Rattle.coap_types.specs.declared.endpoint.Endpoint.{Endpoint}
+use Rattle.coap_layer.specs.declared.setup.Setup.{Setup}
 use Rattle.coap_codec.specs.Message.{Message}
 use Rattle.coap_block.specs.Sizes.{Sizes}
 use Rattle.coap_client.specs.Trace.{is_value, Report, Reported, Call, Calls, Observes, Cancels, Forgets, Feeds, Ticks}
@@ -92,15 +93,7 @@ none_forgotten number (Forgets k was true) apart = by (k == number) refl
     by : (b : Bool) → (k == number) ≡ b → one_if b ≡ 0
     by true e = absurd (apart (ap (λ i. Some i) (same_number k number e)))
     by false e = refl
-none_forgotten number (Forgets k was false) apart = refl
-none_forgotten number (Calls now r answer) apart = refl
-none_forgotten number (Observes now path answer) apart = refl
-none_forgotten number (Cancels now k answer) apart = refl
-none_forgotten number (Feeds now from bytes w up settled event sent token was) apart = refl
-none_forgotten number (Ticks now w below turn sent token was answer) apart = refl
-none_forgotten number (NextOut answer) apart = refl
-none_forgotten number (NextReport answer) apart = refl
-none_forgotten number (Asked answer) apart = refl
+none_forgotten number _ apart = refl
 
 module _ (sizes : Sizes) (P : ℕ → List (List ℕ) → List ℕ → Type 0) where
   abbrev New : List Call → Type 0
@@ -131,18 +124,18 @@ module _ (sizes : Sizes) (P : ℕ → List (List ℕ) → List ℕ → Type 0) w
       turned_live t (Ticks now w below turn sent token was answer)
       (ticked_turned sizes t now w below turn sent token was answer) new h
 
-module _ (server : Endpoint) (sizes : Sizes) (word : ℕ) where
+module _ (server : Endpoint) (sizes : Sizes) (setup : Setup) where
   -- no other observation has its number, and no registration of that runs
 
-  pub once_there : (t : List Call) → ClientLaw server sizes word t → (k : ℕ)
+  pub once_there : (t : List Call) → ClientLaw server sizes setup t → (k : ℕ)
       → in_observations k (own_of sizes t).observations ≤ 1
-  once_there t law k = let a = most server sizes word t law k in omega (arith, a)
+  once_there t law k = let a = most server sizes setup t law k in omega (arith, a)
 
-  pub no_registration : (t : List Call) → ClientLaw server sizes word t → (k : ℕ) (o : Observation)
+  pub no_registration : (t : List Call) → ClientLaw server sizes setup t → (k : ℕ) (o : Observation)
       → observation_of k (own_of sizes t).observations ≡ Some o → (path : List (List ℕ))
       → (own_of sizes t).running ≡ Some (Registering k path) → ⊥
   no_registration t law k o found path runs =
-      let a = most server sizes word t law k in
+      let a = most server sizes setup t law k in
       let f = found_in k (own_of sizes t).observations o found in
       let b = subst (λ i. 1 ≤ in_observations i (own_of sizes t).observations) f.1
       (in_count o (own_of sizes t).observations f.0) in
@@ -154,7 +147,7 @@ module _ (server : Endpoint) (sizes : Sizes) (word : ℕ) where
     abbrev Its : ℕ → List (List ℕ) → List ℕ → Type 0
     Its n p key = n ≡ number → (p ≡ path) × (key ≡ token)
 
-    stays_here : (t : List Call) (c : Call) → ClientLaw server sizes word t → IsLive sizes number path token t
+    stays_here : (t : List Call) (c : Call) → ClientLaw server sizes setup t → IsLive sizes number path token t
         → (forgotten c ≡ Some number → ⊥)
         → ((report : Report) → reports (own_of sizes t) c ≡ of number report → is_value report ≡ true)
         → IsLive sizes number path token (c ∷ t)
@@ -178,8 +171,8 @@ module _ (server : Endpoint) (sizes : Sizes) (word : ℕ) where
         let same = live_in Its (own_of sizes (c ∷ t)).observations p.0 after g.0 g.1 in
         record { observation = p.0; found = p.1; path_is = same.0; token_is = same.1 }
 
-  pub stay_live : (t : List Call) → ClientLaw server sizes word t → StayLive sizes t
+  pub stay_live : (t : List Call) → ClientLaw server sizes setup t → StayLive sizes t
   stay_live [] law = tt
   stay_live (c ∷ t) law =
-      let past = client_back server sizes word (c ∷ []) t law in
+      let past = client_back server sizes setup (c ∷ []) t law in
       (λ number path token live apart values. stays_here number path token t c past live apart values, stay_live t past)

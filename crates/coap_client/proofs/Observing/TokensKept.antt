@@ -8,6 +8,7 @@ use Rattle.std.proofs.lemmas.List.{length-map}
 use Rattle.coap_types.specs.declared.endpoint.Endpoint.{Endpoint}
 use Rattle.coap_codec.specs.Message.{Message}
 use Rattle.coap_layer.specs.Trace as L
+use Rattle.coap_layer.specs.declared.setup.Setup.{Setup}
 use Rattle.coap_block.specs.Sizes.{Sizes}
 use Rattle.coap_exchange.specs.declared.asker.AskRefusal.{AskRefusal}
 use Rattle.coap_exchange.specs.declared.asker.Event.{Event}
@@ -46,13 +47,13 @@ use Rattle.coap_client.proofs.Sending.Tokens.{one_of_token, last_was_sent, same_
 use Rattle.coap_client.proofs.Turning.Leading.{client_back}
 use Rattle.coap_client.proofs.Turning.Moves.{happened_moves, passes_moves}
 
-module _ (server : Endpoint) (sizes : Sizes) (word : ℕ) where
-  module _ (t : List Call) (law : ClientLaw server sizes word t) where
+module _ (server : Endpoint) (sizes : Sizes) (setup : Setup) where
+  module _ (t : List Call) (law : ClientLaw server sizes setup t) where
     abbrev os : List Observation
     os = (own_of sizes t).observations
 
     one_of_number : (p : Observation) → In p os → observation_of p.number os ≡ Some p
-    one_of_number p there = of_number os p there (once_there server sizes word t law p.number)
+    one_of_number p there = of_number os p there (once_there server sizes setup t law p.number)
 
     -- a token tells its observation from the others
     tell_apart : (k : ℕ) → TellApart k os
@@ -65,22 +66,22 @@ module _ (server : Endpoint) (sizes : Sizes) (word : ℕ) where
         by true e true g = refl
         by false e false g = refl
         by true e false g =
-            let one = one_found k os o p (once_there server sizes word t law k) found there
+            let one = one_found k os o p (once_there server sizes setup t law k) found there
             (same_number p.number k e) in
             let yes : same_token o.token p.token ≡ true = ap (λ (x : Observation). same_token o.token x.token) one
             ∙ same_token_self o.token in
             absurd (cc (yes, g))
         by false e true g =
-            let number = same_number_of server sizes word t law o p f.0 there (same_token_is o.token p.token g) ∙ f.1 in
+            let number = same_number_of server sizes setup t law o p f.0 there (same_token_is o.token p.token g) ∙ f.1 in
             let yes : (p.number == k) ≡ true = ap (λ i. i == k) number ∙ number_self k in
             absurd (cc (yes, e))
 
     -- the exchange that runs has the token of a live observation for its cancel alone
-    pub only_cancel : (at : ℕ) (r : RunsSince server sizes word at t) (o : Observation) → In o os
+    pub only_cancel : (at : ℕ) (r : RunsSince server sizes setup at t) (o : Observation) → In o os
         → r.exchange.token ≡ o.token → (own_of sizes t).running ≡ Some (Cancelling o.number)
     only_cancel at r o there same =
-        let a = registered server sizes word t law o there in
-        elim (one_of_token sizes server word t law a.sending r.sending a.sent
+        let a = registered server sizes setup t law o there in
+        elim (one_of_token sizes server setup t law a.sending r.sending a.sent
         (last_was_sent sizes t r.sending r.last_sent) (a.token_is ∙ (sym same ∙ r.token))) [
           | inl e ↦ registering r.operation r.sent_for
               (ap (λ (x : Sending). x.operation) (sym e) ∙ a.operation) r.operates
@@ -96,7 +97,7 @@ module _ (server : Endpoint) (sizes : Sizes) (word : ℕ) where
         ]
       where
         none : (path : List (List ℕ)) → (own_of sizes t).running ≡ Some (Registering o.number path) → ⊥
-        none path runs = no_registration server sizes word t law o.number o (one_of_number o there) path runs
+        none path runs = no_registration server sizes setup t law o.number o (one_of_number o there) path runs
 
         registering : (op : Operation) → IsSentFor op r.sending → r.sending.operation ≡ Registering o.number o.path
             → (own_of sizes t).running ≡ Some op → (own_of sizes t).running ≡ Some (Cancelling o.number)
@@ -135,19 +136,19 @@ module _ (server : Endpoint) (sizes : Sizes) (word : ℕ) where
         lt-ltb (length (tokens_of os)) max_kept (omega (arith, a, b, d, e, f))
 
   -- the token of what begins is that of no other
-  fresh : (t : List Call) (c : Call) → ClientLaw server sizes word (c ∷ t) → (k : ℕ) (path : List (List ℕ))
+  fresh : (t : List Call) (c : Call) → ClientLaw server sizes setup (c ∷ t) → (k : ℕ) (path : List (List ℕ))
       (m : Message) → hears c ≡ Some m → (own_of sizes t).running ≡ Some (Registering k path)
       → is_kept m.token (tokens_of (own_of sizes t).observations) ≡ false
   fresh t c law k path m heard runs =
-      let past = client_back server sizes word (c ∷ []) t law in
-      let h = (hears_of_open server sizes word (c ∷ t) law).0 m heard in
+      let past = client_back server sizes setup (c ∷ []) t law in
+      let h = (hears_of_open server sizes setup (c ∷ t) law).0 m heard in
       not_kept m.token (own_of sizes t).observations (λ p there same.
       (let z : Some (Registering k path) ≡ Some (Cancelling p.number) = sym runs
       ∙ only_cancel t past h.since h.runs p there (sym h.token ∙ same) in
       cc z))
 
   abbrev Kept : List Call → Type 0
-  Kept t = (beneath server sizes word t).kept ≡ tokens_of (own_of sizes t).observations
+  Kept t = (beneath server sizes setup t).kept ≡ tokens_of (own_of sizes t).observations
 
   -- an input, and what is asked behind it
   module _ (t : List Call) (now w : ℕ) (sent : L.Answer) (token : Result (List ℕ) AskRefusal) (was : Bool)
@@ -168,27 +169,27 @@ module _ (server : Endpoint) (sizes : Sizes) (word : ℕ) where
     first = deeds e.deed e.own m w sent token was
 
     abbrev taken : E.Own
-    taken = P.after (beneath server sizes word t) input
+    taken = P.after (beneath server sizes setup t) input
 
-    ran_kept : (X.own_of server word (done_for e m w sent token was input ++ lower_of sizes t)).kept
+    ran_kept : (X.own_of server setup (done_for e m w sent token was input ++ lower_of sizes t)).kept
         ≡ kept_by closed_so.deed (kept_by e.deed taken.kept)
     ran_kept =
-        ap (λ (y : E.Own). y.kept) (own_ran server word (later ++ (first ++ input ∷ [])) (lower_of sizes t)
-        ∙ (done_ran (beneath server sizes word t) later first input ∙ ran_append taken later first))
+        ap (λ (y : E.Own). y.kept) (own_ran server setup (later ++ (first ++ input ∷ [])) (lower_of sizes t)
+        ∙ (done_ran (beneath server sizes setup t) later first input ∙ ran_append taken later first))
         ∙ (deeds_kept m w sent token was closed_so.deed closed_so.own (ran taken first)
         ∙ ap (kept_by closed_so.deed) (deeds_kept m w sent token was e.deed e.own taken))
 
-    stepped : ClientLaw server sizes word t → Moved s m told e
+    stepped : ClientLaw server sizes setup t → Moved s m told e
         → ((x : E.Own) → (P.after x input).kept ≡ x.kept)
         → ((k : ℕ) (path : List (List ℕ)) (a : Message) → Hears told a
         → (own_of sizes t).running ≡ Some (Registering k path)
         → is_kept a.token (tokens_of (own_of sizes t).observations) ≡ false)
-        → Kept t → (X.own_of server word (done_for e m w sent token was input ++ lower_of sizes t)).kept
+        → Kept t → (X.own_of server setup (done_for e m w sent token was input ++ lower_of sizes t)).kept
         ≡ tokens_of closed_so.own.observations
     stepped law mo same new ih =
         let keeps : Keeping s e = subst (Keeping s) (sym mo.1)
         (moves_keep s m told new (room t law) (tell_apart t law) mo.0) in
-        ran_kept ∙ (ap (λ l. kept_by closed_so.deed (kept_by e.deed l)) (same (beneath server sizes word t) ∙ ih)
+        ran_kept ∙ (ap (λ l. kept_by closed_so.deed (kept_by e.deed l)) (same (beneath server sizes setup t) ∙ ih)
         ∙ (ap (kept_by closed_so.deed) (sym keeps) ∙ sym (closed_keeps m e token tell)))
       where
         tell : (k : ℕ) → e.deed ≡ Asks (Cancelling k) → TellApart k e.own.observations
@@ -200,31 +201,31 @@ module _ (server : Endpoint) (sizes : Sizes) (word : ℕ) where
               | inr f ↦ (let z : Cancelling k ≡ Fetching f.0 = f.1 in absurd (cc z))
             ]
 
-  kept_is : (t : List Call) → ClientLaw server sizes word t → Kept t
+  kept_is : (t : List Call) → ClientLaw server sizes setup t → Kept t
   kept_is [] law = refl
-  kept_is (Calls now r (Ok n) ∷ t) law = kept_is t (client_back server sizes word (Calls now r (Ok n) ∷ []) t law)
-  kept_is (Calls now r (Err why) ∷ t) law = kept_is t (client_back server sizes word (Calls now r (Err why) ∷ []) t law)
+  kept_is (Calls now r (Ok n) ∷ t) law = kept_is t (client_back server sizes setup (Calls now r (Ok n) ∷ []) t law)
+  kept_is (Calls now r (Err why) ∷ t) law = kept_is t (client_back server sizes setup (Calls now r (Err why) ∷ []) t law)
   kept_is (Observes now path (Ok n) ∷ t) law =
-      kept_is t (client_back server sizes word (Observes now path (Ok n) ∷ []) t law)
+      kept_is t (client_back server sizes setup (Observes now path (Ok n) ∷ []) t law)
   kept_is (Observes now path (Err why) ∷ t) law =
-      kept_is t (client_back server sizes word (Observes now path (Err why) ∷ []) t law)
-  kept_is (Cancels now k None ∷ t) law = kept_is t (client_back server sizes word (Cancels now k None ∷ []) t law)
+      kept_is t (client_back server sizes setup (Observes now path (Err why) ∷ []) t law)
+  kept_is (Cancels now k None ∷ t) law = kept_is t (client_back server sizes setup (Cancels now k None ∷ []) t law)
   kept_is (Cancels now k (Some why) ∷ t) law =
-      kept_is t (client_back server sizes word (Cancels now k (Some why) ∷ []) t law)
+      kept_is t (client_back server sizes setup (Cancels now k (Some why) ∷ []) t law)
   kept_is (Forgets k was true ∷ t) law =
-      let past = client_back server sizes word (Forgets k was true ∷ []) t law in
+      let past = client_back server sizes setup (Forgets k was true ∷ []) t law in
       let s : Own = own_of sizes t in
       let d = releases (observation_of k s.observations) in
-      ap (λ (y : E.Own). y.kept) (own_ran server word (deeds d s 0 0 L.Nothing (Ok []) was) (lower_of sizes t))
-      ∙ (deeds_kept 0 0 L.Nothing (Ok []) was d s (beneath server sizes word t)
+      ap (λ (y : E.Own). y.kept) (own_ran server setup (deeds d s 0 0 L.Nothing (Ok []) was) (lower_of sizes t))
+      ∙ (deeds_kept 0 0 L.Nothing (Ok []) was d s (beneath server sizes setup t)
       ∙ (ap (kept_by d) (kept_is t past) ∙ sym (over_keeps k (Ended 0) s (tell_apart t past k))))
-  kept_is (Forgets k was false ∷ t) law = kept_is t (client_back server sizes word (Forgets k was false ∷ []) t law)
-  kept_is (NextOut answer ∷ t) law = kept_is t (client_back server sizes word (NextOut answer ∷ []) t law)
-  kept_is (NextReport answer ∷ t) law = kept_is t (client_back server sizes word (NextReport answer ∷ []) t law)
-  kept_is (Asked answer ∷ t) law = kept_is t (client_back server sizes word (Asked answer ∷ []) t law)
+  kept_is (Forgets k was false ∷ t) law = kept_is t (client_back server sizes setup (Forgets k was false ∷ []) t law)
+  kept_is (NextOut answer ∷ t) law = kept_is t (client_back server sizes setup (NextOut answer ∷ []) t law)
+  kept_is (NextReport answer ∷ t) law = kept_is t (client_back server sizes setup (NextReport answer ∷ []) t law)
+  kept_is (Asked answer ∷ t) law = kept_is t (client_back server sizes setup (Asked answer ∷ []) t law)
   kept_is (Feeds now from bytes w up settled event sent token was ∷ t) law =
       let c : Call = Feeds now from bytes w up settled event sent token was in
-      let past = client_back server sizes word (c ∷ []) t law in
+      let past = client_back server sizes setup (c ∷ []) t law in
       let m : ℕ = max (own_of sizes t).clock now in
       stepped t now w sent token was event (happened (at now (own_of sizes t)) m event)
       (E.Receive m from bytes up settled event) past (happened_moves (at now (own_of sizes t)) m event) (λ x. refl)
@@ -232,7 +233,7 @@ module _ (server : Endpoint) (sizes : Sizes) (word : ℕ) where
       (ap (λ e. hears (Feeds now from bytes w up settled e sent token was)) h) runs) (kept_is t past)
   kept_is (Ticks now w below turn sent token was answer ∷ t) law =
       let c : Call = Ticks now w below turn sent token was answer in
-      let past = client_back server sizes word (c ∷ []) t law in
+      let past = client_back server sizes setup (c ∷ []) t law in
       let m : ℕ = max (own_of sizes t).clock now in
       stepped t now w sent token was None (passes (at now (own_of sizes t)) m turn) (E.Ticks m below turn) past
       (passes_moves (at now (own_of sizes t)) m turn) (λ x. refl) (λ k path a h runs. absurd (cc h)) (kept_is t past)
@@ -250,7 +251,7 @@ module _ (server : Endpoint) (sizes : Sizes) (word : ℕ) where
       or_true true = refl
       or_true false = refl
 
-  pub tokens_are_kept : (t : List Call) → ClientLaw server sizes word t → TokensAreKept sizes server word t
+  pub tokens_are_kept : (t : List Call) → ClientLaw server sizes setup t → TokensAreKept sizes server setup t
   tokens_are_kept t law number path token l =
       let f = found_in number (own_of sizes t).observations l.observation l.found in
       ap (is_kept token) (kept_is t law)

@@ -5,6 +5,7 @@ use Rattle.std.specs.Prelude.{◌==◌, is_some}
 use Rattle.coap_types.specs.declared.endpoint.Endpoint.{Endpoint}
 use Rattle.coap_types.specs.declared.option_number.TheConstants.{OBSERVE as observe}
 use Rattle.coap_types.specs.OptionValues.{value_of}
+use Rattle.coap_layer.specs.declared.setup.Setup.{Setup}
 use Rattle.coap_codec.specs.Message.{Message}
 use Rattle.coap_block.specs.Sizes.{Sizes}
 use Rattle.coap_block.specs.declared.fetch_verdict.Verdict.{Verdict}
@@ -20,7 +21,7 @@ use Rattle.coap_observe.specs.Newer.{is_newer}
 use Rattle.coap_client.specs.Trace.{Report, Value, NoIds, Reported, Call, Calls, Observes, Cancels}
 use Rattle.coap_client.specs.Trace.{Forgets, Feeds, Ticks, NextOut, NextReport, Asked}
 use Rattle.coap_client.specs.Trace as reported
-use Rattle.coap_client.specs.Own.{Operation, Calling, Registering, Fetching, Cancelling, Dropped}
+use Rattle.coap_client.specs.Own.{Operation, Fetching}
 use Rattle.coap_client.specs.Own.{Notified, Observation, Own}
 use Rattle.coap_client.specs.Observations.{observation_of, rest_of}
 use Rattle.coap_client.specs.Responses.{content, said, is_notification, sequence_in, tag_in, format_in}
@@ -81,10 +82,7 @@ found_rest k (o ∷ os) n h = by (o.number == k) refl h (found_rest k os n)
 
 fetch_in : (op : Operation) (k : ℕ) → runs_fetch k (Some op) ≡ true → op ≡ Fetching k
 fetch_in (Fetching n) k h = ap (λ j. Fetching j) (same_number n k h)
-fetch_in (Calling n r tr) k h = absurd (cc h)
-fetch_in (Registering n path) k h = absurd (cc h)
-fetch_in (Cancelling n) k h = absurd (cc h)
-fetch_in Dropped k h = absurd (cc h)
+fetch_in _ k h = absurd (cc h)
 
 -- which part gives a value
 
@@ -100,9 +98,6 @@ record ValueAs (j sequence : ℕ) (f : FetchState) (m : Message) (v : Verdict) (
 value_as : (j sequence : ℕ) (f : FetchState) (m : Message) (v : Verdict) (k number : ℕ) (tag : Option (List ℕ))
     (format : Option ℕ) (body : List ℕ) → value j sequence f m v ≡ of k (Value number tag format body)
     → ValueAs j sequence f m v k number tag format body
-value_as j sequence f m verdict.Again k number tag format body h = absurd (cc h)
-value_as j sequence f m (verdict.Refuse why) k number tag format body h = absurd (cc h)
-value_as j sequence f m (verdict.Ask num size) k number tag format body h = absurd (cc h)
 value_as j sequence f m verdict.Done k number tag format body h =
     let same : ◌≡◌ {A = Reported} (record {
       number = j;
@@ -119,6 +114,7 @@ value_as j sequence f m verdict.Done k number tag format body h =
       format_is = cc shown;
       body_is = cc shown;
     }
+value_as j sequence f m _ k number tag format body h = absurd (cc h)
 
 -- what a report says that shows a value
 pub value_in : (o : Option Reported) (k : ℕ) → value_reported o ≡ Some k
@@ -190,18 +186,12 @@ module _ (s : Own) (now : ℕ) (told : Option Event) (k number : ℕ) (tag : Opt
       })
 
   move_gives : (mo : Move s now told) → Given (left_by s now told mo).report
-  move_gives (mv.rests un) h = silent_gives None refl h
-  move_gives (mv.copies q) h = silent_gives None refl h
-  move_gives (mv.starts_next op queue none rest first q) h = silent_gives None refl h
-  move_gives (mv.fetches j none rest q) h = silent_gives None refl h
-  move_gives (mv.goes_on j r tr next a hears_it runs asks) h = silent_gives None refl h
   move_gives (mv.is_done j r tr final rep a hears_it runs ends_so) h =
       silent_gives (of j rep) (last_value j rep (subst LastOnly ends_so (answer_last r tr a))) h
   move_gives (mv.registers j path a hears_it runs note) h =
       first_gives j a (ap (taken_by s now) hears_it
       ∙ (ap (λ r. registers r now a) runs ∙ ap (λ b. cond b (newly j now a) None) note)) h
   move_gives (mv.refuses j path a hears_it runs note) h = silent_gives (of j (reported.Ended a.code)) refl h
-  move_gives (mv.fetches_on j n a num size hears_it runs rest code asks) h = silent_gives None refl h
   move_gives (mv.fetched j n a hears_it runs rest code done) h =
       let v = value_as j n.sequence n.fetch a verdict.Done k number tag format body h in
       by_fetch n a hears_it (runs ∙ ap (λ i. Some (Fetching i)) v.number_is)
@@ -214,10 +204,7 @@ module _ (s : Own) (now : ℕ) (told : Option Event) (k number : ℕ) (tag : Opt
         format_is = v.format_is;
         body_is = v.body_is;
       })
-  move_gives (mv.gives_up j a hears_it runs) h = silent_gives None refl h
-  move_gives (mv.fetched_none j a hears_it runs) h = silent_gives None refl h
   move_gives (mv.cancels j a hears_it runs) h = silent_gives (of j reported.Cancelled) refl h
-  move_gives (mv.is_dropped a hears_it runs) h = silent_gives None refl h
   move_gives (mv.fails e un) h = silent_gives (failed (λ t. true) (lapse e) s s.running).report
       (failed_value (λ t. true) (lapse e) s s.running (lapse_last e)) h
   move_gives (mv.is_ended o a notes found note) h = silent_gives (of o.number (reported.Ended a.code)) refl h
@@ -226,7 +213,7 @@ module _ (s : Own) (now : ℕ) (told : Option Event) (k number : ℕ) (tag : Opt
       (ap (taken_by s now) notes ∙ (ap (λ z. renews z now a) found
       ∙ (ap (λ b. cond b (cond (is_newer o.watch.mark (sequence_in a) now) (newly o.number now a) None) None) note
       ∙ ap (λ b. cond b (newly o.number now a) None) newer))) h
-  move_gives (mv.passes_by o a notes found note newer) h = silent_gives None refl h
+  move_gives _ h = silent_gives None refl h
 
   closed_gives : (e : Effect) (token : Result (List ℕ) AskRefusal) → Given e.report → Closing now e token
       → Given (closed now e e.deed token).report
@@ -343,8 +330,8 @@ module _ (sizes : Sizes) where
     token = a.token;
   }
 
-  module _ (server : Endpoint) (word : ℕ) where
-    fetched_here : (t : List Call) (c : Call) → ClientLaw server sizes word (c ∷ t) → (x : Observation)
+  module _ (server : Endpoint) (setup : Setup) where
+    fetched_here : (t : List Call) (c : Call) → ClientLaw server sizes setup (c ∷ t) → (x : Observation)
         → SourceOf sizes t c x → ((o : Observation) → In o (own_of sizes t).observations → (r : Notified)
         → o.rest ≡ Some r
         → Fetched t o.number r) → (r : Notified) → x.rest ≡ Some r → Fetched (c ∷ t) x.number r
@@ -361,22 +348,22 @@ module _ (sizes : Sizes) where
           fetch = F.after n.fetch (tag_in m) m.payload (verdict.Ask num size);
         } in
         let same_rest : new ≡ r = (let z : Some new ≡ Some r = sym left ∙ e in cc z) in
-        let heard = heard_to_fetch t c m x.number ((answers_last sizes server word (c ∷ t) law).0 m is) runs is in
+        let heard = heard_to_fetch t c m x.number ((answers_last sizes server setup (c ∷ t) law).0 m is) runs is in
         subst (Fetched (c ∷ t) x.number) same_rest
         (fetched_more t c x.number n m num size apart none heard code asks before)
     fetched_here t c law x (comes n is number mark rest) ih r e =
         let k = rest r e in
-        let taken = (are_taken server sizes word (c ∷ t) law).0 n is in
+        let taken = (are_taken server sizes setup (c ∷ t) law).0 n is in
         fetched_first t c x.number n r is number (notification_code n.message taken.notification)
         (ap (λ z. first_rest z n.message) (sym (size_is sizes t)) ∙ k.0) k.1
 
-    pub fetched : (t : List Call) → ClientLaw server sizes word t → (x : Observation)
+    pub fetched : (t : List Call) → ClientLaw server sizes setup t → (x : Observation)
         → In x (own_of sizes t).observations
         → (r : Notified) → x.rest ≡ Some r → Fetched t x.number r
     fetched [] law x there r e = absurd there
     fetched (c ∷ t) law x there r e =
-        let past = client_back server sizes word (c ∷ []) t law in
-        fetched_here t c law x (source sizes t c (most server sizes word t past) x there) (fetched t past) r e
+        let past = client_back server sizes setup (c ∷ []) t law in
+        fetched_here t c law x (source sizes t c (most server sizes setup t past) x there) (fetched t past) r e
 
     -- a value, and that it is the first of its notification
     record Shown (number sequence : ℕ) (tag : Option (List ℕ)) (format : Option ℕ) (body : List ℕ) (t : List Call)
@@ -386,7 +373,7 @@ module _ (sizes : Sizes) where
           ⊎ ((is_newly_of number (notifies (own_of sizes t) c) ≡ false) × NoneShown number t
           × ((own_of sizes t).running ≡ Some (Fetching number)))
 
-    shown_by : (t : List Call) (c : Call) → ClientLaw server sizes word (c ∷ t)
+    shown_by : (t : List Call) (c : Call) → ClientLaw server sizes setup (c ∷ t)
         → (z : Turned sizes t c) (k number : ℕ) (tag : Option (List ℕ)) (format : Option ℕ) (body : List ℕ)
         → Gives (at z.now (own_of sizes t)) (max (own_of sizes t).clock z.now) z.told k number tag format body
         → Shown k number tag format body t c
@@ -395,7 +382,7 @@ module _ (sizes : Sizes) where
         let n : Newly = newly_as k now m in
         let own : Sizes = (own_of sizes t).sizes in
         let came : notifies (own_of sizes t) c ≡ Some n = z.notifies_is ∙ is in
-        let taken = (are_taken server sizes word (c ∷ t) law).0 n came in
+        let taken = (are_taken server sizes setup (c ∷ t) law).0 n came in
         let d = part_done [] (F.start own 0) m (gathered_none own 0) v.done_so in
         record {
           observed = record {
@@ -416,7 +403,7 @@ module _ (sizes : Sizes) where
           first = inl (came_not t c k n came refl);
         }
     shown_by t c law z k number tag format body (by_fetch n m hears_it runs rest code done v) =
-        let past = client_back server sizes word (c ∷ []) t law in
+        let past = client_back server sizes setup (c ∷ []) t law in
         let p = found_rest k (own_of sizes t).observations n rest in
         let h : Fetched t k n = subst (λ i. Fetched t i n) p.2 (fetched t past p.0 p.1 n p.3) in
         let heard : hears c ≡ Some m = z.hears_is ∙ ap heard_in hears_it in
@@ -434,7 +421,7 @@ module _ (sizes : Sizes) where
             code = code;
             parts = h.part ∷ h.rest;
             comes = inr (record {
-              heard = heard_to_fetch t c m k ((answers_last sizes server word (c ∷ t) law).0 m heard) runs heard;
+              heard = heard_to_fetch t c m k ((answers_last sizes server setup (c ∷ t) law).0 m heard) runs heard;
               part = h.part;
               begins = h.begins;
               rest = h.rest;
@@ -451,7 +438,7 @@ module _ (sizes : Sizes) where
           first = inr (apart, h.none, runs);
         }
 
-    shown_turned : (t : List Call) (c : Call) → ClientLaw server sizes word (c ∷ t) → Turned sizes t c
+    shown_turned : (t : List Call) (c : Call) → ClientLaw server sizes setup (c ∷ t) → Turned sizes t c
         → (k number : ℕ) (tag : Option (List ℕ)) (format : Option ℕ) (body : List ℕ)
         → reports (own_of sizes t) c ≡ of k (Value number tag format body)
         → Shown k number tag format body t c
@@ -463,7 +450,7 @@ module _ (sizes : Sizes) where
         (closed_gives s now z.told k number tag format body e z.token
         (move_gives s now z.told k number tag format body z.move) z.closes (sym z.reports_is ∙ made))
 
-    shown : (t : List Call) (c : Call) → ClientLaw server sizes word (c ∷ t)
+    shown : (t : List Call) (c : Call) → ClientLaw server sizes setup (c ∷ t)
         → (k number : ℕ) (tag : Option (List ℕ)) (format : Option ℕ) (body : List ℕ)
         → reports (own_of sizes t) c ≡ of k (Value number tag format body) → Shown k number tag format body t c
     shown t (Feeds now from bytes w up settled event sent token was) law k number tag format body made =
@@ -472,29 +459,23 @@ module _ (sizes : Sizes) where
     shown t (Ticks now w below turn sent token was answer) law k number tag format body made =
         shown_turned t (Ticks now w below turn sent token was answer) law
         (ticked_turned sizes t now w below turn sent token was answer) k number tag format body made
-    shown t (Calls now r answer) law k number tag format body made = absurd (cc made)
-    shown t (Observes now path answer) law k number tag format body made = absurd (cc made)
-    shown t (Cancels now n answer) law k number tag format body made = absurd (cc made)
-    shown t (Forgets n was answer) law k number tag format body made = absurd (cc made)
-    shown t (NextOut answer) law k number tag format body made = absurd (cc made)
-    shown t (NextReport answer) law k number tag format body made = absurd (cc made)
-    shown t (Asked answer) law k number tag format body made = absurd (cc made)
+    shown t _ law k number tag format body made = absurd (cc made)
 
-    values_here : (t : List Call) (c : Call) → ClientLaw server sizes word (c ∷ t)
+    values_here : (t : List Call) (c : Call) → ClientLaw server sizes setup (c ∷ t)
         → (k number : ℕ) (tag : Option (List ℕ)) (format : Option ℕ) (body : List ℕ)
         → reports (own_of sizes t) c ≡ of k (Value number tag format body)
         → IsObserved sizes k number tag format body t c
     values_here t c law k number tag format body made = (shown t c law k number tag format body made).observed
 
-    pub values_are_whole : (t : List Call) → ClientLaw server sizes word t → ValuesAreWhole sizes t
+    pub values_are_whole : (t : List Call) → ClientLaw server sizes setup t → ValuesAreWhole sizes t
     values_are_whole [] law = tt
     values_are_whole (c ∷ t) law = (
       values_here t c law,
-      values_are_whole t (client_back server sizes word (c ∷ []) t law),
+      values_are_whole t (client_back server sizes setup (c ∷ []) t law),
     )
 
     -- it is the first of its notification, which comes now or is being fetched
-    pub shows_first : (t : List Call) (c : Call) → ClientLaw server sizes word (c ∷ t) → (k : ℕ)
+    pub shows_first : (t : List Call) (c : Call) → ClientLaw server sizes setup (c ∷ t) → (k : ℕ)
         → ShowsValue sizes k t c
         → (is_newly_of k (notifies (own_of sizes t) c) ≡ true)
         ⊎ ((is_newly_of k (notifies (own_of sizes t) c) ≡ false) × NoneShown k t

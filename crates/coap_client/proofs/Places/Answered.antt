@@ -48,6 +48,7 @@ use Rattle.coap_client.proofs.Places.PlaceEvents.{answer_last, LastOnly, lapse_l
 use Rattle.coap_client.proofs.Places.Once.{law_back, known}
 use Rattle.coap_client.proofs.Uploading.Holds.{goes_fed, goes_ticked}
 use Rattle.coap_layer.specs.Trace as L
+use Rattle.coap_layer.specs.declared.setup.Setup.{Setup}
 use Rattle.coap_client.specs.Steps.{IsRight}
 use Rattle.coap_client.proofs.Rest.Resting.{rested, are_resting}
 
@@ -85,16 +86,12 @@ calls_uncancelled n k (Cancelling j ∷ ops) = by (calls_uncancelled n k ops) (j
     by ih false = omega (arith, ih)
 
 call_dropped : (n k : ℕ) (running : Option Operation) → call_in n (dropped k running) ≡ call_in n running
-call_dropped n k None = refl
-call_dropped n k (Some (Calling j r t)) = refl
-call_dropped n k (Some (Registering j path)) = refl
-call_dropped n k (Some (Cancelling j)) = refl
-call_dropped n k (Some Dropped) = refl
 call_dropped n k (Some (Fetching j)) = by (j == k)
   where
     by : (b : Bool) → call_in n (cond b (Some Dropped) (Some (Fetching j))) ≡ 0
     by true = refl
     by false = refl
+call_dropped n k _ = refl
 
 same_retains : (s : Own) (e : Effect) → e.own.running ≡ s.running → e.own.queue ≡ s.queue → Retains s e
 same_retains s e r q = record {
@@ -177,10 +174,8 @@ failed_retains : (s : Own) (u : Transfer → Bool) (report : Report) → is_valu
     → (running : Option Operation) → s.running ≡ running → Retains s (failed u report s running)
 failed_retains s u report last None is = same_retains s _ refl refl
 failed_retains s u report last (Some (Calling k r t)) is = ends_retains s k r t is (u t && is_upload t) report last
-failed_retains s u report last (Some (Registering k path)) is = aside_retains s _ (none_of s _ is (λ n. refl)) refl
-failed_retains s u report last (Some (Fetching k)) is = aside_retains s _ (none_of s _ is (λ n. refl)) refl
 failed_retains s u report last (Some (Cancelling k)) is = cancel_retains s k report (none_of s _ is (λ n. refl))
-failed_retains s u report last (Some Dropped) is = aside_retains s _ (none_of s _ is (λ n. refl)) refl
+failed_retains s u report last _ is = aside_retains s _ (none_of s _ is (λ n. refl)) refl
 
 noticed_retains : (s : Own) (now : ℕ) (m : Message) (o : Option Observation) → Retains s (noticed_by o s now m)
 noticed_retains s now m None = same_retains s _ refl refl
@@ -241,7 +236,7 @@ calls_append : (n : ℕ) (xs ys : List Operation) → calls_in n (xs ++ ys) ≡ 
 calls_append n [] ys = omega arith
 calls_append n (x ∷ xs) ys = let ih = calls_append n xs ys in omega (arith, ih)
 
-module _ (server : Endpoint) (sizes : Sizes) (word : ℕ) where
+module _ (server : Endpoint) (sizes : Sizes) (setup : Setup) where
   abbrev finals : ℕ → List Call → ℕ
   finals n [] = 0
   finals n (c ∷ past) = final_of n (reports (own_of sizes past) c) + finals n past
@@ -249,13 +244,13 @@ module _ (server : Endpoint) (sizes : Sizes) (word : ℕ) where
   abbrev Kept : ℕ → List Call → Type 0
   Kept n t = 1 ≤ (call_in n (own_of sizes t).running + calls_in n (own_of sizes t).queue) + finals n t
 
-  has_report : (n : ℕ) (t : List Call) → 1 ≤ finals n t → HasReport server sizes word n t
+  has_report : (n : ℕ) (t : List Call) → 1 ≤ finals n t → HasReport server sizes setup n t
   has_report n [] h = absurd (omega (arith, h))
   has_report n (c ∷ t) h = by (reports (own_of sizes t) c) refl (has_report n t)
     where
       hits_it : (x : Reported) → reports (own_of sizes t) c ≡ Some x → (v : Bool) → is_value x.report ≡ v → (b : Bool)
-          → (x.number == n) ≡ b → (1 ≤ finals n t → HasReport server sizes word n t)
-          → HasReport server sizes word n (c ∷ t)
+          → (x.number == n) ≡ b → (1 ≤ finals n t → HasReport server sizes setup n t)
+          → HasReport server sizes setup n (c ∷ t)
       hits_it x is false last true e f = inl (x, same_number x.number n e, record { made = is; final = last })
       hits_it x is true last b e f =
           let a = ap (final_of n) is in
@@ -267,8 +262,8 @@ module _ (server : Endpoint) (sizes : Sizes) (word : ℕ) where
           let g = hits x.number n false e in
           inr (f (omega (arith, h, a, d, g)))
 
-      by : (o : Option Reported) → reports (own_of sizes t) c ≡ o → (1 ≤ finals n t → HasReport server sizes word n t)
-          → HasReport server sizes word n (c ∷ t)
+      by : (o : Option Reported) → reports (own_of sizes t) c ≡ o → (1 ≤ finals n t → HasReport server sizes setup n t)
+          → HasReport server sizes setup n (c ∷ t)
       by None is f = let a = ap (final_of n) is in inr (f (omega (arith, h, a)))
       by (Some x) is f = hits_it x is (is_value x.report) refl (x.number == n) refl f
 
@@ -280,7 +275,7 @@ module _ (server : Endpoint) (sizes : Sizes) (word : ℕ) where
       ap (final_of n) none in omega (arith, a, b, h, queue)
 
   kept_on : (n : ℕ) (t : List Call) (c : Call) → ClientRows sizes (c ∷ t)
-      → X.AskerLaw server word (lower_of sizes (c ∷ t))
+      → X.AskerLaw server setup (lower_of sizes (c ∷ t))
       → Kept n t → Kept n (c ∷ t)
   kept_on n t (Calls now r (Ok k)) rows law h =
       plain_kept n t (Calls now r (Ok k)) refl (let a =
@@ -304,31 +299,31 @@ module _ (server : Endpoint) (sizes : Sizes) (word : ℕ) where
   kept_on n t (Asked answer) rows law h = plain_kept n t (Asked answer) refl (omega arith) refl h
   kept_on n t (Feeds now from bytes w up settled event sent token kept) rows law h =
       let c : Call = Feeds now from bytes w up settled event sent token kept in
-      let k = known server sizes word t rows.1 (law_back server word (lower (own_of sizes t) c)
+      let k = known server sizes setup t rows.1 (law_back server setup (lower (own_of sizes t) c)
       (lower_of sizes t) law) in
       let m : ℕ = max (own_of sizes t).clock now in
       let e : Effect = happened (at now (own_of sizes t)) m event in
-      let g = goes_fed server sizes word t now from bytes w up settled event sent token kept k law in
+      let g = goes_fed server sizes setup t now from bytes w up settled event sent token kept k law in
       let a = (closed_retains (at now (own_of sizes t)) m e token g.asks
       (happened_retains (at now (own_of sizes t)) m event) e.deed refl).per n in
       omega (arith, a, h)
   kept_on n t (Ticks now w below turn sent token kept answer) rows law h =
       let c : Call = Ticks now w below turn sent token kept answer in
-      let k = known server sizes word t rows.1 (law_back server word (lower (own_of sizes t) c)
+      let k = known server sizes setup t rows.1 (law_back server setup (lower (own_of sizes t) c)
       (lower_of sizes t) law) in
       let m : ℕ = max (own_of sizes t).clock now in
       let e : Effect = passes (at now (own_of sizes t)) m turn in
-      let g = goes_ticked server sizes word t now turn k in
+      let g = goes_ticked server sizes setup t now turn k in
       let a = (closed_retains (at now (own_of sizes t)) m e token g.asks
       (passes_retains (at now (own_of sizes t)) m turn) e.deed refl).per n in
       omega (arith, a, h)
 
-  taken_kept : (x : Taken) (t : List Call) → ClientRows sizes t → X.AskerLaw server word (lower_of sizes t)
+  taken_kept : (x : Taken) (t : List Call) → ClientRows sizes t → X.AskerLaw server setup (lower_of sizes t)
       → WasTaken x t
       → Kept x.number t
   taken_kept x [] rows law h = absurd h
   taken_kept x (c ∷ t) rows law (inr h) = kept_on x.number t c rows law
-      (taken_kept x t rows.1 (law_back server word (lower (own_of sizes t) c) (lower_of sizes t) law) h)
+      (taken_kept x t rows.1 (law_back server setup (lower (own_of sizes t) c) (lower_of sizes t) law) h)
   taken_kept x (Calls now r (Ok k) ∷ t) rows law (inl h) =
       let same : ◌≡◌ {A = Taken} (record { number = k; request = r }) x = cc h in
       let a = calls_append x.number (own_of sizes t).queue (calling (own_of sizes t).sizes k r ∷ []) in
@@ -351,13 +346,13 @@ module _ (server : Endpoint) (sizes : Sizes) (word : ℕ) where
       → reports (own_of sizes t) (Ticks now w below turn sent token kept false) ≡ None
   quiet_tick t now w below turn sent token kept right =
       ap (λ e. (close (max (own_of sizes t).clock now) e token).report)
-      (rested server sizes word t now w below turn sent token kept right).effect_is
+      (rested server sizes setup t now w below turn sent token kept right).effect_is
 
   answered_here : (t : List Call) (c : Call) → ClientRows sizes (c ∷ t)
-      → X.AskerLaw server word (lower_of sizes (c ∷ t))
-      → reports (own_of sizes t) c ≡ None → WaitsFor server sizes word t c
-      ⊎ IsEmpty server sizes word (own_of sizes (c ∷ t))
-      → (x : Taken) → WasTaken x t → (HasReport server sizes word x.number t → ⊥) → WaitsFor server sizes word t c
+      → X.AskerLaw server setup (lower_of sizes (c ∷ t))
+      → reports (own_of sizes t) c ≡ None → WaitsFor server sizes setup t c
+      ⊎ IsEmpty server sizes setup (own_of sizes (c ∷ t))
+      → (x : Taken) → WasTaken x t → (HasReport server sizes setup x.number t → ⊥) → WaitsFor server sizes setup t c
   answered_here t c rows law none (inl waits) x taken unreported = waits
   answered_here t c rows law none (inr empty) x taken unreported =
       let k : Kept x.number (c ∷ t) = taken_kept x (c ∷ t) rows law (inr taken) in
@@ -367,22 +362,22 @@ module _ (server : Endpoint) (sizes : Sizes) (word : ℕ) where
       let there : 1 ≤ finals x.number t = omega (arith, k, a, b, d) in
       absurd (unreported (has_report x.number t there))
 
-  pub are_answered : (t : List Call) → ClientLaw server sizes word t → AreAnswered server sizes word t
-  are_answered t law = all t law.rows law.exchanges.rows (are_resting server sizes word t law)
+  pub are_answered : (t : List Call) → ClientLaw server sizes setup t → AreAnswered server sizes setup t
+  are_answered t law = all t law.rows law.exchanges.rows (are_resting server sizes setup t law)
     where
-      none_of_tick : (t : List Call) (c : Call) → IsRight (own_of sizes t) c → IsIdleTick server sizes word c
+      none_of_tick : (t : List Call) (c : Call) → IsRight (own_of sizes t) c → IsIdleTick server sizes setup c
           → reports (own_of sizes t) c ≡ None
       none_of_tick t c right i =
           subst (λ d. IsRight (own_of sizes t) d → reports (own_of sizes t) d ≡ None) (sym i.7)
           (λ r. quiet_tick t i.0 i.1 i.2 i.3 i.4 i.5 i.6 r) right
 
-      all : (t : List Call) → ClientRows sizes t → X.AskerLaw server word (lower_of sizes t)
-          → AreResting server sizes word t
-          → AreAnswered server sizes word t
+      all : (t : List Call) → ClientRows sizes t → X.AskerLaw server setup (lower_of sizes t)
+          → AreResting server sizes setup t
+          → AreAnswered server sizes setup t
       all [] rows law resting = tt
       all (c ∷ t) rows law resting = (
         λ i x taken unreported. answered_here t c rows law (none_of_tick t c rows.0 i)
             (resting.0 i) x taken unreported,
         all t rows.1
-            (law_back server word (lower (own_of sizes t) c) (lower_of sizes t) law) resting.1,
+            (law_back server setup (lower (own_of sizes t) c) (lower_of sizes t) law) resting.1,
       )

@@ -10,8 +10,8 @@ use Rattle.coap_observe.specs.Newer.{arrived}
 use Rattle.coap_client.specs.Trace.{is_value, Report, Ended, Cancelled, NoIds, Reported, Call, Calls}
 use Rattle.coap_client.specs.Trace.{Observes, Cancels, Forgets, Feeds, Ticks, NextOut, NextReport}
 use Rattle.coap_client.specs.Trace.{Asked}
-use Rattle.coap_client.specs.Own.{Transfer, Operation, Calling, Registering, Fetching, Cancelling}
-use Rattle.coap_client.specs.Own.{Dropped, Observation, Own}
+use Rattle.coap_client.specs.Own.{Transfer, Operation, Calling, Fetching, Cancelling}
+use Rattle.coap_client.specs.Own.{Observation, Own}
 use Rattle.coap_client.specs.Observations.{observation_of}
 use Rattle.coap_client.specs.Responses.{sequence_in}
 use Rattle.coap_client.specs.Reports.{lapse}
@@ -66,39 +66,27 @@ EndOrStay s e = (n : ℕ) → 1 ≤ in_observations n s.observations
 module _ (s : Own) where
   failed_ends : (u : Transfer → Bool) (report : Report) → is_value report ≡ false → (running : Option Operation)
       → EndOrStay s (failed u report s running)
-  failed_ends u report last None n h = omega (arith, h)
   failed_ends u report last (Some (Calling k r t)) n h = let a =
       count_held n s (u t && is_upload t) (of k report) in omega (arith, a, h)
-  failed_ends u report last (Some (Registering k path)) n h = omega (arith, h)
   failed_ends u report last (Some (Fetching k)) n h = let a =
       count_changed n k (λ o. record o { rest = None }) s.observations (λ o. refl) in omega (arith, a, h)
   failed_ends u report last (Some (Cancelling k)) n h = let a = count_without n k s.observations h in let b =
       final_hit n k report last in omega (arith, a, b)
-  failed_ends u report last (Some Dropped) n h = omega (arith, h)
+  failed_ends u report last _ n h = omega (arith, h)
 
   failed_asks : (u : Transfer → Bool) (report : Report) (running : Option Operation) (op : Operation)
       → (failed u report s running).deed ≡ Asks op → ⊥
-  failed_asks u report None op h = cc h
-  failed_asks u report (Some (Calling k r t)) op h = cc h
-  failed_asks u report (Some (Registering k path)) op h = cc h
-  failed_asks u report (Some (Fetching k)) op h = cc h
-  failed_asks u report (Some Dropped) op h = cc h
   failed_asks u report (Some (Cancelling k)) op h = releases_none (observation_of k s.observations) op h
+  failed_asks u report _ op h = cc h
 
   moves_end : (now : ℕ) (told : Option Event) (mo : Move s now told)
       → Stay s (left_by s now told mo) ⊎ (((op : Operation) → (left_by s now told mo).deed ≡ Asks op → ⊥)
       × EndOrStay s (left_by s now told mo))
-  moves_end now told (mv.rests un) = inl (λ n h. h)
-  moves_end now told (mv.copies q) = inl (λ n h. h)
-  moves_end now told (mv.starts_next op queue none rest first q) = inl (λ n h. h)
-  moves_end now told (mv.fetches k none rest q) = inl (λ n h. h)
-  moves_end now told (mv.goes_on k r tr next a hears_it runs asks) = inl (λ n h. h)
   moves_end now told (mv.is_done k r tr final rep a hears_it runs ends_so) =
       inl (λ n h. (let e = count_held n s (not final && is_upload tr) (of k rep) in omega (arith, e, h)))
   moves_end now told (mv.registers k path a hears_it runs note) =
       inl (λ n h. (let e = in_observations_append n s.observations (begun k path s.sizes now a ∷ []) in omega
       (arith, e, h)))
-  moves_end now told (mv.refuses k path a hears_it runs note) = inl (λ n h. h)
   moves_end now told (mv.fetches_on k m a num size hears_it runs rest code asks) =
       inl (λ n h. (let e = count_changed n k (λ o. record o
       { rest = rest_left m.sequence m.fetch a (verdict.Ask num size) }) s.observations (λ o. refl) in omega
@@ -109,14 +97,12 @@ module _ (s : Own) where
   moves_end now told (mv.gives_up k a hears_it runs) =
       inl (λ n h. (let e = count_changed n k (λ o. record o { rest = None }) s.observations (λ o. refl) in omega
       (arith, e, h)))
-  moves_end now told (mv.fetched_none k a hears_it runs) = inl (λ n h. h)
   moves_end now told (mv.cancels k a hears_it runs) =
       inr (
         releases_none (observation_of k s.observations),
         λ n h. (let e = count_without n k s.observations h in let b =
             final_hit n k Cancelled refl in omega (arith, e, b)),
       )
-  moves_end now told (mv.is_dropped a hears_it runs) = inl (λ n h. h)
   moves_end now told (mv.fails e un) = inr (
     failed_asks (λ t. true) (lapse e) s.running,
     failed_ends (λ t. true) (lapse e) (lapse_last e) s.running,
@@ -135,6 +121,7 @@ module _ (s : Own) where
       inl (λ n h. (let e = count_changed n o.number
       (λ p. record p { watch = arrived p.watch (sequence_in a) now false }) s.observations (λ p. refl) in omega
       (arith, e, h)))
+  moves_end now told _ = inl (λ n h. h)
 
 closed_ends : (s : Own) (now : ℕ) (e : Effect) (token : Result (List ℕ) AskRefusal)
     → Stay s e ⊎ (((op : Operation) → e.deed ≡ Asks op → ⊥) × EndOrStay s e) → Closing now e token

@@ -5,6 +5,7 @@ use Rattle.std.specs.Prelude.{◌==◌, nat_lt, nat_le, length}
 use Rattle.coap_types.specs.Past.{Ever}
 use Rattle.coap_types.specs.declared.endpoint.Endpoint.{Endpoint}
 use Rattle.coap_types.specs.declared.option_number.TheConstants.{BLOCK2 as block2}
+use Rattle.coap_layer.specs.declared.setup.Setup.{Setup}
 use Rattle.coap_block.specs.Sizes.{Sizes}
 use Rattle.coap_exchange.specs.AskerLaw as X
 use Rattle.coap_client.specs.declared.limits.TheConstants.{MAX_OBSERVATIONS as max_observations}
@@ -20,7 +21,7 @@ use Rattle.coap_client.specs.Law.{ClientRows, own_of, lower_of}
 use Rattle.coap_client.specs.Follows.Numbers.{number_given, NumbersOnce}
 use Rattle.coap_client.proofs.Places.Once.{Known, known, law_back, fed, ticked, given_is}
 
-module _ (server : Endpoint) (sizes : Sizes) (word : ℕ) where
+module _ (server : Endpoint) (sizes : Sizes) (setup : Setup) where
   abbrev taken : List Call → ℕ
   taken t = (own_of sizes t).taken
 
@@ -42,17 +43,9 @@ module _ (server : Endpoint) (sizes : Sizes) (word : ℕ) where
             (s.taken == max_numbers) QueueFull BadPath WatchesFull CallsSpent k s.taken rows.0,
         refl,
       )
-  is_next t (Calls now r (Err why)) rows n h = absurd (cc h)
-  is_next t (Observes now path (Err why)) rows n h = absurd (cc h)
-  is_next t (Cancels now number answer) rows n h = absurd (cc h)
-  is_next t (Forgets number kept answer) rows n h = absurd (cc h)
-  is_next t (Feeds now from bytes w up settled event sent token kept) rows n h = absurd (cc h)
-  is_next t (Ticks now w below turn sent token kept answer) rows n h = absurd (cc h)
-  is_next t (NextOut answer) rows n h = absurd (cc h)
-  is_next t (NextReport answer) rows n h = absurd (cc h)
-  is_next t (Asked answer) rows n h = absurd (cc h)
+  is_next t _ rows n h = absurd (cc h)
 
-  grows : (t : List Call) (c : Call) → Known server sizes word t → X.AskerLaw server word (lower_of sizes (c ∷ t))
+  grows : (t : List Call) (c : Call) → Known server sizes setup t → X.AskerLaw server setup (lower_of sizes (c ∷ t))
       → taken t ≤ taken (c ∷ t)
   grows t (Calls now r (Ok n)) k law = omega arith
   grows t (Calls now r (Err why)) k law = omega arith
@@ -63,27 +56,27 @@ module _ (server : Endpoint) (sizes : Sizes) (word : ℕ) where
   grows t (Forgets number kept true) k law = omega arith
   grows t (Forgets number kept false) k law = omega arith
   grows t (Feeds now from bytes w up settled event sent token kept) k law = let e =
-      (fed server sizes word t now from bytes w up settled event sent token kept k law).taken_is in omega (arith, e)
+      (fed server sizes setup t now from bytes w up settled event sent token kept k law).taken_is in omega (arith, e)
   grows t (Ticks now w below turn sent token kept answer) k law = let e =
-      (ticked server sizes word t now w below turn sent token kept answer k law).taken_is in omega (arith, e)
+      (ticked server sizes setup t now w below turn sent token kept answer k law).taken_is in omega (arith, e)
   grows t (NextOut answer) k law = omega arith
   grows t (NextReport answer) k law = omega arith
   grows t (Asked answer) k law = omega arith
 
-  pub below : (t : List Call) → ClientRows sizes t → X.AskerLaw server word (lower_of sizes t) → (n : ℕ)
+  pub below : (t : List Call) → ClientRows sizes t → X.AskerLaw server setup (lower_of sizes t) → (n : ℕ)
       → Ever (λ b. number_given b ≡ Some n) t → n + 1 ≤ taken t
   below [] rows law n w = absurd w
   below (c ∷ t) rows law n (inl h) = let k = is_next t c rows n h in let a = k.0 in let b = k.1 in omega (arith, a, b)
   below (c ∷ t) rows law n (inr w) =
-      let past = law_back server word (lower (own_of sizes t) c) (lower_of sizes t) law in
+      let past = law_back server setup (lower (own_of sizes t) c) (lower_of sizes t) law in
       let k = below t rows.1 past n w in
-      let g = grows t c (known server sizes word t rows.1 past) law in
+      let g = grows t c (known server sizes setup t rows.1 past) law in
       omega (arith, k, g)
 
-  pub numbers_once : (t : List Call) → ClientRows sizes t → X.AskerLaw server word (lower_of sizes t) → NumbersOnce t
+  pub numbers_once : (t : List Call) → ClientRows sizes t → X.AskerLaw server setup (lower_of sizes t) → NumbersOnce t
   numbers_once [] rows law = tt
   numbers_once (c ∷ t) rows law =
-      let past = law_back server word (lower (own_of sizes t) c) (lower_of sizes t) law in (
+      let past = law_back server setup (lower (own_of sizes t) c) (lower_of sizes t) law in (
         λ n h w. let a = (is_next t c rows n h).0 in let b = below t rows.1 past n w in absurd (omega (arith, a, b)),
         numbers_once t rows.1 past,
       )

@@ -22,6 +22,7 @@ use Rattle.coap_client.specs.declared.refusals.CallRefusal.TheVariants.{CallsSpe
 use Rattle.coap_client.specs.declared.refusals.CancelRefusal.{CancelRefusal}
 use Rattle.coap_client.specs.declared.refusals.CancelRefusal.TheVariants as cancel
 use Rattle.coap_types.specs.declared.option_number.TheConstants.{BLOCK2 as block2}
+use Rattle.coap_layer.specs.declared.setup.Setup.{Setup}
 use Rattle.coap_client.specs.Trace.{Request, Reported, Requested, Ended, Call, Calls, Observes}
 use Rattle.coap_client.specs.Trace.{Cancels}
 use Rattle.coap_client.specs.Trace.{Forgets, Feeds, Ticks, NextOut, NextReport, Asked}
@@ -48,25 +49,26 @@ use Rattle.coap_client.proofs.Places.PlaceEffects.{Waits, AllWait, IfRuns, Sound
 use Rattle.coap_client.proofs.Places.PlaceEvents.{happened_goes, passes_goes, ran, AreRight, ran_append}
 use Rattle.coap_client.proofs.Places.PlaceEvents.{are_right_back, are_right_front, Closes, closes, quiet_deeds}
 use Rattle.coap_client.proofs.Places.PlaceEvents.{linked_of}
+use Rattle.coap_client.proofs.Turning.Moves.{releases_none}
 
 -- of exchanges' calls, those behind others
 
-pub own_ran : (server : Endpoint) (word : ℕ) (cs rest : List E.Call)
-    → X.own_of server word (cs ++ rest) ≡ ran (X.own_of server word rest) cs
-own_ran server word [] rest = refl
-own_ran server word (c ∷ cs) rest = ap (λ y. P.after y c) (own_ran server word cs rest)
+pub own_ran : (server : Endpoint) (setup : Setup) (cs rest : List E.Call)
+    → X.own_of server setup (cs ++ rest) ≡ ran (X.own_of server setup rest) cs
+own_ran server setup [] rest = refl
+own_ran server setup (c ∷ cs) rest = ap (λ y. P.after y c) (own_ran server setup cs rest)
 
-pub law_back : (server : Endpoint) (word : ℕ) (cs rest : List E.Call) → X.AskerLaw server word (cs ++ rest)
-    → X.AskerLaw server word rest
-law_back server word [] rest h = h
-law_back server word (c ∷ cs) rest h = law_back server word cs rest h.1
+pub law_back : (server : Endpoint) (setup : Setup) (cs rest : List E.Call) → X.AskerLaw server setup (cs ++ rest)
+    → X.AskerLaw server setup rest
+law_back server setup [] rest h = h
+law_back server setup (c ∷ cs) rest h = law_back server setup cs rest h.1
 
-pub law_front : (server : Endpoint) (word : ℕ) (cs rest : List E.Call) → X.AskerLaw server word (cs ++ rest)
-    → AreRight (X.own_of server word rest) cs
-law_front server word [] rest h = tt
-law_front server word (c ∷ cs) rest h = (
-  subst (λ y. P.IsRight y c) (own_ran server word cs rest) h.0,
-  law_front server word cs rest h.1,
+pub law_front : (server : Endpoint) (setup : Setup) (cs rest : List E.Call) → X.AskerLaw server setup (cs ++ rest)
+    → AreRight (X.own_of server setup rest) cs
+law_front server setup [] rest h = tt
+law_front server setup (c ∷ cs) rest h = (
+  subst (λ y. P.IsRight y c) (own_ran server setup cs rest) h.0,
+  law_front server setup cs rest h.1,
 )
 
 -- an input, and what is asked behind it
@@ -115,7 +117,7 @@ below_next n m = by (nat_lt n (m + 1)) refl (nat_lt n m) refl (m == n) refl
     by false h false k true e = let a = not_lt n (m + 1) h in let q = same_number m n e in absurd (omega (arith, a, q))
     by false h false k false e = omega arith
 
-at_most_one : (a b : ℕ) (c : Bool) → a + b ≡ cond c 1 0 → a ≤ 1
+pub at_most_one : (a b : ℕ) (c : Bool) → a + b ≡ cond c 1 0 → a ≤ 1
 at_most_one a b true h = omega (arith, h)
 at_most_one a b false h = omega (arith, h)
 
@@ -126,11 +128,8 @@ both_one a b false h p q = absurd (omega (arith, h, p, q))
 -- a number that is given
 pub given_is : (a b c d : Bool) (e f g i : CallRefusal) (k taken : ℕ)
     → Ok k ≡ cond a (Err e) (cond b (Err f) (cond c (Err g) (cond d (Err i) (Ok taken)))) → k ≡ taken
-given_is true b c d e f g i k taken h = absurd (cc h)
-given_is false true c d e f g i k taken h = absurd (cc h)
-given_is false false true d e f g i k taken h = absurd (cc h)
-given_is false false false true e f g i k taken h = absurd (cc h)
 given_is false false false false e f g i k taken h = cc h
+given_is _ _ _ _ e f g i k taken h = absurd (cc h)
 
 live_if : (live cancelled full : Bool) → None
     ≡ cond (not live || cancelled) (Some cancel.Unknown) (cond full (Some cancel.QueueFull) None) → live ≡ true
@@ -146,10 +145,6 @@ wait_behind : (os : List Observation) (q : List Operation) (op : Operation) → 
 wait_behind os [] op h w = (w, tt)
 wait_behind os (x ∷ q) op h w = (h.0, wait_behind os q op h.1 w)
 
-releases_none : (o : Option Observation) (op : Operation) → releases o ≡ Asks op → ⊥
-releases_none None op h = cc h
-releases_none (Some o) op h = cc h
-
 -- no cancel runs where none is there
 no_cancel : (s : Own) (k : ℕ) → not (is_cancelled k s) ≡ true → NoCancel k s.running
 no_cancel s k h j is = by (j == k) (ap (λ r. not (list_any (is_cancel_of k) (option_to_list r ++ s.queue))) (sym is)
@@ -159,9 +154,9 @@ no_cancel s k h j is = by (j == k) (ap (λ r. not (list_any (is_cancel_of k) (op
     by true e = absurd (cc e)
     by false e = refl
 
-module _ (server : Endpoint) (sizes : Sizes) (word : ℕ) where
+module _ (server : Endpoint) (sizes : Sizes) (setup : Setup) where
   abbrev pub beneath : List Call → E.Own
-  beneath t = X.own_of server word (lower_of sizes t)
+  beneath t = X.own_of server setup (lower_of sizes t)
 
   pub record Known (t : List Call) : Type 0 where
     pub waits : AllWait (own_of sizes t).observations (own_of sizes t).queue
@@ -187,23 +182,23 @@ module _ (server : Endpoint) (sizes : Sizes) (word : ℕ) where
     abbrev first : List E.Call
     first = deeds e.deed e.own m w sent token kept
 
-    stepped : Known t → X.AskerLaw server word (done_for e m w sent token kept input ++ lower_of sizes t)
+    stepped : Known t → X.AskerLaw server setup (done_for e m w sent token kept input ++ lower_of sizes t)
         → (P.IsRight (beneath t) input → Goes s (P.after (beneath t) input).running e)
-        → Closes s (close m e token) (X.own_of server word
+        → Closes s (close m e token) (X.own_of server setup
         (done_for e m w sent token kept input ++ lower_of sizes t)).running
     stepped k law goes =
         let right = done_right (beneath t) later first input
-        (law_front server word (later ++ (first ++ input ∷ [])) (lower_of sizes t) law) in
+        (law_front server setup (later ++ (first ++ input ∷ [])) (lower_of sizes t) law) in
         let sound : Sound s = (let z = sound_of t k in record
         { at_most = z.at_most; waits = z.waits; runs_on = z.runs_on }) in
         let c = closes s e (P.after (beneath t) input) sound (goes right.0) m w sent kept token right.1 in
         subst (Closes s (close m e token)) (sym (ap (λ (y : E.Own). y.running)
-        (own_ran server word (later ++ (first ++ input ∷ [])) (lower_of sizes t)
+        (own_ran server setup (later ++ (first ++ input ∷ [])) (lower_of sizes t)
         ∙ done_ran (beneath t) later first input))) c
 
   pub fed : (t : List Call) (now : ℕ) (from : Endpoint) (bytes : List ℕ) (w : ℕ) (up : L.Answer) (settled : Bool)
       (event : Option Event) (sent : L.Answer) (token : Result (List ℕ) AskRefusal) (kept : Bool) → Known t
-      → X.AskerLaw server word (lower_of sizes (Feeds now from bytes w up settled event sent token kept ∷ t))
+      → X.AskerLaw server setup (lower_of sizes (Feeds now from bytes w up settled event sent token kept ∷ t))
       → Closes (at now (own_of sizes t)) (close (max (own_of sizes t).clock now)
       (happened (at now (own_of sizes t)) (max (own_of sizes t).clock now) event) token)
       (beneath (Feeds now from bytes w up settled event sent token kept ∷ t)).running
@@ -218,7 +213,7 @@ module _ (server : Endpoint) (sizes : Sizes) (word : ℕ) where
 
   pub ticked : (t : List Call) (now w : ℕ) (below : L.Answer) (turn : Turn) (sent : L.Answer)
       (token : Result (List ℕ) AskRefusal) (kept answer : Bool) → Known t
-      → X.AskerLaw server word (lower_of sizes (Ticks now w below turn sent token kept answer ∷ t))
+      → X.AskerLaw server setup (lower_of sizes (Ticks now w below turn sent token kept answer ∷ t))
       → Closes (at now (own_of sizes t)) (close (max (own_of sizes t).clock now)
       (passes (at now (own_of sizes t)) (max (own_of sizes t).clock now) turn) token)
       (beneath (Ticks now w below turn sent token kept answer ∷ t)).running
@@ -310,7 +305,7 @@ module _ (server : Endpoint) (sizes : Sizes) (word : ℕ) where
       let apart : (op : Operation) → releases (observation_of number s.observations) ≡ Asks op
       → ⊥ = releases_none (observation_of number s.observations) in
       let cs : List E.Call = deeds (releases (observation_of number s.observations)) s 0 0 L.Nothing (Ok []) kept in
-      let same = ap (λ (y : E.Own). y.running) (own_ran server word cs (lower_of sizes t))
+      let same = ap (λ (y : E.Own). y.running) (own_ran server setup cs (lower_of sizes t))
       ∙ quiet_deeds 0 0 L.Nothing kept (Ok []) (releases (observation_of number s.observations)) s
       (beneath t) apart in
       record {
@@ -336,7 +331,7 @@ module _ (server : Endpoint) (sizes : Sizes) (word : ℕ) where
         ap (below n) z.taken_is in omega (arith, a, b, d, f, i));
   }
 
-  pub known : (t : List Call) → ClientRows sizes t → X.AskerLaw server word (lower_of sizes t) → Known t
+  pub known : (t : List Call) → ClientRows sizes t → X.AskerLaw server setup (lower_of sizes t) → Known t
   known [] rows law = record {
     waits = tt;
     runs_on = tt;
@@ -348,14 +343,14 @@ module _ (server : Endpoint) (sizes : Sizes) (word : ℕ) where
   known (Cancels now number answer ∷ t) rows law = cancelled t now number answer rows.0 (known t rows.1 law)
   known (Forgets number kept answer ∷ t) rows law =
       forgot t number kept answer rows.0 (known t rows.1
-      (law_back server word (lower (own_of sizes t) (Forgets number kept answer)) (lower_of sizes t) law))
+      (law_back server setup (lower (own_of sizes t) (Forgets number kept answer)) (lower_of sizes t) law))
   known (Feeds now from bytes w up settled event sent token kept ∷ t) rows law =
       let c : Call = Feeds now from bytes w up settled event sent token kept in
-      let k = known t rows.1 (law_back server word (lower (own_of sizes t) c) (lower_of sizes t) law) in
+      let k = known t rows.1 (law_back server setup (lower (own_of sizes t) c) (lower_of sizes t) law) in
       closed_known t c now _ _ refl refl (λ n. refl) k (fed t now from bytes w up settled event sent token kept k law)
   known (Ticks now w below turn sent token kept answer ∷ t) rows law =
       let c : Call = Ticks now w below turn sent token kept answer in
-      let k = known t rows.1 (law_back server word (lower (own_of sizes t) c) (lower_of sizes t) law) in
+      let k = known t rows.1 (law_back server setup (lower (own_of sizes t) c) (lower_of sizes t) law) in
       closed_known t c now _ _ refl refl (λ n. refl) k (ticked t now w below turn sent token kept answer k law)
   known (NextOut answer ∷ t) rows law = let k =
       known t rows.1 law.1 in record {
@@ -375,23 +370,17 @@ module _ (server : Endpoint) (sizes : Sizes) (word : ℕ) where
       { waits = k.waits; runs_on = k.runs_on; linked = k.linked; one = λ n. let e = k.one n in omega (arith, e) }
 
   -- what is reported is of a number that was in a place
-  pub from_place : (t : List Call) (c : Call) → Known t → X.AskerLaw server word (lower_of sizes (c ∷ t))
+  pub from_place : (t : List Call) (c : Call) → Known t → X.AskerLaw server setup (lower_of sizes (c ∷ t))
       → (x : Reported)
       → reports (own_of sizes t) c ≡ Some x → 1 ≤ places x.number (own_of sizes t)
-  from_place t (Calls now r answer) k law x h = absurd (cc h)
-  from_place t (Observes now path answer) k law x h = absurd (cc h)
-  from_place t (Cancels now number answer) k law x h = absurd (cc h)
-  from_place t (Forgets number kept answer) k law x h = absurd (cc h)
-  from_place t (NextOut answer) k law x h = absurd (cc h)
-  from_place t (NextReport answer) k law x h = absurd (cc h)
-  from_place t (Asked answer) k law x h = absurd (cc h)
   from_place t (Feeds now from bytes w up settled event sent token kept) k law x h =
       (fed t now from bytes w up settled event sent token kept k law).source x h
   from_place t (Ticks now w below turn sent token kept answer) k law x h =
       (ticked t now w below turn sent token kept answer k law).source x h
+  from_place t _ k law x h = absurd (cc h)
 
   -- what was reported for the last time is gone
-  pub final_gone : (number : ℕ) (t : List Call) → HasReport server sizes word number t → 1 ≤ gone sizes number t
+  pub final_gone : (number : ℕ) (t : List Call) → HasReport server sizes setup number t → 1 ≤ gone sizes number t
   final_gone number [] h = absurd h
   final_gone number (c ∷ t) (inr h) = let ih = final_gone number t h in omega (arith, ih)
   final_gone number (c ∷ t) (inl h) =
@@ -402,14 +391,14 @@ module _ (server : Endpoint) (sizes : Sizes) (word : ℕ) where
       let d : hit h.0.number number ≡ 1 = ap (λ i. hit i number) h.1 ∙ hit_self number in
       omega (arith, a, b, d)
 
-  pub reported_once : (t : List Call) → ClientLaw server sizes word t → ReportedOnce server sizes word t
+  pub reported_once : (t : List Call) → ClientLaw server sizes setup t → ReportedOnce server sizes setup t
   reported_once t law = all t law.rows law.exchanges.rows
     where
-      all : (t : List Call) → ClientRows sizes t → X.AskerLaw server word (lower_of sizes t)
-          → ReportedOnce server sizes word t
+      all : (t : List Call) → ClientRows sizes t → X.AskerLaw server setup (lower_of sizes t)
+          → ReportedOnce server sizes setup t
       all [] rows law = tt
       all (c ∷ t) rows law =
-          let below = law_back server word (lower (own_of sizes t) c) (lower_of sizes t) law in
+          let below = law_back server setup (lower (own_of sizes t) c) (lower_of sizes t) law in
           let k = known t rows.1 below in (
             λ x made h. both_one (places x.number (own_of sizes t)) (gone sizes x.number t) _ (k.one x.number)
                 (from_place t c k law x made) (final_gone x.number t h),

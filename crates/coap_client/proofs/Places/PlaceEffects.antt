@@ -22,6 +22,7 @@ use Rattle.coap_client.proofs.Places.PlaceLemmas.{same_number, number_self, hit_
 use Rattle.coap_client.proofs.Places.PlaceLemmas.{in_map}
 use Rattle.coap_client.proofs.Places.PlaceLemmas.{in_uncancelled, in_dropped, without, in_without_other, in_without}
 use Rattle.coap_client.proofs.Places.PlaceLemmas.{token_of_map, token_of_without, number_if}
+use Rattle.coap_client.proofs.Turning.Moves.{releases_none}
 
 -- what waits and what runs is of a live observation, where it is of one
 
@@ -127,25 +128,19 @@ wait_without k os (Cancelling number ∷ ops) h = by (wait_without k os ops h.1)
 
 pub runs_map : (f : Observation → Observation) → ((o : Observation) → (f o).number ≡ o.number)
     → (os : List Observation) (running : Option Operation) → IfRuns os running → IfRuns (map f os) running
-runs_map f same os None h = tt
-runs_map f same os (Some (Calling number r t)) h = tt
-runs_map f same os (Some (Registering number path)) h = tt
-runs_map f same os (Some Dropped) h = tt
 runs_map f same os (Some (Fetching number)) h = let e = in_map number f same os in omega (arith, e, h)
 runs_map f same os (Some (Cancelling number)) h = let e = in_map number f same os in omega (arith, e, h)
+runs_map f same os _ h = tt
 
 pub runs_dropped : (k : ℕ) (os : List Observation) (running : Option Operation) → IfRuns os running
     → IfRuns os (dropped k running)
-runs_dropped k os None h = tt
-runs_dropped k os (Some (Calling number r t)) h = tt
-runs_dropped k os (Some (Registering number path)) h = tt
-runs_dropped k os (Some Dropped) h = tt
 runs_dropped k os (Some (Cancelling number)) h = h
 runs_dropped k os (Some (Fetching number)) h = by (number == k)
   where
     by : (b : Bool) → IfRuns os (cond b (Some Dropped) (Some (Fetching number)))
     by true = tt
     by false = h
+runs_dropped k os _ h = tt
 
 -- no cancel of this number runs
 abbrev pub NoCancel : ℕ → Option Operation → Type 0
@@ -153,10 +148,6 @@ NoCancel k running = (j : ℕ) → running ≡ Some (Cancelling j) → (j == k) 
 
 pub runs_without : (k : ℕ) (os : List Observation) (running : Option Operation) → NoCancel k running → IfRuns os running
     → IfRuns (without k os) (dropped k running)
-runs_without k os None apart h = tt
-runs_without k os (Some (Calling number r t)) apart h = tt
-runs_without k os (Some (Registering number path)) apart h = tt
-runs_without k os (Some Dropped) apart h = tt
 runs_without k os (Some (Cancelling number)) apart h = let e =
     in_without_other number k (flip_other number k (apart number refl)) os in omega (arith, e, h)
 runs_without k os (Some (Fetching number)) apart h = by (number == k) refl
@@ -164,17 +155,15 @@ runs_without k os (Some (Fetching number)) apart h = by (number == k) refl
     by : (b : Bool) → (number == k) ≡ b → IfRuns (without k os) (cond b (Some Dropped) (Some (Fetching number)))
     by true e = tt
     by false e = let z = in_without_other number k (flip_other number k e) os in omega (arith, z, h)
+runs_without k os _ apart h = tt
 
 -- the exchange
 
 token_map : (f : Observation → Observation) → ((o : Observation) → (f o).number ≡ o.number)
     → ((o : Observation) → (f o).token ≡ o.token) → (os : List Observation) (op : Operation) (token : List ℕ)
     → HasToken os op token → HasToken (map f os) op token
-token_map f number same os (Calling k r t) token h = tt
-token_map f number same os (Registering k path) token h = tt
-token_map f number same os (Fetching k) token h = tt
-token_map f number same os Dropped token h = tt
 token_map f number same os (Cancelling k) token h = token_of_map k f number same os ∙ h
+token_map f number same os _ token h = tt
 
 pub linked_map : (f : Observation → Observation) → ((o : Observation) → (f o).number ≡ o.number)
     → ((o : Observation) → (f o).token ≡ o.token)
@@ -185,23 +174,15 @@ linked_map f number same os (Some op) x h = (h.0, h.1, token_map f number same o
 
 pub linked_dropped : (k : ℕ) (os : List Observation) (running : Option Operation) (x : Option Exchange)
     → Linked running os x → Linked (dropped k running) os x
-linked_dropped k os None x h = h
-linked_dropped k os (Some (Calling number r t)) x h = h
-linked_dropped k os (Some (Registering number path)) x h = h
-linked_dropped k os (Some Dropped) x h = h
-linked_dropped k os (Some (Cancelling number)) x h = h
 linked_dropped k os (Some (Fetching number)) x h = by (number == k)
   where
     by : (b : Bool) → Linked (cond b (Some Dropped) (Some (Fetching number))) os x
     by true = h
     by false = h
+linked_dropped k os _ x h = h
 
 pub linked_without : (k : ℕ) (os : List Observation) (running : Option Operation) (x : Option Exchange)
     → NoCancel k running → Linked running os x → Linked (dropped k running) (without k os) x
-linked_without k os None x apart h = h
-linked_without k os (Some (Calling number r t)) x apart h = h
-linked_without k os (Some (Registering number path)) x apart h = h
-linked_without k os (Some Dropped) x apart h = h
 linked_without k os (Some (Cancelling number)) x apart h =
     (h.0, h.1, token_of_without number k (flip_other number k (apart number refl)) os ∙ h.2)
 linked_without k os (Some (Fetching number)) x apart h = by (number == k)
@@ -209,6 +190,7 @@ linked_without k os (Some (Fetching number)) x apart h = by (number == k)
     by : (b : Bool) → Linked (cond b (Some Dropped) (Some (Fetching number))) (without k os) x
     by true = h
     by false = h
+linked_without k os _ x apart h = h
 
 pub linked_same : (os : List Observation) (running : Option Operation) (x y : Option Exchange) → token_in y ≡ token_in x
     → Linked running os x → Linked running os y
@@ -256,9 +238,7 @@ value_of_number k sequence f m verdict.Done r h = number_in (value k sequence f 
             number_or : Option Reported → ℕ
             number_or None = k
             number_or (Some z) = z.number
-value_of_number k sequence f m verdict.Again r h = absurd (cc h)
-value_of_number k sequence f m (verdict.Refuse why) r h = absurd (cc h)
-value_of_number k sequence f m (verdict.Ask num szx) r h = absurd (cc h)
+value_of_number k sequence f m _ r h = absurd (cc h)
 
 pub of_number : (k : ℕ) (report : Report) (r : Reported) → of k report ≡ Some r → r.number ≡ k
 of_number k report r h = let e : ◌≡◌ {A = Reported} (record { number = k; report = report }) r =
@@ -330,10 +310,6 @@ releases_goes : (o : Option Observation) (e : Effect) (x : Option Exchange) → 
     → Leaves (releases o) e x
 releases_goes None e x h = h
 releases_goes (Some o) e x h = h
-
-releases_none : (o : Option Observation) (op : Operation) → releases o ≡ Asks op → ⊥
-releases_none None op h = cc h
-releases_none (Some o) op h = cc h
 
 pub over_goes : (s : Own) (x : Option Exchange) → Sound s → Linked s.running s.observations x
     → (k : ℕ) (report : Report) → 1 ≤ in_observations k s.observations → NoCancel k s.running → is_value report ≡ false
@@ -438,10 +414,7 @@ fetch_by_goes s x sound none k is n m (verdict.Ask num szx) =
 fetch_by_goes s x sound none k is n m verdict.Done =
     fetch_over_goes s x sound none k is _ (λ i. value_quiet i k n.sequence n.fetch m verdict.Done)
     (value_of_number k n.sequence n.fetch m verdict.Done)
-fetch_by_goes s x sound none k is n m verdict.Again =
-    fetch_over_goes s x sound none k is _ (λ i. refl) (λ r h. absurd (cc h))
-fetch_by_goes s x sound none k is n m (verdict.Refuse why) =
-    fetch_over_goes s x sound none k is _ (λ i. refl) (λ r h. absurd (cc h))
+fetch_by_goes s x sound none k is n m _ = fetch_over_goes s x sound none k is _ (λ i. refl) (λ r h. absurd (cc h))
 
 pub fetch_goes : (s : Own) (x : Option Exchange) → Sound s → x ≡ None → (k : ℕ) → s.running ≡ Some (Fetching k)
     → (o : Option Notified) (m : Message) → Goes s x (fetch_answered k o s m)

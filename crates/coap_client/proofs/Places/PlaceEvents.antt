@@ -54,7 +54,7 @@ use Rattle.coap_client.specs.Deeds.{deeds}
 use Rattle.coap_client.proofs.Places.PlaceLemmas.{token_there}
 use Rattle.coap_client.specs.Calls.{Next, answer}
 use Rattle.coap_client.specs.Calls as calls
-use Rattle.coap_client.specs.Effects.{Deed, Rests, Asks, Keeps, Releases, Effect, stays, runs, ends}
+use Rattle.coap_client.specs.Effects.{Deed, Rests, Asks, Keeps, Effect, stays, runs, ends}
 use Rattle.coap_client.specs.Effects.{of}
 use Rattle.coap_client.specs.Effects.{is_upload, has_sent}
 use Rattle.coap_client.specs.Observing.{first_value, first_rest, is_over, begun, registered, renewed}
@@ -87,7 +87,7 @@ refused_last refusal.BadBlock = refl
 refused_last refusal.NoTag = refl
 refused_last refusal.TooLarge = refl
 
-done_last : (method : Method) (code : ℕ) → is_value (reports_of.done method code) ≡ false
+pub done_last : (method : Method) (code : ℕ) → is_value (reports_of.done method code) ≡ false
 done_last method code = by (reports_of.is_success method code)
   where
     by : (b : Bool) → is_value (cond b (R.Done code) (R.Failed code)) ≡ false
@@ -417,32 +417,24 @@ pub record Closes (s : Own) (c : Effect) (x : Option Exchange) : Type 0 where
 
 not_asks : (u : Transfer → Bool) (report : Report) (s : Own) (running : Option Operation) (op : Operation)
     → (failed u report s running).deed ≡ Asks op → ⊥
-not_asks u report s None op h = cc h
-not_asks u report s (Some (Calling k r t)) op h = cc h
-not_asks u report s (Some (Registering k path)) op h = cc h
-not_asks u report s (Some (Fetching k)) op h = cc h
-not_asks u report s (Some Dropped) op h = cc h
 not_asks u report s (Some (Cancelling k)) op h = by (observation_of k s.observations) h
   where
     by : (o : Option Observation) → releases o ≡ Asks op → ⊥
     by None h = cc h
     by (Some o) h = cc h
+not_asks u report s _ op h = cc h
 
 pub linked_of : (d : Deed) (e : Effect) (x : Option Exchange) → ((op : Operation) → d ≡ Asks op → ⊥) → Leaves d e x
     → Linked e.own.running e.own.observations x
-linked_of Rests e x f h = h
-linked_of (Keeps t) e x f h = h
-linked_of (Releases t) e x f h = h
 linked_of (Asks op) e x f h = absurd (f op refl)
+linked_of _ e x f h = h
 
 -- a deed that asks nothing leaves the exchange
 pub quiet_deeds : (at word : ℕ) (sent : L.Answer) (kept : Bool) (token : Result (List ℕ) AskRefusal) (d : Deed)
     (o : Own) (y : E.Own) → ((op : Operation) → d ≡ Asks op → ⊥)
     → (ran y (deeds d o at word sent token kept)).running ≡ y.running
-quiet_deeds at word sent kept token Rests o y f = refl
-quiet_deeds at word sent kept token (Keeps t) o y f = refl
-quiet_deeds at word sent kept token (Releases t) o y f = refl
 quiet_deeds at word sent kept token (Asks op) o y f = absurd (f op refl)
+quiet_deeds at word sent kept token _ o y f = refl
 
 module _ (s : Own) (e : Effect) (x : E.Own) (sound : Sound s) (g : Goes s x.running e) (at word : ℕ) (sent : L.Answer)
     (kept : Bool) where
@@ -470,13 +462,10 @@ module _ (s : Own) (e : Effect) (x : E.Own) (sound : Sound s) (g : Goes s x.runn
   -- the token that is sent is that of the observation, where it is cancelled
   has_its : (op : Operation) → RunsOn e.own.observations op
       → HasToken e.own.observations op (Q.request_token x (message_of e.own.observations op))
-  has_its (Calling k r t) live = tt
-  has_its (Registering k path) live = tt
-  has_its (Fetching k) live = tt
-  has_its Dropped live = tt
   has_its (Cancelling k) live =
       let t = token_there k e.own.observations live in t.1
       ∙ ap (λ y. Some y) (sym (ap (λ o. Q.token_or o (K.token_of x.word x.given)) t.1))
+  has_its _ live = tt
 
   asked_for : (op : Operation) → e.deed ≡ Asks op → (token : Result (List ℕ) AskRefusal)
       → token ≡ Q.ask_answer (Q.opening_of x (message_of e.own.observations op)) sent
@@ -550,30 +539,11 @@ module _ (s : Own) (e : Effect) (x : E.Own) (sound : Sound s) (g : Goes s x.runn
       let quiet = quiet_deeds at word sent kept token e.deed e.own x rests in
       plainly _ (subst (Linked e.own.running e.own.observations) (sym (split ∙ quiet))
       (linked_of e.deed e x.running rests g.leaves))
-  closing token (Keeps t) is right =
-      let l = linked_of e.deed e x.running (λ op h. cc (h, is)) g.leaves in
-      record {
-        conserved = g.conserved;
-        waits = g.waits;
-        runs_on = g.runs_on;
-        taken_is = g.taken_is;
-        source = g.source;
-        linked = l;
-      }
-  closing token (Releases t) is right =
-      let l = linked_of e.deed e x.running (λ op h. cc (h, is)) g.leaves in
-      record {
-        conserved = g.conserved;
-        waits = g.waits;
-        runs_on = g.runs_on;
-        taken_is = g.taken_is;
-        source = g.source;
-        linked = l;
-      }
   closing token (Asks op) is right =
       asked_for op is token (are_right_back x (deeds (closed at e (Asks op) token).deed
       (closed at e (Asks op) token).own at word sent token kept)
       (deeds (Asks op) e.own at word sent token kept) right).0
+  closing token _ is right = let l = linked_of e.deed e x.running (λ op h. cc (h, is)) g.leaves in record { conserved = g.conserved; waits = g.waits; runs_on = g.runs_on; taken_is = g.taken_is; source = g.source; linked = l }
 
   pub closes : (token : Result (List ℕ) AskRefusal) → Closing token e.deed
   closes token = closing token e.deed refl

@@ -1,5 +1,5 @@
 -- Counting numbers in what a client keeps.
-use Rattle.std.proofs.Common.{◌≡◌, ◌≤◌, ℕ, ◌+◌, Bool, true, false, cond, not, Option, Some, None, List, [], ◌∷◌, ◌++◌}
+use Rattle.std.proofs.Common.{◌≡◌, ◌≤◌, ℕ, ◌+◌, Bool, true, false, cond, not, Option, Some, List, [], ◌∷◌, ◌++◌}
 use Rattle.std.proofs.Common.{map, refl, ap, sym, subst, ◌∙◌, arith, is_some}
 use Rattle.std.specs.Prelude.{filter, ◌==◌}
 use Rattle.std.specs.Option.{option_map}
@@ -58,16 +58,12 @@ in_uncancelled n k (Cancelling number ∷ ops) = by (in_uncancelled n k ops) (nu
     by ih false = omega (arith, ih)
 
 pub in_dropped : (n k : ℕ) (running : Option Operation) → in_running n (dropped k running) ≡ in_running n running
-in_dropped n k None = refl
-in_dropped n k (Some (Calling number r t)) = refl
-in_dropped n k (Some (Registering number path)) = refl
-in_dropped n k (Some (Cancelling number)) = refl
-in_dropped n k (Some Dropped) = refl
 in_dropped n k (Some (Fetching number)) = by (number == k)
   where
     by : (b : Bool) → in_running n (cond b (Some Dropped) (Some (Fetching number))) ≡ 0
     by true = refl
     by false = refl
+in_dropped n k _ = refl
 
 -- without a number
 

@@ -10,6 +10,7 @@ use Rattle.coap_types.specs.declared.request.Method.{Method}
 use Rattle.coap_types.specs.declared.request.Method.TheVariants.{Get, Post, Put, Delete}
 use Rattle.coap_layer.specs.Rows.{IsSpelled}
 use Rattle.coap_layer.specs.Trace as L
+use Rattle.coap_layer.specs.declared.setup.Setup.{Setup}
 use Rattle.coap_block.specs.Sizes.{Sizes}
 use Rattle.coap_exchange.specs.declared.asker.AskRefusal.{AskRefusal}
 use Rattle.coap_exchange.specs.declared.asker.Event.{Event}
@@ -64,16 +65,14 @@ abbrev Shorts : Own → Type 0
 Shorts s = AllOf IsShortOp s.queue × IfShort s.running × AreShortPaths s.observations
 
 short_dropped : (k : ℕ) (running : Option Operation) → IfShort running → IfShort (dropped k running)
-short_dropped k None h = tt
 short_dropped k (Some (Calling j r t)) h = h
 short_dropped k (Some (Registering j path)) h = h
-short_dropped k (Some (Cancelling j)) h = tt
-short_dropped k (Some Dropped) h = tt
 short_dropped k (Some (Fetching j)) h = by (j == k)
   where
     by : (b : Bool) → IfShort (cond b (Some Dropped) (Some (Fetching j)))
     by true = tt
     by false = tt
+short_dropped k _ h = tt
 
 -- the operations, and the paths of what is observed
 
@@ -95,10 +94,8 @@ ops_failed : (s : Own) (u : Transfer → Bool) (report : Report) (running : Opti
     → ShortOps (failed u report s running).own
 ops_failed s u report None h = h
 ops_failed s u report (Some (Calling k r t)) h = ops_held s (u t && is_upload t) (of k report) h
-ops_failed s u report (Some (Registering k path)) h = (h.0, tt)
-ops_failed s u report (Some (Fetching k)) h = (h.0, tt)
 ops_failed s u report (Some (Cancelling k)) h = ops_over k (record s { running = None }) (h.0, tt)
-ops_failed s u report (Some Dropped) h = (h.0, tt)
+ops_failed s u report _ h = (h.0, tt)
 
 module _ (s : Own) (now : ℕ) (told : Option Event) where
   ran : IfShort s.running → (op : Operation) → s.running ≡ Some op → IsShortOp op
@@ -109,21 +106,14 @@ module _ (s : Own) (now : ℕ) (told : Option Event) where
   ops_moves h (mv.copies quiet_so) = h
   ops_moves h (mv.starts_next op queue none rest first quiet_so) = let k : AllOf IsShortOp (op ∷ queue) =
       subst (AllOf IsShortOp) first h.0 in (k.1, k.0)
-  ops_moves h (mv.fetches k none rest quiet_so) = (h.0, tt)
   ops_moves h (mv.goes_on k r tr next a hears runs asks) = (h.0, ran h.1 (Calling k r tr) runs)
   ops_moves h (mv.is_done k r tr final rep a hears runs ends_so) = ops_held s (not final && is_upload tr) (of k rep) h
-  ops_moves h (mv.registers k path a hears runs note) = (h.0, tt)
-  ops_moves h (mv.refuses k path a hears runs note) = (h.0, tt)
-  ops_moves h (mv.fetches_on k n a num size hears runs rest code asks) = (h.0, tt)
-  ops_moves h (mv.fetched k n a hears runs rest code done) = (h.0, tt)
-  ops_moves h (mv.gives_up k a hears runs) = (h.0, tt)
-  ops_moves h (mv.fetched_none k a hears runs) = (h.0, tt)
   ops_moves h (mv.cancels k a hears runs) = ops_over k (record s { running = None }) (h.0, tt)
-  ops_moves h (mv.is_dropped a hears runs) = (h.0, tt)
   ops_moves h (mv.fails e un) = ops_failed s (λ t. true) (lapse e) s.running h
   ops_moves h (mv.is_ended o a notes found note) = ops_over o.number s h
   ops_moves h (mv.renews o a notes found note newer) = (h.0, short_dropped o.number s.running h.1)
   ops_moves h (mv.passes_by o a notes found note newer) = h
+  ops_moves h _ = (h.0, tt)
 
   shorts_moves : Shorts s → (mo : Move s now told) → Shorts (left_by s now told mo).own
   shorts_moves h mo = let ops = ops_moves (h.0, h.1) mo
@@ -280,12 +270,12 @@ Spelled x e op = IsSpelled (content_of (Q.request_token x (message_of e.own.obse
     (message_of e.own.observations op))
 
 -- what is asked of the exchanges for a deed has answers
-module _ (server : Endpoint) (word : ℕ) where
+module _ (server : Endpoint) (setup : Setup) where
   abbrev Law : List A.Call → Type 0
-  Law calls = ExchangeLaw server word calls
+  Law calls = ExchangeLaw server setup calls
 
   abbrev own : List A.Call → A.Own
-  own calls = E.own_of server word calls
+  own calls = E.own_of server setup calls
 
   keeps_on : (token : List ℕ) (calls : List A.Call) → Law calls → (kept : Bool) × Law (A.Keep token kept ∷ calls)
   keeps_on token calls law = (
@@ -319,7 +309,7 @@ module _ (server : Endpoint) (word : ℕ) where
 
     asked_so : (op : Operation) → Spelled (own calls) e op → Answers (Asks op)
     asked_so op can =
-        let a = asks server word calls law m w (message_of e.own.observations op) can in
+        let a = asks server setup calls law m w (message_of e.own.observations op) can in
         by a.0 a.1 a.2
       where
         refused : (sent : L.Answer) (why : AskRefusal) (op : Operation)
@@ -352,7 +342,7 @@ module _ (server : Endpoint) (word : ℕ) where
     answers (Releases k) is can = let r = releases_on k calls law in record
         { sent = L.Nothing; token = Ok []; kept = r.0; law_of = r.1 }
 
-module _ (server : Endpoint) (sizes : Sizes) (word : ℕ) (t : List Call) (law : ClientLaw server sizes word t) where
+module _ (server : Endpoint) (sizes : Sizes) (setup : Setup) (t : List Call) (law : ClientLaw server sizes setup t) where
   abbrev mine : Own
   mine = own_of sizes t
 
@@ -362,50 +352,50 @@ module _ (server : Endpoint) (sizes : Sizes) (word : ℕ) (t : List Call) (law :
   split : (a b : List A.Call) (i : A.Call) → (a ++ (b ++ i ∷ [])) ++ under ≡ a ++ (b ++ (i ∷ under))
   split a b i = append_assoc a (b ++ i ∷ []) under ∙ ap (λ l. a ++ l) (append_assoc b (i ∷ []) under)
 
-  grouped : (a b : List A.Call) (i : A.Call) → ExchangeLaw server word (a ++ (b ++ (i ∷ under)))
-      → ExchangeLaw server word ((a ++ (b ++ i ∷ [])) ++ under)
-  grouped a b i law_of = subst (ExchangeLaw server word) (sym (split a b i)) law_of
+  grouped : (a b : List A.Call) (i : A.Call) → ExchangeLaw server setup (a ++ (b ++ (i ∷ under)))
+      → ExchangeLaw server setup ((a ++ (b ++ i ∷ [])) ++ under)
+  grouped a b i law_of = subst (ExchangeLaw server setup) (sym (split a b i)) law_of
 
   -- an observation's token is that of its registration
   observed_short : (k : ℕ) (token : List ℕ) → token_of k mine.observations ≡ Some token → length token ≤ 8
   observed_short k token is =
-      let r = live_found _ k mine.observations token (live sizes server word t law) is in
-      subst (λ (z : List ℕ). length z ≤ 8) r.1.token_is (short_tokens sizes server word t law r.1.sending r.1.sent)
+      let r = live_found _ k mine.observations token (live sizes server setup t law) is in
+      subst (λ (z : List ℕ). length z ≤ 8) r.1.token_is (short_tokens sizes server setup t law r.1.sending r.1.sent)
 
   can_ask : (now : ℕ) (told : Option Event) (e : Effect) → Moved (at now mine) (max mine.clock now) told e
-      → (calls : List A.Call) → (op : Operation) → e.deed ≡ Asks op → Spelled (E.own_of server word calls) e op
+      → (calls : List A.Call) → (op : Operation) → e.deed ≡ Asks op → Spelled (E.own_of server setup calls) e op
   can_ask now told e moved calls op is =
       let s : Own = at now mine in
       let m : ℕ = max mine.clock now in
       let left : Effect = left_by s m told moved.0 in
       let short = shorts_moves s m told (shorts sizes t law.rows) moved.0 in
       let so = asks_so s m told moved.0 op (ap (λ (z : Effect). z.deed) (sym moved.1) ∙ is) in
-      let few = token_short (E.own_of server word calls) left.own.observations op
+      let few = token_short (E.own_of server setup calls) left.own.observations op
       (λ k same token given. observed_short k token (sym (so.token k same) ∙ given)) in
-      subst (λ (z : Effect). Spelled (E.own_of server word calls) z op) (sym moved.1)
-      (request_spelled left.own.observations op (Q.request_token (E.own_of server word calls)
+      subst (λ (z : Effect). Spelled (E.own_of server setup calls) z op) (sym moved.1)
+      (request_spelled left.own.observations op (Q.request_token (E.own_of server setup calls)
       (message_of left.own.observations op)) (subst IfShort so.runs short.1) short.2 few)
 
   forgets_on : (number : ℕ) → (kept : Bool) × (answer : Bool)
-      × ClientLaw server sizes word (Forgets number kept answer ∷ t)
+      × ClientLaw server sizes setup (Forgets number kept answer ∷ t)
   forgets_on number = by (may_forget mine number) refl
     where
       by : (b : Bool) → b ≡ may_forget mine number
-          → (kept : Bool) × (answer : Bool) × ClientLaw server sizes word (Forgets number kept answer ∷ t)
+          → (kept : Bool) × (answer : Bool) × ClientLaw server sizes setup (Forgets number kept answer ∷ t)
       by false is = (false, false, record { rows = (is, law.rows); exchanges = law.exchanges })
-      by true is = let r = ends_on server word (observation_of number mine.observations) mine 0 0 L.Nothing
+      by true is = let r = ends_on server setup (observation_of number mine.observations) mine 0 0 L.Nothing
           (Ok []) under law.exchanges in (r.0, true, record { rows = (is, law.rows); exchanges = r.1 })
 
   feeds_on : (now : ℕ) (from : Endpoint) (bytes : List ℕ) (w : ℕ) → AreBytes bytes
       → (up : L.Answer) × (settled : Bool) × (event : Option Event) × (sent : L.Answer)
       × (token : Result (List ℕ) AskRefusal) × (kept : Bool)
-      × ClientLaw server sizes word (Feeds now from bytes w up settled event sent token kept ∷ t)
+      × ClientLaw server sizes setup (Feeds now from bytes w up settled event sent token kept ∷ t)
   feeds_on now from bytes w are =
       let m : ℕ = max mine.clock now in
-      let k = receives server word under law.exchanges m from bytes are in
+      let k = receives server setup under law.exchanges m from bytes are in
       let e : Effect = happened (at now mine) m k.2 in
       let input : A.Call = A.Receive m from bytes k.0 k.1 k.2 in
-      let a = answers server word m w (input ∷ under) k.3 e e.deed refl
+      let a = answers server setup m w (input ∷ under) k.3 e e.deed refl
       (can_ask now k.2 e (happened_moves (at now mine) m k.2) (input ∷ under)) in
       let c : Effect = closed m e e.deed a.token in (
         k.0,
@@ -423,13 +413,13 @@ module _ (server : Endpoint) (sizes : Sizes) (word : ℕ) (t : List Call) (law :
 
   ticks_on : (now w : ℕ)
       → (below : L.Answer) × (turn : Turn) × (sent : L.Answer) × (token : Result (List ℕ) AskRefusal) × (kept : Bool)
-      × (answer : Bool) × ClientLaw server sizes word (Ticks now w below turn sent token kept answer ∷ t)
+      × (answer : Bool) × ClientLaw server sizes setup (Ticks now w below turn sent token kept answer ∷ t)
   ticks_on now w =
       let m : ℕ = max mine.clock now in
-      let k = ticks server word under law.exchanges m in
+      let k = ticks server setup under law.exchanges m in
       let e : Effect = passes (at now mine) m k.1 in
       let input : A.Call = A.Ticks m k.0 k.1 in
-      let a = answers server word m w (input ∷ under) k.2 e e.deed refl
+      let a = answers server setup m w (input ∷ under) k.2 e e.deed refl
       (can_ask now None e (passes_moves (at now mine) m k.1) (input ∷ under)) in
       let c : Effect = closed m e e.deed a.token in (
         k.0,
@@ -446,7 +436,7 @@ module _ (server : Endpoint) (sizes : Sizes) (word : ℕ) (t : List Call) (law :
         },
       )
 
-  pub goes_on : GoesOn server sizes word t
+  pub goes_on : GoesOn server sizes setup t
   goes_on = record {
     calls = λ now r. (call_answer mine r, record { rows = (refl, law.rows); exchanges = law.exchanges });
     observes = λ now path. (observe_answer mine path, record { rows = (refl, law.rows); exchanges = law.exchanges });
@@ -454,7 +444,7 @@ module _ (server : Endpoint) (sizes : Sizes) (word : ℕ) (t : List Call) (law :
     forgets = forgets_on;
     feeds = feeds_on;
     ticks = ticks_on;
-    next_out = let k = takes server word under law.exchanges
+    next_out = let k = takes server setup under law.exchanges
         in (k.0, record { rows = (tt, law.rows); exchanges = k.1 });
     next_report = (slice_get mine.reports 0, record { rows = (refl, law.rows); exchanges = law.exchanges });
     asked = (mine.asked, record { rows = (refl, law.rows); exchanges = law.exchanges });

@@ -11,7 +11,7 @@ use Rattle.coap_types.specs.OptionValues.{uint_option}
 use Rattle.coap_types.specs.Uint.{uint}
 use Rattle.coap_types.specs.BlockValue.{block_value}
 use Rattle.coap_types.specs.declared.request.Method.{Method}
-use Rattle.coap_types.specs.declared.request.Method.TheVariants.{Get, Post, Put, Delete}
+use Rattle.coap_types.specs.declared.request.Method.TheVariants.{Get, Delete}
 use Rattle.coap_types.specs.declared.option_number.TheConstants.{IF_MATCH as if_match, IF_NONE_MATCH as if_none_match}
 use Rattle.coap_types.specs.declared.option_number.TheConstants.{OBSERVE as observe, BLOCK2 as block2, BLOCK1 as block1}
 use Rattle.coap_codec.specs.BoundedSpelling.{is_numbered}
@@ -75,11 +75,8 @@ ordered_flag k n false os small up g = ordered_weaken k n os up g
 ordered_after : (method : Method) (r : Request) (os : List CoapOption) → Ordered 17 os
     → Ordered 11 (after_path method r ++ os)
 ordered_after Get r os g = ordered_uint 11 17 r.accept os (omega arith) (omega arith) g
-ordered_after Post r os g = ordered_uint 11 12 r.format os (omega arith) (omega arith)
-    (ordered_weaken 12 17 os (omega arith) g)
-ordered_after Put r os g = ordered_uint 11 12 r.format os (omega arith) (omega arith)
-    (ordered_weaken 12 17 os (omega arith) g)
 ordered_after Delete r os g = ordered_weaken 11 17 os (omega arith) g
+ordered_after _ r os g = ordered_uint 11 12 r.format os (omega arith) (omega arith) (ordered_weaken 12 17 os (omega arith) g)
 
 ordered_conditions : (r : Request) (os : List CoapOption) → Ordered 5 os
     → Ordered 0 ((map (option if_match) r.if_match ++ flag_option if_none_match r.if_none_match) ++ os)
@@ -93,9 +90,7 @@ ordered_before : (method : Method) (r : Request) (os : List CoapOption) → Orde
     → Ordered 0 (before_path method r ++ os)
 ordered_before Get r os g = ordered_run 0 4 r.etags os (omega arith) (omega arith)
     (ordered_weaken 4 5 os (omega arith) g)
-ordered_before Post r os g = ordered_conditions r os g
-ordered_before Put r os g = ordered_conditions r os g
-ordered_before Delete r os g = ordered_conditions r os g
+ordered_before _ r os g = ordered_conditions r os g
 
 ordered_call : (r : Request) (os : List CoapOption) → Ordered 17 os → Ordered 0 (options_of r ++ os)
 ordered_call r os g =

@@ -4,6 +4,7 @@ use Rattle.std.proofs.Common.{[], ◌∷◌, refl, ap, sym, subst, ◌∙◌, Re
 use Rattle.std.specs.Prelude.{◌==◌}
 use Rattle.coap_types.specs.declared.endpoint.Endpoint.{Endpoint}
 use Rattle.coap_layer.specs.Trace as L
+use Rattle.coap_layer.specs.declared.setup.Setup.{Setup}
 use Rattle.coap_block.specs.Sizes.{Sizes}
 use Rattle.coap_exchange.specs.declared.asker.AskRefusal.{AskRefusal}
 use Rattle.coap_exchange.specs.declared.asker.Turn.{Turn}
@@ -166,10 +167,10 @@ module _ (s : Own) (m : ℕ) where
   asks_first (turn_of.End e) k w h =
       let none : None ≡ Some (Fetching k) = sym (failed_none (λ t. true) (lapse e) s s.running) ∙ h in absurd (cc none)
 
-module _ (sizes : Sizes) (server : Endpoint) (word : ℕ) where
+module _ (sizes : Sizes) (server : Endpoint) (setup : Setup) where
   -- a tick
   module _ (t : List Call) (now w : ℕ) (below : L.Answer) (d : Turn) (sent : L.Answer)
-      (token : Result (List ℕ) AskRefusal) (kept did : Bool) (law : ClientLaw server sizes word t) where
+      (token : Result (List ℕ) AskRefusal) (kept did : Bool) (law : ClientLaw server sizes setup t) where
     abbrev c : Call
     c = Ticks now w below d sent token kept did
 
@@ -183,10 +184,10 @@ module _ (sizes : Sizes) (server : Endpoint) (word : ℕ) where
     tick_asks = asked_is (passes s m d) (passes s m d).deed token
 
     ordered : Ascends (own_of sizes t).observations
-    ordered = ascends sizes server word t law
+    ordered = ascends sizes server setup t law
 
     waits : AllWait (own_of sizes t).observations (own_of sizes t).queue
-    waits = (known server sizes word t law.rows law.exchanges.rows).waits
+    waits = (known server sizes setup t law.rows law.exchanges.rows).waits
 
     starts_at : (first : ℕ) → to_fetch (own_of sizes t).observations ≡ Some first
         → asked_for (own_of sizes t) c ≡ Some (Fetching first) → StartsLowest (own_of sizes t) c first
@@ -242,7 +243,7 @@ module _ (sizes : Sizes) (server : Endpoint) (word : ℕ) where
     no_other = λ d number is asked. (let z : None ≡ Some d = sym none ∙ is in absurd (cc z));
   }
 
-  fetch_first : (t : List Call) (c : Call) → ClientLaw server sizes word t → FetchesFirst sizes t c
+  fetch_first : (t : List Call) (c : Call) → ClientLaw server sizes setup t → FetchesFirst sizes t c
   fetch_first t (Ticks now w below d sent token kept did) law = record {
     none_starts = none_starts t now w below d sent token kept did law;
     one_starts = one_starts t now w below d sent token kept did law;
@@ -258,9 +259,9 @@ module _ (sizes : Sizes) (server : Endpoint) (word : ℕ) where
   fetch_first t (NextReport answer) law = no_tick t (NextReport answer) refl (λ h. cc h)
   fetch_first t (Asked answer) law = no_tick t (Asked answer) refl (λ h. cc h)
 
-pub fetches_first : (server : Endpoint) (sizes : Sizes) (word : ℕ) (t : List Call) → ClientLaw server sizes word t
+pub fetches_first : (server : Endpoint) (sizes : Sizes) (setup : Setup) (t : List Call) → ClientLaw server sizes setup t
     → AllFetchFirst sizes t
-fetches_first server sizes word [] law = tt
-fetches_first server sizes word (c ∷ t) law =
-    let past = client_back server sizes word (c ∷ []) t law in
-    (fetch_first sizes server word t c past, fetches_first server sizes word t past)
+fetches_first server sizes setup [] law = tt
+fetches_first server sizes setup (c ∷ t) law =
+    let past = client_back server sizes setup (c ∷ []) t law in
+    (fetch_first sizes server setup t c past, fetches_first server sizes setup t past)

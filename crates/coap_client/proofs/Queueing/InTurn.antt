@@ -55,9 +55,7 @@ rises_tail : (low : ℕ) (op : Operation) (ops : List Operation) (taken : ℕ) �
 rises_tail low (Calling n r t) ops taken h = rises_lower (n + 1) low ops taken (let a = h.0 in omega (arith, a)) h.1
 rises_tail low (Registering n path) ops taken h =
     rises_lower (n + 1) low ops taken (let a = h.0 in omega (arith, a)) h.1
-rises_tail low (Fetching n) ops taken h = h
-rises_tail low (Cancelling n) ops taken h = h
-rises_tail low Dropped ops taken h = h
+rises_tail low _ ops taken h = h
 
 abbrev IsNext : ℕ → Operation → Type 0
 IsNext n op = turn_of op ≡ Some n
@@ -65,9 +63,7 @@ IsNext n op = turn_of op ≡ Some n
 rises_one : (low n : ℕ) (op : Operation) → IsNext n op → low ≤ n → Rises low (op ∷ []) (n + 1)
 rises_one low n (Calling k r t) is le = let e : k ≡ n = cc is in (omega (arith, e, le), omega (arith, e))
 rises_one low n (Registering k path) is le = let e : k ≡ n = cc is in (omega (arith, e, le), omega (arith, e))
-rises_one low n (Fetching k) is le = absurd (cc is)
-rises_one low n (Cancelling k) is le = absurd (cc is)
-rises_one low n Dropped is le = absurd (cc is)
+rises_one low n _ is le = absurd (cc is)
 
 -- one more waits
 rises_more : (low n : ℕ) (op : Operation) → IsNext n op → (ops : List Operation) → Rises low ops n
@@ -127,15 +123,12 @@ still_none s o q r k = record {
 dropped_turn : (k : ℕ) (running : Option Operation) (op : Operation) (n : ℕ) → dropped k running ≡ Some op
     → turn_of op ≡ Some n → running ≡ Some op
 dropped_turn k None op n is turn = absurd (cc is)
-dropped_turn k (Some (Calling j r t)) op n is turn = is
-dropped_turn k (Some (Registering j path)) op n is turn = is
-dropped_turn k (Some (Cancelling j)) op n is turn = is
-dropped_turn k (Some Dropped) op n is turn = is
 dropped_turn k (Some (Fetching j)) op n is turn = absurd (by (j == k) is)
   where
     by : (b : Bool) → cond b (Some Dropped) (Some (Fetching j)) ≡ Some op → ⊥
     by true e = let a : Dropped ≡ op = cc e in let b : None ≡ Some n = ap turn_of a ∙ turn in cc b
     by false e = let a : Fetching j ≡ op = cc e in let b : None ≡ Some n = ap turn_of a ∙ turn in cc b
+dropped_turn k _ op n is turn = is
 
 still_dropped : (s o : Own) (k : ℕ) → o.queue ≡ s.queue → o.running ≡ dropped k s.running → o.taken ≡ s.taken
     → Still s o
@@ -168,12 +161,10 @@ still_failed : (s : Own) (u : Transfer → Bool) (report : Report) (running : Op
     → Still s (failed u report s running).own
 still_failed s u report None is = still_same s s refl refl refl
 still_failed s u report (Some (Calling k r t)) is = still_held s (u t && is_upload t) (of k report)
-still_failed s u report (Some (Registering k path)) is = still_none s _ refl refl refl
-still_failed s u report (Some (Fetching k)) is = still_none s _ refl refl refl
 still_failed s u report (Some (Cancelling k)) is =
     still_then s (record s { running = None }) _ (still_none s (record s { running = None }) refl refl refl)
     (still_over (record s { running = None }) k)
-still_failed s u report (Some Dropped) is = still_none s _ refl refl refl
+still_failed s u report _ is = still_none s _ refl refl refl
 
 module _ (sizes : Sizes) where
   -- what was sent is below what waits

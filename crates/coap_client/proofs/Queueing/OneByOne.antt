@@ -6,13 +6,14 @@ use Rattle.coap_types.specs.Past.{Ever}
 use Rattle.coap_types.specs.declared.endpoint.Endpoint.{Endpoint}
 use Rattle.coap_types.specs.declared.block.Block.{Block}
 use Rattle.coap_types.specs.declared.option_number.TheConstants.{BLOCK1 as block1}
+use Rattle.coap_layer.specs.declared.setup.Setup.{Setup}
 use Rattle.coap_codec.specs.Message.{Message}
 use Rattle.coap_block.specs.Sizes.{Sizes}
 use Rattle.coap_block.specs.UploadStep.{UploadState, more_follows, moved, continues}
 use Rattle.coap_exchange.specs.declared.asker.AskRefusal.{AskRefusal}
 use Rattle.coap_exchange.specs.declared.asker.Event.{Event}
-use Rattle.coap_client.specs.Trace.{Request, Requested, BadBlock, Call, Calls, Observes, Cancels}
-use Rattle.coap_client.specs.Trace.{Forgets, Feeds, Ticks, NextOut, NextReport, Asked}
+use Rattle.coap_client.specs.Trace.{Request, Requested, BadBlock, Call}
+use Rattle.coap_client.specs.Trace.{Feeds, Ticks}
 use Rattle.coap_client.specs.Own.{Transfer, Fetches, Uploads, Single, Operation, Calling, Registering}
 use Rattle.coap_client.specs.Own.{Fetching, Cancelling, Dropped, Own}
 use Rattle.coap_client.specs.Requests.{is_longer}
@@ -47,26 +48,15 @@ use Rattle.coap_client.proofs.Queueing.InTurn.{in_turn}
 -- the operation that asks is the one that runs
 pub asks_runs : (s : Own) (now : ℕ) (told : Option Event) (mo : Move s now told) (op : Operation)
     → (left_by s now told mo).deed ≡ Asks op → (left_by s now told mo).own.running ≡ Some op
-asks_runs s now told (mv.rests un) op h = absurd (cc h)
-asks_runs s now told (mv.copies quiet_so) op h = absurd (cc h)
 asks_runs s now told (mv.starts_next o queue none rest first quiet_so) op h = let e : o
     ≡ op = cc h in ap (λ z. Some z) e
 asks_runs s now told (mv.fetches k none rest quiet_so) op h = let e : Fetching k ≡ op = cc h in ap (λ z. Some z) e
 asks_runs s now told (mv.goes_on k r tr next a hears runs asks) op h = let e : Calling k r next
     ≡ op = cc h in ap (λ z. Some z) e
-asks_runs s now told (mv.is_done k r tr final rep a hears runs ends_so) op h = absurd (cc h)
-asks_runs s now told (mv.registers k path a hears runs note) op h = absurd (cc h)
-asks_runs s now told (mv.refuses k path a hears runs note) op h = absurd (cc h)
 asks_runs s now told (mv.fetches_on k n a num size hears runs rest code asks) op h = let e : Fetching k
     ≡ op = cc h in ap (λ z. Some z) e
-asks_runs s now told (mv.fetched k n a hears runs rest code done) op h = absurd (cc h)
-asks_runs s now told (mv.gives_up k a hears runs) op h = absurd (cc h)
-asks_runs s now told (mv.fetched_none k a hears runs) op h = absurd (cc h)
 asks_runs s now told (mv.cancels k a hears runs) op h = absurd (releases_none _ op h)
-asks_runs s now told (mv.is_dropped a hears runs) op h = absurd (cc h)
 asks_runs s now told (mv.is_ended o a notes found note) op h = absurd (releases_none _ op h)
-asks_runs s now told (mv.renews o a notes found note newer) op h = absurd (cc h)
-asks_runs s now told (mv.passes_by o a notes found note newer) op h = absurd (cc h)
 asks_runs s now told (mv.fails e un) op h = absurd (by s.running h)
   where
     by : (running : Option Operation) → (failed (λ t. true)
@@ -77,6 +67,7 @@ asks_runs s now told (mv.fails e un) op h = absurd (by s.running h)
     by (Some (Fetching k)) h = cc h
     by (Some Dropped) h = cc h
     by (Some (Cancelling k)) h = releases_none _ op h
+asks_runs s now told _ op h = absurd (cc h)
 
 -- where a request is sent, it is of the operation that runs then, and nothing is reported
 pub record SentNow (sizes : Sizes) (t : List Call) (c : Call) (x : Sending) : Type 0 where
@@ -122,13 +113,7 @@ sent_now sizes t (Feeds now from bytes w up settled event sent token kept) x h =
 sent_now sizes t (Ticks now w below turn sent token kept answer) x h =
     now_turned sizes t (Ticks now w below turn sent token kept answer) x
     (ticked_turned sizes t now w below turn sent token kept answer) h
-sent_now sizes t (Calls now r answer) x h = absurd (cc h)
-sent_now sizes t (Observes now path answer) x h = absurd (cc h)
-sent_now sizes t (Cancels now k answer) x h = absurd (cc h)
-sent_now sizes t (Forgets k kept answer) x h = absurd (cc h)
-sent_now sizes t (NextOut answer) x h = absurd (cc h)
-sent_now sizes t (NextReport answer) x h = absurd (cc h)
-sent_now sizes t (Asked answer) x h = absurd (cc h)
+sent_now sizes t _ x h = absurd (cc h)
 
 pub last_same : (sizes : Sizes) (t : List Call) (c : Call) → sends (own_of sizes t) c ≡ None
     → last_sent sizes (c ∷ t) ≡ last_sent sizes t
@@ -159,26 +144,17 @@ not_last k r (Uploads u) next m h = ap not (by ((m.code == continue) && is_longe
     by false true h = absurd (cc h)
     by false false h = absurd (cc h)
 
-lone_call : (op : Operation) (k : ℕ) → call_of op ≡ Some k → IsLone op
+pub lone_call : (op : Operation) (k : ℕ) → call_of op ≡ Some k → IsLone op
 lone_call (Calling n r t) k h = tt
-lone_call (Registering n path) k h = absurd (cc h)
-lone_call (Fetching n) k h = absurd (cc h)
-lone_call (Cancelling n) k h = absurd (cc h)
-lone_call Dropped k h = absurd (cc h)
+lone_call _ k h = absurd (cc h)
 
 calls_of : (op : Operation) (k : ℕ) → call_of op ≡ Some k → of_call op ≡ Some k
 calls_of (Calling n r t) k h = h
-calls_of (Registering n path) k h = absurd (cc h)
-calls_of (Fetching n) k h = absurd (cc h)
-calls_of (Cancelling n) k h = absurd (cc h)
-calls_of Dropped k h = absurd (cc h)
+calls_of _ k h = absurd (cc h)
 
 call_place : (op : Operation) (k : ℕ) → call_of op ≡ Some k → in_op k op ≡ 1
 call_place (Calling n r t) k h = let e : n ≡ k = cc h in ap (hit n) (sym e) ∙ hit_self n
-call_place (Registering n path) k h = absurd (cc h)
-call_place (Fetching n) k h = absurd (cc h)
-call_place (Cancelling n) k h = absurd (cc h)
-call_place Dropped k h = absurd (cc h)
+call_place _ k h = absurd (cc h)
 
 module _ (sizes : Sizes) where
   -- A request of a call waits for its answer; or was answered, and the call runs on; or the call is over.
@@ -231,19 +207,19 @@ module _ (sizes : Sizes) where
   placed (c ∷ t) answers x k (inl now) is = let z = sent_now sizes t c x now in waits z.runs z.last
   placed (c ∷ t) answers x k (inr before) is = place_here t c answers.0 x k is (placed t answers.1 x k before is)
 
-  module _ (server : Endpoint) (word : ℕ) where
+  module _ (server : Endpoint) (setup : Setup) where
     -- what is sent of a call shows that it is not over
-    not_gone : (t : List Call) (c : Call) → ClientLaw server sizes word (c ∷ t) → (y : Sending) (k : ℕ)
+    not_gone : (t : List Call) (c : Call) → ClientLaw server sizes setup (c ∷ t) → (y : Sending) (k : ℕ)
         → sends (own_of sizes t) c ≡ Some y → call_of y.operation ≡ Some k → 1 ≤ gone sizes k t → ⊥
     not_gone t c law y k is number h =
         let z = sent_now sizes t c y is in
-        let kn = known server sizes word (c ∷ t) law.rows law.exchanges.rows in
+        let kn = known server sizes setup (c ∷ t) law.rows law.exchanges.rows in
         let a = ap (in_running k) z.runs in
         let b = call_place y.operation k number in
         both_one (places k (own_of sizes (c ∷ t))) (gone sizes k (c ∷ t)) _ (kn.one k) (omega (arith, a, b))
         (gone_later k t c h)
 
-    ordered : (t : List Call) (c : Call) → ClientLaw server sizes word (c ∷ t) → AnswersLast sizes (c ∷ t)
+    ordered : (t : List Call) (c : Call) → ClientLaw server sizes setup (c ∷ t) → AnswersLast sizes (c ∷ t)
         → InOrder sizes t c
     ordered t c law answers = record {
       in_turn = in_turn sizes t c law.rows;
@@ -282,14 +258,14 @@ module _ (sizes : Sizes) where
                 inl (heard_now t c m x (answers.0 m heard) was heard)
             by (ends_it n number final none) = absurd (silent y is none)
 
-    pub are_in_order : (t : List Call) → ClientLaw server sizes word t → AreInOrder sizes t
+    pub are_in_order : (t : List Call) → ClientLaw server sizes setup t → AreInOrder sizes t
     are_in_order [] law = tt
     are_in_order (c ∷ t) law = (
-      ordered t c law (answers_last sizes server word (c ∷ t) law),
-      are_in_order t (client_back server sizes word (c ∷ []) t law),
+      ordered t c law (answers_last sizes server setup (c ∷ t) law),
+      are_in_order t (client_back server sizes setup (c ∷ []) t law),
     )
 
-    pub one_last : (t : List Call) → ClientLaw server sizes word t → OneLast sizes t
+    pub one_last : (t : List Call) → ClientLaw server sizes setup t → OneLast sizes t
     one_last t law = all t (are_in_order t law)
       where
         all : (t : List Call) → AreInOrder sizes t → OneLast sizes t

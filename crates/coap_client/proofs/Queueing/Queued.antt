@@ -84,12 +84,9 @@ noticed_queued (Some o) s now m =
 
 pub failed_queued : (u : Transfer → Bool) (report : Report) (s : Own) (running : Option Operation)
     → is_value report ≡ false → Queued s.queue (failed u report s running)
-failed_queued u report s None h = same refl
 failed_queued u report s (Some (Calling k r t)) h = same (held_queue (u t && is_upload t) s)
-failed_queued u report s (Some (Registering k path)) h = same refl
-failed_queued u report s (Some (Fetching k)) h = same refl
 failed_queued u report s (Some (Cancelling k)) h = over k report h refl refl
-failed_queued u report s (Some Dropped) h = same refl
+failed_queued u report s _ h = same refl
 
 pub happened_queued : (s : Own) (now : ℕ) (e : Option Event) → Queued s.queue (happened s now e)
 happened_queued s now None = same refl

@@ -6,6 +6,7 @@ use Rattle.std.specs.Prelude.{nat_le, nat_lt, length, drop, is_some, option_to_l
 use Rattle.std.specs.Option.{option_map}
 use Rattle.coap_types.specs.declared.endpoint.Endpoint.{Endpoint}
 use Rattle.coap_types.specs.declared.option_number.TheConstants.{BLOCK2 as block2}
+use Rattle.coap_layer.specs.declared.setup.Setup.{Setup}
 use Rattle.coap_block.specs.Sizes.{Sizes}
 use Rattle.coap_client.specs.declared.limits.TheConstants.{MAX_WAITING_CALLS as max_waiting}
 use Rattle.coap_client.specs.declared.limits.TheConstants.{MAX_OBSERVATIONS as max_observations}
@@ -19,8 +20,8 @@ use Rattle.coap_client.specs.Trace.{is_value, Request, Report, Reported, Call, C
 use Rattle.coap_client.specs.Trace.{Cancels}
 use Rattle.coap_client.specs.Trace.{Forgets, Feeds, Ticks, NextOut}
 use Rattle.coap_client.specs.Trace.{NextReport, Asked}
-use Rattle.coap_client.specs.Own.{Transfer, Operation, Calling, Registering, Fetching, Cancelling}
-use Rattle.coap_client.specs.Own.{Dropped, Observation, Own}
+use Rattle.coap_client.specs.Own.{Transfer, Operation, Registering, Fetching, Cancelling}
+use Rattle.coap_client.specs.Own.{Observation, Own}
 use Rattle.coap_client.specs.Observations.{to_fetch, observation_of}
 use Rattle.coap_client.specs.Observing.{releases}
 use Rattle.coap_client.specs.declared.refusals.CancelRefusal.TheVariants as cancel
@@ -80,12 +81,8 @@ released_none (Some o) = refl
 
 pub failed_none : (u : Transfer → Bool) (report : Report) (s : Own) (running : Option Operation)
     → asks_op (failed u report s running).deed ≡ None
-failed_none u report s None = refl
-failed_none u report s (Some (Calling k r t)) = refl
-failed_none u report s (Some (Registering k path)) = refl
-failed_none u report s (Some (Fetching k)) = refl
 failed_none u report s (Some (Cancelling k)) = released_none (observation_of k s.observations)
-failed_none u report s (Some Dropped) = refl
+failed_none u report s _ = refl
 
 -- what a tick leaves of what waits, and what starts
 record TickQueued (s : Own) (e : Effect) : Type 0 where
@@ -153,15 +150,15 @@ none_left : (a b c d : ℕ) (f : Bool) → (a + (b + c)) + d ≡ cond f 1 0 → 
 none_left a b c d true h k = omega (arith, h, k)
 none_left a b c d false h k = absurd (omega (arith, h, k))
 
-module _ (server : Endpoint) (sizes : Sizes) (word : ℕ) where
+module _ (server : Endpoint) (sizes : Sizes) (setup : Setup) where
   abbrev Laws : List Call → Type 0
-  Laws t = X.AskerLaw server word (lower_of sizes t)
+  Laws t = X.AskerLaw server setup (lower_of sizes t)
 
   under : (t : List Call) (c : Call) → Laws (c ∷ t) → Laws t
-  under t c law = law_back server word (lower (own_of sizes t) c) (lower_of sizes t) law
+  under t c law = law_back server setup (lower (own_of sizes t) c) (lower_of sizes t) law
 
   -- behind a datagram or a tick
-  module _ (t : List Call) (c : Call) (k : Known server sizes word (c ∷ t)) (x : Effect)
+  module _ (t : List Call) (c : Call) (k : Known server sizes setup (c ∷ t)) (x : Effect)
       (queue_is : (own_of sizes (c ∷ t)).queue ≡ x.own.queue) (reports_is : reports (own_of sizes t) c ≡ x.report)
       (over_is : over_in (own_of sizes t) c ≡ last_of (reports (own_of sizes t) c)) where
     gone_now : (n : ℕ) → over_in (own_of sizes t) c ≡ Some n → 1 ≤ gone sizes n (c ∷ t)
@@ -220,12 +217,12 @@ module _ (server : Endpoint) (sizes : Sizes) (word : ℕ) where
       let below = under t c law in
       let m : ℕ = max (own_of sizes t).clock now in
       let e : Effect = happened (at now (own_of sizes t)) m event in
-      let g = goes_fed server sizes word t now from bytes w up settled event sent token was
-      (known server sizes word t rows.1 below) law in
+      let g = goes_fed server sizes setup t now from bytes w up settled event sent token was
+      (known server sizes setup t rows.1 below) law in
       let q = closed_queued m (own_of sizes t).queue e token (closing m e token) (λ op h. (g.asks op h).0)
       (happened_queued (at now (own_of sizes t)) m event) in
       let h = told t rows.1 below in
-      turned_waits t c (known server sizes word (c ∷ t) rows law) (close m e token) refl refl refl
+      turned_waits t c (known server sizes setup (c ∷ t) rows law) (close m e token) refl refl refl
       (own_of sizes t).queue q
       ∙ (ap (without (over_in (own_of sizes t) c)) h
       ∙ sym (append-nil (without (over_in (own_of sizes t) c) (waiting_in sizes t))))
@@ -235,8 +232,8 @@ module _ (server : Endpoint) (sizes : Sizes) (word : ℕ) where
       let m : ℕ = max (own_of sizes t).clock now in
       let s : Own = at now (own_of sizes t) in
       let e : Effect = passes s m turn in
-      let old = known server sizes word t rows.1 below in
-      let g = goes_ticked server sizes word t now turn old in
+      let old = known server sizes setup t rows.1 below in
+      let g = goes_ticked server sizes setup t now turn old in
       let z = passes_starts s m turn old.waits in
       let q = closed_queued m z.waiting e token (closing m e token) (λ op h. (g.asks op h).0) z.queued in
       let h = told t rows.1 below in
@@ -244,7 +241,7 @@ module _ (server : Endpoint) (sizes : Sizes) (word : ℕ) where
       = z.is ∙ (ap (λ o. cond (is_turn o) (drop 1 (waits (own_of sizes t).queue)) (waits (own_of sizes t).queue))
       (sym (asked_is e e.deed token)) ∙ ap (λ ws. cond (starts (own_of sizes t) c) (drop 1 ws) ws) h)
       in
-      turned_waits t c (known server sizes word (c ∷ t) rows law) (close m e token) refl refl refl z.waiting q
+      turned_waits t c (known server sizes setup (c ∷ t) rows law) (close m e token) refl refl refl z.waiting q
       ∙ (ap (without (over_in (own_of sizes t) c)) so
       ∙ sym (append-nil (without (over_in (own_of sizes t) c)
       (cond (starts (own_of sizes t) c) (drop 1 (waiting_in sizes t)) (waiting_in sizes t)))))
@@ -265,14 +262,14 @@ module _ (server : Endpoint) (sizes : Sizes) (word : ℕ) where
   counted (Asked answer ∷ t) rows law = let h = counted t rows.1 law in omega (arith, h)
   counted (Feeds now from bytes w up settled event sent token was ∷ t) rows law =
       let below = under t (Feeds now from bytes w up settled event sent token was) law in
-      let a = (fed server sizes word t now from bytes w up settled event sent token was
-      (known server sizes word t rows.1 below) law).taken_is in
+      let a = (fed server sizes setup t now from bytes w up settled event sent token was
+      (known server sizes setup t rows.1 below) law).taken_is in
       let h = counted t rows.1 below in
       omega (arith, a, h)
   counted (Ticks now w low turn sent token was did ∷ t) rows law =
       let below = under t (Ticks now w low turn sent token was did) law in
-      let a = (ticked server sizes word t now w low turn sent token was did
-      (known server sizes word t rows.1 below) law).taken_is in
+      let a = (ticked server sizes setup t now w low turn sent token was did
+      (known server sizes setup t rows.1 below) law).taken_is in
       let h = counted t rows.1 below in
       omega (arith, a, h)
 
@@ -282,7 +279,7 @@ module _ (server : Endpoint) (sizes : Sizes) (word : ℕ) where
 
     full_is : is_full own ≡ nat_le max_waiting (length (waiting_in sizes t))
     full_is = ap (nat_le max_waiting) (sym (waits_length own.observations own.queue
-        (known server sizes word t rows law).waits) ∙ ap length (told t rows law))
+        (known server sizes setup t rows law).waits) ∙ ap length (told t rows law))
 
     next_by : (n : ℕ) → own.taken ≡ n → cond (own.taken == max_numbers) (Err CallsSpent) (Ok own.taken)
         ≡ cond (n == max_numbers) (Err CallsSpent) (Ok n)
@@ -316,7 +313,7 @@ module _ (server : Endpoint) (sizes : Sizes) (word : ℕ) where
     cancel_is number = ap (λ b. cond (not (is_live number own) || is_cancelled number own) (Some cancel.Unknown)
         (cond b (Some cancel.QueueFull) None)) full_is
 
-  starts_first : (t : List Call) (c : Call) → ClientLaw server sizes word (c ∷ t) → starts (own_of sizes t) c ≡ true
+  starts_first : (t : List Call) (c : Call) → ClientLaw server sizes setup (c ∷ t) → starts (own_of sizes t) c ≡ true
       → StartsFirst sizes t c
   starts_first t (Ticks now w low turn sent token was did) law h =
       let c : Call = Ticks now w low turn sent token was did in
@@ -324,7 +321,7 @@ module _ (server : Endpoint) (sizes : Sizes) (word : ℕ) where
       let m : ℕ = max (own_of sizes t).clock now in
       let s : Own = at now (own_of sizes t) in
       let e : Effect = passes s m turn in
-      let z = passes_starts s m turn (known server sizes word t law.rows.1 below).waits in
+      let z = passes_starts s m turn (known server sizes setup t law.rows.1 below).waits in
       let f = z.first (ap is_turn (sym (asked_is e e.deed token)) ∙ h) in
       record {
         operation = f.0;
@@ -334,16 +331,9 @@ module _ (server : Endpoint) (sizes : Sizes) (word : ℕ) where
         rest = f.2.2.0;
         waits = sym (told t law.rows.1 below) ∙ f.2.2.1;
       }
-  starts_first t (Feeds now from bytes w up settled event sent token was) law h = absurd (cc h)
-  starts_first t (Calls now r did) law h = absurd (cc h)
-  starts_first t (Observes now path did) law h = absurd (cc h)
-  starts_first t (Cancels now n did) law h = absurd (cc h)
-  starts_first t (Forgets n was did) law h = absurd (cc h)
-  starts_first t (NextOut did) law h = absurd (cc h)
-  starts_first t (NextReport did) law h = absurd (cc h)
-  starts_first t (Asked did) law h = absurd (cc h)
+  starts_first t _ law h = absurd (cc h)
 
-  takes_here : (t : List Call) (c : Call) → ClientLaw server sizes word (c ∷ t) → TakesRight sizes t c
+  takes_here : (t : List Call) (c : Call) → ClientLaw server sizes setup (c ∷ t) → TakesRight sizes t c
   takes_here t c law =
       let below = under t c law.exchanges.rows in
       record {
@@ -359,6 +349,6 @@ module _ (server : Endpoint) (sizes : Sizes) (word : ℕ) where
         in_order = starts_first t c law;
       }
 
-  pub all_taken : (t : List Call) → ClientLaw server sizes word t → AllTaken sizes t
+  pub all_taken : (t : List Call) → ClientLaw server sizes setup t → AllTaken sizes t
   all_taken [] law = tt
-  all_taken (c ∷ t) law = (takes_here t c law, all_taken t (client_back server sizes word (c ∷ []) t law))
+  all_taken (c ∷ t) law = (takes_here t c law, all_taken t (client_back server sizes setup (c ∷ []) t law))

@@ -3,12 +3,13 @@ use Rattle.std.proofs.Common.{◌≡◌, ◌≤◌, inl, inr, ℕ, max, true, co
 use Rattle.std.proofs.Common.{ap, sym, subst, ◌∙◌, arith}
 use Rattle.std.specs.Prelude.{◌==◌}
 use Rattle.coap_types.specs.declared.endpoint.Endpoint.{Endpoint}
+use Rattle.coap_layer.specs.declared.setup.Setup.{Setup}
 use Rattle.coap_block.specs.Sizes.{Sizes}
 use Rattle.coap_block.specs.declared.fetch_verdict.Verdict.TheVariants as verdict
 use Rattle.coap_block.specs.FetchStep as F
 use Rattle.coap_exchange.specs.declared.asker.Event.TheVariants as event_of
 use Rattle.coap_observe.specs.Newer.{arrived}
-use Rattle.coap_client.specs.Trace.{Call, Calls, Observes, Cancels, Forgets, Feeds, Ticks, NextOut, NextReport, Asked}
+use Rattle.coap_client.specs.Trace.{Call, Feeds}
 use Rattle.coap_client.specs.Own.{Notified, Observation, Own}
 use Rattle.coap_client.specs.Observations.{observation_with, rest_of}
 use Rattle.coap_client.specs.Responses.{sequence_in, tag_in, part}
@@ -86,28 +87,17 @@ module _ (sizes : Sizes) where
           rest = first_rest s.sizes m;
         }) o).rest) (number_self o.number) ∙ ap (λ (x : Newly). first_rest s.sizes x.message) (sym r.is);
       }
-  there_now t (Feeds now from bytes w up settled (Some event_of.Reset) sent token was) n is = absurd (cc is)
-  there_now t (Feeds now from bytes w up settled (Some event_of.Timeout) sent token was) n is = absurd (cc is)
-  there_now t (Feeds now from bytes w up settled (Some event_of.NoResponse) sent token was) n is = absurd (cc is)
-  there_now t (Feeds now from bytes w up settled None sent token was) n is = absurd (cc is)
-  there_now t (Ticks now w below turn sent token was answer) n is = absurd (cc is)
-  there_now t (Calls now r answer) n is = absurd (cc is)
-  there_now t (Observes now path answer) n is = absurd (cc is)
-  there_now t (Cancels now k answer) n is = absurd (cc is)
-  there_now t (Forgets k was answer) n is = absurd (cc is)
-  there_now t (NextOut answer) n is = absurd (cc is)
-  there_now t (NextReport answer) n is = absurd (cc is)
-  there_now t (Asked answer) n is = absurd (cc is)
+  there_now t _ n is = absurd (cc is)
 
-  wants_here : (server : Endpoint) (word : ℕ) (t : List Call) (c : Call) → ClientLaw server sizes word (c ∷ t)
+  wants_here : (server : Endpoint) (setup : Setup) (t : List Call) (c : Call) → ClientLaw server sizes setup (c ∷ t)
       → (n : Newly) (num size : ℕ) → notifies (own_of sizes t) c ≡ Some n
       → part (F.start sizes 0) n.message ≡ verdict.Ask num size → Wants sizes n num size t c
-  wants_here server word t c law n num size is asks =
+  wants_here server setup t c law n num size is asks =
       let m = n.message in
       let os : List Observation = (own_of sizes (c ∷ t)).observations in
       let h = there_now t c n is in
       let k : ℕ = (h.it).number in
-      let places = most server sizes word (c ∷ t) law k in
+      let places = most server sizes setup (c ∷ t) law k in
       let one : in_observations k os ≤ 1 = omega (arith, places) in
       let q : Notified = record {
         sequence = sequence_in m;
@@ -120,8 +110,8 @@ module _ (sizes : Sizes) where
       let here : rest_of n.number os ≡ Some q = subst (λ i. rest_of i os ≡ Some q) h.number found in
       record { wanted = (q, here); asks = ap (λ o. elim o [ None ↦ None | Some x ↦ x.fetch.asked ]) here }
 
-pub all_want : (server : Endpoint) (sizes : Sizes) (word : ℕ) (t : List Call) → ClientLaw server sizes word t
+pub all_want : (server : Endpoint) (sizes : Sizes) (setup : Setup) (t : List Call) → ClientLaw server sizes setup t
     → AllWant sizes t
-all_want server sizes word [] law = tt
-all_want server sizes word (c ∷ t) law =
-    (wants_here sizes server word t c law, all_want server sizes word t (client_back server sizes word (c ∷ []) t law))
+all_want server sizes setup [] law = tt
+all_want server sizes setup (c ∷ t) law =
+    (wants_here sizes server setup t c law, all_want server sizes setup t (client_back server sizes setup (c ∷ []) t law))

@@ -52,9 +52,7 @@ refused_none refusal.TooLarge = refl
 
 fetched_none : (f : FetchState) (m : Message) (v : Verdict) → next_code (calls.fetched f m v) ≡ false
 fetched_none f m (verdict.Refuse why) = refused_none why
-fetched_none f m verdict.Again = refl
-fetched_none f m verdict.Done = refl
-fetched_none f m (verdict.Ask num size) = refl
+fetched_none f m _ = refl
 
 continued_none : (u : UploadState) (o : Option Block) → next_code (calls.continued u o) ≡ false
 continued_none u None = refl

@@ -10,10 +10,9 @@ use Rattle.coap_block.specs.FetchStep as F
 use Rattle.coap_exchange.specs.declared.asker.Event.{Event}
 use Rattle.coap_exchange.specs.declared.asker.Event.TheVariants as event_of
 use Rattle.coap_client.specs.Trace.{Request, Report, NoIds, Reported, Call}
-use Rattle.coap_client.specs.Trace.{Calls, Observes, Cancels, Forgets, Feeds, Ticks}
-use Rattle.coap_client.specs.Trace.{NextOut, NextReport, Asked}
-use Rattle.coap_client.specs.Own.{Transfer, Operation, Calling, Registering, Fetching, Cancelling}
-use Rattle.coap_client.specs.Own.{Dropped, Own}
+use Rattle.coap_client.specs.Trace.{Feeds, Ticks}
+use Rattle.coap_client.specs.Own.{Transfer, Operation, Calling, Registering, Cancelling}
+use Rattle.coap_client.specs.Own.{Own}
 use Rattle.coap_client.specs.Responses.{part}
 use Rattle.coap_client.specs.Reports.{lapse}
 use Rattle.coap_client.specs.Calls.{answer}
@@ -54,12 +53,10 @@ value_none k sequence f m (verdict.Ask num size) = refl
 
 failed_none : (u : Transfer → Bool) (report : Report) (s : Own) (running : Option Operation)
     → is_by_answer report ≡ false → answer_reported (failed u report s running).report ≡ false
-failed_none u report s None h = refl
 failed_none u report s (Some (Calling k r t)) h = h
 failed_none u report s (Some (Registering k path)) h = h
-failed_none u report s (Some (Fetching k)) h = refl
 failed_none u report s (Some (Cancelling k)) h = h
-failed_none u report s (Some Dropped) h = refl
+failed_none u report s _ h = refl
 
 -- the answer that gives the report
 pub record GivesReport (s : Own) (heard : Option Message) (k : ℕ) (report : Report) : Type 0 where
@@ -75,11 +72,6 @@ move_gives : (s : Own) (now : ℕ) (told : Option Event) (mo : Move s now told)
     → (answer_reported (left_by s now told mo).report ≡ false)
     ⊎ ((k : ℕ) × (report : Report) × ((left_by s now told mo).report ≡ of k report)
     × GivesReport s (heard_in told) k report)
-move_gives s now told (mv.rests un) = inl refl
-move_gives s now told (mv.copies q) = inl refl
-move_gives s now told (mv.starts_next op queue none rest first q) = inl refl
-move_gives s now told (mv.fetches k none rest q) = inl refl
-move_gives s now told (mv.goes_on k r tr next a hears_it runs asks) = inl refl
 move_gives s now told (mv.is_done k r tr final rep a hears_it runs ends_so) =
     inr (
       k,
@@ -97,18 +89,10 @@ move_gives s now told (mv.is_done k r tr final rep a hears_it runs ends_so) =
     )
 move_gives s now told (mv.registers k path a hears_it runs note) =
     inl (value_none k _ (F.start s.sizes 0) a (part (F.start s.sizes 0) a))
-move_gives s now told (mv.refuses k path a hears_it runs note) = inl refl
-move_gives s now told (mv.fetches_on k n a num size hears_it runs rest code asks) = inl refl
-move_gives s now told (mv.fetched k n a hears_it runs rest code done) = inl refl
-move_gives s now told (mv.gives_up k a hears_it runs) = inl refl
-move_gives s now told (mv.fetched_none k a hears_it runs) = inl refl
-move_gives s now told (mv.cancels k a hears_it runs) = inl refl
-move_gives s now told (mv.is_dropped a hears_it runs) = inl refl
 move_gives s now told (mv.fails e un) = inl (failed_none (λ t. true) (lapse e) s s.running (lapse_none e))
-move_gives s now told (mv.is_ended o a notes found note) = inl refl
 move_gives s now told (mv.renews o a notes found note newer) =
     inl (value_none o.number _ (F.start s.sizes 0) a (part (F.start s.sizes 0) a))
-move_gives s now told (mv.passes_by o a notes found note newer) = inl refl
+move_gives s now told _ = inl refl
 
 module _ (sizes : Sizes) where
   given_from : (t : List Call) (c : Call) → Turned sizes t c → (k : ℕ) (report : Report) → is_by_answer report ≡ true
@@ -162,10 +146,4 @@ module _ (sizes : Sizes) where
   gives_of t (Ticks now w below turn sent token was answer) k report is_it made =
       given_from t (Ticks now w below turn sent token was answer)
       (ticked_turned sizes t now w below turn sent token was answer) k report is_it made
-  gives_of t (Calls now r answer) k report is_it made = absurd (cc made)
-  gives_of t (Observes now path answer) k report is_it made = absurd (cc made)
-  gives_of t (Cancels now n answer) k report is_it made = absurd (cc made)
-  gives_of t (Forgets n was answer) k report is_it made = absurd (cc made)
-  gives_of t (NextOut answer) k report is_it made = absurd (cc made)
-  gives_of t (NextReport answer) k report is_it made = absurd (cc made)
-  gives_of t (Asked answer) k report is_it made = absurd (cc made)
+  gives_of t _ k report is_it made = absurd (cc made)

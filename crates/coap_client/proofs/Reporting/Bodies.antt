@@ -8,7 +8,8 @@ use Rattle.coap_types.specs.declared.block.Block.{Block}
 use Rattle.coap_types.specs.declared.endpoint.Endpoint.{Endpoint}
 use Rattle.coap_types.specs.declared.option_number.TheConstants.{BLOCK1 as block1, BLOCK2 as block2}
 use Rattle.coap_types.specs.declared.request.Method.{Method}
-use Rattle.coap_types.specs.declared.request.Method.TheVariants.{Get, Post, Put, Delete}
+use Rattle.coap_types.specs.declared.request.Method.TheVariants.{Get}
+use Rattle.coap_layer.specs.declared.setup.Setup.{Setup}
 use Rattle.coap_codec.specs.Message.{Message}
 use Rattle.coap_block.specs.Sizes.{Sizes}
 use Rattle.coap_block.specs.declared.fetch_step.FetchRefusal.{FetchRefusal}
@@ -27,7 +28,7 @@ use Rattle.coap_client.specs.Trace.{Request, Report, Body, Valid, Failed, Done, 
 use Rattle.coap_client.specs.Trace.{Call, Calls, Observes, Cancels, Forgets, Feeds}
 use Rattle.coap_client.specs.Trace.{Ticks, NextOut, NextReport, Asked}
 use Rattle.coap_client.specs.Own.{Transfer, Fetches, Uploads, Single, Operation, Calling, Registering}
-use Rattle.coap_client.specs.Own.{Fetching, Cancelling, Dropped, Own}
+use Rattle.coap_client.specs.Own.{Cancelling, Own}
 use Rattle.coap_client.specs.Requests.{is_longer}
 use Rattle.coap_client.specs.Responses.{content, valid, continue, said, tag_in, format_in, block_at}
 use Rattle.coap_client.specs.Responses.{part}
@@ -56,6 +57,7 @@ use Rattle.coap_client.proofs.Turning.Turns.{closing}
 use Rattle.coap_client.proofs.Reporting.AnswerReports.{GivesReport, gives_of}
 use Rattle.coap_client.proofs.Turning.Origins.{Origin, kept, begins, follows, origin}
 use Rattle.coap_client.proofs.Sending.Tokens.{last_was_sent}
+use Rattle.coap_client.proofs.Uploading.Pieces.{all_behind as all_more}
 
 -- what a part means
 
@@ -310,14 +312,7 @@ IsNew op = Unit {0}
 new_call : (sizes : Sizes) (k : ℕ) (r : Request) (method : Method)
     → IsNew (Calling k (record r { body = [] }) (transfer_of sizes r method))
 new_call sizes k r Get = (sizes, refl)
-new_call sizes k r Post = tt
-new_call sizes k r Put = tt
-new_call sizes k r Delete = tt
-
-all_more : (P : Operation → Type 0) (ops : List Operation) (op : Operation) → AllOf P ops → P op
-    → AllOf P (ops ++ op ∷ [])
-all_more P [] op h k = (k, tt)
-all_more P (x ∷ ops) op h k = (h.0, all_more P ops op h.1 k)
+new_call sizes k r _ = tt
 
 pub waits_closed : (P : Operation → Type 0) (now : ℕ) (e : Effect) (token : Result (List ℕ) AskRefusal)
     → AllOf P e.own.queue → Closing now e token → AllOf P (closed now e e.deed token).own.queue
@@ -362,10 +357,7 @@ module _ (sizes : Sizes) where
 
   call_in : (op : Operation) (k : ℕ) → runs_call k (Some op) ≡ true → call_of op ≡ Some k
   call_in (Calling n r tr) k h = ap (λ z. Some z) (same_number n k h)
-  call_in (Registering n path) k h = absurd (cc h)
-  call_in (Fetching n) k h = absurd (cc h)
-  call_in (Cancelling n) k h = absurd (cc h)
-  call_in Dropped k h = absurd (cc h)
+  call_in _ k h = absurd (cc h)
 
   pub heard_for : (t : List Call) (c : Call) (m : Message) (k : ℕ) (r : Request) (tr : Transfer) → Answers sizes t c m
       → (own_of sizes t).running ≡ Some (Calling k r tr) → hears c ≡ Some m → HeardFor sizes k m t c
@@ -450,24 +442,24 @@ module _ (sizes : Sizes) where
       }
 
   -- the request that runs was sent last, as it is
-  runs_as : (server : Endpoint) (word : ℕ) (t : List Call) → ClientLaw server sizes word t
+  runs_as : (server : Endpoint) (setup : Setup) (t : List Call) → ClientLaw server sizes setup t
       → (k : ℕ) (r : Request) (f : FetchState) (x : Sending) → (own_of sizes t).running ≡ Some (Calling k r (Fetches f))
       → last_sent sizes t ≡ Some x
       → x.operation ≡ Calling k r (Fetches f)
-  runs_as server word t law k r f x runs last =
+  runs_as server setup t law k r f x runs last =
       elim h.same [ inl d ↦ absurd (cc d) | inr same ↦ ap (λ (y : Sending). y.operation) one ∙ same ]
     where
-      h : Tracked sizes t (Calling k r (Fetches f)) (beneath server sizes word t).running
-      h = subst (λ o. IfTracked sizes t o (beneath server sizes word t).running) runs
-          (all_sends sizes server word t law.rows law.exchanges.rows).tracked
+      h : Tracked sizes t (Calling k r (Fetches f)) (beneath server sizes setup t).running
+      h = subst (λ o. IfTracked sizes t o (beneath server sizes setup t).running) runs
+          (all_sends sizes server setup t law.rows law.exchanges.rows).tracked
 
       one : x ≡ h.sending
       one = let e : Some x ≡ Some h.sending = sym last ∙ h.last in cc e
 
-  whole_here : (server : Endpoint) (word : ℕ) (t : List Call) (c : Call) → ClientLaw server sizes word t
+  whole_here : (server : Endpoint) (setup : Setup) (t : List Call) (c : Call) → ClientLaw server sizes setup t
       → AnswersLast sizes (c ∷ t) → (k : ℕ) (tag : Option (List ℕ)) (format : Option ℕ) (body : List ℕ)
       → reports (own_of sizes t) c ≡ of k (Body tag format body) → IsFetched sizes k tag format body t c
-  whole_here server word t c law answers k tag format body made =
+  whole_here server setup t c law answers k tag format body made =
       let g = gives_body t c k (Body tag format body) refl (gives_of sizes t c k (Body tag format body) refl made) in
       let p = parts_of t answers.1 k g.request g.fetch g.runs in
       let a = answers.0 g.message g.heard_it in
@@ -475,7 +467,7 @@ module _ (sizes : Sizes) where
       let format_is : format ≡ format_in g.message = cc (g.is) in
       let body_is : body ≡ g.fetch.gathered ++ g.message.payload = cc (g.is) in
       let d = part_done p.parts g.fetch g.message p.gathered g.done_so in
-      let op = runs_as server word t law k g.request g.fetch a.sending g.runs a.last in
+      let op = runs_as server setup t law k g.request g.fetch a.sending g.runs a.last in
       record {
         message = g.message;
         heard = record {
@@ -498,13 +490,13 @@ module _ (sizes : Sizes) where
         format_is = format_is;
       }
 
-  bodies : (server : Endpoint) (word : ℕ) (t : List Call) → ClientLaw server sizes word t → AnswersLast sizes t
+  bodies : (server : Endpoint) (setup : Setup) (t : List Call) → ClientLaw server sizes setup t → AnswersLast sizes t
       → BodiesAreWhole sizes t
-  bodies server word [] law answers = tt
-  bodies server word (c ∷ t) law answers =
-      let before = client_back server sizes word (c ∷ []) t law
-      in (whole_here server word t c before answers, bodies server word t before answers.1)
+  bodies server setup [] law answers = tt
+  bodies server setup (c ∷ t) law answers =
+      let before = client_back server sizes setup (c ∷ []) t law
+      in (whole_here server setup t c before answers, bodies server setup t before answers.1)
 
-pub bodies_are_whole : (server : Endpoint) (sizes : Sizes) (word : ℕ) (t : List Call) → ClientLaw server sizes word t
+pub bodies_are_whole : (server : Endpoint) (sizes : Sizes) (setup : Setup) (t : List Call) → ClientLaw server sizes setup t
     → BodiesAreWhole sizes t
-bodies_are_whole server sizes word t law = bodies sizes server word t law (answers_last sizes server word t law)
+bodies_are_whole server sizes setup t law = bodies sizes server setup t law (answers_last sizes server setup t law)

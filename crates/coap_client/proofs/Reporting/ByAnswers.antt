@@ -10,6 +10,7 @@ use Rattle.coap_types.specs.declared.endpoint.Endpoint.{Endpoint}
 use Rattle.coap_types.specs.declared.message.TheConstants.Code as codes
 use Rattle.coap_types.specs.declared.option_number.TheConstants.{BLOCK1 as block1}
 use Rattle.coap_types.specs.declared.request.Method.{Method}
+use Rattle.coap_layer.specs.declared.setup.Setup.{Setup}
 use Rattle.coap_codec.specs.Message.{Message}
 use Rattle.coap_block.specs.Sizes.{Sizes}
 use Rattle.coap_block.specs.FetchStep.{FetchState}
@@ -17,7 +18,6 @@ use Rattle.coap_block.specs.UploadStep.{UploadState, more_follows, continues, mo
 use Rattle.coap_block.proofs.Facts.Laws.{continues_is_tested}
 use Rattle.coap_client.specs.Trace.{Request, Report, Body, Valid, Done, Failed, Changed}
 use Rattle.coap_client.specs.Trace.{BadBlock, NoTag, TooLarge, Call}
-use Rattle.coap_client.specs.Trace as R
 use Rattle.coap_client.specs.Own.{Transfer, Fetches, Uploads, Single}
 use Rattle.coap_client.specs.Requests.{is_longer}
 use Rattle.coap_client.specs.Reports.{done, is_success}
@@ -37,10 +37,7 @@ use Rattle.coap_client.proofs.Reporting.Codes.{runs_as}
 use Rattle.coap_client.proofs.Reporting.AnswerCodes.{done_of, failed_of}
 use Rattle.coap_client.proofs.Turning.Leading.{client_back}
 use Rattle.coap_client.proofs.Uploading.Pieces.{answers_last}
-
-both : (a b : Bool) → (a && b) ≡ true → (a ≡ true) × (b ≡ true)
-both true b h = (refl, h)
-both false b h = absurd (cc h)
+use Rattle.std.proofs.lemmas.Bool.{and_parts as both}
 
 -- what fits one message has no block behind it
 no_more : (u : UploadState) → is_longer u ≡ false → more_follows u ≡ false
@@ -119,13 +116,7 @@ module _ (sizes : Sizes) (k : ℕ) (r : Request) (body : List ℕ) (m : Message)
   fetch_may f carries final BadBlock is h = refl
   fetch_may f carries final NoTag is h = refl
   fetch_may f carries final TooLarge is h = refl
-  fetch_may f carries final (R.Value sequence tag format bytes) is h = absurd (cc is)
-  fetch_may f carries final (R.Ended code) is h = absurd (cc is)
-  fetch_may f carries final R.Cancelled is h = absurd (cc is)
-  fetch_may f carries final R.Timeout is h = absurd (cc is)
-  fetch_may f carries final R.Reset is h = absurd (cc is)
-  fetch_may f carries final R.NoResponse is h = absurd (cc is)
-  fetch_may f carries final R.NoIds is h = absurd (cc is)
+  fetch_may f carries final _ is h = absurd (cc is)
 
   may_report : (tr : Transfer) → CarriesBody sizes r.method body tr → (final : Bool) (report : Report)
       → is_by_answer report ≡ true → answer r tr m ≡ calls.Ends final report → MayReport tr m report
@@ -133,14 +124,14 @@ module _ (sizes : Sizes) (k : ℕ) (r : Request) (body : List ℕ) (m : Message)
   may_report (Uploads u) carries final report is h = upload_may r.method u m final report h
   may_report Single carries final report is h = done_may Single m (is_success r.method m.code) final report h
 
-module _ (server : Endpoint) (sizes : Sizes) (word : ℕ) where
-  by_answer : (t : List Call) (c : Call) → ClientLaw server sizes word t
+module _ (server : Endpoint) (sizes : Sizes) (setup : Setup) where
+  by_answer : (t : List Call) (c : Call) → ClientLaw server sizes setup t
       → ((m : Message) → hears c ≡ Some m → Answers sizes t c m) → (k : ℕ) (report : Report)
       → reports (own_of sizes t) c ≡ of k report → is_by_answer report ≡ true → IsByAnswer sizes k report t c
   by_answer t c law answers k report made is =
       let g = gives_of sizes t c k report is made in
       let a = answers g.message g.heard_it in
-      let runs = runs_as sizes server word t law k g.request g.transfer g.runs in
+      let runs = runs_as sizes server setup t law k g.request g.transfer g.runs in
       let both_last : Some a.sending ≡ Some runs.sending = sym a.last ∙ runs.last in
       let same : a.sending ≡ runs.sending = cc both_last in
       record {
@@ -156,11 +147,11 @@ module _ (server : Endpoint) (sizes : Sizes) (word : ℕ) where
         may = may_report sizes k g.request runs.body g.message g.transfer runs.carries g.final report is g.ends_so;
       }
 
-  all_by : (t : List Call) → ClientLaw server sizes word t → AnswersLast sizes t → AreByAnswers sizes t
+  all_by : (t : List Call) → ClientLaw server sizes setup t → AnswersLast sizes t → AreByAnswers sizes t
   all_by [] law answers = tt
   all_by (c ∷ t) law answers =
-      let before = client_back server sizes word (c ∷ []) t law in
+      let before = client_back server sizes setup (c ∷ []) t law in
       (by_answer t c before answers.0, all_by t before answers.1)
 
-  pub are_by_answers : (t : List Call) → ClientLaw server sizes word t → AreByAnswers sizes t
-  are_by_answers t law = all_by t law (answers_last sizes server word t law)
+  pub are_by_answers : (t : List Call) → ClientLaw server sizes setup t → AreByAnswers sizes t
+  are_by_answers t law = all_by t law (answers_last sizes server setup t law)

@@ -12,6 +12,7 @@ use Rattle.coap_block.specs.declared.fetch_verdict.Verdict.TheVariants as verdic
 use Rattle.coap_block.specs.FetchStep as F
 use Rattle.coap_exchange.specs.declared.asker.AskRefusal.{AskRefusal}
 use Rattle.coap_layer.specs.Trace as L
+use Rattle.coap_layer.specs.declared.setup.Setup.{Setup}
 use Rattle.coap_exchange.specs.declared.asker.Event.TheVariants as event_of
 use Rattle.coap_exchange.specs.declared.asker.Turn.TheVariants as turn_is
 use Rattle.coap_observe.specs.Newer.{is_newer}
@@ -103,16 +104,13 @@ module _ (i : ℕ) (token : Result (List ℕ) AskRefusal) where
       → reported (fetch_by k n s m (cond b v (verdict.Refuse refusal.BadBlock)))
       ≡ reported_as k (first_of (line (b && is_whole v)
       (Value n.sequence (tag_in m) (format_in m) (n.fetch.gathered ++ m.payload)) ∷ []))
-  fetch_by_reports k n s m false v none = refl
-  fetch_by_reports k n s m true verdict.Done none = refl
-  fetch_by_reports k n s m true verdict.Again none = refl
-  fetch_by_reports k n s m true (verdict.Refuse why) none = refl
   fetch_by_reports k n s m true (verdict.Ask num size) none = by token none
     where
       by : (z : Result (List ℕ) AskRefusal) → unsent_by (fetch_by k n s m (verdict.Ask num size)).deed z ≡ None
           → (close i (fetch_by k n s m (verdict.Ask num size)) z).report ≡ None
       by (Ok key) none = refl
       by (Err why) none = absurd (cc none)
+  fetch_by_reports k n s m _ _ none = refl
 
   fetch_reports : (k : ℕ) (o : Option Notified) (s : Own) (m : Message) → sent (fetch_answered k o s m)
       → reported (fetch_answered k o s m) ≡ reported_as k (first_of (fetched_lines o m))
@@ -179,23 +177,7 @@ module _ (sizes : Sizes) (t : List Call) where
       → (close i (answered (at now s) i a o) token).report
       ≡ reported_as (number_in op) (first_of (answer_lines sizes s.observations op a))) (sym runs)
       (answer_reports i token sizes (at now s) a op (size_is sizes t)) none)
-  answer_here (Feeds now from bytes w up settled (Some (event_of.Notice a)) sent token was) m op heard runs none =
-      absurd (cc heard)
-  answer_here (Feeds now from bytes w up settled (Some event_of.Timeout) sent token was) m op heard runs none =
-      absurd (cc heard)
-  answer_here (Feeds now from bytes w up settled (Some event_of.Reset) sent token was) m op heard runs none =
-      absurd (cc heard)
-  answer_here (Feeds now from bytes w up settled (Some event_of.NoResponse) sent token was) m op heard runs none =
-      absurd (cc heard)
-  answer_here (Feeds now from bytes w up settled None sent token was) m op heard runs none = absurd (cc heard)
-  answer_here (Ticks now w below turn sent token was did) m op heard runs none = absurd (cc heard)
-  answer_here (Calls now q did) m op heard runs none = absurd (cc heard)
-  answer_here (Observes now path did) m op heard runs none = absurd (cc heard)
-  answer_here (Cancels now j did) m op heard runs none = absurd (cc heard)
-  answer_here (Forgets j was did) m op heard runs none = absurd (cc heard)
-  answer_here (NextOut did) m op heard runs none = absurd (cc heard)
-  answer_here (NextReport did) m op heard runs none = absurd (cc heard)
-  answer_here (Asked did) m op heard runs none = absurd (cc heard)
+  answer_here _ m op heard runs none = absurd (cc heard)
 
   notice_here : (c : Call) → Notes c
   notice_here (Feeds now from bytes w up settled (Some (event_of.Notice a)) sent token was) m o noted found =
@@ -206,23 +188,7 @@ module _ (sizes : Sizes) (t : List Call) where
       (sym same)
       ∙ (ap (λ x. (close i (noticed_by x (at now s) i m) token).report) found
       ∙ notice_reports i token sizes (at now s) m o (size_is sizes t))
-  notice_here (Feeds now from bytes w up settled (Some (event_of.Answer a)) sent token was) m o noted found =
-      absurd (cc noted)
-  notice_here (Feeds now from bytes w up settled (Some event_of.Timeout) sent token was) m o noted found =
-      absurd (cc noted)
-  notice_here (Feeds now from bytes w up settled (Some event_of.Reset) sent token was) m o noted found =
-      absurd (cc noted)
-  notice_here (Feeds now from bytes w up settled (Some event_of.NoResponse) sent token was) m o noted found =
-      absurd (cc noted)
-  notice_here (Feeds now from bytes w up settled None sent token was) m o noted found = absurd (cc noted)
-  notice_here (Ticks now w below turn sent token was did) m o noted found = absurd (cc noted)
-  notice_here (Calls now q did) m o noted found = absurd (cc noted)
-  notice_here (Observes now path did) m o noted found = absurd (cc noted)
-  notice_here (Cancels now j did) m o noted found = absurd (cc noted)
-  notice_here (Forgets j was did) m o noted found = absurd (cc noted)
-  notice_here (NextOut did) m o noted found = absurd (cc noted)
-  notice_here (NextReport did) m o noted found = absurd (cc noted)
-  notice_here (Asked did) m o noted found = absurd (cc noted)
+  notice_here _ m o noted found = absurd (cc noted)
 
 -- nothing else is reported
 
@@ -252,7 +218,7 @@ idle_none s i (Some op) fetch = refl
 idle_none s i None (Some k) = refl
 idle_none s i None None = starts_none s i s.queue
 
-module _ (sizes : Sizes) (server : Endpoint) (word : ℕ) (t : List Call) where
+module _ (sizes : Sizes) (server : Endpoint) (setup : Setup) (t : List Call) where
   abbrev ReportsNone : Call → Type 0
   ReportsNone c = ((m : Message) → hears c ≡ Some m → (own_of sizes t).running ≡ None)
       → ((m : Message) → notes c ≡ Some m → observation_with m.token (own_of sizes t).observations ≡ None)
@@ -267,8 +233,7 @@ module _ (sizes : Sizes) (server : Endpoint) (word : ℕ) (t : List Call) where
       let z : Some R.NoResponse ≡ None =
       ap (λ x. ends_as (Ticks now w below (turn_is.End x) sent token was did)) (sym is) ∙ none in cc z
 
-  none_here : (c : Call) → ClientLaw server sizes word (c ∷ t) → ReportsNone c
-  none_here (Feeds now from bytes w up settled None sent token was) law heard noted ends_so none = refl
+  none_here : (c : Call) → ClientLaw server sizes setup (c ∷ t) → ReportsNone c
   none_here (Feeds now from bytes w up settled (Some (event_of.Answer a)) sent token was) law heard noted ends_so none =
       let i : ℕ = max (own_of sizes t).clock now in
       ap (λ op. (close i (answered (at now (own_of sizes t)) i a op) token).report) (heard a refl)
@@ -278,38 +243,31 @@ module _ (sizes : Sizes) (server : Endpoint) (word : ℕ) (t : List Call) where
   none_here (Feeds now from bytes w up settled (Some event_of.Reset) sent token was) law heard noted ends_so none =
       absurd (cc ends_so)
   none_here (Feeds now from bytes w up settled (Some event_of.Timeout) sent token was) law heard noted ends_so none =
-      absurd (fed_came sizes server word t now from bytes w up settled (Some event_of.Timeout) sent token was
+      absurd (fed_came sizes server setup t now from bytes w up settled (Some event_of.Timeout) sent token was
       law.exchanges.rows)
   none_here (Feeds now from bytes w up settled (Some event_of.NoResponse) sent token was) law heard noted ends_so none =
-      absurd (fed_came sizes server word t now from bytes w up settled (Some event_of.NoResponse) sent token was
+      absurd (fed_came sizes server setup t now from bytes w up settled (Some event_of.NoResponse) sent token was
       law.exchanges.rows)
   none_here (Ticks now w below turn_is.Idle sent token was did) law heard noted ends_so none =
       let s : Own = at now (own_of sizes t) in
       let i : ℕ = max (own_of sizes t).clock now in
       report_none i (idle s i s.running (to_fetch s.observations)) token
       (idle_none s i s.running (to_fetch s.observations)) none
-  none_here (Ticks now w below turn_is.Copied sent token was did) law heard noted ends_so none = refl
   none_here (Ticks now w below (turn_is.End e) sent token was did) law heard noted ends_so none =
-      let b = beneath server sizes word t in
+      let b = beneath server sizes setup t in
       let ended = ended_by b (max b.clock (max (own_of sizes t).clock now)) below e
-      (ticked_turn sizes server word t now w below (turn_is.End e) sent token was did law.exchanges.rows) in
+      (ticked_turn sizes server setup t now w below (turn_is.End e) sent token was did law.exchanges.rows) in
       absurd (time_ends now w below e sent token was did ended.by_time ends_so)
-  none_here (Calls now q did) law heard noted ends_so none = refl
-  none_here (Observes now path did) law heard noted ends_so none = refl
-  none_here (Cancels now j did) law heard noted ends_so none = refl
-  none_here (Forgets j was did) law heard noted ends_so none = refl
-  none_here (NextOut did) law heard noted ends_so none = refl
-  none_here (NextReport did) law heard noted ends_so none = refl
-  none_here (Asked did) law heard noted ends_so none = refl
+  none_here _ law heard noted ends_so none = refl
 
-pub reports_by_table : (server : Endpoint) (sizes : Sizes) (word : ℕ) (t : List Call) → ClientLaw server sizes word t
+pub reports_by_table : (server : Endpoint) (sizes : Sizes) (setup : Setup) (t : List Call) → ClientLaw server sizes setup t
     → ReportsByTable sizes t
-reports_by_table server sizes word [] law = tt
-reports_by_table server sizes word (c ∷ t) law = (
+reports_by_table server sizes setup [] law = tt
+reports_by_table server sizes setup (c ∷ t) law = (
   record {
     answer = answer_here sizes t c;
     notice = notice_here sizes t c;
-    none = none_here sizes server word t c law;
+    none = none_here sizes server setup t c law;
   },
-  reports_by_table server sizes word t (client_back server sizes word (c ∷ []) t law),
+  reports_by_table server sizes setup t (client_back server sizes setup (c ∷ []) t law),
 )

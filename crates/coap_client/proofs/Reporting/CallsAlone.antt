@@ -5,6 +5,7 @@ use Rattle.coap_types.specs.Past.{Always}
 use Rattle.coap_types.specs.declared.block.Block.{Block}
 use Rattle.coap_types.specs.declared.endpoint.Endpoint.{Endpoint}
 use Rattle.coap_types.specs.declared.option_number.TheConstants.{BLOCK1 as block1}
+use Rattle.coap_layer.specs.declared.setup.Setup.{Setup}
 use Rattle.coap_codec.specs.Message.{Message}
 use Rattle.coap_block.specs.Sizes.{Sizes}
 use Rattle.coap_block.specs.declared.fetch_step.FetchRefusal.{FetchRefusal}
@@ -29,15 +30,15 @@ use Rattle.coap_client.specs.Follows.CallsAlone.{CallsAlone}
 use Rattle.coap_client.specs.Law.{ClientLaw, ClientRows, own_of}
 use Rattle.coap_client.specs.Observations.{observation_of, observation_with, is_cancelled, to_fetch}
 use Rattle.coap_client.specs.Observing.{noticed_by}
-use Rattle.coap_client.specs.Own.{Transfer, Fetches, Uploads, Single, Operation, Calling, Registering, Fetching}
-use Rattle.coap_client.specs.Own.{Cancelling, Dropped, Observation, Own}
+use Rattle.coap_client.specs.Own.{Transfer, Fetches, Uploads, Single, Operation, Calling}
+use Rattle.coap_client.specs.Own.{Observation, Own}
 use Rattle.coap_client.specs.Queue.{calling, is_full}
 use Rattle.coap_client.specs.Reports.{done, refused, lapse, is_success}
 use Rattle.coap_client.specs.Requests.{is_longer}
 use Rattle.coap_client.specs.Responses.{content, valid, continue, tag_in, block_at, part}
 use Rattle.coap_client.specs.Steps.{after, reports, IsRight}
 use Rattle.coap_client.specs.Trace.{Request, Report, Valid, Done, Failed, BadBlock, NoIds, Reported, Call, Calls, Observes}
-use Rattle.coap_client.specs.Trace.{Cancels, Forgets, Feeds, Ticks, NextOut, NextReport, Asked}
+use Rattle.coap_client.specs.Trace.{Cancels, Forgets, Feeds, Ticks, NextReport}
 
 abbrev IsCall : Operation → Type 0
 IsCall op = is_call op ≡ true
@@ -139,20 +140,14 @@ answered_alone : (s : Own) (now : ℕ) (m : Message) → Alone s → (o : Option
     → StaysAlone (answered s now m o)
 answered_alone s now m k None h = quiet s k
 answered_alone s now m k (Some (Calling number r t)) h = called_alone number r t s k (answer r t m) (answer_tells r t m)
-answered_alone s now m k (Some (Registering number path)) h = absurd (cc h)
-answered_alone s now m k (Some (Fetching number)) h = absurd (cc h)
-answered_alone s now m k (Some (Cancelling number)) h = absurd (cc h)
-answered_alone s now m k (Some Dropped) h = absurd (cc h)
+answered_alone s now m k _ h = absurd (cc h)
 
 failed_alone : (u : Transfer → Bool) (report : Report) (s : Own) → is_of_observation report ≡ false → Alone s
     → (o : Option Operation) → RunsCall o → StaysAlone (failed u report s o)
 failed_alone u report s told k None h = quiet s k
 failed_alone u report s told k (Some (Calling number r t)) h =
     ended number report (held_by (u t) t s) told (held_alone (u t && is_upload t) s k)
-failed_alone u report s told k (Some (Registering number path)) h = absurd (cc h)
-failed_alone u report s told k (Some (Fetching number)) h = absurd (cc h)
-failed_alone u report s told k (Some (Cancelling number)) h = absurd (cc h)
-failed_alone u report s told k (Some Dropped) h = absurd (cc h)
+failed_alone u report s told k _ h = absurd (cc h)
 
 -- a datagram, and time
 
@@ -238,7 +233,6 @@ after_alone s (Forgets number kept true) none right k =
     let e = subst (λ (os : List Observation). true ≡ (is_some (observation_of number os) && not (is_cancelled number s)))
     k.none right in
     absurd (cc e)
-after_alone s (Forgets number kept false) none right k = k
 after_alone s (Feeds now from bytes word up settled e sent token kept) none right k =
     let c : Call = Feeds now from bytes word up settled e sent token kept in
     let z = closes s c (max s.clock now) token
@@ -248,9 +242,8 @@ after_alone s (Ticks now word below t sent token kept answer) none right k =
     let c : Call = Ticks now word below t sent token kept answer in
     let z = closes s c (max s.clock now) token (passes_alone (at now s) (max s.clock now) (moved_on s now k) t) in
     record { running = z.own.running; queue = z.own.queue; none = z.own.none }
-after_alone s (NextOut answer) none right k = k
 after_alone s (NextReport answer) none right k = record { running = k.running; queue = k.queue; none = k.none }
-after_alone s (Asked answer) none right k = k
+after_alone s _ none right k = k
 
 told : (o : Option Reported) → TellsCall o → (x : Reported) → o ≡ Some x → is_of_observation x.report ≡ false
 told None h x is = absurd (cc is)
@@ -267,13 +260,7 @@ reports_alone s (Ticks now word below t sent token kept answer) k x is =
     let c : Call = Ticks now word below t sent token kept answer in
     told (close (max s.clock now) (effect s c) token).report
     (closes s c (max s.clock now) token (passes_alone (at now s) (max s.clock now) (moved_on s now k) t)).report x is
-reports_alone s (Calls now r answer) k x is = absurd (cc is)
-reports_alone s (Observes now path answer) k x is = absurd (cc is)
-reports_alone s (Cancels now number answer) k x is = absurd (cc is)
-reports_alone s (Forgets number kept answer) k x is = absurd (cc is)
-reports_alone s (NextOut answer) k x is = absurd (cc is)
-reports_alone s (NextReport answer) k x is = absurd (cc is)
-reports_alone s (Asked answer) k x is = absurd (cc is)
+reports_alone s _ k x is = absurd (cc is)
 
 runs_call : (o : Option Operation) → RunsCall o → (op : Operation) → o ≡ Some op → is_call op ≡ true
 runs_call None h op is = absurd (cc is)
@@ -295,6 +282,6 @@ module _ (sizes : Sizes) where
         by_rows t rows.1 none.1,
       )
 
-pub calls_alone : (server : Endpoint) (sizes : Sizes) (word : ℕ) (t : List Call) → ClientLaw server sizes word t
+pub calls_alone : (server : Endpoint) (sizes : Sizes) (setup : Setup) (t : List Call) → ClientLaw server sizes setup t
     → CallsAlone sizes t
-calls_alone server sizes word t law = λ none. by_rows sizes t law.rows none
+calls_alone server sizes setup t law = λ none. by_rows sizes t law.rows none

@@ -1,13 +1,13 @@
 -- Success and failure are reported of a call where its request is answered so, and there alone.
-use Rattle.std.proofs.Common.{◌≡◌, ◌⊎◌, inl, inr, ℕ, max, Bool, true, Some, None, List, ◌∷◌, [], refl}
+use Rattle.std.proofs.Common.{◌≡◌, ◌⊎◌, inl, inr, ℕ, max, Bool, true, Some, List, ◌∷◌, [], refl}
 use Rattle.std.proofs.Common.{ap, sym, subst, ◌∙◌}
 use Rattle.coap_types.specs.declared.endpoint.Endpoint.{Endpoint}
+use Rattle.coap_layer.specs.declared.setup.Setup.{Setup}
 use Rattle.coap_codec.specs.Message.{Message}
 use Rattle.coap_block.specs.Sizes.{Sizes}
 use Rattle.coap_exchange.specs.declared.asker.Event.TheVariants as event_of
-use Rattle.coap_client.specs.Trace.{Request, Report, Failed, Done, Call, Calls}
-use Rattle.coap_client.specs.Trace.{Observes, Cancels, Forgets, Feeds, Ticks, NextOut, NextReport}
-use Rattle.coap_client.specs.Trace.{Asked}
+use Rattle.coap_client.specs.Trace.{Request, Report, Failed, Done, Call}
+use Rattle.coap_client.specs.Trace.{Feeds}
 use Rattle.coap_client.specs.Own.{Transfer, Operation, Calling}
 use Rattle.coap_client.specs.Own.{Dropped, Own}
 use Rattle.coap_client.specs.Calls.{answer}
@@ -44,25 +44,7 @@ module _ (sizes : Sizes) where
       let ended : answer r tr a ≡ calls.Ends final report = ap (answer r tr) same ∙ ends_so in
       ap (λ op. (close (max s.clock now) (answered x (max s.clock now) a op) token).report) runs
       ∙ ap (λ n. (close (max s.clock now) (called k r tr x n) token).report) ended
-  reports_answer s (Feeds now from bytes w up settled (Some (event_of.Notice a)) sent token was) k r tr m final report
-      runs heard ends_so = absurd (cc heard)
-  reports_answer s (Feeds now from bytes w up settled (Some event_of.Timeout) sent token was) k r tr m final report runs
-      heard ends_so = absurd (cc heard)
-  reports_answer s (Feeds now from bytes w up settled (Some event_of.Reset) sent token was) k r tr m final report runs
-      heard ends_so = absurd (cc heard)
-  reports_answer s (Feeds now from bytes w up settled (Some event_of.NoResponse) sent token was) k r tr m final report
-      runs heard ends_so = absurd (cc heard)
-  reports_answer s (Feeds now from bytes w up settled None sent token was) k r tr m final report runs heard ends_so =
-      absurd (cc heard)
-  reports_answer s (Ticks now w below turn sent token was did) k r tr m final report runs heard ends_so =
-      absurd (cc heard)
-  reports_answer s (Calls now q did) k r tr m final report runs heard ends_so = absurd (cc heard)
-  reports_answer s (Observes now path did) k r tr m final report runs heard ends_so = absurd (cc heard)
-  reports_answer s (Cancels now n did) k r tr m final report runs heard ends_so = absurd (cc heard)
-  reports_answer s (Forgets n was did) k r tr m final report runs heard ends_so = absurd (cc heard)
-  reports_answer s (NextOut did) k r tr m final report runs heard ends_so = absurd (cc heard)
-  reports_answer s (NextReport did) k r tr m final report runs heard ends_so = absurd (cc heard)
-  reports_answer s (Asked did) k r tr m final report runs heard ends_so = absurd (cc heard)
+  reports_answer s _ k r tr m final report runs heard ends_so = absurd (cc heard)
 
   -- what runs is the request that was sent last, as its call asks
 
@@ -79,14 +61,14 @@ module _ (sizes : Sizes) where
     pub body : List ℕ
     pub carries : CarriesBody sizes r.method body tr
 
-  module _ (server : Endpoint) (word : ℕ) where
-    pub runs_as : (t : List Call) → ClientLaw server sizes word t → (k : ℕ) (r : Request) (tr : Transfer)
+  module _ (server : Endpoint) (setup : Setup) where
+    pub runs_as : (t : List Call) → ClientLaw server sizes setup t → (k : ℕ) (r : Request) (tr : Transfer)
         → (own_of sizes t).running ≡ Some (Calling k r tr) → Runs t k r tr
     runs_as t law k r tr is = by x.same
       where
-        x : Tracked sizes t (Calling k r tr) (beneath server sizes word t).running
-        x = subst (λ o. IfTracked sizes t o (beneath server sizes word t).running) is
-            (all_sends sizes server word t law.rows law.exchanges.rows).tracked
+        x : Tracked sizes t (Calling k r tr) (beneath server sizes setup t).running
+        x = subst (λ o. IfTracked sizes t o (beneath server sizes setup t).running) is
+            (all_sends sizes server setup t law.rows law.exchanges.rows).tracked
 
         by : (Calling k r tr ≡ Dropped) ⊎ (x.sending.operation ≡ Calling k r tr) → Runs t k r tr
         by (inl d) = absurd (cc d)
@@ -106,7 +88,7 @@ module _ (sizes : Sizes) where
                   (subst (λ z. CarriesBody sizes z g.request.body g.transfer) (sym method_is) g.carries);
             }
 
-    module _ (t : List Call) (c : Call) (law : ClientLaw server sizes word t)
+    module _ (t : List Call) (c : Call) (law : ClientLaw server sizes setup t)
         (answers : (m : Message) → hears c ≡ Some m → Answers sizes t c m) (k : ℕ) where
       of_code : (Means : Operation → ℕ → Type 0) (report : Report) (code : ℕ)
           (g : GivesReport (own_of sizes t) (hears c) k report) → Means (Calling k g.request g.transfer) g.message.code
@@ -160,10 +142,10 @@ module _ (sizes : Sizes) where
           reports_answer (own_of sizes t) c k r tr m true (Failed m.code) is heard
           (each_failed_of sizes k r runs.body m tr runs.carries so)
 
-    all_codes : (t : List Call) → ClientLaw server sizes word t → AnswersLast sizes t → ReportsCodes sizes t
+    all_codes : (t : List Call) → ClientLaw server sizes setup t → AnswersLast sizes t → ReportsCodes sizes t
     all_codes [] law answers = tt
     all_codes (c ∷ t) law answers =
-        let before = client_back server sizes word (c ∷ []) t law in (
+        let before = client_back server sizes setup (c ∷ []) t law in (
           record {
             done = λ k code made. done_so t c before answers.0 k code made;
             failed = λ k code made. failed_so t c before answers.0 k code made;
@@ -173,6 +155,6 @@ module _ (sizes : Sizes) where
           all_codes t before answers.1,
         )
 
-pub reports_codes : (server : Endpoint) (sizes : Sizes) (word : ℕ) (t : List Call) → ClientLaw server sizes word t
+pub reports_codes : (server : Endpoint) (sizes : Sizes) (setup : Setup) (t : List Call) → ClientLaw server sizes setup t
     → ReportsCodes sizes t
-reports_codes server sizes word t law = all_codes sizes server word t law (answers_last sizes server word t law)
+reports_codes server sizes setup t law = all_codes sizes server setup t law (answers_last sizes server setup t law)

@@ -4,6 +4,7 @@ use Rattle.std.proofs.Common.{◌≡◌, ◌≤◌, ◌⊎◌, inl, inr, ℕ, ma
 use Rattle.std.proofs.Common.{◌∷◌, refl, ap, sym, subst, ◌∙◌, Ok, Err, arith}
 use Rattle.std.specs.Prelude.{◌==◌}
 use Rattle.coap_types.specs.declared.endpoint.Endpoint.{Endpoint}
+use Rattle.coap_layer.specs.declared.setup.Setup.{Setup}
 use Rattle.coap_codec.specs.Message.{Message}
 use Rattle.coap_block.specs.Sizes.{Sizes}
 use Rattle.coap_exchange.specs.AskerLaw as X
@@ -41,14 +42,7 @@ use Rattle.coap_client.proofs.Queueing.OneByOne.{asks_runs, last_same}
 use Rattle.coap_client.proofs.Turning.Moves.{releases_none}
 use Rattle.coap_client.proofs.Turning.Turns.{Turned, fed_turned, ticked_turned}
 use Rattle.coap_client.proofs.Uploading.Pieces.{IfTracked, all_sends}
-
-failed_none : (u : Transfer → Bool) (report : Report) (s : Own) (op : Operation)
-    → (failed u report s (Some op)).own.running ≡ None
-failed_none u report s (Calling k r t) = refl
-failed_none u report s (Registering k path) = refl
-failed_none u report s (Fetching k) = refl
-failed_none u report s (Cancelling k) = refl
-failed_none u report s Dropped = refl
+use Rattle.coap_client.proofs.Observing.FetchesSince.{failed_some as failed_none}
 
 -- no request is asked for that no longer counts
 
@@ -57,23 +51,10 @@ counts : (s : Own) (now : ℕ) (told : Option Event) → AllWait s.observations 
 counts s now told w (mv.starts_next op queue none rest first q) h =
     let op_is : op ≡ Dropped = cc h in
     subst (Waits s.observations) op_is (subst (AllWait s.observations) first w).0
-counts s now told w (mv.rests un) h = cc h
-counts s now told w (mv.copies q) h = cc h
-counts s now told w (mv.fetches k none rest q) h = cc h
-counts s now told w (mv.goes_on k r t next m hears is asks) h = cc h
-counts s now told w (mv.is_done k r t final report m hears is ends_it) h = cc h
-counts s now told w (mv.registers k path m hears is note) h = cc h
-counts s now told w (mv.refuses k path m hears is note) h = cc h
-counts s now told w (mv.fetches_on k n m num size hears is rest code asks) h = cc h
-counts s now told w (mv.fetched k n m hears is rest code done) h = cc h
-counts s now told w (mv.gives_up k m hears is) h = cc h
-counts s now told w (mv.fetched_none k m hears is) h = cc h
 counts s now told w (mv.cancels k m hears is) h = releases_none _ Dropped h
-counts s now told w (mv.is_dropped m hears is) h = cc h
 counts s now told w (mv.fails e un) h = subst AsksNothing h (fails_silently (λ t. true) (lapse e) s s.running)
 counts s now told w (mv.is_ended o m notes found note) h = releases_none _ Dropped h
-counts s now told w (mv.renews o m notes found note newer) h = cc h
-counts s now told w (mv.passes_by o m notes found note newer) h = cc h
+counts s now told w _ h = cc h
 
 -- What runs counts no longer: it did so before; or a fetch ran, and its observation is over, or a newer notification of
 -- it came.
@@ -90,10 +71,6 @@ module _ (s : Own) (now : ℕ) (told : Option Event) where
   drop_by : (report : Option Reported) (j : ℕ)
       → ((k : ℕ) → j ≡ k → s.running ≡ Some (Fetching k) → Drop s now told report)
       → (running : Option Operation) → s.running ≡ running → dropped j running ≡ Some Dropped → Drop s now told report
-  drop_by report j f None is h = absurd (cc h)
-  drop_by report j f (Some (Calling k r t)) is h = absurd (cc h)
-  drop_by report j f (Some (Registering k path)) is h = absurd (cc h)
-  drop_by report j f (Some (Cancelling k)) is h = absurd (cc h)
   drop_by report j f (Some Dropped) is h = before is
   drop_by report j f (Some (Fetching k)) is h = by (k == j) refl h
     where
@@ -101,6 +78,7 @@ module _ (s : Own) (now : ℕ) (told : Option Event) where
           → Drop s now told report
       by true e h = f k (sym (same_number k j e)) is
       by false e h = absurd (cc h)
+  drop_by report j f _ is h = absurd (cc h)
 
   drop_failed : (u : Transfer → Bool) (report : Report) (running : Option Operation) → s.running ≡ running
       → (failed u report s running).own.running ≡ Some Dropped → Drop s now told (failed u report s running).report
@@ -123,17 +101,6 @@ module _ (s : Own) (now : ℕ) (told : Option Event) where
   drops w (mv.starts_next op queue none rest first q) h =
       let op_is : op ≡ Dropped = cc h in
       absurd (subst (Waits s.observations) op_is (subst (AllWait s.observations) first w).0)
-  drops w (mv.fetches k none rest q) h = absurd (cc h)
-  drops w (mv.goes_on k r t next m hears is asks) h = absurd (cc h)
-  drops w (mv.is_done k r t final report m hears is ends_it) h = absurd (cc h)
-  drops w (mv.registers k path m hears is note) h = absurd (cc h)
-  drops w (mv.refuses k path m hears is note) h = absurd (cc h)
-  drops w (mv.fetches_on k n m num size hears is rest code asks) h = absurd (cc h)
-  drops w (mv.fetched k n m hears is rest code done) h = absurd (cc h)
-  drops w (mv.gives_up k m hears is) h = absurd (cc h)
-  drops w (mv.fetched_none k m hears is) h = absurd (cc h)
-  drops w (mv.cancels k m hears is) h = absurd (cc h)
-  drops w (mv.is_dropped m hears is) h = absurd (cc h)
   drops w (mv.fails e un) h = drop_failed (λ t. true) (lapse e) s.running refl h
   drops w (mv.is_ended o m notes found note) h =
       drop_by (Some (record { number = o.number; report = Ended m.code })) o.number
@@ -143,6 +110,7 @@ module _ (s : Own) (now : ℕ) (told : Option Event) where
       drop_by (left_by s now told (mv.renews o m notes found note newer_so)).report o.number
       (λ k same is. newer k (newly_as o.number now m) is (comes o m notes found note newer_so) same) s.running refl h
   drops w (mv.passes_by o m notes found note newer_so) h = before h
+  drops w _ h = absurd (cc h)
 
 module _ (sizes : Sizes) where
   -- the request that was sent last; it is dropped
@@ -171,7 +139,7 @@ module _ (sizes : Sizes) where
     ];
   }
 
-  module _ (server : Endpoint) (word : ℕ) where
+  module _ (server : Endpoint) (setup : Setup) where
     -- the fetch of an observation was sent last, and is dropped now
     of_fetch : (t : List Call) (c : Call) → sends (own_of sizes t) c ≡ None → (k : ℕ) (x : Option Exchange)
         → IfTracked sizes t (Some (Fetching k)) x
@@ -185,19 +153,15 @@ module _ (sizes : Sizes) where
     }
 
     module _ (t : List Call) (c : Call) (ih : IfDropped t)
-        (tr : IfTracked sizes t (own_of sizes t).running (beneath server sizes word t).running) where
+        (tr : IfTracked sizes t (own_of sizes t).running (beneath server sizes setup t).running) where
       fetched_so : sends (own_of sizes t) c ≡ None → (k : ℕ) → (own_of sizes t).running ≡ Some (Fetching k)
           → ((y : Sending) → (1 ≤ gone sizes k (c ∷ t)) ⊎ (SentSince sizes k y (c ∷ t) → ⊥)) → LastFetches (c ∷ t)
-      fetched_so none k is off = of_fetch t c none k (beneath server sizes word t).running
-          (subst (λ o. IfTracked sizes t o (beneath server sizes word t).running) is tr) off
+      fetched_so none k is off = of_fetch t c none k (beneath server sizes setup t).running
+          (subst (λ o. IfTracked sizes t o (beneath server sizes setup t).running) is tr) off
 
       -- it is forgotten
       dropped_of : sends (own_of sizes t) c ≡ None → (j : ℕ) → 1 ≤ gone sizes j (c ∷ t) → (running : Option Operation)
           → (own_of sizes t).running ≡ running → dropped j running ≡ Some Dropped → LastFetches (c ∷ t)
-      dropped_of none j off None is h = absurd (cc h)
-      dropped_of none j off (Some (Calling k r u)) is h = absurd (cc h)
-      dropped_of none j off (Some (Registering k path)) is h = absurd (cc h)
-      dropped_of none j off (Some (Cancelling k)) is h = absurd (cc h)
       dropped_of none j off (Some Dropped) is h = fetches_later t c none (ih is)
       dropped_of none j off (Some (Fetching k)) is h = by (k == j) refl h
         where
@@ -206,6 +170,7 @@ module _ (sizes : Sizes) where
           by true e h = fetched_so none k is (λ y. inl (subst (λ i. 1 ≤ gone sizes i (c ∷ t))
               (sym (same_number k j e)) off))
           by false e h = absurd (cc h)
+      dropped_of none j off _ is h = absurd (cc h)
 
       module _ (w : AllWait (own_of sizes t).observations (own_of sizes t).queue) (k : Turned sizes t c) where
         abbrev m : ℕ
@@ -248,7 +213,7 @@ module _ (sizes : Sizes) where
         turned : IfDropped (c ∷ t)
         turned = by_closing k.closes
 
-    pub if_dropped : (t : List Call) → ClientRows sizes t → X.AskerLaw server word (lower_of sizes t) → IfDropped t
+    pub if_dropped : (t : List Call) → ClientRows sizes t → X.AskerLaw server setup (lower_of sizes t) → IfDropped t
     if_dropped [] rows law = λ is. absurd (cc is)
     if_dropped (Calls now r (Ok k) ∷ t) rows law =
         λ is. fetches_later t (Calls now r (Ok k)) refl (if_dropped t rows.1 law is)
@@ -270,20 +235,20 @@ module _ (sizes : Sizes) where
     if_dropped (Forgets k was false ∷ t) rows law =
         λ is. fetches_later t (Forgets k was false) refl (if_dropped t rows.1 law is)
     if_dropped (Forgets k was true ∷ t) rows law =
-        let below = law_back server word (lower (own_of sizes t) (Forgets k was true)) (lower_of sizes t) law in
+        let below = law_back server setup (lower (own_of sizes t) (Forgets k was true)) (lower_of sizes t) law in
         let one = hit_self k in
         λ is. dropped_of t (Forgets k was true) (if_dropped t rows.1 below)
-        (all_sends sizes server word t rows.1 below).tracked refl k (omega (arith, one))
+        (all_sends sizes server setup t rows.1 below).tracked refl k (omega (arith, one))
         (own_of sizes t).running refl is
     if_dropped (Feeds now from bytes w up settled event sent token was ∷ t) rows law =
         let c : Call = Feeds now from bytes w up settled event sent token was in
-        let below = law_back server word (lower (own_of sizes t) c) (lower_of sizes t) law in
-        turned t c (if_dropped t rows.1 below) (all_sends sizes server word t rows.1 below).tracked
-        (known server sizes word t rows.1 below).waits
+        let below = law_back server setup (lower (own_of sizes t) c) (lower_of sizes t) law in
+        turned t c (if_dropped t rows.1 below) (all_sends sizes server setup t rows.1 below).tracked
+        (known server sizes setup t rows.1 below).waits
         (fed_turned sizes t now from bytes w up settled event sent token was)
     if_dropped (Ticks now w below_it turn sent token was answer ∷ t) rows law =
         let c : Call = Ticks now w below_it turn sent token was answer in
-        let below = law_back server word (lower (own_of sizes t) c) (lower_of sizes t) law in
-        turned t c (if_dropped t rows.1 below) (all_sends sizes server word t rows.1 below).tracked
-        (known server sizes word t rows.1 below).waits
+        let below = law_back server setup (lower (own_of sizes t) c) (lower_of sizes t) law in
+        turned t c (if_dropped t rows.1 below) (all_sends sizes server setup t rows.1 below).tracked
+        (known server sizes setup t rows.1 below).waits
         (ticked_turned sizes t now w below_it turn sent token was answer)

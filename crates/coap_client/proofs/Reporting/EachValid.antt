@@ -4,6 +4,7 @@ use Rattle.std.specs.Prelude.{◌==◌}
 use Rattle.coap_types.specs.declared.endpoint.Endpoint.{Endpoint}
 use Rattle.coap_types.specs.declared.request.Method.{Method}
 use Rattle.coap_types.specs.declared.request.Method.TheVariants.{Get}
+use Rattle.coap_layer.specs.declared.setup.Setup.{Setup}
 use Rattle.coap_codec.specs.Message.{Message}
 use Rattle.coap_block.specs.Sizes.{Sizes}
 use Rattle.coap_client.specs.Trace.{Request, Valid, Failed, Call}
@@ -40,21 +41,21 @@ answer_valid sizes r body (Fetches f) m carries tags code = got_valid r f m tags
 answer_valid sizes r body (Uploads u) m carries tags code = absurd carries
 answer_valid sizes r body Single m carries tags code = absurd carries
 
-valid_here : (server : Endpoint) (sizes : Sizes) (word : ℕ) (t : List Call) (c : Call)
-    → ClientLaw server sizes word (c ∷ t)
+valid_here : (server : Endpoint) (sizes : Sizes) (setup : Setup) (t : List Call) (c : Call)
+    → ClientLaw server sizes setup (c ∷ t)
     → (x : Taken) (m : Message) → WasTaken x t → x.request.method ≡ Get → x.request.etags ≢ []
     → HeardFor sizes x.number m t c → m.code ≡ valid → reports (own_of sizes t) c ≡ of x.number (Valid (tag_in m))
-valid_here server sizes word t c law x m was method tags h code =
-    let k = runs_call sizes server word t c law x was m h in
+valid_here server sizes setup t c law x m was method tags h code =
+    let k = runs_call sizes server setup t c law x was m h in
     let r : Request = record x.request { body = [] } in
     reports_answer sizes (own_of sizes t) c x.number r k.transfer m true (Valid (tag_in m)) k.runs h.heard
     (answer_valid sizes r x.request.body k.transfer m
     (subst (λ (w : Method). CarriesBody sizes w x.request.body k.transfer) method k.carries) tags code)
 
-pub each_is_valid : (server : Endpoint) (sizes : Sizes) (word : ℕ) (t : List Call) → ClientLaw server sizes word t
+pub each_is_valid : (server : Endpoint) (sizes : Sizes) (setup : Setup) (t : List Call) → ClientLaw server sizes setup t
     → EachIsValid sizes t
-each_is_valid server sizes word [] law = tt
-each_is_valid server sizes word (c ∷ t) law = (
-  valid_here server sizes word t c law,
-  each_is_valid server sizes word t (client_back server sizes word (c ∷ []) t law),
+each_is_valid server sizes setup [] law = tt
+each_is_valid server sizes setup (c ∷ t) law = (
+  valid_here server sizes setup t c law,
+  each_is_valid server sizes setup t (client_back server sizes setup (c ∷ []) t law),
 )

@@ -1,8 +1,9 @@
 -- What is whole is reported: the body of a call, and the value of an observation.
-use Rattle.std.proofs.Common.{◌≡◌, ◌≤◌, inl, inr, ℕ, max, true, cond, ◌&&◌, Some, None, List}
+use Rattle.std.proofs.Common.{◌≡◌, ◌≤◌, inl, inr, ℕ, max, true, cond, ◌&&◌, Some, List}
 use Rattle.std.proofs.Common.{[], ◌∷◌, refl, ap, sym, subst, ◌∙◌, arith}
 use Rattle.std.specs.Prelude.{◌==◌}
 use Rattle.coap_types.specs.declared.endpoint.Endpoint.{Endpoint}
+use Rattle.coap_layer.specs.declared.setup.Setup.{Setup}
 use Rattle.coap_codec.specs.Message.{Message}
 use Rattle.coap_block.specs.Sizes.{Sizes}
 use Rattle.coap_block.specs.declared.fetch_verdict.Verdict.TheVariants as verdict
@@ -10,8 +11,8 @@ use Rattle.coap_block.specs.declared.fetch_step.FetchRefusal.TheVariants as refu
 use Rattle.coap_block.specs.FetchStep.{FetchState}
 use Rattle.coap_block.specs.FetchStep as F
 use Rattle.coap_exchange.specs.declared.asker.Event.TheVariants as event_of
-use Rattle.coap_client.specs.Trace.{Request, Body, Value, Valid, Failed, Call, Calls, Observes, Cancels, Forgets}
-use Rattle.coap_client.specs.Trace.{Feeds, Ticks, NextOut, NextReport, Asked}
+use Rattle.coap_client.specs.Trace.{Request, Body, Value, Valid, Failed, Call}
+use Rattle.coap_client.specs.Trace.{Feeds}
 use Rattle.coap_client.specs.Own.{Fetches, Operation, Calling, Registering, Fetching, Cancelling, Dropped, Notified}
 use Rattle.coap_client.specs.Own.{Own}
 use Rattle.coap_client.specs.Observations.{rest_of, observation_with}
@@ -88,24 +89,7 @@ reports_fetched s (Feeds now from bytes w up settled (Some (event_of.Answer a)) 
     ∙ (ap (λ o. (close i (fetch_answered k o x m) token).report) rest
     ∙ (ap (λ (e : Effect). (close i e token).report) (fetched_whole k n x m body whole)
     ∙ ap (λ b. of k (Value n.sequence (tag_in m) (format_in m) b)) (last_part n.fetch m body whole).body_is)))
-reports_fetched s (Feeds now from bytes w up settled (Some (event_of.Notice a)) sent token was) k n m body runs heard
-    rest whole = absurd (cc heard)
-reports_fetched s (Feeds now from bytes w up settled (Some event_of.Timeout) sent token was) k n m body runs heard
-    rest whole = absurd (cc heard)
-reports_fetched s (Feeds now from bytes w up settled (Some event_of.Reset) sent token was) k n m body runs heard
-    rest whole = absurd (cc heard)
-reports_fetched s (Feeds now from bytes w up settled (Some event_of.NoResponse) sent token was) k n m body runs heard
-    rest whole = absurd (cc heard)
-reports_fetched s (Feeds now from bytes w up settled None sent token was) k n m body runs heard rest whole =
-    absurd (cc heard)
-reports_fetched s (Ticks now w below turn sent token was did) k n m body runs heard rest whole = absurd (cc heard)
-reports_fetched s (Calls now q did) k n m body runs heard rest whole = absurd (cc heard)
-reports_fetched s (Observes now path did) k n m body runs heard rest whole = absurd (cc heard)
-reports_fetched s (Cancels now j did) k n m body runs heard rest whole = absurd (cc heard)
-reports_fetched s (Forgets j was did) k n m body runs heard rest whole = absurd (cc heard)
-reports_fetched s (NextOut did) k n m body runs heard rest whole = absurd (cc heard)
-reports_fetched s (NextReport did) k n m body runs heard rest whole = absurd (cc heard)
-reports_fetched s (Asked did) k n m body runs heard rest whole = absurd (cc heard)
+reports_fetched s _ k n m body runs heard rest whole = absurd (cc heard)
 
 module _ (sizes : Sizes) (t : List Call) where
   abbrev ShowsWhole : Call → Newly → Type 0
@@ -131,31 +115,20 @@ module _ (sizes : Sizes) (t : List Call) where
       ap (λ (e : Effect). (close i e token).report)
       (renewed_effect (at now s) i a r.observation r.found r.note r.newer)
       ∙ first_whole r.observation.number sizes s.sizes a body (size_is sizes t) whole)
-  value_here (Feeds now from bytes w up settled (Some event_of.Timeout) sent token was) n h = absurd (cc h)
-  value_here (Feeds now from bytes w up settled (Some event_of.Reset) sent token was) n h = absurd (cc h)
-  value_here (Feeds now from bytes w up settled (Some event_of.NoResponse) sent token was) n h = absurd (cc h)
-  value_here (Feeds now from bytes w up settled None sent token was) n h = absurd (cc h)
-  value_here (Ticks now w below turn sent token was did) n h = absurd (cc h)
-  value_here (Calls now q did) n h = absurd (cc h)
-  value_here (Observes now path did) n h = absurd (cc h)
-  value_here (Cancels now j did) n h = absurd (cc h)
-  value_here (Forgets j was did) n h = absurd (cc h)
-  value_here (NextOut did) n h = absurd (cc h)
-  value_here (NextReport did) n h = absurd (cc h)
-  value_here (Asked did) n h = absurd (cc h)
+  value_here _ n h = absurd (cc h)
 
-module _ (sizes : Sizes) (server : Endpoint) (word : ℕ) (t : List Call) (c : Call)
-    (law : ClientLaw server sizes word (c ∷ t)) where
-  past : ClientLaw server sizes word t
-  past = client_back server sizes word (c ∷ []) t law
+module _ (sizes : Sizes) (server : Endpoint) (setup : Setup) (t : List Call) (c : Call)
+    (law : ClientLaw server sizes setup (c ∷ t)) where
+  past : ClientLaw server sizes setup t
+  past = client_back server sizes setup (c ∷ []) t law
 
   body_here : (k : ℕ) (m : Message) (h : HeardFor sizes k m t c) (r : Request) (f : FetchState)
       → h.sending.operation ≡ Calling k r (Fetches f) → (body : List ℕ) → MakesWhole sizes.limit f m body
       → reports (own_of sizes t) c ≡ of k (Body (tag_in m) (format_in m) body)
   body_here k m h r f op body whole =
-      let z = heard_runs sizes server word t c law m h.heard in
+      let z = heard_runs sizes server setup t c law m h.heard in
       let same : h.sending
-      ≡ z.sending = sent_last sizes server word t past h.sending z.sending k h.sent h.of_call z.last
+      ≡ z.sending = sent_last sizes server setup t past h.sending z.sending k h.sent h.of_call z.last
       (h.token ∙ sym z.token) in
       let runs_it : z.operation ≡ Calling k r (Fetches f) = sent_call z.operation z.sending k r (Fetches f) z.is_for
       (ap (λ (y : Sending). y.operation) (sym same) ∙ op) in
@@ -166,10 +139,10 @@ module _ (sizes : Sizes) (server : Endpoint) (word : ℕ) (t : List Call) (c : C
       (got_body r f m body (subst (λ i. MakesWhole i f m body) (sym (ap (λ (x : Sizes). x.limit) are)) whole))
 
   -- the fetch that is answered was sent last, and counts
-  fetch_last : (k : ℕ) (m : Message) (h : HeardToFetch sizes k m t c) (z : HeardRuns sizes server word t m)
+  fetch_last : (k : ℕ) (m : Message) (h : HeardToFetch sizes k m t c) (z : HeardRuns sizes server setup t m)
       → h.sending ≡ z.sending
   fetch_last k m h z =
-      elim (one_of_token sizes server word t past h.sending z.sending h.sent
+      elim (one_of_token sizes server setup t past h.sending z.sending h.sent
       (last_was_sent sizes t z.sending z.last) (h.token ∙ sym z.token)) [
         | inl e ↦ e
         | inr r ↦ elim r [
@@ -182,8 +155,8 @@ module _ (sizes : Sizes) (server : Endpoint) (word : ℕ) (t : List Call) (c : C
       → rest_of k (own_of sizes t).observations ≡ Some n → (own_of sizes t).running ≡ Some (Fetching k)
   runs_fetch k m h n rest = z.runs ∙ ap (λ o. Some o) (by z.operation refl z.is_for)
     where
-      z : HeardRuns sizes server word t m
-      z = heard_runs sizes server word t c law m h.heard
+      z : HeardRuns sizes server setup t m
+      z = heard_runs sizes server setup t c law m h.heard
 
       same : h.sending ≡ z.sending
       same = fetch_last k m h z
@@ -193,13 +166,13 @@ module _ (sizes : Sizes) (server : Endpoint) (word : ℕ) (t : List Call) (c : C
 
       counts : z.operation ≡ Dropped → ⊥
       counts gone_op =
-          let d = if_dropped sizes server word t past.rows past.exchanges.rows (z.runs ∙ ap (λ o. Some o) gone_op) in
+          let d = if_dropped sizes server setup t past.rows past.exchanges.rows (z.runs ∙ ap (λ o. Some o) gone_op) in
           let both : Some d.sending ≡ Some z.sending = sym d.last ∙ z.last in
           let last : d.sending ≡ h.sending = (let y : d.sending ≡ z.sending = cc both in y ∙ sym same) in
           let op : Fetching d.number ≡ Fetching k = sym d.fetches ∙ (ap (λ (y : Sending). y.operation) last
           ∙ h.fetches) in
           let number_is : d.number ≡ k = cc op in
-          let kn = known server sizes word t past.rows past.exchanges.rows in
+          let kn = known server sizes setup t past.rows past.exchanges.rows in
           elim d.off [
             | inl g ↦ (
                 let x = found_rest k (own_of sizes t).observations n rest in
@@ -224,7 +197,7 @@ module _ (sizes : Sizes) (server : Endpoint) (word : ℕ) (t : List Call) (c : C
       → n.fetch.limit ≡ sizes.limit
   rest_limit k n rest =
       let x = found_rest k (own_of sizes t).observations n rest in
-      ap (λ (y : Sizes). y.limit) (fetched sizes server word t past x.0 x.1 n x.3).sizes_are
+      ap (λ (y : Sizes). y.limit) (fetched sizes server setup t past x.0 x.1 n x.3).sizes_are
 
   whole_here : ReportsWhole sizes t c
   whole_here = record {
@@ -235,10 +208,10 @@ module _ (sizes : Sizes) (server : Endpoint) (word : ℕ) (t : List Call) (c : C
         (subst (λ i. MakesWhole i n.fetch m body) (sym (rest_limit k n rest)) whole);
   }
 
-pub whole_are_reported : (server : Endpoint) (sizes : Sizes) (word : ℕ) (t : List Call) → ClientLaw server sizes word t
+pub whole_are_reported : (server : Endpoint) (sizes : Sizes) (setup : Setup) (t : List Call) → ClientLaw server sizes setup t
     → WholeAreReported sizes t
-whole_are_reported server sizes word [] law = tt
-whole_are_reported server sizes word (c ∷ t) law = (
-  whole_here sizes server word t c law,
-  whole_are_reported server sizes word t (client_back server sizes word (c ∷ []) t law),
+whole_are_reported server sizes setup [] law = tt
+whole_are_reported server sizes setup (c ∷ t) law = (
+  whole_here sizes server setup t c law,
+  whole_are_reported server sizes setup t (client_back server sizes setup (c ∷ []) t law),
 )

@@ -1,6 +1,6 @@
 -- What the effects of a call report: how an exchange ends where it does, and else nothing of the kind.
 use Rattle.std.proofs.Common.{◌≡◌, ℕ, Bool, true, false, cond, not, ◌&&◌, ◌==◌, Option, Some, None, List, [], ◌∷◌, ◌++◌}
-use Rattle.std.proofs.Common.{refl, ap, sym, ◌∙◌, Result, Ok, Err}
+use Rattle.std.proofs.Common.{refl, ap, sym, ◌∙◌, Result, Err}
 use Rattle.coap_types.specs.declared.block.Block.{Block}
 use Rattle.coap_types.specs.declared.option_number.TheConstants.{BLOCK1 as block1}
 use Rattle.coap_types.specs.declared.request.Method.{Method}
@@ -30,7 +30,7 @@ use Rattle.coap_client.specs.Observations.{observation_with, rest_of}
 use Rattle.coap_client.specs.Observing.{registered, renewed, passed, is_over, noticed, noticed_by}
 use Rattle.coap_client.specs.Observing.{begun}
 use Rattle.coap_client.specs.Observing.{first_value}
-use Rattle.coap_client.specs.Effects.{Rests, Keeps, Releases}
+use Rattle.coap_client.specs.Effects.{Keeps}
 use Rattle.coap_client.specs.Events.{called, answered, failed, closed, starts, idle, is_held}
 use Rattle.coap_client.specs.Events.{is_upload_op}
 use Rattle.coap_client.specs.Turns.Closing.{Closing, quiet, goes_out, is_refused}
@@ -91,9 +91,7 @@ done_none method code = by (is_success method code)
 
 fetched_none : (f : FetchState) (m : Message) (v : Verdict) → next_lapse (calls.fetched f m v) ≡ false
 fetched_none f m (verdict.Refuse why) = refused_none why
-fetched_none f m verdict.Again = refl
-fetched_none f m verdict.Done = refl
-fetched_none f m (verdict.Ask num size) = refl
+fetched_none f m _ = refl
 
 continued_none : (u : UploadState) (o : Option Block) → next_lapse (calls.continued u o) ≡ false
 continued_none u None = refl
@@ -157,12 +155,10 @@ registered_none k path s now m =
 
 pub answered_none : (s : Own) (now : ℕ) (m : Message) (running : Option Operation)
     → lapse_in (answered s now m running).report ≡ false
-answered_none s now m None = refl
 answered_none s now m (Some (Calling k r t)) = called_none k r t s (answer r t m) (answer_none r t m)
 answered_none s now m (Some (Registering k path)) = registered_none k path s now m
 answered_none s now m (Some (Fetching k)) = fetched_by_none k (rest_of k s.observations) s m
-answered_none s now m (Some (Cancelling k)) = refl
-answered_none s now m (Some Dropped) = refl
+answered_none s now m _ = refl
 
 -- a notification
 
@@ -223,10 +219,7 @@ unsent_is : (d : Deed) (token : Result (List ℕ) AskRefusal) (u : Unsent) → u
     → (d ≡ Asks u.operation) × (token ≡ Err u.why)
 unsent_is (Asks op) (Err why) u h = let same : ◌≡◌ {A = Unsent} (record { operation = op; why = why }) u =
     cc h in (ap (λ (z : Unsent). Asks z.operation) same, ap (λ (z : Unsent). Err z.why) same)
-unsent_is (Asks op) (Ok key) u h = absurd (cc h)
-unsent_is Rests token u h = absurd (cc h)
-unsent_is (Keeps t) token u h = absurd (cc h)
-unsent_is (Releases t) token u h = absurd (cc h)
+unsent_is _ _ u h = absurd (cc h)
 
 pub unsent_asks : (e : Effect) (token : Result (List ℕ) AskRefusal) (u : Unsent) → unsent_by e.deed token ≡ Some u
     → (e.deed ≡ Asks u.operation) × (token ≡ Err u.why)

@@ -11,6 +11,7 @@ use Rattle.coap_types.proofs.Facts.Traces.{Always_back}
 use Rattle.coap_types.specs.declared.endpoint.Endpoint.{Endpoint}
 use Rattle.coap_types.specs.declared.option_number.TheConstants.{BLOCK2 as block2}
 use Rattle.coap_layer.specs.Trace as L
+use Rattle.coap_layer.specs.declared.setup.Setup.{Setup}
 use Rattle.coap_block.specs.Sizes.{Sizes}
 use Rattle.coap_exchange.specs.declared.asker.AskRefusal.{AskRefusal}
 use Rattle.coap_exchange.specs.declared.asker.AskRefusal.TheVariants as refusal
@@ -78,12 +79,12 @@ in_place : (a b : ℕ) (c : Bool) → a + b ≡ cond c 1 0 → 1 ≤ a → c ≡
 in_place a b true h p = refl
 in_place a b false h p = absurd (omega (arith, h, p))
 
-module _ (server : Endpoint) (sizes : Sizes) (word : ℕ) where
+module _ (server : Endpoint) (sizes : Sizes) (setup : Setup) where
   abbrev Laws : List E.Call → Type 0
-  Laws calls = X.AskerLaw server word calls
+  Laws calls = X.AskerLaw server setup calls
 
   below_of : (t : List Call) (c : Call) → Laws (lower_of sizes (c ∷ t)) → Laws (lower_of sizes t)
-  below_of t c law = law_back server word (lower (own_of sizes t) c) (lower_of sizes t) law
+  below_of t c law = law_back server setup (lower (own_of sizes t) c) (lower_of sizes t) law
 
   -- each number below those to come was given
   abbrev Given : ℕ → List Call → Type 0
@@ -122,24 +123,24 @@ module _ (server : Endpoint) (sizes : Sizes) (word : ℕ) where
   given (Feeds now from bytes w up settled event sent token was ∷ t) rows law n h =
       let c : Call = Feeds now from bytes w up settled event sent token was in
       let under = below_of t c law in
-      let k = known server sizes word t rows.1 under in
+      let k = known server sizes setup t rows.1 under in
       inr (given t rows.1 under n (ap (nat_lt n) (sym
-      (fed server sizes word t now from bytes w up settled event sent token was k law).taken_is) ∙ h))
+      (fed server sizes setup t now from bytes w up settled event sent token was k law).taken_is) ∙ h))
   given (Ticks now w below turn sent token was answer ∷ t) rows law n h =
       let c : Call = Ticks now w below turn sent token was answer in
       let under = below_of t c law in
-      let k = known server sizes word t rows.1 under in
+      let k = known server sizes setup t rows.1 under in
       inr (given t rows.1 under n (ap (nat_lt n) (sym
-      (ticked server sizes word t now w below turn sent token was answer k law).taken_is) ∙ h))
+      (ticked server sizes setup t now w below turn sent token was answer k law).taken_is) ∙ h))
 
-  numbered_so : (t : List Call) (c : Call) → ClientLaw server sizes word (c ∷ t) → (x : Reported)
+  numbered_so : (t : List Call) (c : Call) → ClientLaw server sizes setup (c ∷ t) → (x : Reported)
       → reports (own_of sizes t) c ≡ Some x → Given x.number t
   numbered_so t c law x made =
       let under = below_of t c law.exchanges.rows in
-      let k = known server sizes word t law.rows.1 under in
+      let k = known server sizes setup t law.rows.1 under in
       given t law.rows.1 under x.number (in_place (places x.number (own_of sizes t)) (gone sizes x.number t)
       (nat_lt x.number (own_of sizes t).taken) (k.one x.number)
-      (from_place server sizes word t c k law.exchanges.rows x made))
+      (from_place server sizes setup t c k law.exchanges.rows x made))
 
   -- the exchange that runs is that of the request that was sent last
   record LastIs (t : List Call) : Type 0 where
@@ -148,13 +149,13 @@ module _ (server : Endpoint) (sizes : Sizes) (word : ℕ) where
     same : reported_in (own_of sizes t).running ≡ reported_of sending.operation
 
   last_is : (t : List Call) → ClientRows sizes t → Laws (lower_of sizes t) → (x : Exchange)
-      → (beneath server sizes word t).running ≡ Some x → LastIs t
-  last_is t rows law x runs = by (own_of sizes t).running refl (known server sizes word t rows law).linked
-      (all_sends sizes server word t rows law).tracked
+      → (beneath server sizes setup t).running ≡ Some x → LastIs t
+  last_is t rows law x runs = by (own_of sizes t).running refl (known server sizes setup t rows law).linked
+      (all_sends sizes server setup t rows law).tracked
     where
       by : (o : Option Operation) → (own_of sizes t).running ≡ o
-          → Linked o (own_of sizes t).observations (beneath server sizes word t).running
-          → IfTracked sizes t o (beneath server sizes word t).running → LastIs t
+          → Linked o (own_of sizes t).observations (beneath server sizes setup t).running
+          → IfTracked sizes t o (beneath server sizes setup t).running → LastIs t
       by None is link tr = let none : None ≡ Some x = sym link ∙ runs in absurd (cc none)
       by (Some op) is link tr = elim tr.same [
         | inr same ↦ record {
@@ -163,7 +164,7 @@ module _ (server : Endpoint) (sizes : Sizes) (word : ℕ) where
           same = ap reported_in is ∙ ap reported_of (sym same);
         }
         | inl gone_op ↦ (
-            let d = if_dropped sizes server word t rows law (is ∙ ap (λ z. Some z) gone_op) in
+            let d = if_dropped sizes server setup t rows law (is ∙ ap (λ z. Some z) gone_op) in
             record {
               sending = d.sending;
               last = d.last;
@@ -184,12 +185,12 @@ module _ (server : Endpoint) (sizes : Sizes) (word : ℕ) where
     later = deeds (close m e token).deed (close m e token).own m w sent token kept
 
     abbrev x1 : E.Own
-    x1 = P.after (beneath server sizes word t) input
+    x1 = P.after (beneath server sizes setup t) input
 
-    right : Laws calls → P.IsRight (beneath server sizes word t) input
+    right : Laws calls → P.IsRight (beneath server sizes setup t) input
         × AreRight x1 (later ++ deeds e.deed e.own m w sent token kept)
-    right law = done_right (beneath server sizes word t) later (deeds e.deed e.own m w sent token kept) input
-        (law_front server word (later ++ (deeds e.deed e.own m w sent token kept ++ input ∷ [])) (lower_of sizes t) law)
+    right law = done_right (beneath server sizes setup t) later (deeds e.deed e.own m w sent token kept) input
+        (law_front server setup (later ++ (deeds e.deed e.own m w sent token kept ++ input ∷ [])) (lower_of sizes t) law)
 
     -- a request that is asked for and not sent
     module _ (law : Laws calls) (told : AreRefused calls) (op : Operation) (why : AskRefusal) (asks : e.deed ≡ Asks op)
@@ -210,7 +211,7 @@ module _ (server : Endpoint) (sizes : Sizes) (word : ℕ) where
       rows_behind : Laws (ask ∷ input ∷ lower_of sizes t)
       rows_behind =
           subst (λ d. Laws ((deeds d e.own m w sent token kept ++ input ∷ []) ++ lower_of sizes t)) asks
-          (law_back server word later ((deeds e.deed e.own m w sent token kept ++ input ∷ []) ++ lower_of sizes t)
+          (law_back server setup later ((deeds e.deed e.own m w sent token kept ++ input ∷ []) ++ lower_of sizes t)
           (subst Laws (append_assoc later (deeds e.deed e.own m w sent token kept ++ input ∷ [])
           (lower_of sizes t)) law))
 
@@ -218,7 +219,7 @@ module _ (server : Endpoint) (sizes : Sizes) (word : ℕ) where
       not_running is =
           let o = behind.0.runs m w (message_of e.own.observations op) sent
           (ap (λ z. E.Ask m (message_of e.own.observations op) w sent z) (given_so ∙ ap (λ y. Err y) is)) in
-          let k = exchanges.runs_it server word (input ∷ lower_of sizes t) rows_behind.1 o.0 o.1 in
+          let k = exchanges.runs_it server setup (input ∷ lower_of sizes t) rows_behind.1 o.0 o.1 in
           let none : None ≡ Some o.0 = ap token_in (sym none_runs) ∙ k in
           cc none
 
@@ -252,15 +253,15 @@ module _ (server : Endpoint) (sizes : Sizes) (word : ℕ) where
     under : Laws (lower_of sizes t)
     under = below_of t feed law
 
-    came_so : Came (beneath server sizes word t).running (P.after (beneath server sizes word t) input).running event
-    came_so = came (beneath server sizes word t) from _ up event (right t now w sent token kept fed_effect input law).0
+    came_so : Came (beneath server sizes setup t).running (P.after (beneath server sizes setup t) input).running event
+    came_so = came (beneath server sizes setup t) from _ up event (right t now w sent token kept fed_effect input law).0
 
     fed_want : AreRefused (lower_of sizes (feed ∷ t)) → (u : Unsent) → unsent (own_of sizes t) feed ≡ Some u
         → IsWant u.why
     fed_want told u is =
         let k = unsent_asks fed_effect token u is in
-        let g = goes_fed server sizes word t now from bytes w up settled event sent token kept
-        (known server sizes word t rows under) law in
+        let g = goes_fed server sizes setup t now from bytes w up settled event sent token kept
+        (known server sizes setup t rows under) law in
         wanting t now w sent token kept fed_effect input law told u.operation u.why k.0 k.1 g.leaves
 
     abbrev Tells : Reported → Type 0
@@ -273,8 +274,8 @@ module _ (server : Endpoint) (sizes : Sizes) (word : ℕ) where
         quiet_so o is none = inr (refuses_so moment fed_effect token (closing moment fed_effect token)
             (ap (λ z. lapse_in (happened s moment z).report) is ∙ none) x made lapse_so)
 
-        by : (o : Option Event) → event ≡ o → Came (beneath server sizes word t).running
-            (P.after (beneath server sizes word t) input).running o → Tells x
+        by : (o : Option Event) → event ≡ o → Came (beneath server sizes setup t).running
+            (P.after (beneath server sizes setup t) input).running o → Tells x
         by None is h = quiet_so None is refl
         by (Some (event_of.Answer a)) is h = quiet_so (Some (event_of.Answer a)) is (answered_none s moment a s.running)
         by (Some (event_of.Notice a)) is h = quiet_so (Some (event_of.Notice a)) is (noticed_none s moment a)
@@ -298,8 +299,8 @@ module _ (server : Endpoint) (sizes : Sizes) (word : ℕ) where
     fed_ends : (r : Report) → ends_as feed ≡ Some r → Ended r
     fed_ends r ends_so = by event refl came_so (ends_so)
       where
-        by : (o : Option Event) → event ≡ o → Came (beneath server sizes word t).running
-            (P.after (beneath server sizes word t) input).running o
+        by : (o : Option Event) → event ≡ o → Came (beneath server sizes setup t).running
+            (P.after (beneath server sizes setup t) input).running o
             → ends_as (Feeds now from bytes w up settled o sent token kept) ≡ Some r → Ended r
         by None is h end_is = absurd (cc end_is)
         by (Some (event_of.Answer a)) is h end_is = absurd (cc end_is)
@@ -339,15 +340,15 @@ module _ (server : Endpoint) (sizes : Sizes) (word : ℕ) where
     tick_under : Laws (lower_of sizes t)
     tick_under = below_of t tick law
 
-    tick_right : turn ≡ turn_of (beneath server sizes word t)
-        (max (beneath server sizes word t).clock tick_moment) below
+    tick_right : turn ≡ turn_of (beneath server sizes setup t)
+        (max (beneath server sizes setup t).clock tick_moment) below
     tick_right = (right t now w sent token kept tick_effect tick_input law).0
 
     tick_want : AreRefused (lower_of sizes (tick ∷ t)) → (u : Unsent) → unsent (own_of sizes t) tick ≡ Some u
         → IsWant u.why
     tick_want told u is =
         let k = unsent_asks tick_effect token u is in
-        let g = goes_ticked server sizes word t now turn (known server sizes word t rows tick_under) in
+        let g = goes_ticked server sizes setup t now turn (known server sizes setup t rows tick_under) in
         wanting t now w sent token kept tick_effect tick_input law told u.operation u.why k.0 k.1 g.leaves
 
     abbrev TickTells : Reported → Type 0
@@ -368,9 +369,9 @@ module _ (server : Endpoint) (sizes : Sizes) (word : ℕ) where
           ∙ ap (λ z. Some (lapse z)) (sym none)),
     )
 
-    ended_here : (e : Event) → turn ≡ turn_is.End e → EndedBy (beneath server sizes word t) e
-    ended_here e is = ended_by (beneath server sizes word t) (max
-        (beneath server sizes word t).clock tick_moment) below e
+    ended_here : (e : Event) → turn ≡ turn_is.End e → EndedBy (beneath server sizes setup t) e
+    ended_here e is = ended_by (beneath server sizes setup t) (max
+        (beneath server sizes setup t).clock tick_moment) below e
         (sym is ∙ tick_right)
 
     tick_tells : (x : Reported) → reports (own_of sizes t) tick ≡ Some x → is_lapse x.report ≡ true → TickTells x
@@ -428,10 +429,10 @@ module _ (server : Endpoint) (sizes : Sizes) (word : ℕ) where
       × ((u : Unsent) → unsent (own_of sizes t) c ≡ Some u
       → IsWant u.why × (reports (own_of sizes t) c ≡ report_to NoIds (reported_of u.operation)))
 
-  all_so : (t : List Call) (c : Call) → ClientLaw server sizes word (c ∷ t) → AllSo t c
+  all_so : (t : List Call) (c : Call) → ClientLaw server sizes setup (c ∷ t) → AllSo t c
   all_so t (Feeds now from bytes w up settled event sent token kept) law =
       let rows = law.rows.1 in
-      let told = are_refused server word (lower_of sizes (Feeds now from bytes w up settled event sent token kept ∷ t))
+      let told = are_refused server setup (lower_of sizes (Feeds now from bytes w up settled event sent token kept ∷ t))
       law.exchanges in
       let e : Effect = happened (at now (own_of sizes t)) (max (own_of sizes t).clock now) event in (
         λ r h. fed_ends t now from bytes w up settled event sent token kept rows law.exchanges.rows r h,
@@ -447,7 +448,7 @@ module _ (server : Endpoint) (sizes : Sizes) (word : ℕ) where
       )
   all_so t (Ticks now w below turn sent token kept answer) law =
       let rows = law.rows.1 in
-      let told = are_refused server word (lower_of sizes (Ticks now w below turn sent token kept answer ∷ t))
+      let told = are_refused server setup (lower_of sizes (Ticks now w below turn sent token kept answer ∷ t))
       law.exchanges in
       let e : Effect = passes (at now (own_of sizes t)) (max (own_of sizes t).clock now) turn in (
         λ r h. tick_ends t now w below turn sent token kept answer rows law.exchanges.rows r h,
@@ -461,14 +462,9 @@ module _ (server : Endpoint) (sizes : Sizes) (word : ℕ) where
         ),
       )
   all_so t (Calls now r answer) law = (λ r h. absurd (cc h), λ x made h. absurd (cc made), λ u h. absurd (cc h))
-  all_so t (Observes now path answer) law = (λ r h. absurd (cc h), λ x made h. absurd (cc made), λ u h. absurd (cc h))
-  all_so t (Cancels now n answer) law = (λ r h. absurd (cc h), λ x made h. absurd (cc made), λ u h. absurd (cc h))
-  all_so t (Forgets n was answer) law = (λ r h. absurd (cc h), λ x made h. absurd (cc made), λ u h. absurd (cc h))
-  all_so t (NextOut answer) law = (λ r h. absurd (cc h), λ x made h. absurd (cc made), λ u h. absurd (cc h))
-  all_so t (NextReport answer) law = (λ r h. absurd (cc h), λ x made h. absurd (cc made), λ u h. absurd (cc h))
-  all_so t (Asked answer) law = (λ r h. absurd (cc h), λ x made h. absurd (cc made), λ u h. absurd (cc h))
+  all_so t _ law = (λ r h. absurd (cc h), λ x made h. absurd (cc made), λ u h. absurd (cc h))
 
-  ends_here : (t : List Call) (c : Call) → ClientLaw server sizes word (c ∷ t) → ReportsEnds sizes t c
+  ends_here : (t : List Call) (c : Call) → ClientLaw server sizes setup (c ∷ t) → ReportsEnds sizes t c
   ends_here t c law =
       let k = all_so t c law in
       record {
@@ -481,6 +477,6 @@ module _ (server : Endpoint) (sizes : Sizes) (word : ℕ) where
             [ inl z ↦ absurd (cc z.0) | inr z ↦ (z.0, z.1, z.3) ];
       }
 
-  pub all_ends : (t : List Call) → ClientLaw server sizes word t → AllEnds sizes t
+  pub all_ends : (t : List Call) → ClientLaw server sizes setup t → AllEnds sizes t
   all_ends [] law = tt
-  all_ends (c ∷ t) law = (ends_here t c law, all_ends t (client_back server sizes word (c ∷ []) t law))
+  all_ends (c ∷ t) law = (ends_here t c law, all_ends t (client_back server sizes setup (c ∷ []) t law))

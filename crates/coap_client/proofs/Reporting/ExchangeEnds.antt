@@ -16,11 +16,8 @@ use Rattle.coap_exchange.specs.declared.matching.Opening.TheVariants.{Running, S
 use Rattle.coap_exchange.specs.AskerTrace as E
 use Rattle.coap_exchange.specs.AskerArrivals.{turn_of, is_of_request, has_waited, acked_in}
 use Rattle.coap_exchange.specs.AskerRequests.{ask_answer, sent_answer, send_refusal, is_busied, is_yes}
-use Rattle.coap_client.specs.Trace.{Report, Timeout, Reset, NoResponse, NoIds, Reported, Call, Calls}
-use Rattle.coap_client.specs.Trace.{Observes, Cancels, Forgets, Feeds}
-use Rattle.coap_client.specs.Trace.{Ticks, NextOut, NextReport, Asked}
-use Rattle.coap_client.specs.Trace as R
-use Rattle.coap_client.specs.Own.{Operation, Calling, Registering, Fetching, Cancelling, Dropped}
+use Rattle.coap_client.specs.Trace.{Report, Timeout, Reset, NoResponse, NoIds}
+use Rattle.coap_client.specs.Own.{Operation, Cancelling}
 use Rattle.coap_client.specs.Own.{Observation, Own}
 use Rattle.coap_client.specs.Observations.{observation_of}
 use Rattle.coap_client.specs.Observing.{releases}
@@ -40,13 +37,9 @@ released now e (Some o) token = refl
 pub failed_closed : (now : ℕ) (report : Report) (s : Own) (running : Option Operation)
     (token : Result (List ℕ) AskRefusal)
     → (close now (failed (λ t. true) report s running) token).report ≡ report_to report (reported_in running)
-failed_closed now report s None token = refl
-failed_closed now report s (Some (Calling k r t)) token = refl
-failed_closed now report s (Some (Registering k path)) token = refl
-failed_closed now report s (Some (Fetching k)) token = refl
-failed_closed now report s (Some Dropped) token = refl
 failed_closed now report s (Some (Cancelling k)) token =
     released now (failed (λ t. true) report s (Some (Cancelling k))) (observation_of k s.observations) token
+failed_closed now report s _ token = refl
 
 -- time ends an exchange by a Timeout or by NoResponse
 
@@ -83,31 +76,14 @@ waited_by s now e (Some x) is h = by (has_waited now (acked_in (Some x))) h
 pub ended_by : (s : E.Own) (now : ℕ) (below : L.Answer) (e : Event) → turn_is.End e ≡ turn_of s now below → EndedBy s e
 ended_by s now (L.Expired to id) e h = expired_by s to id e s.running refl h
 ended_by s now L.Idle e h = waited_by s now e s.running refl h
-ended_by s now (L.Copied to id) e h = absurd (cc h)
-ended_by s now (L.Becomes up) e h = absurd (cc h)
-ended_by s now L.Nothing e h = absurd (cc h)
-ended_by s now (L.Is holds) e h = absurd (cc h)
-ended_by s now (L.Sent id) e h = absurd (cc h)
-ended_by s now L.Busied e h = absurd (cc h)
-ended_by s now L.NoIds e h = absurd (cc h)
-ended_by s now (L.Gives packet) e h = absurd (cc h)
+ended_by s now _ e h = absurd (cc h)
 
 pub end_lapse : (r : Report) → is_end r ≡ true → is_lapse r ≡ true
 end_lapse Timeout h = refl
 end_lapse Reset h = refl
 end_lapse NoResponse h = refl
 end_lapse NoIds h = refl
-end_lapse (R.Body tag format body) h = h
-end_lapse (R.Valid tag) h = h
-end_lapse (R.Done code) h = h
-end_lapse (R.Value sequence tag format body) h = h
-end_lapse (R.Ended code) h = h
-end_lapse R.Cancelled h = h
-end_lapse (R.Failed code) h = h
-end_lapse R.Changed h = h
-end_lapse R.BadBlock h = h
-end_lapse R.NoTag h = h
-end_lapse R.TooLarge h = h
+end_lapse _ h = h
 
 -- why a request can't be sent: one runs, or a Message ID or a token is wanting
 

@@ -26,6 +26,7 @@ use Rattle.coap_client.specs.Responses.{said, tag_in, part, part_by}
 use Rattle.coap_client.specs.Follows.Bodies.{ComesLast}
 use Rattle.coap_client.specs.Follows.Whole.{IsAsked, MakesWhole}
 use Rattle.coap_client.proofs.Places.PlaceLemmas.{number_self}
+use Rattle.coap_client.proofs.Fetching.FetchUnchanged.{or_right as or_true}
 
 -- the last of some parts
 
@@ -93,10 +94,6 @@ le_true a b h = grind (arith, nat_tests, h)
 
 lt_false : (a b : ℕ) → b ≤ a → nat_lt a b ≡ false
 lt_false a b h = grind (arith, nat_tests, h)
-
-or_true : (b : Bool) → (b || true) ≡ true
-or_true true = refl
-or_true false = refl
 
 and_false : (b : Bool) → (b && false) ≡ false
 and_false true = refl

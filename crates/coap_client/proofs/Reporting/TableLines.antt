@@ -27,7 +27,7 @@ use Rattle.coap_client.specs.Calls as calls
 use Rattle.coap_client.specs.Follows.Table.{line, first_of, is_whole, is_changed, is_bad, is_without_tag, is_too_large}
 use Rattle.coap_client.specs.Follows.Table.{get_lines, is_continue, upload_lines}
 use Rattle.coap_client.proofs.Places.PlaceLemmas.{same_number}
-use Rattle.coap_client.proofs.Uploading.UploadSteps.{and_parts}
+use Rattle.std.proofs.lemmas.Bool.{and_parts}
 
 -- what a call reports of an answer, if it is over
 abbrev pub report_in : calls.Next → Option Report

@@ -7,6 +7,7 @@ use Rattle.coap_types.specs.declared.endpoint.Endpoint.{Endpoint}
 use Rattle.coap_types.specs.declared.option_number.TheConstants.{BLOCK1 as block1}
 use Rattle.coap_types.specs.declared.request.Method.{Method}
 use Rattle.coap_types.specs.declared.request.Method.TheVariants.{Get, Post, Put, Delete}
+use Rattle.coap_layer.specs.declared.setup.Setup.{Setup}
 use Rattle.coap_codec.specs.Message.{Message}
 use Rattle.coap_block.specs.Sizes.{Sizes}
 use Rattle.coap_block.specs.declared.fetch_step.FetchRefusal.{FetchRefusal}
@@ -17,8 +18,7 @@ use Rattle.coap_block.specs.FetchStep.{FetchState}
 use Rattle.coap_block.specs.UploadStep.{UploadState, more_follows, moved, continues}
 use Rattle.coap_client.specs.Trace.{Request, Report, Valid, Failed, Done, BadBlock, NoIds}
 use Rattle.coap_client.specs.Trace.{Call}
-use Rattle.coap_client.specs.Own.{Transfer, Fetches, Uploads, Single, Operation, Calling, Registering}
-use Rattle.coap_client.specs.Own.{Fetching, Cancelling, Dropped}
+use Rattle.coap_client.specs.Own.{Transfer, Fetches, Uploads, Single, Operation, Calling}
 use Rattle.coap_client.specs.Requests.{is_longer}
 use Rattle.coap_client.specs.Responses.{content, valid, continue, tag_in, block_at, part}
 use Rattle.coap_client.specs.Reports.{refused, done, is_success}
@@ -40,6 +40,7 @@ use Rattle.coap_client.proofs.Reporting.AnswerReports.{gives_of}
 use Rattle.coap_client.proofs.Turning.Origins.{Origin, kept, begins, follows, origin}
 use Rattle.coap_client.proofs.Reporting.Bodies.{heard_for}
 use Rattle.coap_client.proofs.Turning.AllWaiting.{all_wait}
+use Rattle.std.proofs.lemmas.Bool.{and_parts as and_split}
 
 -- whether it is such a report
 
@@ -85,17 +86,11 @@ upload_none method u m = by ((m.code == continue) && is_longer u) (more_follows 
 
 fetched_none : (f : FetchState) (m : Message) (v : Verdict) → next_valid (calls.fetched f m v) ≡ false
 fetched_none f m (verdict.Refuse why) = refused_none why
-fetched_none f m verdict.Again = refl
-fetched_none f m verdict.Done = refl
-fetched_none f m (verdict.Ask num size) = refl
+fetched_none f m _ = refl
 
 abbrev next_report : calls.Next → Report
 next_report (calls.Asks t) = NoIds
 next_report (calls.Ends final report) = report
-
-and_split : (a b : Bool) → (a && b) ≡ true → (a ≡ true) × (b ≡ true)
-and_split true b h = (refl, h)
-and_split false b h = absurd (cc h)
 
 record ValidAs (r : Request) (tr : Transfer) (m : Message) (report : Report) : Type 0 where
   fetch : FetchState
@@ -128,10 +123,7 @@ IsTaken t op = Unit {0}
 
 taken_later : (t : List Call) (c : Call) (op : Operation) → IsTaken t op → IsTaken (c ∷ t) op
 taken_later t c (Calling k r tr) h = (h.0, inr h.1, h.2)
-taken_later t c (Registering k path) h = tt
-taken_later t c (Fetching k) h = tt
-taken_later t c (Cancelling k) h = tt
-taken_later t c Dropped h = tt
+taken_later t c _ h = tt
 
 -- a call that fetches is a GET
 get_of : (sizes : Sizes) (method : Method) (body : List ℕ) (tr : Transfer) (f : FetchState)
@@ -165,17 +157,17 @@ module _ (sizes : Sizes) where
   running_taken (c ∷ t) k r tr is = taken_here t c k r tr (origin sizes t c k r tr is)
       (λ old runs. running_taken t k r old runs)
 
-  validated : (server : Endpoint) (word : ℕ) (t : List Call) (c : Call) → ClientLaw server sizes word (c ∷ t) → (k : ℕ)
+  validated : (server : Endpoint) (setup : Setup) (t : List Call) (c : Call) → ClientLaw server sizes setup (c ∷ t) → (k : ℕ)
       (tag : Option (List ℕ)) → reports (own_of sizes t) c ≡ of k (Valid tag) → IsValidated sizes k tag t c
-  validated server word t c law k tag made =
-      let answers = answers_last sizes server word (c ∷ t) law in
+  validated server setup t c law k tag made =
+      let answers = answers_last sizes server setup (c ∷ t) law in
       let g = gives_of sizes t c k (Valid tag) refl made in
       let shown = valid_as g.request g.transfer g.message g.final (Valid tag) g.ends_so refl in
       let q = running_taken t k g.request g.transfer g.runs in
       let heard : HeardFor sizes k g.message t c =
       heard_for sizes t c g.message k g.request g.transfer (answers.0 g.message g.heard_it) g.runs g.heard_it in
       let x : Taken = record { number = k; request = q.0 } in
-      let run = runs_call sizes server word t c law x q.1 g.message heard in
+      let run = runs_call sizes server setup t c law x q.1 g.message heard in
       let same : Some (Calling k (record q.0 { body = [] }) run.transfer) ≡ Some (Calling k g.request g.transfer) =
       sym run.runs ∙ g.runs in
       let transfer_is : run.transfer ≡ g.transfer = cc same in
@@ -191,13 +183,13 @@ module _ (sizes : Sizes) where
         tag_is = cc (shown.is);
       }
 
-  all_validated : (server : Endpoint) (word : ℕ) (t : List Call) → ClientLaw server sizes word t → ValidOfTags sizes t
-  all_validated server word [] law = tt
-  all_validated server word (c ∷ t) law = (
-    validated server word t c law,
-    all_validated server word t (client_back server sizes word (c ∷ []) t law),
+  all_validated : (server : Endpoint) (setup : Setup) (t : List Call) → ClientLaw server sizes setup t → ValidOfTags sizes t
+  all_validated server setup [] law = tt
+  all_validated server setup (c ∷ t) law = (
+    validated server setup t c law,
+    all_validated server setup t (client_back server sizes setup (c ∷ []) t law),
   )
 
-pub valid_of_tags : (server : Endpoint) (sizes : Sizes) (word : ℕ) (t : List Call) → ClientLaw server sizes word t
+pub valid_of_tags : (server : Endpoint) (sizes : Sizes) (setup : Setup) (t : List Call) → ClientLaw server sizes setup t
     → ValidOfTags sizes t
-valid_of_tags server sizes word t law = all_validated sizes server word t law
+valid_of_tags server sizes setup t law = all_validated sizes server setup t law

@@ -21,9 +21,10 @@ use Rattle.coap_client.specs.Trace.{Call, Calls, Observes, Cancels, Forgets, Fee
 use Rattle.coap_client.specs.Trace.{NextReport, Asked}
 use Rattle.coap_types.specs.declared.transmission.TheConstants.{EXCHANGE_LIFETIME_MS as exchange_lifetime}
 use Rattle.coap_types.specs.declared.transmission.TheConstants.{FAILURE_TIMEOUTS as failure_timeouts}
+use Rattle.coap_layer.specs.declared.setup.Setup.{Setup}
 use Rattle.coap_client.specs.Own.{Operation, Registering, Own}
 use Rattle.coap_client.specs.Observations.{to_fetch, observation_of}
-use Rattle.coap_client.specs.Effects.{Deed, Rests, Asks, Keeps, Releases, Effect, stays, runs}
+use Rattle.coap_client.specs.Effects.{Deed, Asks, Effect, stays, runs}
 use Rattle.coap_client.specs.Observing.{releases}
 use Rattle.coap_client.specs.Events.{happened, passes, idle, starts, is_held, is_upload_op}
 use Rattle.coap_client.specs.Queue.{calling, numbered, cancelling}
@@ -39,24 +40,23 @@ use Rattle.coap_client.proofs.Places.PlaceEvents.{ran, ran_append}
 use Rattle.coap_client.proofs.Places.Once.{law_back, own_ran, beneath, Known, known}
 use Rattle.coap_client.proofs.Uploading.Holding.{steadied, happened_steady, passes_steady}
 use Rattle.coap_client.proofs.Uploading.Causes.{held_for}
+use Rattle.coap_client.proofs.Turning.Moves.{releases_none}
 
 deeds_clock : (m w : ℕ) (sent : L.Answer) (token : Result (List ℕ) AskRefusal) (kept : Bool) (d : Deed) (o : Own)
     (y : E.Own) → y.clock ≤ m → (ran y (deeds d o m w sent token kept)).clock ≤ m
-deeds_clock m w sent token kept Rests o y h = h
-deeds_clock m w sent token kept (Keeps t) o y h = h
-deeds_clock m w sent token kept (Releases t) o y h = h
 deeds_clock m w sent token kept (Asks op) o y h = omega (arith, h)
+deeds_clock m w sent token kept _ o y h = h
 
-module _ (server : Endpoint) (sizes : Sizes) (word : ℕ) where
+module _ (server : Endpoint) (sizes : Sizes) (setup : Setup) where
   done_clock : (t : List Call) (m w : ℕ) (sent : L.Answer) (token : Result (List ℕ) AskRefusal) (kept : Bool)
-      (e : Effect) (input : E.Call) → (P.after (beneath server sizes word t) input).clock ≤ m
-      → (X.own_of server word (done_for e m w sent token kept input ++ lower_of sizes t)).clock ≤ m
+      (e : Effect) (input : E.Call) → (P.after (beneath server sizes setup t) input).clock ≤ m
+      → (X.own_of server setup (done_for e m w sent token kept input ++ lower_of sizes t)).clock ≤ m
   done_clock t m w sent token kept e input h =
       let c : Effect = close m e token in
       let later : List E.Call = deeds c.deed c.own m w sent token kept in
       let first : List E.Call = deeds e.deed e.own m w sent token kept in
-      let x : E.Own = beneath server sizes word t in
-      let same = own_ran server word (later ++ (first ++ input ∷ [])) (lower_of sizes t)
+      let x : E.Own = beneath server sizes setup t in
+      let same = own_ran server setup (later ++ (first ++ input ∷ [])) (lower_of sizes t)
       ∙ (ran_append x later (first ++ input ∷ []) ∙ ap (λ y. ran y later) (ran_append x first (input ∷ []))) in
       subst (λ (y : E.Own). y.clock ≤ m) (sym same)
       (deeds_clock m w sent token kept c.deed c.own _
@@ -72,16 +72,10 @@ module _ (server : Endpoint) (sizes : Sizes) (word : ℕ) where
 
   release_clock : (d : Deed) (o : Own) (kept : Bool) (y : E.Own) → ((op : Operation) → d ≡ Asks op → ⊥)
       → (ran y (deeds d o 0 0 L.Nothing (Ok []) kept)).clock ≡ y.clock
-  release_clock Rests o kept y f = refl
-  release_clock (Keeps t) o kept y f = refl
-  release_clock (Releases t) o kept y f = refl
   release_clock (Asks op) o kept y f = absurd (f op refl)
+  release_clock _ o kept y f = refl
 
-  releases_quiet : (o : _) (op : Operation) → releases o ≡ Asks op → ⊥
-  releases_quiet None op h = cc h
-  releases_quiet (Some o) op h = cc h
-
-  pub clocks : (t : List Call) → (beneath server sizes word t).clock ≤ (own_of sizes t).clock
+  pub clocks : (t : List Call) → (beneath server sizes setup t).clock ≤ (own_of sizes t).clock
   clocks [] = omega arith
   clocks (Calls now r answer ∷ t) = let a = answer_clock answer (λ number. calling (own_of sizes t).sizes number r)
       (at now (own_of sizes t)) in let b = clocks t in omega (arith, a, b)
@@ -93,9 +87,9 @@ module _ (server : Endpoint) (sizes : Sizes) (word : ℕ) where
   clocks (Forgets k kept false ∷ t) = clocks t
   clocks (Forgets k kept true ∷ t) =
       let d : Deed = releases (observation_of k (own_of sizes t).observations) in
-      let same = ap (λ (y : E.Own). y.clock) (own_ran server word (deeds d (own_of sizes t) 0 0 L.Nothing (Ok []) kept)
-      (lower_of sizes t)) ∙ release_clock d (own_of sizes t) kept (beneath server sizes word t)
-      (releases_quiet (observation_of k (own_of sizes t).observations)) in
+      let same = ap (λ (y : E.Own). y.clock) (own_ran server setup (deeds d (own_of sizes t) 0 0 L.Nothing (Ok []) kept)
+      (lower_of sizes t)) ∙ release_clock d (own_of sizes t) kept (beneath server sizes setup t)
+      (releases_none (observation_of k (own_of sizes t).observations)) in
       let b = clocks t in omega (arith, same, b)
   clocks (NextOut answer ∷ t) = clocks t
   clocks (NextReport answer ∷ t) = clocks t
@@ -108,7 +102,7 @@ module _ (server : Endpoint) (sizes : Sizes) (word : ℕ) where
       let st = steadied s m e token e.deed refl (happened_steady s m event) in
       let c = st.clock in
       let a = done_clock t m w sent token kept e (E.Receive m from bytes up settled event) (omega (arith, b)) in
-      subst (λ i. (beneath server sizes word (Feeds now from bytes w up settled event sent token kept ∷ t)).clock ≤ i)
+      subst (λ i. (beneath server sizes setup (Feeds now from bytes w up settled event sent token kept ∷ t)).clock ≤ i)
       (sym c) a
   clocks (Ticks now w below turn sent token kept answer ∷ t) =
       let m : ℕ = max (own_of sizes t).clock now in
@@ -118,7 +112,7 @@ module _ (server : Endpoint) (sizes : Sizes) (word : ℕ) where
       let st = steadied s m e token e.deed refl (passes_steady s m turn) in
       let c = st.clock in
       let a = done_clock t m w sent token kept e (E.Ticks m below turn) (omega (arith, b)) in
-      subst (λ i. (beneath server sizes word (Ticks now w below turn sent token kept answer ∷ t)).clock ≤ i) (sym c) a
+      subst (λ i. (beneath server sizes setup (Ticks now w below turn sent token kept answer ∷ t)).clock ≤ i) (sym c) a
 
   -- a tick that did nothing
   idle_turn : (t : Turn) (b : Bool) → false ≡ (not (is_idle t) || b) → (t ≡ turn_of.Idle) × (b ≡ false)
@@ -189,8 +183,8 @@ module _ (server : Endpoint) (sizes : Sizes) (word : ℕ) where
   module _ (t : List Call) (now w : ℕ) (below : L.Answer) (turn : Turn) (sent : L.Answer)
       (token : Result (List ℕ) AskRefusal) (kept : Bool)
       (rows : ClientRows sizes (Ticks now w below turn sent token kept false ∷ t))
-      (law : X.AskerLaw server word (lower_of sizes (Ticks now w below turn sent token kept false ∷ t)))
-      (due : EndWhenDue server word (lower_of sizes (Ticks now w below turn sent token kept false ∷ t))) where
+      (law : X.AskerLaw server setup (lower_of sizes (Ticks now w below turn sent token kept false ∷ t)))
+      (due : EndWhenDue server setup (lower_of sizes (Ticks now w below turn sent token kept false ∷ t))) where
     abbrev c : Call
     c = Ticks now w below turn sent token kept false
 
@@ -215,26 +209,26 @@ module _ (server : Endpoint) (sizes : Sizes) (word : ℕ) where
     clock_is : (own_of sizes (c ∷ t)).clock ≡ at_m
     clock_is = ap (λ e. (reporting (close at_m e token)).clock) r.effect_is
 
-    exchange_is : (beneath server sizes word (c ∷ t)).running ≡ (beneath server sizes word t).running
-    exchange_is = ap (λ e. (X.own_of server word (behind e)).running) r.effect_is
-        ∙ ap (λ u. R.running_unless u (beneath server sizes word t).running) r.idle_is
+    exchange_is : (beneath server sizes setup (c ∷ t)).running ≡ (beneath server sizes setup t).running
+    exchange_is = ap (λ e. (X.own_of server setup (behind e)).running) r.effect_is
+        ∙ ap (λ u. R.running_unless u (beneath server sizes setup t).running) r.idle_is
 
-    last_is : A.last_begun server word (lower_of sizes (c ∷ t)) ≡ A.last_begun server word (lower_of sizes t)
-    last_is = ap (λ e. A.last_begun server word (behind e)) r.effect_is
+    last_is : A.last_begun server setup (lower_of sizes (c ∷ t)) ≡ A.last_begun server setup (lower_of sizes t)
+    last_is = ap (λ e. A.last_begun server setup (behind e)) r.effect_is
 
-    due_now : EndWhenDue server word (input ∷ lower_of sizes t)
-    due_now = subst (λ e. EndWhenDue server word (behind e)) r.effect_is due
+    due_now : EndWhenDue server setup (input ∷ lower_of sizes t)
+    due_now = subst (λ e. EndWhenDue server setup (behind e)) r.effect_is due
 
-    moment_is : A.moment server word (lower_of sizes t) at_m ≡ at_m
+    moment_is : A.moment server setup (lower_of sizes t) at_m ≡ at_m
     moment_is = let a = clocks t in omega (arith, a)
 
     -- what runs was sent last
-    runs_for : (x : Exchange) → (beneath server sizes word t).running ≡ Some x → SentFor sizes server word (c ∷ t) x
-    runs_for x runs = sent_for sizes server word (c ∷ t) rows law x (exchange_is ∙ runs)
+    runs_for : (x : Exchange) → (beneath server sizes setup t).running ≡ Some x → SentFor sizes server setup (c ∷ t) x
+    runs_for x runs = sent_for sizes server setup (c ∷ t) rows law x (exchange_is ∙ runs)
 
-    not_due : (x : Exchange) → (beneath server sizes word t).running ≡ Some x → (acked : Option Moment)
+    not_due : (x : Exchange) → (beneath server sizes setup t).running ≡ Some x → (acked : Option Moment)
         → x.acked ≡ acked
-        → IsNotDue server sizes word (c ∷ t) (own_of sizes (c ∷ t)).clock
+        → IsNotDue server sizes setup (c ∷ t) (own_of sizes (c ∷ t)).clock
     not_due x runs None none =
         let f = due_now.0.unheard at_m below turn x refl runs none in
         let late : f.begun.timeout * failure_timeouts ≤ at_m - f.begun.at
@@ -283,17 +277,17 @@ module _ (server : Endpoint) (sizes : Sizes) (word : ℕ) where
     held_same : is_held (own_of sizes (c ∷ t)) (own_of sizes (c ∷ t)).clock ≡ is_held (at now (own_of sizes t)) at_m
     held_same = ap (λ e. is_held (reporting (close at_m e token)) (reporting (close at_m e token)).clock) r.effect_is
 
-    rests_for : Known server sizes word t → WaitsFor server sizes word t c
-        ⊎ IsEmpty server sizes word (own_of sizes (c ∷ t))
+    rests_for : Known server sizes setup t → WaitsFor server sizes setup t c
+        ⊎ IsEmpty server sizes setup (own_of sizes (c ∷ t))
     rests_for k = elim r.waits [
-      | inl run ↦ (let l : Linked (Some run.0) (own_of sizes t).observations (beneath server sizes word t).running =
+      | inl run ↦ (let l : Linked (Some run.0) (own_of sizes t).observations (beneath server sizes setup t).running =
           subst
-          (λ o. Linked o (own_of sizes t).observations (beneath server sizes word t).running) run.1 k.linked in inl
+          (λ o. Linked o (own_of sizes t).observations (beneath server sizes setup t).running) run.1 k.linked in inl
           (inl (not_due l.0 l.1 l.0.acked refl)))
       | inr idle_now ↦ elim idle_now.1 [
         | inl empty ↦ inr (record { queue = queue_is ∙ empty; none = running_is ∙ idle_now.0 })
         | inr q ↦ (let held = held_same ∙ q.4 in
-            let f = held_for server sizes word (c ∷ t) rows law (own_of sizes (c ∷ t)).clock held in
+            let f = held_for server sizes setup (c ∷ t) rows law (own_of sizes (c ∷ t)).clock held in
             inl (inr (record {
               operation = q.0;
               queue = q.1;
@@ -308,28 +302,28 @@ module _ (server : Endpoint) (sizes : Sizes) (word : ℕ) where
       ]
     ]
 
-  due_back : (cs rest : List E.Call) → EndWhenDue server word (cs ++ rest) → EndWhenDue server word rest
+  due_back : (cs rest : List E.Call) → EndWhenDue server setup (cs ++ rest) → EndWhenDue server setup rest
   due_back [] rest h = h
   due_back (x ∷ cs) rest h = due_back cs rest h.1
 
-  pub are_resting : (t : List Call) → ClientLaw server sizes word t → AreResting server sizes word t
+  pub are_resting : (t : List Call) → ClientLaw server sizes setup t → AreResting server sizes setup t
   are_resting t law = all t law.rows law.exchanges.rows
-      (when_due server word (lower_of sizes t) law.exchanges.rows law.exchanges.left law.exchanges.layer)
+      (when_due server setup (lower_of sizes t) law.exchanges.rows law.exchanges.left law.exchanges.layer)
     where
-      here : (t : List Call) (c : Call) → ClientRows sizes (c ∷ t) → X.AskerLaw server word (lower_of sizes (c ∷ t))
-          → EndWhenDue server word (lower_of sizes (c ∷ t)) → Known server sizes word t → IsIdleTick server sizes word c
-          → WaitsFor server sizes word t c ⊎ IsEmpty server sizes word (own_of sizes (c ∷ t))
+      here : (t : List Call) (c : Call) → ClientRows sizes (c ∷ t) → X.AskerLaw server setup (lower_of sizes (c ∷ t))
+          → EndWhenDue server setup (lower_of sizes (c ∷ t)) → Known server sizes setup t → IsIdleTick server sizes setup c
+          → WaitsFor server sizes setup t c ⊎ IsEmpty server sizes setup (own_of sizes (c ∷ t))
       here t c rows law due k i =
-          subst (λ d. ClientRows sizes (d ∷ t) → X.AskerLaw server word (lower_of sizes (d ∷ t))
-          → EndWhenDue server word (lower_of sizes (d ∷ t))
-          → WaitsFor server sizes word t d ⊎ IsEmpty server sizes word (own_of sizes (d ∷ t))) (sym i.7)
+          subst (λ d. ClientRows sizes (d ∷ t) → X.AskerLaw server setup (lower_of sizes (d ∷ t))
+          → EndWhenDue server setup (lower_of sizes (d ∷ t))
+          → WaitsFor server sizes setup t d ⊎ IsEmpty server sizes setup (own_of sizes (d ∷ t))) (sym i.7)
           (λ rows law due. rests_for t i.0 i.1 i.2 i.3 i.4 i.5 i.6 rows law due k) rows law due
 
-      all : (t : List Call) → ClientRows sizes t → X.AskerLaw server word (lower_of sizes t)
-          → EndWhenDue server word (lower_of sizes t) → AreResting server sizes word t
+      all : (t : List Call) → ClientRows sizes t → X.AskerLaw server setup (lower_of sizes t)
+          → EndWhenDue server setup (lower_of sizes t) → AreResting server sizes setup t
       all [] rows law due = tt
       all (c ∷ t) rows law due =
-          let under = law_back server word (lower (own_of sizes t) c) (lower_of sizes t) law in (
-            λ i. here t c rows law due (known server sizes word t rows.1 under) i,
+          let under = law_back server setup (lower (own_of sizes t) c) (lower_of sizes t) law in (
+            λ i. here t c rows law due (known server sizes setup t rows.1 under) i,
             all t rows.1 under (due_back (lower (own_of sizes t) c) (lower_of sizes t) due),
           )

@@ -1,13 +1,13 @@
 -- What a call of a client sends is what it asks of its exchanges, and the other way round.
-use Rattle.std.proofs.Common.{◌≡◌, inl, inr, ℕ, max, Bool, true, false, Option, Some, None, List, [], ◌∷◌, ◌++◌, refl}
+use Rattle.std.proofs.Common.{◌≡◌, inl, inr, ℕ, max, Bool, true, Option, Some, None, List, [], ◌∷◌, ◌++◌, refl}
 use Rattle.std.proofs.Common.{ap, sym, subst, ◌∙◌, Result, Ok, Err}
 use Rattle.coap_types.specs.Past.{Ever}
 use Rattle.coap_types.proofs.Facts.Traces.{Ever_append}
 use Rattle.coap_layer.specs.Trace as L
 use Rattle.coap_exchange.specs.declared.asker.AskRefusal.{AskRefusal}
 use Rattle.coap_exchange.specs.AskerTrace as E
-use Rattle.coap_client.specs.Trace.{Call, Calls, Observes, Cancels, Forgets, Feeds, Ticks}
-use Rattle.coap_client.specs.Trace.{NextOut, NextReport, Asked}
+use Rattle.coap_client.specs.Trace.{Call, Forgets, Feeds, Ticks}
+use Rattle.coap_client.specs.Trace.{NextOut}
 use Rattle.coap_client.specs.Own.{Operation}
 use Rattle.coap_client.specs.Own.{Observation, Own}
 use Rattle.coap_client.specs.Observations.{observation_of}
@@ -116,12 +116,8 @@ asked_is_sent s c e t r token is k = record {
 
 pub sent_if_asked : (s : Own) (c : Call) (r : E.Request) (token : List ℕ) → Ever (AsksFor r token) (lower s c)
     → IsSent s c r token
-sent_if_asked s (Calls now q answer) r token h = absurd h
-sent_if_asked s (Observes now path answer) r token h = absurd h
-sent_if_asked s (Cancels now number answer) r token h = absurd h
 sent_if_asked s (Forgets number kept true) r token h =
     absurd (no_release r token (observation_of number s.observations) s 0 0 L.Nothing (Ok []) kept h)
-sent_if_asked s (Forgets number kept false) r token h = absurd h
 sent_if_asked s (Feeds now from bytes w up settled event sent t kept) r token h =
     let m : ℕ = max s.clock now in
     let e : Effect = happened (at now s) m event in
@@ -134,8 +130,7 @@ sent_if_asked s (Ticks now w below turn sent t kept answer) r token h =
     (sent_as e m w sent kept (E.Ticks m below turn) (λ q k z. cc (z.is)) r token t e.deed refl h)
 sent_if_asked s (NextOut answer) r token (inl h) = absurd (cc (h.is))
 sent_if_asked s (NextOut answer) r token (inr h) = absurd h
-sent_if_asked s (NextReport answer) r token h = absurd h
-sent_if_asked s (Asked answer) r token h = absurd h
+sent_if_asked s _ r token h = absurd h
 
 -- .. and the other way round
 asked_by_effect : (e : Effect) (m w : ℕ) (sent : L.Answer) (kept : Bool) (input : E.Call) (x : Sending) (d : Deed)
@@ -150,10 +145,7 @@ asked_by_effect e m w sent kept input x (Asks op) (Ok k) h =
       below = sent;
       is = ap (λ (z : Sending). E.Ask m z.request w sent (Ok z.token)) same;
     })
-asked_by_effect e m w sent kept input x (Asks op) (Err why) h = absurd (cc h)
-asked_by_effect e m w sent kept input x Rests t h = absurd (cc h)
-asked_by_effect e m w sent kept input x (Keeps k) t h = absurd (cc h)
-asked_by_effect e m w sent kept input x (Releases k) t h = absurd (cc h)
+asked_by_effect e m w sent kept input x _ _ h = absurd (cc h)
 
 pub asked_if_sent : (s : Own) (c : Call) (x : Sending) → sends s c ≡ Some x
     → Ever (AsksFor x.request x.token) (lower s c)
@@ -165,10 +157,4 @@ asked_if_sent s (Ticks now w below turn sent t kept answer) x h =
     let m : ℕ = max s.clock now in
     let e : Effect = passes (at now s) m turn in
     asked_by_effect e m w sent kept (E.Ticks m below turn) x e.deed t h
-asked_if_sent s (Calls now q answer) x h = absurd (cc h)
-asked_if_sent s (Observes now path answer) x h = absurd (cc h)
-asked_if_sent s (Cancels now number answer) x h = absurd (cc h)
-asked_if_sent s (Forgets number kept answer) x h = absurd (cc h)
-asked_if_sent s (NextOut answer) x h = absurd (cc h)
-asked_if_sent s (NextReport answer) x h = absurd (cc h)
-asked_if_sent s (Asked answer) x h = absurd (cc h)
+asked_if_sent s _ x h = absurd (cc h)

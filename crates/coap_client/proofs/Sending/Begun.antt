@@ -14,6 +14,7 @@ use Rattle.coap_block.specs.Sizes.{Sizes}
 use Rattle.coap_exchange.specs.AskerTrace as E
 use Rattle.coap_exchange.specs.AskerRequests as Q
 use Rattle.coap_layer.proofs.Facts.StepsOfLayer.{steps_split}
+use Rattle.coap_layer.specs.declared.setup.Setup.{Setup}
 use Rattle.coap_client.specs.Trace.{Call}
 use Rattle.coap_client.specs.Steps.{lower}
 use Rattle.coap_client.specs.Law.{ClientLaw, own_of, lower_of, layer_of}
@@ -56,38 +57,38 @@ begins_asks server con (c ∷ calls) (inr h) = let k =
       spelled = k.spelled;
     }
 
-module _ (server : Endpoint) (sizes : Sizes) (word : ℕ) where
+module _ (server : Endpoint) (sizes : Sizes) (setup : Setup) where
   -- what a call adds stands before what there was
   pub adds_front : (past : List Call) (c : Call)
-      → all_asked server sizes word (c ∷ past) ≡ call_asks server sizes word past c ++ all_asked server sizes word past
-  adds_front past c = asker_append server word (lower (own_of sizes past) c) (lower_of sizes past)
+      → all_asked server sizes setup (c ∷ past) ≡ call_asks server sizes setup past c ++ all_asked server sizes setup past
+  adds_front past c = asker_append server setup (lower (own_of sizes past) c) (lower_of sizes past)
 
   pub layer_next : (past : List Call) (c : Call)
-      → layer_of server sizes word (c ∷ past) ≡ call_adds server sizes word past c ++ layer_of server sizes word past
-  layer_next past c = ap (entries (S.start (S.usual word))) (adds_front past c)
-      ∙ entries_append (S.start (S.usual word)) (call_asks server sizes word past c) (all_asked server sizes word past)
+      → layer_of server sizes setup (c ∷ past) ≡ call_adds server sizes setup past c ++ layer_of server sizes setup past
+  layer_next past c = ap (entries (S.start setup)) (adds_front past c)
+      ∙ entries_append (S.start setup) (call_asks server sizes setup past c) (all_asked server sizes setup past)
 
   -- the steps of the layer at one call
-  pub steps_here : (past : List Call) (c : Call) → ClientLaw server sizes word (c ∷ past)
-      → (old new : S.State) × Steps old (call_asks server sizes word past c) new
-      × (call_adds server sizes word past c ≡ entries old (call_asks server sizes word past c))
+  pub steps_here : (past : List Call) (c : Call) → ClientLaw server sizes setup (c ∷ past)
+      → (old new : S.State) × Steps old (call_asks server sizes setup past c) new
+      × (call_adds server sizes setup past c ≡ entries old (call_asks server sizes setup past c))
   steps_here past c law =
-      let asks = call_asks server sizes word past c in
-      let asked = all_asked server sizes word past in
-      let steps = subst (λ (z : List Asked). Steps (S.start (S.usual word)) z law.exchanges.left)
+      let asks = call_asks server sizes setup past c in
+      let asked = all_asked server sizes setup past in
+      let steps = subst (λ (z : List Asked). Steps (S.start setup) z law.exchanges.left)
       (adds_front past c) law.exchanges.layer in
-      let k = steps_split (S.start (S.usual word)) law.exchanges.left asks asked steps in
-      let from = left_is (S.start (S.usual word)) k.0 asked k.1 in
+      let k = steps_split (S.start setup) law.exchanges.left asks asked steps in
+      let from = left_is (S.start setup) k.0 asked k.1 in
       (k.0, law.exchanges.left, k.2, ap (λ s. entries s asks) (sym from))
 
-  pub begins_now : (past : List Call) (c : Call) → ClientLaw server sizes word (c ∷ past) → (con : Open)
-      → Ever (λ b. begun b ≡ Some con) (call_adds server sizes word past c) → SendsNow server sizes con past c
+  pub begins_now : (past : List Call) (c : Call) → ClientLaw server sizes setup (c ∷ past) → (con : Open)
+      → Ever (λ b. begun b ≡ Some con) (call_adds server sizes setup past c) → SendsNow server sizes con past c
   begins_now past c law con h =
       let k = steps_here past c law in
-      let there = asked_for con k.0 k.1 (call_asks server sizes word past c) k.2
+      let there = asked_for con k.0 k.1 (call_asks server sizes setup past c) k.2
       (subst (Ever (λ b. begun b ≡ Some con)) k.3 h) in
       let b = begins_asks server con (lower (own_of sizes past) c)
-      (in_exchange server word con (lower (own_of sizes past) c) (lower_of sizes past) law.exchanges.rows there) in
+      (in_exchange server setup con (lower (own_of sizes past) c) (lower_of sizes past) law.exchanges.rows there) in
       let x = sent_if_asked (own_of sizes past) c b.request b.token b.asks in
       let content : Q.content_of b.token b.request
       ≡ Q.content_of x.sending.token x.sending.request = ap (λ k. Q.content_of k b.request) (sym x.token_is)
@@ -102,15 +103,15 @@ module _ (server : Endpoint) (sizes : Sizes) (word : ℕ) where
         };
       }
 
-  pub begin_at_once : (t : List Call) → ClientLaw server sizes word t → BeginAtOnce server sizes word t
+  pub begin_at_once : (t : List Call) → ClientLaw server sizes setup t → BeginAtOnce server sizes setup t
   begin_at_once [] law = tt
-  begin_at_once (c ∷ t) law = (begins_now t c law, begin_at_once t (client_back server sizes word (c ∷ []) t law))
+  begin_at_once (c ∷ t) law = (begins_now t c law, begin_at_once t (client_back server sizes setup (c ∷ []) t law))
 
-  pub cons_are_requests : (t : List Call) → ClientLaw server sizes word t → ConsAreRequests server sizes word t
+  pub cons_are_requests : (t : List Call) → ClientLaw server sizes setup t → ConsAreRequests server sizes setup t
   cons_are_requests [] law con h = absurd h
-  cons_are_requests (c ∷ t) law con h = elim (Ever_append (λ b. begun b ≡ Some con) (call_adds server sizes word t c)
-      (layer_of server sizes word t) (subst (Ever (λ b. begun b ≡ Some con)) (layer_next t c) h)) [
+  cons_are_requests (c ∷ t) law con h = elim (Ever_append (λ b. begun b ≡ Some con) (call_adds server sizes setup t c)
+      (layer_of server sizes setup t) (subst (Ever (λ b. begun b ≡ Some con)) (layer_next t c) h)) [
         | inl now ↦ (let k = begins_now t c law con now in (k.sending, inl k.sends_it, k.is))
-        | inr before ↦ (let k = cons_are_requests t (client_back server sizes word (c ∷ []) t law) con before
+        | inr before ↦ (let k = cons_are_requests t (client_back server sizes setup (c ∷ []) t law) con before
             in (k.0, inr k.1, k.2))
       ]

@@ -2,9 +2,10 @@
 use Rattle.std.proofs.Common.{◌≡◌, inl, inr, ℕ, Some, List, ◌∷◌, [], refl, sym, subst, ◌∙◌}
 use Rattle.coap_types.specs.Past.{Ever}
 use Rattle.coap_types.specs.declared.endpoint.Endpoint.{Endpoint}
+use Rattle.coap_layer.specs.declared.setup.Setup.{Setup}
 use Rattle.coap_block.specs.Sizes.{Sizes}
 use Rattle.coap_client.specs.Trace.{Call}
-use Rattle.coap_client.specs.Own.{Operation, Calling, Registering, Fetching, Cancelling, Dropped}
+use Rattle.coap_client.specs.Own.{Operation, Calling, Fetching, Cancelling}
 use Rattle.coap_client.specs.Deeds.{at}
 use Rattle.coap_client.specs.Law.{ClientLaw, own_of}
 use Rattle.coap_client.specs.Follows.Answered.{IsSentFor}
@@ -25,10 +26,7 @@ IsTaken t op = Unit {0}
 
 taken_later : (t : List Call) (c : Call) (op : Operation) → IsTaken t op → IsTaken (c ∷ t) op
 taken_later t c (Cancelling k) h = inr h
-taken_later t c (Calling k r tr) h = tt
-taken_later t c (Registering k path) h = tt
-taken_later t c (Fetching k) h = tt
-taken_later t c Dropped h = tt
+taken_later t c _ h = tt
 
 module _ (sizes : Sizes) where
   queue_taken : (t : List Call) → AllOf (IsTaken t) (own_of sizes t).queue
@@ -52,13 +50,13 @@ module _ (sizes : Sizes) where
   sent_taken (c ∷ t) x k (inl h) op = inr (first_taken t x k (sent_as sizes t c x h) op)
   sent_taken (c ∷ t) x k (inr h) op = inr (sent_taken t x k h op)
 
-  module _ (server : Endpoint) (word : ℕ) where
-    pub cancels_are_taken : (t : List Call) → ClientLaw server sizes word t → CancelsAreTaken sizes t
+  module _ (server : Endpoint) (setup : Setup) where
+    pub cancels_are_taken : (t : List Call) → ClientLaw server sizes setup t → CancelsAreTaken sizes t
     cancels_are_taken t law k runs =
-        let l : Linked (Some (Cancelling k)) (own_of sizes t).observations (beneath server sizes word t).running =
-        subst (λ o. Linked o (own_of sizes t).observations (beneath server sizes word t).running) runs
-        (known server sizes word t law.rows law.exchanges.rows).linked in
-        let z = (open_runs server sizes word t law).is_open l.0 l.1 in
+        let l : Linked (Some (Cancelling k)) (own_of sizes t).observations (beneath server sizes setup t).running =
+        subst (λ o. Linked o (own_of sizes t).observations (beneath server sizes setup t).running) runs
+        (known server sizes setup t law.rows law.exchanges.rows).linked in
+        let z = (open_runs server sizes setup t law).is_open l.0 l.1 in
         let both : Some z.2.operation ≡ Some (Cancelling k) = sym z.2.operates ∙ runs in
         let same : z.2.operation ≡ Cancelling k = cc both in
         let for : IsSentFor (Cancelling k) z.2.sending = subst (λ o. IsSentFor o z.2.sending) same z.2.sent_for in

@@ -71,18 +71,10 @@ asks_by con a at (L.Confirm to content word) is may h =
       bytes = k.2;
       spelled = may to content word refl;
     }
-asks_by con a at (L.Receive from bytes) is may h = absurd (cc h)
-asks_by con a at (L.Reply to id bytes) is may h = absurd (cc h)
-asks_by con a at (L.Plain to content) is may h = absurd (cc h)
-asks_by con a at (L.Settle to id) is may h = absurd (cc h)
-asks_by con a at L.Ticks is may h = absurd (cc h)
-asks_by con a at L.Take is may h = absurd (cc h)
-asks_by con a at (L.Room to) is may h = absurd (cc h)
-asks_by con a at L.AsksFree is may h = absurd (cc h)
-asks_by con a at L.Pass is may h = absurd (cc h)
+asks_by con a at _ is may h = absurd (cc h)
 
 -- the steps' states are those that the calls leave
-left_is : (old new : S.State) (calls : List Asked) → Steps old calls new → new ≡ left_after old calls
+pub left_is : (old new : S.State) (calls : List Asked) → Steps old calls new → new ≡ left_after old calls
 left_is old new [] h = h
 left_is old new (a ∷ earlier) h = h.2.new_is ∙ ap (λ s. S.forgotten (S.after s (S.made s a.now a.call)))
     (left_is old h.0 earlier h.1)

@@ -9,6 +9,7 @@ use Rattle.coap_types.specs.declared.transmission.TheConstants.{ACK_TIMEOUT_MS a
 use Rattle.coap_types.specs.declared.transmission.TheConstants.{EXCHANGE_LIFETIME_MS as exchange_lifetime}
 use Rattle.coap_types.specs.declared.transmission.TheConstants.{FAILURE_TIMEOUTS as failure_timeouts}
 use Rattle.coap_layer.specs.Trace as L
+use Rattle.coap_layer.specs.declared.setup.Setup.{Setup}
 use Rattle.coap_block.specs.Sizes.{Sizes}
 use Rattle.coap_exchange.specs.declared.asker.AskRefusal.{AskRefusal}
 use Rattle.coap_exchange.specs.declared.asker.Event.TheVariants as event_of
@@ -18,7 +19,7 @@ use Rattle.coap_exchange.specs.AskerDue.{WhenDue, last_acked}
 use Rattle.coap_exchange.specs.AskerTrace as E
 use Rattle.coap_exchange.specs.AskerFollows as A
 use Rattle.coap_exchange.proofs.Facts.ClientSide.{when_due}
-use Rattle.coap_client.specs.Trace.{Call, Calls, Observes, Cancels, Forgets, Feeds, Ticks, NextOut, NextReport, Asked}
+use Rattle.coap_client.specs.Trace.{Call, Feeds, Ticks}
 use Rattle.coap_client.specs.Effects.{Effect}
 use Rattle.coap_client.specs.Events.{passes}
 use Rattle.coap_client.specs.Deeds.{at, close, deeds}
@@ -45,7 +46,7 @@ late_by at b timeout m is least late = omega (arith, is, least, late)
 waited_by : (at b acked m : ℕ) → b ≡ at → b ≤ acked → exchange_lifetime ≤ m - acked → at + exchange_lifetime ≤ m
 waited_by at b acked m is after late = omega (arith, is, after, late)
 
-module _ (server : Endpoint) (sizes : Sizes) (word : ℕ) where
+module _ (server : Endpoint) (sizes : Sizes) (setup : Setup) where
   -- a call that ends nothing
   plainly : (past : List Call) (c : Call) → ends_as c ≡ None → (at : ℕ) → EndsInTime sizes past c at
   plainly past c none at = record {
@@ -71,30 +72,30 @@ module _ (server : Endpoint) (sizes : Sizes) (word : ℕ) where
         at_input P (deeds (close m e token).deed (close m e token).own m w sent token kept)
         (deeds e.deed e.own m w sent token kept) (input turn) (lower_of sizes t) h
 
-    moment_is : A.moment server word (lower_of sizes t) m ≡ m
-    moment_is = let k = clocks server sizes word t in omega (arith, k)
+    moment_is : A.moment server setup (lower_of sizes t) m ≡ m
+    moment_is = let k = clocks server sizes setup t in omega (arith, k)
 
-    timed_out : (begins : ℕ) → RunsSince server sizes word begins t → A.TimesOut server word (lower_of sizes t) m
+    timed_out : (begins : ℕ) → RunsSince server sizes setup begins t → A.TimesOut server setup (lower_of sizes t) m
         → begins + failure_timeouts * ack_timeout ≤ m
     timed_out begins r o =
         let same : Some o.begun ≡ Some r.begun = sym o.last ∙ r.last_begun in
         let begun_is : o.begun ≡ r.begun = cc same in
         let at_is : o.begun.at ≡ begins = ap (λ (b : A.Begun). b.at) begun_is ∙ r.moment in
-        late_by begins o.begun.at o.begun.timeout m at_is (begun_by server word (lower_of sizes t) o.begun o.last).1
+        late_by begins o.begun.at o.begun.timeout m at_is (begun_by server setup (lower_of sizes t) o.begun o.last).1
         (subst (λ n. o.begun.timeout * failure_timeouts ≤ n - o.begun.at) moment_is o.late)
 
-    gave_up : (begins : ℕ) → RunsSince server sizes word begins t → A.GivesUp server word (lower_of sizes t) m
-        → WhenDue server word (lower_of sizes t) (input (turn_is.End event_of.NoResponse))
+    gave_up : (begins : ℕ) → RunsSince server sizes setup begins t → A.GivesUp server setup (lower_of sizes t) m
+        → WhenDue server setup (lower_of sizes t) (input (turn_is.End event_of.NoResponse))
         → begins + exchange_lifetime ≤ m
     gave_up begins r o due =
-        let acked : last_acked server word (lower_of sizes t) ≡ Some o.acked =
+        let acked : last_acked server setup (lower_of sizes t) ≡ Some o.acked =
         sym (due.acked o.exchange o.runs) ∙ o.since in
-        let later = acked_after server word (lower_of sizes t) o.acked r.begun acked r.last_begun in
+        let later = acked_after server setup (lower_of sizes t) o.acked r.begun acked r.last_begun in
         waited_by begins r.begun.at o.acked.0 m r.moment later
         (subst (λ n. exchange_lifetime ≤ n - o.acked.0) moment_is o.late)
 
-    ticked : (turn : Turn) → ClientLaw server sizes word (tick turn ∷ t)
-        → A.EndInTime server word (lower_of sizes (tick turn ∷ t)) → (begins : ℕ) → IsOpenSince sizes begins t
+    ticked : (turn : Turn) → ClientLaw server sizes setup (tick turn ∷ t)
+        → A.EndInTime server setup (lower_of sizes (tick turn ∷ t)) → (begins : ℕ) → IsOpenSince sizes begins t
         → EndsInTime sizes t (tick turn) begins
     ticked turn_is.Idle law in_time begins is = plainly t (tick turn_is.Idle) refl begins
     ticked turn_is.Copied law in_time begins is = plainly t (tick turn_is.Copied) refl begins
@@ -105,16 +106,16 @@ module _ (server : Endpoint) (sizes : Sizes) (word : ℕ) where
     ticked (turn_is.End event_of.Reset) law in_time begins is =
         plainly t (tick (turn_is.End event_of.Reset)) refl begins
     ticked (turn_is.End event_of.Timeout) law in_time begins is =
-        let before = client_back server sizes word (tick (turn_is.End event_of.Timeout) ∷ []) t law in
-        let r = (open_runs server sizes word t before).runs begins is in
-        let k = here (A.InTime server word) (turn_is.End event_of.Timeout) in_time in
+        let before = client_back server sizes setup (tick (turn_is.End event_of.Timeout) ∷ []) t law in
+        let r = (open_runs server sizes setup t before).runs begins is in
+        let k = here (A.InTime server setup) (turn_is.End event_of.Timeout) in_time in
         record { timeout = λ h. timed_out begins r (k.0.timeout m below refl); no_response = λ h. absurd (cc h) }
     ticked (turn_is.End event_of.NoResponse) law in_time begins is =
         let c : Call = tick (turn_is.End event_of.NoResponse) in
-        let before = client_back server sizes word (c ∷ []) t law in
-        let r = (open_runs server sizes word t before).runs begins is in
-        let k = here (A.InTime server word) (turn_is.End event_of.NoResponse) in_time in
-        let due = here (WhenDue server word) (turn_is.End event_of.NoResponse) (when_due server word
+        let before = client_back server sizes setup (c ∷ []) t law in
+        let r = (open_runs server sizes setup t before).runs begins is in
+        let k = here (A.InTime server setup) (turn_is.End event_of.NoResponse) in_time in
+        let due = here (WhenDue server setup) (turn_is.End event_of.NoResponse) (when_due server setup
         (lower_of sizes (c ∷ t)) law.exchanges.rows law.exchanges.left law.exchanges.layer) in
         record {
           timeout = λ h. absurd (cc h);
@@ -124,35 +125,25 @@ module _ (server : Endpoint) (sizes : Sizes) (word : ℕ) where
   fed : (t : List Call) (now : ℕ) (from : Endpoint) (bytes : List ℕ) (w : ℕ) (up : L.Answer) (settled : Bool)
       (event : Option _) (sent : L.Answer) (token : Result (List ℕ) AskRefusal) (kept : Bool) (begins : ℕ)
       → EndsInTime sizes t (Feeds now from bytes w up settled event sent token kept) begins
-  fed t now from bytes w up settled None sent token kept begins = plainly t _ refl begins
-  fed t now from bytes w up settled (Some (event_of.Answer x)) sent token kept begins = plainly t _ refl begins
-  fed t now from bytes w up settled (Some (event_of.Notice x)) sent token kept begins = plainly t _ refl begins
   fed t now from bytes w up settled (Some event_of.Reset) sent token kept begins =
       record { timeout = λ h. absurd (cc h); no_response = λ h. absurd (cc h) }
-  fed t now from bytes w up settled (Some event_of.Timeout) sent token kept begins = plainly t _ refl begins
-  fed t now from bytes w up settled (Some event_of.NoResponse) sent token kept begins = plainly t _ refl begins
+  fed t now from bytes w up settled _ sent token kept begins = plainly t _ refl begins
 
-  each : (t : List Call) (c : Call) → ClientLaw server sizes word (c ∷ t)
-      → A.EndInTime server word (lower_of sizes (c ∷ t)) → (begins : ℕ) → IsOpenSince sizes begins t
+  each : (t : List Call) (c : Call) → ClientLaw server sizes setup (c ∷ t)
+      → A.EndInTime server setup (lower_of sizes (c ∷ t)) → (begins : ℕ) → IsOpenSince sizes begins t
       → EndsInTime sizes t c begins
   each t (Ticks now w below turn sent token kept answer) law in_time begins is =
       ticked t now w below sent token kept answer turn law in_time begins is
   each t (Feeds now from bytes w up settled event sent token kept) law in_time begins is =
       fed t now from bytes w up settled event sent token kept begins
-  each t (Calls now r answer) law in_time begins is = plainly t _ refl begins
-  each t (Observes now path answer) law in_time begins is = plainly t _ refl begins
-  each t (Cancels now number answer) law in_time begins is = plainly t _ refl begins
-  each t (Forgets number kept answer) law in_time begins is = plainly t _ refl begins
-  each t (NextOut answer) law in_time begins is = plainly t _ refl begins
-  each t (NextReport answer) law in_time begins is = plainly t _ refl begins
-  each t (Asked answer) law in_time begins is = plainly t _ refl begins
+  each t _ law in_time begins is = plainly t _ refl begins
 
   -- where its exchanges end in time
-  pub all_end_in_time : (t : List Call) → ClientLaw server sizes word t → A.EndInTime server word (lower_of sizes t)
+  pub all_end_in_time : (t : List Call) → ClientLaw server sizes setup t → A.EndInTime server setup (lower_of sizes t)
       → AllEndInTime sizes t
   all_end_in_time [] law in_time = tt
   all_end_in_time (c ∷ t) law in_time = (
     each t c law in_time,
-    all_end_in_time t (client_back server sizes word (c ∷ []) t law)
-        (Always_back (A.InTime server word) _ (lower_of sizes t) in_time),
+    all_end_in_time t (client_back server sizes setup (c ∷ []) t law)
+        (Always_back (A.InTime server setup) _ (lower_of sizes t) in_time),
   )

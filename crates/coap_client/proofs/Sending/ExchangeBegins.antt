@@ -12,6 +12,7 @@ use Rattle.coap_layer.specs.Words.{Open}
 use Rattle.coap_layer.specs.Rows.{IsSpelled}
 use Rattle.coap_layer.specs.Machine.State as S
 use Rattle.coap_layer.specs.Machine.Steps.{Asked, Steps, left_after}
+use Rattle.coap_layer.specs.declared.setup.Setup.{Setup}
 use Rattle.coap_exchange.specs.declared.asker.AskRefusal.{AskRefusal}
 use Rattle.coap_exchange.specs.declared.asker.Exchange.{Exchange}
 use Rattle.coap_exchange.specs.declared.matching.Opening.{Opening}
@@ -25,13 +26,9 @@ use Rattle.coap_exchange.specs.AskerLaw as W
 use Rattle.coap_exchange.proofs.Facts.ClientSide.{server_is}
 use Rattle.coap_common.specs.Adds.{asked_by_client}
 use Rattle.coap_client.proofs.Sending.ConsAreRequests.{Asks, Begins}
+pub use Rattle.coap_client.proofs.Sending.ConsAreRequests.{left_is}
 
 -- the steps' states are those that the calls leave
-pub left_is : (old new : S.State) (calls : List Asked) → Steps old calls new → new ≡ left_after old calls
-left_is old new [] h = h
-left_is old new (a ∷ earlier) h = h.2.new_is ∙ ap (λ s. S.forgotten (S.after s (S.made s a.now a.call)))
-    (left_is old h.0 earlier h.1)
-
 one_of : (con : Open) (a : Asked) → Ever (Asks con) (a ∷ []) → Asks con a
 one_of con a (inl h) = h
 one_of con a (inr h) = absurd h
@@ -48,9 +45,9 @@ no_settle con true server (Some x) settled (inr h) = h
 no_settle con true server None settled h = h
 no_settle con false server o settled h = h
 
-module _ (server : Endpoint) (word : ℕ) where
+module _ (server : Endpoint) (setup : Setup) where
   abbrev own : List E.Call → E.Own
-  own t = W.own_of server word t
+  own t = W.own_of server setup t
 
   opens : (con : Open) (s : E.Own) (o : Opening) (now w : ℕ) (r : E.Request) (below : L.Answer)
       (answer : Result (List ℕ) AskRefusal)
@@ -80,7 +77,7 @@ module _ (server : Endpoint) (word : ℕ) where
   pub begins_here : (con : Open) (t : List E.Call) (c : E.Call) → P.IsRight (own t) c
       → Ever (Asks con) (P.lower (own t) c) → Begins server con c
   begins_here con t (E.Ask now r w below answer) right h =
-      opens con (own t) (Q.opening_of (own t) r) now w r below answer (server_is server word t) right (one_of con _ h)
+      opens con (own t) (Q.opening_of (own t) r) now w r below answer (server_is server setup t) right (one_of con _ h)
   begins_here con t (E.Receive now from bytes up settled answer) right h =
       let s : E.Own = own t in
       let v : Verdict = R.verdict_on s from up in
@@ -98,12 +95,12 @@ module _ (server : Endpoint) (word : ℕ) where
   begins_here con t (E.Release token answer) right h = absurd h
   begins_here con t (E.Take answer) right h = absurd (cc ((one_of con _ h).call))
 
-  pub in_exchange : (con : Open) (later past : List E.Call) → W.AskerLaw server word (later ++ past)
-      → Ever (Asks con) (asked_by_client server word past later) → Ever (Begins server con) later
+  pub in_exchange : (con : Open) (later past : List E.Call) → W.AskerLaw server setup (later ++ past)
+      → Ever (Asks con) (asked_by_client server setup past later) → Ever (Begins server con) later
   in_exchange con [] past law h = h
   in_exchange con (c ∷ later) past law h = elim
-      (Ever_append (Asks con) (P.lower (W.own_of server word (later ++ past)) c)
-      (asked_by_client server word past later) h) [
+      (Ever_append (Asks con) (P.lower (W.own_of server setup (later ++ past)) c)
+      (asked_by_client server setup past later) h) [
         | inl k ↦ inl (begins_here con (later ++ past) c law.0 k)
         | inr k ↦ inr (in_exchange con later past law.1 k)
       ]

@@ -1,10 +1,11 @@
 -- What a client hears answers the exchange that is open, and it hears whatever does.
-use Rattle.std.proofs.Common.{◌≡◌, ℕ, max, Bool, Option, Some, None, List, [], ◌∷◌, ◌++◌, refl, ap, sym, subst, ◌∙◌}
+use Rattle.std.proofs.Common.{◌≡◌, ℕ, max, Bool, Option, Some, List, [], ◌∷◌, ◌++◌, refl, ap, sym, subst, ◌∙◌}
 use Rattle.std.proofs.Common.{Result}
 use Rattle.coap_types.proofs.Facts.Traces.{Always_back}
 use Rattle.coap_types.specs.declared.endpoint.Endpoint.{Endpoint}
 use Rattle.coap_codec.specs.Message.{Message}
 use Rattle.coap_layer.specs.Trace as L
+use Rattle.coap_layer.specs.declared.setup.Setup.{Setup}
 use Rattle.coap_block.specs.Sizes.{Sizes}
 use Rattle.coap_exchange.specs.declared.asker.AskRefusal.{AskRefusal}
 use Rattle.coap_exchange.specs.declared.asker.Event.{Event}
@@ -14,7 +15,7 @@ use Rattle.coap_exchange.specs.AskerTrace as E
 use Rattle.coap_exchange.specs.AskerSteps as P
 use Rattle.coap_exchange.specs.AskerLaw as X
 use Rattle.coap_exchange.specs.AskerResponses.{AreToldAs, IsSound, TellsKind}
-use Rattle.coap_client.specs.Trace.{Call, Calls, Observes, Cancels, Forgets, Feeds, Ticks, NextOut, NextReport, Asked}
+use Rattle.coap_client.specs.Trace.{Call, Feeds}
 use Rattle.coap_client.specs.Effects.{Effect}
 use Rattle.coap_client.specs.Events.{happened}
 use Rattle.coap_client.specs.Deeds.{at, close, deeds}
@@ -27,11 +28,11 @@ use Rattle.coap_client.proofs.Sending.OpenSince.{open_runs}
 use Rattle.coap_client.proofs.Turning.ExchangeCame.{came}
 use Rattle.coap_client.proofs.Turning.Leading.{client_back}
 
-module _ (server : Endpoint) (sizes : Sizes) (word : ℕ) where
-  of_open : (t : List Call) → ClientLaw server sizes word t → (m : Message) (x : Exchange)
-      → (beneath server sizes word t).running ≡ Some x → m.token ≡ x.token → IsOfOpen server sizes word t m
+module _ (server : Endpoint) (sizes : Sizes) (setup : Setup) where
+  of_open : (t : List Call) → ClientLaw server sizes setup t → (m : Message) (x : Exchange)
+      → (beneath server sizes setup t).running ≡ Some x → m.token ≡ x.token → IsOfOpen server sizes setup t m
   of_open t law m x runs token =
-      let k = (open_runs server sizes word t law).is_open x runs in
+      let k = (open_runs server sizes setup t law).is_open x runs in
       let both : Some x ≡ Some k.2.exchange = sym runs ∙ k.2.runs in
       let same : x ≡ k.2.exchange = cc both in
       record {
@@ -60,68 +61,57 @@ module _ (server : Endpoint) (sizes : Sizes) (word : ℕ) where
     first event = let e : Effect = happened (at now (own_of sizes t)) moment event in
         deeds e.deed e.own moment w sent token kept
 
-    right : (event : Option Event) → ClientLaw server sizes word (feed event ∷ t)
-        → P.IsRight (beneath server sizes word t) (input event)
+    right : (event : Option Event) → ClientLaw server sizes setup (feed event ∷ t)
+        → P.IsRight (beneath server sizes setup t) (input event)
     right event law =
-        (done_right (beneath server sizes word t) (later event) (first event) (input event)
-        (law_front server word (later event ++ (first event ++ input event ∷ [])) (lower_of sizes t)
+        (done_right (beneath server sizes setup t) (later event) (first event) (input event)
+        (law_front server setup (later event ++ (first event ++ input event ∷ [])) (lower_of sizes t)
         law.exchanges.rows)).0
 
-    fed : (event : Option Event) → ClientLaw server sizes word (feed event ∷ t) → (m : Message)
-        → hears (feed event) ≡ Some m → IsOfOpen server sizes word t m
-    fed None law m h = absurd (cc h)
+    fed : (event : Option Event) → ClientLaw server sizes setup (feed event ∷ t) → (m : Message)
+        → hears (feed event) ≡ Some m → IsOfOpen server sizes setup t m
     fed (Some (event_of.Answer a)) law m h =
         let same : a ≡ m = cc h in
-        let k = came (beneath server sizes word t) from moment up (Some (event_of.Answer a))
+        let k = came (beneath server sizes setup t) from moment up (Some (event_of.Answer a))
         (right (Some (event_of.Answer a)) law) in
-        of_open t (client_back server sizes word (feed (Some (event_of.Answer a)) ∷ []) t law) m k.0 k.1
+        of_open t (client_back server sizes setup (feed (Some (event_of.Answer a)) ∷ []) t law) m k.0 k.1
         (ap (λ (z : Message). z.token) (sym same) ∙ k.2)
-    fed (Some (event_of.Notice a)) law m h = absurd (cc h)
-    fed (Some event_of.Reset) law m h = absurd (cc h)
-    fed (Some event_of.Timeout) law m h = absurd (cc h)
-    fed (Some event_of.NoResponse) law m h = absurd (cc h)
+    fed _ law m h = absurd (cc h)
 
-    told_here : (event : Option Event) → AreToldAs server word (lower_of sizes (feed event ∷ t))
-        → TellsKind server word (lower_of sizes t) (input event)
+    told_here : (event : Option Event) → AreToldAs server setup (lower_of sizes (feed event ∷ t))
+        → TellsKind server setup (lower_of sizes t) (input event)
     told_here event told =
-        (at_input (TellsKind server word) (later event) (first event) (input event) (lower_of sizes t) told).0
+        (at_input (TellsKind server setup) (later event) (first event) (input event) (lower_of sizes t) told).0
 
-  each : (t : List Call) (c : Call) → ClientLaw server sizes word (c ∷ t) → (m : Message) → hears c ≡ Some m
-      → IsOfOpen server sizes word t m
+  each : (t : List Call) (c : Call) → ClientLaw server sizes setup (c ∷ t) → (m : Message) → hears c ≡ Some m
+      → IsOfOpen server sizes setup t m
   each t (Feeds now from bytes w up settled event sent token kept) law m h =
       fed t now from bytes w up settled sent token kept event law m h
-  each t (Ticks now w below turn sent token kept answer) law m h = absurd (cc h)
-  each t (Calls now r answer) law m h = absurd (cc h)
-  each t (Observes now path answer) law m h = absurd (cc h)
-  each t (Cancels now number answer) law m h = absurd (cc h)
-  each t (Forgets number kept answer) law m h = absurd (cc h)
-  each t (NextOut answer) law m h = absurd (cc h)
-  each t (NextReport answer) law m h = absurd (cc h)
-  each t (Asked answer) law m h = absurd (cc h)
+  each t _ law m h = absurd (cc h)
 
-  pub hears_of_open : (t : List Call) → ClientLaw server sizes word t → HearsOfOpen server sizes word t
+  pub hears_of_open : (t : List Call) → ClientLaw server sizes setup t → HearsOfOpen server sizes setup t
   hears_of_open [] law = tt
-  hears_of_open (c ∷ t) law = (each t c law, hears_of_open t (client_back server sizes word (c ∷ []) t law))
+  hears_of_open (c ∷ t) law = (each t c law, hears_of_open t (client_back server sizes setup (c ∷ []) t law))
 
   -- where its exchanges tell so
-  here : (t : List Call) (c : Call) → AreToldAs server word (lower_of sizes (c ∷ t)) → (now : ℕ) (from : Endpoint)
+  here : (t : List Call) (c : Call) → AreToldAs server setup (lower_of sizes (c ∷ t)) → (now : ℕ) (from : Endpoint)
       (bytes : List ℕ) (w : ℕ) (m : Message) (settled : Bool) (event : Option Event) (sent : L.Answer)
       (token : Result (List ℕ) AskRefusal) (kept : Bool) (x : Exchange)
       → c ≡ Feeds now from bytes w (L.Becomes (L.Response m)) settled event sent token kept
-      → IsSound server word from m → (X.own_of server word (lower_of sizes t)).running ≡ Some x → m.token ≡ x.token
-      → ComesAsAnswer server sizes word x m → hears c ≡ Some m
+      → IsSound server setup from m → (X.own_of server setup (lower_of sizes t)).running ≡ Some x → m.token ≡ x.token
+      → ComesAsAnswer server sizes setup x m → hears c ≡ Some m
   here t c told now from bytes w m settled event sent token kept x is sound runs same comes =
-      let told_so = subst (λ (d : Call). AreToldAs server word (lower_of sizes (d ∷ t))) is told in
+      let told_so = subst (λ (d : Call). AreToldAs server setup (lower_of sizes (d ∷ t))) is told in
       let k = told_here t now from bytes w (L.Becomes (L.Response m)) settled sent token kept event told_so in
       let answer : event ≡ Some (event_of.Answer m) =
       k.answer (max (own_of sizes t).clock now) from bytes settled event m x refl sound runs same comes in
       ap hears is
       ∙ ap (λ e. hears (Feeds now from bytes w (L.Becomes (L.Response m)) settled e sent token kept)) answer
 
-  pub answers_are_heard : (t : List Call) → AreToldAs server word (lower_of sizes t)
-      → AnswersAreHeard server sizes word t
+  pub answers_are_heard : (t : List Call) → AreToldAs server setup (lower_of sizes t)
+      → AnswersAreHeard server sizes setup t
   answers_are_heard [] told = tt
   answers_are_heard (c ∷ t) told = (
     here t c told,
-    answers_are_heard t (Always_back (TellsKind server word) _ (lower_of sizes t) told),
+    answers_are_heard t (Always_back (TellsKind server setup) _ (lower_of sizes t) told),
   )

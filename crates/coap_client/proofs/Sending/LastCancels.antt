@@ -4,44 +4,38 @@ use Rattle.std.proofs.Common.{Result, Ok, Err}
 use Rattle.std.proofs.lemmas.List.{append_assoc}
 use Rattle.coap_types.specs.declared.endpoint.Endpoint.{Endpoint}
 use Rattle.coap_layer.specs.Trace as L
+use Rattle.coap_layer.specs.declared.setup.Setup.{Setup}
 use Rattle.coap_block.specs.Sizes.{Sizes}
 use Rattle.coap_exchange.specs.declared.asker.AskRefusal.{AskRefusal}
 use Rattle.coap_exchange.specs.declared.asker.Exchange.{Exchange}
 use Rattle.coap_exchange.specs.declared.asker.Turn.{Turn}
 use Rattle.coap_exchange.specs.declared.asker.Turn.TheVariants as turn_is
 use Rattle.coap_exchange.specs.declared.matching.Verdict.{Verdict}
-use Rattle.coap_exchange.specs.declared.matching.Verdict.TheVariants.{Ignore, Reject, Acknowledge, AnswerCon, Answer}
-use Rattle.coap_exchange.specs.declared.matching.Verdict.TheVariants.{NoticeCon, Notice, Await, EndByReset}
+use Rattle.coap_exchange.specs.declared.matching.Verdict.TheVariants.{AnswerCon, Answer}
+use Rattle.coap_exchange.specs.declared.matching.Verdict.TheVariants.{Await, EndByReset}
 use Rattle.coap_exchange.specs.AskerArrivals.{running_after, running_unless, verdict_on}
 use Rattle.coap_exchange.specs.AskerRequests.{request_token}
 use Rattle.coap_exchange.specs.AskerTrace as E
 use Rattle.coap_exchange.specs.AskerLaw as X
 use Rattle.coap_exchange.proofs.Facts.Moves as move
 use Rattle.coap_client.specs.Trace.{NoIds, Call, Calls, Observes, Cancels, Forgets, Feeds, Ticks, NextOut, NextReport, Asked}
-use Rattle.coap_client.specs.Own.{Transfer, Operation, Calling, Registering, Fetching, Cancelling, Dropped, Observation}
+use Rattle.coap_client.specs.Own.{Transfer, Operation, Cancelling, Observation}
 use Rattle.coap_client.specs.Own.{Own}
 use Rattle.coap_client.specs.Observations.{observation_of}
 use Rattle.coap_client.specs.Observing.{releases}
-use Rattle.coap_client.specs.Effects.{Deed, Rests, Asks, Keeps, Releases, Effect, has_sent}
+use Rattle.coap_client.specs.Effects.{Deed, Rests, Asks, Effect, has_sent}
 use Rattle.coap_client.specs.Events.{failed, happened, passes, closed}
 use Rattle.coap_client.specs.Deeds.{at, deeds}
 use Rattle.coap_client.specs.Law.{own_of, lower_of}
 use Rattle.coap_client.specs.Follows.Words.{Sending, sent_by, last_sent}
+use Rattle.coap_client.proofs.Turning.Moves.{releases_none}
 
 -- what fails or is forgotten asks for no request
 
-pub releases_quiet : (o : Option Observation) (op : Operation) → releases o ≡ Asks op → ⊥
-releases_quiet None op h = cc h
-releases_quiet (Some o) op h = cc h
-
 pub failed_quiet : (u : Transfer → Bool) (s : Own) (running : Option Operation) (op : Operation)
     → (failed u NoIds s running).deed ≡ Asks op → ⊥
-failed_quiet u s None op h = cc h
-failed_quiet u s (Some (Calling k r t)) op h = cc h
-failed_quiet u s (Some (Registering k path)) op h = cc h
-failed_quiet u s (Some (Fetching k)) op h = cc h
-failed_quiet u s (Some Dropped) op h = cc h
-failed_quiet u s (Some (Cancelling k)) op h = releases_quiet (observation_of k s.observations) op h
+failed_quiet u s (Some (Cancelling k)) op h = releases_none (observation_of k s.observations) op h
+failed_quiet u s _ op h = cc h
 
 -- the request that was asked for last is a cancel
 abbrev pub last_cancels : List E.Call → Bool
@@ -55,18 +49,14 @@ CancelsAs before x = (y : Exchange) × (before ≡ Some y) × (x.cancel ≡ y.ca
 -- what runs behind a call is what ran
 received_as : (at : ℕ) (v : Verdict) (before : Option Exchange) (x : Exchange) → running_after at v before ≡ Some x
     → CancelsAs before x
-received_as at Ignore before x h = (x, h, refl)
-received_as at Reject before x h = (x, h, refl)
-received_as at Acknowledge before x h = (x, h, refl)
 received_as at AnswerCon before x h = absurd (cc h)
 received_as at Answer before x h = absurd (cc h)
-received_as at NoticeCon before x h = (x, h, refl)
-received_as at Notice before x h = (x, h, refl)
 received_as at EndByReset before x h = absurd (cc h)
 received_as at Await None x h = absurd (cc h)
 received_as at Await (Some y) x h =
     let e : ◌≡◌ {A = Exchange} (record y { acked = Some (record { 0 = at }) }) x = cc h in
     (y, refl, sym (ap (λ (z : Exchange). z.cancel) e))
+received_as at _ before x h = (x, h, refl)
 
 ticked_as : (turn : Turn) (before : Option Exchange) (x : Exchange) → running_unless turn before ≡ Some x
     → before ≡ Some x
@@ -74,37 +64,37 @@ ticked_as turn_is.Idle before x h = h
 ticked_as turn_is.Copied before x h = h
 ticked_as (turn_is.End e) before x h = absurd (cc h)
 
-module _ (server : Endpoint) (word : ℕ) where
-  pub cancels_last : (t : List E.Call) → X.AskerLaw server word t → (x : Exchange)
-      → (X.own_of server word t).running ≡ Some x → x.cancel ≡ last_cancels t
+module _ (server : Endpoint) (setup : Setup) where
+  pub cancels_last : (t : List E.Call) → X.AskerLaw server setup t → (x : Exchange)
+      → (X.own_of server setup t).running ≡ Some x → x.cancel ≡ last_cancels t
   cancels_last [] law x runs = absurd (cc runs)
   cancels_last (E.Ask now r w below (Ok token) ∷ t) law x runs =
-      by (move.ask_row (X.own_of server word t) r below (Ok token) law.0)
+      by (move.ask_row (X.own_of server setup t) r below (Ok token) law.0)
     where
-      by : move.AskRow (X.own_of server word t) r below (Ok token) → x.cancel ≡ is_some r.token
+      by : move.AskRow (X.own_of server setup t) r below (Ok token) → x.cancel ≡ is_some r.token
       by (move.refused why is none) = absurd (cc is)
       by (move.sent id is some opens sent_id) =
-          let e = sym (ap (λ (o : E.Own). o.running) (move.opened_some (X.own_of server word t) r below id some)) ∙ runs in
+          let e = sym (ap (λ (o : E.Own). o.running) (move.opened_some (X.own_of server setup t) r below id some)) ∙ runs in
           let same : ◌≡◌ {A = Exchange} (record {
-            token = request_token (X.own_of server word t) r;
+            token = request_token (X.own_of server setup t) r;
             id = record { 0 = id };
             acked = None;
             cancel = is_some r.token;
           }) x = cc e in
           sym (ap (λ (z : Exchange). z.cancel) same)
   cancels_last (E.Ask now r w below (Err why) ∷ t) law x runs =
-      cancels_last t law.1 x (by (move.ask_row (X.own_of server word t) r below (Err why) law.0))
+      cancels_last t law.1 x (by (move.ask_row (X.own_of server setup t) r below (Err why) law.0))
     where
-      by : move.AskRow (X.own_of server word t) r below (Err why) → (X.own_of server word t).running ≡ Some x
+      by : move.AskRow (X.own_of server setup t) r below (Err why) → (X.own_of server setup t).running ≡ Some x
       by (move.refused e is none) =
-          sym (ap (λ (o : E.Own). o.running) (move.opened_none (X.own_of server word t) r below none)) ∙ runs
+          sym (ap (λ (o : E.Own). o.running) (move.opened_none (X.own_of server setup t) r below none)) ∙ runs
       by (move.sent id is some opens sent_id) = absurd (cc is)
   cancels_last (E.Receive now from bytes up settled answer ∷ t) law x runs =
-      let s : E.Own = X.own_of server word t in
+      let s : E.Own = X.own_of server setup t in
       let k = received_as (max s.clock now) (verdict_on s from up) s.running x runs in
       k.2 ∙ cancels_last t law.1 k.0 k.1
   cancels_last (E.Ticks now below answer ∷ t) law x runs =
-      cancels_last t law.1 x (ticked_as answer (X.own_of server word t).running x runs)
+      cancels_last t law.1 x (ticked_as answer (X.own_of server setup t).running x runs)
   cancels_last (E.Keep token answer ∷ t) law x runs = cancels_last t law.1 x runs
   cancels_last (E.Release token answer ∷ t) law x runs = cancels_last t law.1 x runs
   cancels_last (E.Take answer ∷ t) law x runs = cancels_last t law.1 x runs
@@ -113,10 +103,8 @@ module _ (server : Endpoint) (word : ℕ) where
 quiet_cancels : (d : Deed) (o : Own) (m w : ℕ) (sent : L.Answer) (token : Result (List ℕ) AskRefusal) (kept : Bool)
     (past : List E.Call) → ((op : Operation) → d ≡ Asks op → ⊥)
     → last_cancels (deeds d o m w sent token kept ++ past) ≡ last_cancels past
-quiet_cancels Rests o m w sent token kept past f = refl
-quiet_cancels (Keeps t) o m w sent token kept past f = refl
-quiet_cancels (Releases t) o m w sent token kept past f = refl
 quiet_cancels (Asks op) o m w sent token kept past f = absurd (f op refl)
+quiet_cancels _ o m w sent token kept past f = refl
 
 module _ (e : Effect) (m w : ℕ) (sent : L.Answer) (kept : Bool) (input : E.Call) (past : List E.Call) where
   abbrev cancels_by : Option Sending → Bool
@@ -132,14 +120,12 @@ module _ (e : Effect) (m w : ℕ) (sent : L.Answer) (kept : Bool) (input : E.Cal
   done_cancels Rests token is =
       ap last_cancels (append_assoc (deeds e.deed e.own m w sent token kept) (input ∷ []) past)
       ∙ quiet_cancels e.deed e.own m w sent token kept (input ∷ past) (λ op h. cc (h, is))
-  done_cancels (Keeps k) token is = refl
-  done_cancels (Releases k) token is = refl
-  done_cancels (Asks op) (Ok key) is = refl
   done_cancels (Asks op) (Err why) is =
       let c : Effect = closed m e (Asks op) (Err why) in
       let own : List E.Call = deeds (Asks op) e.own m w sent (Err why) kept ++ input ∷ [] in
       ap last_cancels (append_assoc (deeds c.deed c.own m w sent (Err why) kept) own past)
       ∙ quiet_cancels c.deed c.own m w sent (Err why) kept (own ++ past) (failed_quiet has_sent e.own (Some op))
+  done_cancels _ _ is = refl
 
   by_sending : (o : Option Sending) (z : Sending) (before : Option Sending)
       → elim o [ Some x ↦ Some x | None ↦ before ] ≡ Some z
@@ -160,7 +146,7 @@ module _ (sizes : Sizes) where
   cancels_sent (Forgets number kept false ∷ t) z h = cancels_sent t z h
   cancels_sent (Forgets number kept true ∷ t) z h =
       let o = observation_of number (own_of sizes t).observations in
-      quiet_cancels (releases o) (own_of sizes t) 0 0 L.Nothing (Ok []) kept (lower_of sizes t) (releases_quiet o)
+      quiet_cancels (releases o) (own_of sizes t) 0 0 L.Nothing (Ok []) kept (lower_of sizes t) (releases_none o)
       ∙ cancels_sent t z h
   cancels_sent (NextOut answer ∷ t) z h = cancels_sent t z h
   cancels_sent (NextReport answer ∷ t) z h = cancels_sent t z h
@@ -180,9 +166,9 @@ module _ (sizes : Sizes) where
       ∙ by_sending e m w sent kept input (lower_of sizes t) (sent_by e e.deed token) z (last_sent sizes t) h
       (cancels_sent t z)
 
-pub exchange_cancels : (server : Endpoint) (sizes : Sizes) (word : ℕ) (t : List Call)
-    → X.AskerLaw server word (lower_of sizes t) → (x : Exchange)
-    → (X.own_of server word (lower_of sizes t)).running ≡ Some x → (z : Sending) → last_sent sizes t ≡ Some z
+pub exchange_cancels : (server : Endpoint) (sizes : Sizes) (setup : Setup) (t : List Call)
+    → X.AskerLaw server setup (lower_of sizes t) → (x : Exchange)
+    → (X.own_of server setup (lower_of sizes t)).running ≡ Some x → (z : Sending) → last_sent sizes t ≡ Some z
     → x.cancel ≡ is_some z.request.token
-exchange_cancels server sizes word t law x runs z last =
-    cancels_last server word (lower_of sizes t) law x runs ∙ cancels_sent sizes t z last
+exchange_cancels server sizes setup t law x runs z last =
+    cancels_last server setup (lower_of sizes t) law x runs ∙ cancels_sent sizes t z last

@@ -4,11 +4,12 @@ use Rattle.std.proofs.Common.{◌≡◌, ◌≤◌, inl, inr, ℕ, max, Bool, tr
 use Rattle.std.proofs.Common.{refl, ap, sym, subst, ◌∙◌, arith, Result, Ok, Err}
 use Rattle.coap_types.specs.Past.{Ever}
 use Rattle.coap_types.specs.declared.endpoint.Endpoint.{Endpoint}
-use Rattle.coap_layer.specs.Machine.State.{State, start, usual, made, moment as moment_at}
+use Rattle.coap_layer.specs.Machine.State.{State, start, made, moment as moment_at}
 use Rattle.coap_layer.specs.Machine.Steps.{Asked, left_after, entries}
 use Rattle.coap_layer.specs.Trace as L
 use Rattle.coap_layer.specs.Words.{Open, begun}
 use Rattle.coap_layer.proofs.Facts.Sendings.{begins_of}
+use Rattle.coap_layer.specs.declared.setup.Setup.{Setup}
 use Rattle.coap_block.specs.Sizes.{Sizes}
 use Rattle.coap_exchange.specs.declared.asker.AskRefusal.{AskRefusal}
 use Rattle.coap_exchange.specs.declared.asker.Exchange.{Exchange}
@@ -59,14 +60,7 @@ IsTimed _ = ⊥
 timed : (s : State) (now : ℕ) (call : L.Call) → IsTimed call → now ≤ moment_at s now call
 timed s now (L.Receive from bytes) h = omega arith
 timed s now (L.Confirm to content word) h = omega arith
-timed s now L.Ticks h = absurd h
-timed s now (L.Reply to id bytes) h = absurd h
-timed s now (L.Plain to content) h = absurd h
-timed s now (L.Settle to id) h = absurd h
-timed s now L.Take h = absurd h
-timed s now (L.Room to) h = absurd h
-timed s now L.AsksFree h = absurd h
-timed s now L.Pass h = absurd h
+timed s now _ h = absurd h
 
 module _ (m : ℕ) where
   -- no later than this moment, and an arrival and what begins a CON at it
@@ -118,12 +112,12 @@ module _ (m : ℕ) where
   lower_at s (E.Release token answer) h = tt
   lower_at s (E.Take answer) h = (record { by = omega arith; from = λ k. absurd k }, tt)
 
-  asked_at : (server : Endpoint) (word : ℕ) (past later : List E.Call) → Every Timed later
-      → Every AskedAt (asked_by_client server word past later)
-  asked_at server word past [] h = tt
-  asked_at server word past (c ∷ later) h =
-      every_join AskedAt (P.lower (W.own_of server word (later ++ past)) c) (asked_by_client server word past later)
-      (lower_at (W.own_of server word (later ++ past)) c h.0) (asked_at server word past later h.1)
+  asked_at : (server : Endpoint) (setup : Setup) (past later : List E.Call) → Every Timed later
+      → Every AskedAt (asked_by_client server setup past later)
+  asked_at server setup past [] h = tt
+  asked_at server setup past (c ∷ later) h =
+      every_join AskedAt (P.lower (W.own_of server setup (later ++ past)) c) (asked_by_client server setup past later)
+      (lower_at (W.own_of server setup (later ++ past)) c h.0) (asked_at server setup past later h.1)
 
   deeds_timed : (d : Deed) (s : Own) (word : ℕ) (sent : L.Answer) (token : Result (List ℕ) AskRefusal) (kept : Bool)
       → Every Timed (deeds d s m word sent token kept)
@@ -180,12 +174,8 @@ module _ (m : ℕ) where
   )
 
 lower_timed : (s : Own) (c : Call) → Every (Timed (moment s c)) (lower s c)
-lower_timed s (Calls now r answer) = tt
-lower_timed s (Observes now path answer) = tt
-lower_timed s (Cancels now number answer) = tt
 lower_timed s (Forgets number kept true) = release_timed (s.clock)
     (observation_of number s.observations) s 0 0 L.Nothing (Ok []) kept
-lower_timed s (Forgets number kept false) = tt
 lower_timed s (Feeds now from bytes word up settled event sent token kept) =
     let c : Call = Feeds now from bytes word up settled event sent token kept in
     done_timed (max s.clock now) (effect s c) word sent token kept
@@ -194,8 +184,7 @@ lower_timed s (Ticks now word below turn sent token kept answer) =
     let c : Call = Ticks now word below turn sent token kept answer in
     done_timed (max s.clock now) (effect s c) word sent token kept (E.Ticks (max s.clock now) below turn) refl
 lower_timed s (NextOut answer) = (tt, tt)
-lower_timed s (NextReport answer) = tt
-lower_timed s (AskedFor answer) = tt
+lower_timed s _ = tt
 
 pub moment_same : (s : Own) (c : Call) → (after s c).clock ≡ moment s c
 moment_same s (Calls now r (Ok number)) = refl
@@ -228,47 +217,47 @@ moment_from s (NextOut answer) = omega arith
 moment_from s (NextReport answer) = omega arith
 moment_from s (AskedFor answer) = omega arith
 
-module _ (server : Endpoint) (sizes : Sizes) (word : ℕ) where
+module _ (server : Endpoint) (sizes : Sizes) (setup : Setup) where
   asks_at : (past : List Call) (c : Call) → Every (AskedAt (moment (own_of sizes past) c))
-      (call_asks server sizes word past c)
-  asks_at past c = asked_at (moment (own_of sizes past) c) server word (lower_of sizes past)
+      (call_asks server sizes setup past c)
+  asks_at past c = asked_at (moment (own_of sizes past) c) server setup (lower_of sizes past)
       (lower (own_of sizes past) c)
       (lower_timed (own_of sizes past) c)
 
   -- the layer's clock is not past that of the client
-  pub clock_by : (t : List Call) → (left_after (start (usual word)) (all_asked server sizes word t)).clock ≤
+  pub clock_by : (t : List Call) → (left_after (start setup) (all_asked server sizes setup t)).clock ≤
       (own_of sizes t).clock
   clock_by [] = omega arith
   clock_by (c ∷ t) =
       let m : ℕ = moment (own_of sizes t) c in
       let before = clock_by t in
       let from = moment_from (own_of sizes t) c in
-      let k = entries_by m (left_after (start (usual word)) (all_asked server sizes word t))
-      (call_asks server sizes word t c)
+      let k = entries_by m (left_after (start setup) (all_asked server sizes setup t))
+      (call_asks server sizes setup t c)
       (omega (arith, before, from)) (asks_at t c) in
       let till = k.1 in
-      let same = ap (λ (s : State). s.clock) (ap (left_after (start (usual word))) (adds_front server sizes word t c)
-      ∙ left_append (start (usual word)) (call_asks server sizes word t c) (all_asked server sizes word t)) in
+      let same = ap (λ (s : State). s.clock) (ap (left_after (start setup)) (adds_front server sizes setup t c)
+      ∙ left_append (start setup) (call_asks server sizes setup t c) (all_asked server sizes setup t)) in
       let here = moment_same (own_of sizes t) c in
       omega (arith, till, same, here)
 
   pub adds_by : (t : List Call) (c : Call) → Every (λ (e : L.Entry). e.at ≤ moment (own_of sizes t) c)
-      (call_adds server sizes word t c)
+      (call_adds server sizes setup t c)
   adds_by t c =
       let m : ℕ = moment (own_of sizes t) c in
       let before = clock_by t in
       let from = moment_from (own_of sizes t) c in
-      (entries_by m (left_after (start (usual word)) (all_asked server sizes word t)) (call_asks server sizes word t c)
+      (entries_by m (left_after (start setup) (all_asked server sizes setup t)) (call_asks server sizes setup t c)
       (omega (arith, before, from)) (asks_at t c)).0
 
   pub begins_from : (t : List Call) (c : Call) (con : Open)
-      → Ever (λ b. begun b ≡ Some con) (call_adds server sizes word t c) → moment (own_of sizes t) c ≤ con.first
+      → Ever (λ b. begun b ≡ Some con) (call_adds server sizes setup t c) → moment (own_of sizes t) c ≤ con.first
   begins_from t c con h = begun_from (moment (own_of sizes t) c)
-      (left_after (start (usual word)) (all_asked server sizes word t))
-      (call_asks server sizes word t c) con (asks_at t c) h
+      (left_after (start setup) (all_asked server sizes setup t))
+      (call_asks server sizes setup t c) con (asks_at t c) h
 
   pub arrives_from : (t : List Call) (c : Call)
       → Every (λ (e : L.Entry). (from : Endpoint) (bytes : List ℕ) → e.call ≡ L.Receive from bytes
-      → moment (own_of sizes t) c ≤ e.at) (call_adds server sizes word t c)
+      → moment (own_of sizes t) c ≤ e.at) (call_adds server sizes setup t c)
   arrives_from t c = arrived_from (moment (own_of sizes t) c)
-      (left_after (start (usual word)) (all_asked server sizes word t)) (call_asks server sizes word t c) (asks_at t c)
+      (left_after (start setup) (all_asked server sizes setup t)) (call_asks server sizes setup t c) (asks_at t c)

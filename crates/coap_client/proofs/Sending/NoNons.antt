@@ -6,6 +6,7 @@ use Rattle.coap_types.specs.declared.endpoint.Endpoint.{Endpoint}
 use Rattle.coap_layer.specs.Trace as L
 use Rattle.coap_layer.specs.Machine.State as S
 use Rattle.coap_layer.specs.Machine.Steps.{Asked, entries}
+use Rattle.coap_layer.specs.declared.setup.Setup.{Setup}
 use Rattle.coap_exchange.specs.declared.asker.Exchange.{Exchange}
 use Rattle.coap_exchange.specs.declared.matching.Opening.{Opening}
 use Rattle.coap_exchange.specs.declared.matching.Opening.TheVariants.{Running, Spent, Sends}
@@ -68,13 +69,13 @@ none_here s (E.Release token answer) h = h
 none_here s (E.Take answer) (inl h) = cc (h.2)
 none_here s (E.Take answer) (inr h) = h
 
-none_in : (server : Endpoint) (word : ℕ) (t : List E.Call) → Ever AsksNon (W.lower_of server word t) → ⊥
-none_in server word [] h = h
-none_in server word (c ∷ t) h = elim (Ever_append AsksNon (P.lower (W.own_of server word t) c)
-    (W.lower_of server word t) h) [
-      | inl p ↦ none_here (W.own_of server word t) c p
-      | inr q ↦ none_in server word t q
+none_in : (server : Endpoint) (setup : Setup) (t : List E.Call) → Ever AsksNon (W.lower_of server setup t) → ⊥
+none_in server setup [] h = h
+none_in server setup (c ∷ t) h = elim (Ever_append AsksNon (P.lower (W.own_of server setup t) c)
+    (W.lower_of server setup t) h) [
+      | inl p ↦ none_here (W.own_of server setup t) c p
+      | inr q ↦ none_in server setup t q
     ]
 
-pub no_nons : (server : Endpoint) (word : ℕ) (t : List E.Call) → NoNons (W.below_of server word t)
-no_nons server word t h = none_in server word t (asked_for (S.start (S.usual word)) (W.lower_of server word t) h)
+pub no_nons : (server : Endpoint) (setup : Setup) (t : List E.Call) → NoNons (W.below_of server setup t)
+no_nons server setup t h = none_in server setup t (asked_for (S.start setup) (W.lower_of server setup t) h)

@@ -17,8 +17,8 @@ use Rattle.coap_block.specs.UploadStep.{UploadState, more_follows, moved, contin
 use Rattle.coap_exchange.specs.declared.asker.Event.{Event}
 use Rattle.coap_client.specs.Trace.{Request, NoIds, BadBlock, Failed, Valid, Call, Calls, Observes}
 use Rattle.coap_client.specs.Trace.{Cancels, Forgets, Feeds, Ticks, NextOut, NextReport, Asked}
-use Rattle.coap_client.specs.Own.{Transfer, Fetches, Uploads, Single, Operation, Calling, Registering}
-use Rattle.coap_client.specs.Own.{Fetching, Cancelling, Dropped, Observation, Own}
+use Rattle.coap_client.specs.Own.{Transfer, Fetches, Uploads, Single, Operation, Calling}
+use Rattle.coap_client.specs.Own.{Observation, Own}
 use Rattle.coap_client.specs.Requests.{message_of, is_longer}
 use Rattle.coap_client.specs.Responses.{content, valid, continue, tag_in, block_at, part}
 use Rattle.coap_client.specs.Reports.{done, lapse}
@@ -46,41 +46,22 @@ use Rattle.coap_client.proofs.Uploading.UploadSteps.{continues_is}
 
 failed_size : (u : Transfer → Bool) (report : _) (s : Own) (running : Option Operation)
     → (failed u report s running).own.sizes ≡ s.sizes
-failed_size u report s None = refl
 failed_size u report s (Some (Calling k r t)) = by (u t && is_upload t)
   where
     by : (b : Bool) → (cond b (record s { hold = Some s.sent }) s).sizes ≡ s.sizes
     by true = refl
     by false = refl
-failed_size u report s (Some (Registering k path)) = refl
-failed_size u report s (Some (Fetching k)) = refl
-failed_size u report s (Some (Cancelling k)) = refl
-failed_size u report s (Some Dropped) = refl
+failed_size u report s _ = refl
 
 move_size : (s : Own) (now : ℕ) (told : Option Event) (mo : Move s now told)
     → (left_by s now told mo).own.sizes ≡ s.sizes
-move_size s now told (mv.rests un) = refl
-move_size s now told (mv.copies q) = refl
-move_size s now told (mv.starts_next op queue none rest first q) = refl
-move_size s now told (mv.fetches k none rest q) = refl
-move_size s now told (mv.goes_on k r tr next a hears_it runs asks) = refl
 move_size s now told (mv.is_done k r tr final rep a hears_it runs ends_so) = by (not final && is_upload tr)
   where
     by : (b : Bool) → (cond b (record s { hold = Some s.sent }) s).sizes ≡ s.sizes
     by true = refl
     by false = refl
-move_size s now told (mv.registers k path a hears_it runs note) = refl
-move_size s now told (mv.refuses k path a hears_it runs note) = refl
-move_size s now told (mv.fetches_on k n a num size hears_it runs rest code asks) = refl
-move_size s now told (mv.fetched k n a hears_it runs rest code done) = refl
-move_size s now told (mv.gives_up k a hears_it runs) = refl
-move_size s now told (mv.fetched_none k a hears_it runs) = refl
-move_size s now told (mv.cancels k a hears_it runs) = refl
-move_size s now told (mv.is_dropped a hears_it runs) = refl
 move_size s now told (mv.fails e un) = failed_size (λ t. true) (lapse e) s s.running
-move_size s now told (mv.is_ended o a notes found note) = refl
-move_size s now told (mv.renews o a notes found note newer) = refl
-move_size s now told (mv.passes_by o a notes found note newer) = refl
+move_size s now told _ = refl
 
 turn_size : (sizes : Sizes) (t : List Call) (c : Call) → Turned sizes t c
     → (own_of sizes (c ∷ t)).sizes ≡ (own_of sizes t).sizes
@@ -135,9 +116,7 @@ fresh_carries sizes r Delete = tt
 fetches_on : (sizes : Sizes) (m : Method) (body : List ℕ) (f g : FetchState) → F.sizes_of g ≡ F.sizes_of f
     → CarriesBody sizes m body (Fetches f) → CarriesBody sizes m body (Fetches g)
 fetches_on sizes Get body f g same h = same ∙ h
-fetches_on sizes Post body f g same h = h
-fetches_on sizes Put body f g same h = h
-fetches_on sizes Delete body f g same h = h
+fetches_on sizes _ body f g same h = h
 
 moved_on : (sizes : Sizes) (body : List ℕ) (u : UploadState) (b : Block) → Continues u b → SendsBody sizes body u
     → SendsBody sizes body (moved u b)
@@ -210,22 +189,12 @@ IsTakenBy sizes t op = Unit {0}
 taken_later : (sizes : Sizes) (t : List Call) (c : Call) (op : Operation) → IsTakenBy sizes t op
     → IsTakenBy sizes (c ∷ t) op
 taken_later sizes t c (Calling k r tr) h = (h.0, inr h.1, h.2, h.3)
-taken_later sizes t c (Registering k path) h = tt
-taken_later sizes t c (Fetching k) h = tt
-taken_later sizes t c (Cancelling k) h = tt
-taken_later sizes t c Dropped h = tt
+taken_later sizes t c _ h = tt
 
 -- a call that sends takes none
 sends_takes : (s : Own) (c : Call) (x : Sending) (y : Taken) → sends s c ≡ Some x → takes c ≡ Some y → ⊥
-sends_takes s (Feeds now from bytes w up settled event sent token was) x y h k = cc k
-sends_takes s (Ticks now w below turn sent token was did) x y h k = cc k
 sends_takes s (Calls now r did) x y h k = cc h
-sends_takes s (Observes now path did) x y h k = cc k
-sends_takes s (Cancels now n did) x y h k = cc k
-sends_takes s (Forgets n was did) x y h k = cc k
-sends_takes s (NextOut did) x y h k = cc k
-sends_takes s (NextReport did) x y h k = cc k
-sends_takes s (Asked did) x y h k = cc k
+sends_takes s _ x y h k = cc k
 
 before_it : (s : Own) (c : Call) (t : List Call) (x : Sending) (y : Taken) → sends s c ≡ Some x → WasTaken y (c ∷ t)
     → WasTaken y t
@@ -236,9 +205,7 @@ before_it s c t x y h (inr k) = k
 pub fetch_sizes : (sizes : Sizes) (m : Method) (body : List ℕ) (f : FetchState) → CarriesBody sizes m body (Fetches f)
     → F.sizes_of f ≡ sizes
 fetch_sizes sizes Get body f h = h
-fetch_sizes sizes Post body f h = absurd h
-fetch_sizes sizes Put body f h = absurd h
-fetch_sizes sizes Delete body f h = absurd h
+fetch_sizes sizes _ body f h = absurd h
 
 -- the message is that of the operation
 module _ (sizes : Sizes) (t : List Call) (c : Call) (x : Sending) where
@@ -270,13 +237,7 @@ sent_as sizes t (Feeds now from bytes w up settled event sent token was) x h =
 sent_as sizes t (Ticks now w below turn sent token was did) x h =
     sent_by_turn sizes t (Ticks now w below turn sent token was did) x
     (ticked_turned sizes t now w below turn sent token was did) h
-sent_as sizes t (Calls now r did) x h = absurd (cc h)
-sent_as sizes t (Observes now path did) x h = absurd (cc h)
-sent_as sizes t (Cancels now k did) x h = absurd (cc h)
-sent_as sizes t (Forgets k was did) x h = absurd (cc h)
-sent_as sizes t (NextOut did) x h = absurd (cc h)
-sent_as sizes t (NextReport did) x h = absurd (cc h)
-sent_as sizes t (Asked did) x h = absurd (cc h)
+sent_as sizes t _ x h = absurd (cc h)
 
 module _ (sizes : Sizes) where
   abbrev pub IsTaken : List Call → Operation → Type 0
@@ -309,10 +270,6 @@ module _ (sizes : Sizes) where
 
   of_call : (t : List Call) (c : Call) (x : Sending) (number : ℕ) → sends (own_of sizes t) c ≡ Some x → (op : Operation)
       → x.operation ≡ op → call_of op ≡ Some number → IsOfCall sizes number x t
-  of_call t c x number h (Registering k path) is k_is = absurd (cc k_is)
-  of_call t c x number h (Fetching k) is k_is = absurd (cc k_is)
-  of_call t c x number h (Cancelling k) is k_is = absurd (cc k_is)
-  of_call t c x number h Dropped is k_is = absurd (cc k_is)
   of_call t c x number h (Calling k r tr) is k_is =
       let same : k ≡ number = cc k_is in
       let g = running_taken (c ∷ t) k r tr ((sent_now sizes t c x h).runs ∙ ap (λ o. Some o) is) in
@@ -328,6 +285,7 @@ module _ (sizes : Sizes) where
         carries = g.3;
         message = z.1 ∙ ap (message_of z.0) (is ∙ op_is);
       }
+  of_call t c x number h _ is k_is = absurd (cc k_is)
 
   pub are_of_calls : (t : List Call) → AreOfCalls sizes t
   are_of_calls [] = tt
@@ -337,10 +295,7 @@ module _ (sizes : Sizes) where
 
 get_by : (os : List Observation) (op : Operation) → call_of op ≡ None → (message_of os op).code ≡ (method_code Get).0
 get_by os (Calling k r tr) h = absurd (cc h)
-get_by os (Registering k path) h = refl
-get_by os (Fetching k) h = refl
-get_by os (Cancelling k) h = refl
-get_by os Dropped h = refl
+get_by os _ h = refl
 
 pub others_are_gets : (sizes : Sizes) (t : List Call) → OthersAreGets sizes t
 others_are_gets sizes [] = tt

@@ -30,7 +30,7 @@ use Rattle.coap_common.specs.Adds.{asked_by_client}
 use Rattle.coap_client.specs.Trace.{Call, Calls, Observes, Cancels, Forgets, Feeds, Ticks, NextOut}
 use Rattle.coap_client.specs.Trace.{NextReport}
 use Rattle.coap_client.specs.Trace as C
-use Rattle.coap_client.specs.Own.{Operation, Calling, Registering, Fetching, Cancelling, Dropped, Own}
+use Rattle.coap_client.specs.Own.{Operation, Cancelling, Own}
 use Rattle.coap_client.specs.Own.{Observation}
 use Rattle.coap_client.specs.Observations.{observation_of}
 use Rattle.coap_client.specs.Requests.{message_of}
@@ -97,15 +97,15 @@ quiet_call s (E.Release token answer) apart h = h
 quiet_call s (E.Take answer) apart (inl h) = cc (h.3)
 quiet_call s (E.Take answer) apart (inr h) = h
 
-module _ (server : Endpoint) (word : ℕ) where
+module _ (server : Endpoint) (setup : Setup) where
   abbrev beneath_of : List E.Call → List E.Call → List Asked
-  beneath_of past later = asked_by_client server word past later
+  beneath_of past later = asked_by_client server setup past later
 
   quiet_all : (past later : List E.Call) → (Ever IsAsk later → ⊥) → Ever Confirms (beneath_of past later) → ⊥
   quiet_all past [] none h = h
-  quiet_all past (c ∷ later) none h = elim (Ever_append Confirms (P.lower (W.own_of server word (later ++ past)) c)
+  quiet_all past (c ∷ later) none h = elim (Ever_append Confirms (P.lower (W.own_of server setup (later ++ past)) c)
       (beneath_of past later) h) [
-        | inl p ↦ quiet_call (W.own_of server word (later ++ past)) c (λ is. none (inl is)) p
+        | inl p ↦ quiet_call (W.own_of server setup (later ++ past)) c (λ is. none (inl is)) p
         | inr q ↦ quiet_all past later (λ e. none (inr e)) q
       ]
 
@@ -115,18 +115,18 @@ module _ (server : Endpoint) (word : ℕ) where
       (λ is before. quiet_all past later (λ e. h.0 tt e) before, single_beneath past later h.1)
   single_beneath past (E.Receive now from bytes up settled answer ∷ later) h =
       let c : E.Call = E.Receive now from bytes up settled answer in
-      single_none Confirms (P.lower (W.own_of server word (later ++ past)) c) (beneath_of past later)
-      (quiet_call (W.own_of server word (later ++ past)) c (λ z. z)) (single_beneath past later h.1)
+      single_none Confirms (P.lower (W.own_of server setup (later ++ past)) c) (beneath_of past later)
+      (quiet_call (W.own_of server setup (later ++ past)) c (λ z. z)) (single_beneath past later h.1)
   single_beneath past (E.Ticks now below answer ∷ later) h =
       let c : E.Call = E.Ticks now below answer in
-      single_none Confirms (P.lower (W.own_of server word (later ++ past)) c) (beneath_of past later)
-      (quiet_call (W.own_of server word (later ++ past)) c (λ z. z)) (single_beneath past later h.1)
+      single_none Confirms (P.lower (W.own_of server setup (later ++ past)) c) (beneath_of past later)
+      (quiet_call (W.own_of server setup (later ++ past)) c (λ z. z)) (single_beneath past later h.1)
   single_beneath past (E.Keep token answer ∷ later) h = single_beneath past later h.1
   single_beneath past (E.Release token answer ∷ later) h = single_beneath past later h.1
   single_beneath past (E.Take answer ∷ later) h =
       let c : E.Call = E.Take answer in
-      single_none Confirms (P.lower (W.own_of server word (later ++ past)) c) (beneath_of past later)
-      (quiet_call (W.own_of server word (later ++ past)) c (λ z. z)) (single_beneath past later h.1)
+      single_none Confirms (P.lower (W.own_of server setup (later ++ past)) c) (beneath_of past later)
+      (quiet_call (W.own_of server setup (later ++ past)) c (λ z. z)) (single_beneath past later h.1)
 
 -- a call of the client asks for one request at most
 
@@ -139,12 +139,9 @@ no_ask_release (Some o) s now w sent token kept (inr h) = h
 no_ask_failed : (e : Effect) (o : Operation) (now w : ℕ) (sent : L.Answer) (token : Result (List ℕ) AskRefusal)
     (kept : Bool) → Ever IsAsk (deeds (failed has_sent C.NoIds e.own (Some o)).deed
     (failed has_sent C.NoIds e.own (Some o)).own now w sent token kept) → ⊥
-no_ask_failed e (Calling k r t) now w sent token kept h = h
-no_ask_failed e (Registering k path) now w sent token kept h = h
-no_ask_failed e (Fetching k) now w sent token kept h = h
-no_ask_failed e Dropped now w sent token kept h = h
 no_ask_failed e (Cancelling k) now w sent token kept h =
     no_ask_release (observation_of k e.own.observations) _ now w sent token kept h
+no_ask_failed e _ now w sent token kept h = h
 
 single_asked : (now w : ℕ) (sent : L.Answer) (kept : Bool) (input : E.Call) → (IsAsk input → ⊥)
     → (e : Effect) (token : Result (List ℕ) AskRefusal) (d : Deed) → e.deed ≡ d
@@ -172,18 +169,13 @@ single_lower s (Ticks now w below turn sent token kept answer) =
     let m : ℕ = max s.clock now in
     let e : Effect = passes (at now s) m turn in
     single_asked m w sent kept (E.Ticks m below turn) (λ z. z) e token e.deed refl
-single_lower s (Calls now r answer) = tt
-single_lower s (Observes now path answer) = tt
-single_lower s (Cancels now k answer) = tt
-single_lower s (Forgets k kept false) = tt
 single_lower s (Forgets k kept true) = released (observation_of k s.observations)
   where
     released : (o : Option Observation) → Single IsAsk (deeds (releases o) s 0 0 L.Nothing (Ok []) kept)
     released None = tt
     released (Some o) = (λ a b. a, tt)
 single_lower s (NextOut answer) = (λ a b. a, tt)
-single_lower s (NextReport answer) = tt
-single_lower s (C.Asked answer) = tt
+single_lower s _ = tt
 
 -- where one is begun at most, two are one
 begun_once : (a b : Open) (old new : S.State) (calls : List Asked) → Single Confirms calls → Steps old calls new
@@ -216,7 +208,7 @@ small_id : (setup : Setup) (t : List L.Entry) (con : Open) → LayerLaw setup t 
 small_id setup t con law h = let k : SpellsCon con = spelled_begun setup t con law h in let low = k.1.id in let e =
     k.3 in omega (arith, low, e)
 
-module _ (server : Endpoint) (sizes : Sizes) (word : ℕ) (a b : Open) (x y : Message) (ab : AreBytes a.bytes)
+module _ (server : Endpoint) (sizes : Sizes) (setup : Setup) (a b : Open) (x y : Message) (ab : AreBytes a.bytes)
     (bb : AreBytes b.bytes)
     (sa : Spells a.bytes x) (sb : Spells b.bytes y) (same : x.token ≡ y.token) (small_a : a.id < 65536)
     (small_b : b.id < 65536) where
@@ -243,37 +235,37 @@ module _ (server : Endpoint) (sizes : Sizes) (word : ℕ) (a b : Open) (x y : Me
   same_token u v h k = sym (token_of_con server a x u ab sa small_a h)
       ∙ (same ∙ token_of_con server b y v bb sb small_b k)
 
-  con_here : (t : List Call) (c : Call) → ClientLaw server sizes word (c ∷ t)
-      → Ever (λ e. begun e ≡ Some a) (call_adds server sizes word t c)
-      → Ever (λ e. begun e ≡ Some b) (call_adds server sizes word t c) → a ≡ b
+  con_here : (t : List Call) (c : Call) → ClientLaw server sizes setup (c ∷ t)
+      → Ever (λ e. begun e ≡ Some a) (call_adds server sizes setup t c)
+      → Ever (λ e. begun e ≡ Some b) (call_adds server sizes setup t c) → a ≡ b
   con_here t c law h k =
-      let z = steps_here server sizes word t c law in
-      begun_once a b z.0 z.1 (call_asks server sizes word t c)
-      (single_beneath server word (lower_of sizes t) (lower (own_of sizes t) c) (single_lower (own_of sizes t) c)) z.2
+      let z = steps_here server sizes setup t c law in
+      begun_once a b z.0 z.1 (call_asks server sizes setup t c)
+      (single_beneath server setup (lower_of sizes t) (lower (own_of sizes t) c) (single_lower (own_of sizes t) c)) z.2
       (subst (Ever (λ e. begun e ≡ Some a)) z.3 h) (subst (Ever (λ e. begun e ≡ Some b)) z.3 k)
 
-  two_cons : (t : List Call) → ClientLaw server sizes word t → Ever (λ e. begun e
-      ≡ Some a) (layer_of server sizes word t)
-      → Ever (λ e. begun e ≡ Some b) (layer_of server sizes word t) → OfOne t
+  two_cons : (t : List Call) → ClientLaw server sizes setup t → Ever (λ e. begun e
+      ≡ Some a) (layer_of server sizes setup t)
+      → Ever (λ e. begun e ≡ Some b) (layer_of server sizes setup t) → OfOne t
   two_cons [] law h k = absurd h
   two_cons (c ∷ t) law h k =
-      by (Ever_append (λ e. begun e ≡ Some a) (call_adds server sizes word t c) (layer_of server sizes word t)
-      (subst (Ever (λ e. begun e ≡ Some a)) (layer_next server sizes word t c) h))
-      (Ever_append (λ e. begun e ≡ Some b) (call_adds server sizes word t c) (layer_of server sizes word t)
-      (subst (Ever (λ e. begun e ≡ Some b)) (layer_next server sizes word t c) k))
-      (client_back server sizes word (c ∷ []) t law) (two_cons t (client_back server sizes word (c ∷ []) t law))
+      by (Ever_append (λ e. begun e ≡ Some a) (call_adds server sizes setup t c) (layer_of server sizes setup t)
+      (subst (Ever (λ e. begun e ≡ Some a)) (layer_next server sizes setup t c) h))
+      (Ever_append (λ e. begun e ≡ Some b) (call_adds server sizes setup t c) (layer_of server sizes setup t)
+      (subst (Ever (λ e. begun e ≡ Some b)) (layer_next server sizes setup t c) k))
+      (client_back server sizes setup (c ∷ []) t law) (two_cons t (client_back server sizes setup (c ∷ []) t law))
     where
-      by : Ever (λ e. begun e ≡ Some a) (call_adds server sizes word t c)
-          ⊎ Ever (λ e. begun e ≡ Some a) (layer_of server sizes word t)
-          → Ever (λ e. begun e ≡ Some b) (call_adds server sizes word t c)
-          ⊎ Ever (λ e. begun e ≡ Some b) (layer_of server sizes word t)
-          → ClientLaw server sizes word t → (Ever (λ e. begun e ≡ Some a) (layer_of server sizes word t)
-          → Ever (λ e. begun e ≡ Some b) (layer_of server sizes word t) → OfOne t) → OfOne (c ∷ t)
+      by : Ever (λ e. begun e ≡ Some a) (call_adds server sizes setup t c)
+          ⊎ Ever (λ e. begun e ≡ Some a) (layer_of server sizes setup t)
+          → Ever (λ e. begun e ≡ Some b) (call_adds server sizes setup t c)
+          ⊎ Ever (λ e. begun e ≡ Some b) (layer_of server sizes setup t)
+          → ClientLaw server sizes setup t → (Ever (λ e. begun e ≡ Some a) (layer_of server sizes setup t)
+          → Ever (λ e. begun e ≡ Some b) (layer_of server sizes setup t) → OfOne t) → OfOne (c ∷ t)
       by (inl now) (inl here) past ih = inl (con_here t c law now here)
       by (inl now) (inr before) past ih =
-          let u = begins_now server sizes word t c law a now in
-          let v = cons_are_requests server sizes word t past b before in
-          let d = (own_tokens sizes server word (c ∷ t) law).0 u.sending v.0 u.sends_it v.1
+          let u = begins_now server sizes setup t c law a now in
+          let v = cons_are_requests server sizes setup t past b before in
+          let d = (own_tokens sizes server setup (c ∷ t) law).0 u.sending v.0 u.sends_it v.1
           (sym (same_token u.sending v.0 u.is v.2)) in
           inr (inr (record {
             first = v.0;
@@ -285,9 +277,9 @@ module _ (server : Endpoint) (sizes : Sizes) (word : ℕ) (a b : Open) (x y : Me
             deregisters = d;
           }))
       by (inr before) (inl now) past ih =
-          let u = begins_now server sizes word t c law b now in
-          let v = cons_are_requests server sizes word t past a before in
-          let d = (own_tokens sizes server word (c ∷ t) law).0 u.sending v.0 u.sends_it v.1
+          let u = begins_now server sizes setup t c law b now in
+          let v = cons_are_requests server sizes setup t past a before in
+          let d = (own_tokens sizes server setup (c ∷ t) law).0 u.sending v.0 u.sends_it v.1
           (same_token v.0 u.sending v.2 u.is) in
           inr (inl (record {
             first = v.0;
@@ -300,10 +292,10 @@ module _ (server : Endpoint) (sizes : Sizes) (word : ℕ) (a b : Open) (x y : Me
           }))
       by (inr p) (inr q) past ih = one_later t c (ih p q)
 
-pub one_con : (server : Endpoint) (sizes : Sizes) (word : ℕ) (t : List Call) → ClientLaw server sizes word t
-    → OneConOrCancel server sizes word t
-one_con server sizes word t law a b h k x y ab bb sa sb same =
-    let layer = client_layer server sizes word t law in
-    two_cons server sizes word a b x y ab bb sa sb same (small_id (S.usual word)
-    (layer_of server sizes word t) a layer h)
-    (small_id (S.usual word) (layer_of server sizes word t) b layer k) t law h k
+pub one_con : (server : Endpoint) (sizes : Sizes) (setup : Setup) (t : List Call) → ClientLaw server sizes setup t
+    → OneConOrCancel server sizes setup t
+one_con server sizes setup t law a b h k x y ab bb sa sb same =
+    let layer = client_layer server sizes setup t law in
+    two_cons server sizes setup a b x y ab bb sa sb same (small_id setup
+    (layer_of server sizes setup t) a layer h)
+    (small_id setup (layer_of server sizes setup t) b layer k) t law h k

@@ -1,11 +1,12 @@
 -- The registration of an observation is sent once.
 use Rattle.std.proofs.Common.{◌≡◌, inl, inr, ℕ, max, Bool, true, false, cond, Some, None, List, ◌∷◌, []}
-use Rattle.std.proofs.Common.{refl, ap, sym, subst, ◌∙◌, Ok, Err, arith}
+use Rattle.std.proofs.Common.{refl, ap, sym, subst, ◌∙◌, Ok, arith}
 use Rattle.std.specs.Prelude.{◌==◌}
 use Rattle.coap_types.specs.Past.{Ever}
 use Rattle.coap_types.specs.declared.endpoint.Endpoint.{Endpoint}
+use Rattle.coap_layer.specs.declared.setup.Setup.{Setup}
 use Rattle.coap_block.specs.Sizes.{Sizes}
-use Rattle.coap_client.specs.Trace.{Call, Calls, Observes, Cancels, Forgets, Feeds, Ticks, NextOut, NextReport, Asked}
+use Rattle.coap_client.specs.Trace.{Call, Calls, Observes, Cancels, Forgets, Feeds, Ticks}
 use Rattle.coap_client.specs.Own.{Operation, Calling, Registering, Fetching, Cancelling, Own}
 use Rattle.coap_client.specs.Effects.{Effect}
 use Rattle.coap_client.specs.Events.{happened, passes}
@@ -55,19 +56,12 @@ module _ (sizes : Sizes) (n : ℕ) where
   queue_next t (Calls now r (Ok k)) apart h =
       all_more (λ op. in_op n op ≡ 0) (own_of sizes t).queue (calling (own_of sizes t).sizes k r) h
       (other_hit k n (λ e. apart (ap (λ i. Some i) e)))
-  queue_next t (Calls now r (Err why)) apart h = h
   queue_next t (Observes now path (Ok k)) apart h =
       all_more (λ op. in_op n op ≡ 0) (own_of sizes t).queue (Registering k path) h
       (other_hit k n (λ e. apart (ap (λ i. Some i) e)))
-  queue_next t (Observes now path (Err why)) apart h = h
   queue_next t (Cancels now k None) apart h =
       all_more (λ op. in_op n op ≡ 0) (own_of sizes t).queue (Cancelling k) h refl
-  queue_next t (Cancels now k (Some why)) apart h = h
   queue_next t (Forgets k was true) apart h = all_uncancelled k (λ op. in_op n op ≡ 0) (own_of sizes t).queue h
-  queue_next t (Forgets k was false) apart h = h
-  queue_next t (NextOut answer) apart h = h
-  queue_next t (NextReport answer) apart h = h
-  queue_next t (Asked answer) apart h = h
   queue_next t (Feeds now from bytes w up settled event sent token was) apart h =
       let s : Own = own_of sizes t in
       let m : ℕ = max s.clock now in
@@ -80,6 +74,7 @@ module _ (sizes : Sizes) (n : ℕ) where
       let e : Effect = passes (at now s) m turn in
       waits_closed (λ op. in_op n op ≡ 0) m e token
       ((passes_runs (at now s) m turn).waits (λ op. in_op n op ≡ 0) h) (closing m e token)
+  queue_next t _ apart h = h
 
   -- its registration was sent
   pub record HasSent (t : List Call) : Type 0 where
@@ -92,29 +87,29 @@ module _ (sizes : Sizes) (n : ℕ) where
   given_before t h = was_given (record { number = n; path = h.path }) t
       (sent_taken sizes t h.sending n h.path h.sent h.operation)
 
-  module _ (server : Endpoint) (word : ℕ) where
+  module _ (server : Endpoint) (setup : Setup) where
     -- so it waits no more
-    pub none_waits : (t : List Call) → ClientLaw server sizes word t → HasSent t → NoneOf n (own_of sizes t).queue
+    pub none_waits : (t : List Call) → ClientLaw server sizes setup t → HasSent t → NoneOf n (own_of sizes t).queue
     none_waits [] law h = absurd h.sent
-    none_waits (c ∷ t) law h = by h.sent (none_waits t (client_back server sizes word (c ∷ []) t law))
+    none_waits (c ∷ t) law h = by h.sent (none_waits t (client_back server sizes setup (c ∷ []) t law))
       where
         by : WasSent sizes h.sending (c ∷ t) → (HasSent t → NoneOf n (own_of sizes t).queue)
             → NoneOf n (own_of sizes (c ∷ t)).queue
         by (inl now) ih =
             let runs : (own_of sizes (c ∷ t)).running ≡ Some (Registering n h.path) =
             (sent_now sizes t c h.sending now).runs ∙ ap (λ o. Some o) h.operation in
-            let a = most server sizes word (c ∷ t) law n in
+            let a = most server sizes setup (c ∷ t) law n in
             let b = ap (in_running n) runs in
             let d = hit_self n in
             none_counted n (own_of sizes (c ∷ t)).queue (omega (arith, a, b, d))
         by (inr before) ih =
             let earlier : HasSent t =
             record { sending = h.sending; path = h.path; sent = before; operation = h.operation } in
-            let once = numbers_once server sizes word (c ∷ t) law.rows law.exchanges.rows in
+            let once = numbers_once server sizes setup (c ∷ t) law.rows law.exchanges.rows in
             queue_next t c (λ given. once.0 n given (given_before t earlier)) (ih earlier)
 
     -- what is sent of it was the first that waited
-    not_again : (t : List Call) (c : Call) → ClientLaw server sizes word t → HasSent t → (x : Sending)
+    not_again : (t : List Call) (c : Call) → ClientLaw server sizes setup t → HasSent t → (x : Sending)
         (path : List (List ℕ)) → sends (own_of sizes t) c ≡ Some x → x.operation ≡ Registering n path → ⊥
     not_again t c law h x path is op = by (sent_as sizes t c x is).source
       where
@@ -131,15 +126,15 @@ module _ (sizes : Sizes) (n : ℕ) where
         by (of_fetch j e rest left) = let z : Registering n path ≡ Fetching j = sym op ∙ e in cc z
         by (of_part j m new b e rest asks left) = let z : Registering n path ≡ Fetching j = sym op ∙ e in cc z
 
-module _ (server : Endpoint) (sizes : Sizes) (word : ℕ) where
-  pub registered_once : (t : List Call) → ClientLaw server sizes word t → RegisteredOnce sizes t
+module _ (server : Endpoint) (sizes : Sizes) (setup : Setup) where
+  pub registered_once : (t : List Call) → ClientLaw server sizes setup t → RegisteredOnce sizes t
   registered_once [] law x y n p q h k op other = absurd h
   registered_once (c ∷ t) law x y n p q (inl h) (inl k) op other = let z : Some x ≡ Some y = sym h ∙ k in cc z
   registered_once (c ∷ t) law x y n p q (inl h) (inr k) op other =
-      absurd (not_again sizes n server word t c (client_back server sizes word (c ∷ []) t law)
+      absurd (not_again sizes n server setup t c (client_back server sizes setup (c ∷ []) t law)
       (record { sending = y; path = q; sent = k; operation = other }) x p h op)
   registered_once (c ∷ t) law x y n p q (inr h) (inl k) op other =
-      absurd (not_again sizes n server word t c (client_back server sizes word (c ∷ []) t law)
+      absurd (not_again sizes n server setup t c (client_back server sizes setup (c ∷ []) t law)
       (record { sending = x; path = p; sent = h; operation = op }) y q k other)
   registered_once (c ∷ t) law x y n p q (inr h) (inr k) op other =
-      registered_once t (client_back server sizes word (c ∷ []) t law) x y n p q h k op other
+      registered_once t (client_back server sizes setup (c ∷ []) t law) x y n p q h k op other

@@ -12,6 +12,7 @@ use Rattle.coap_layer.specs.Machine.State as S
 use Rattle.coap_layer.specs.Machine.Steps as G
 use Rattle.coap_layer.specs.Machine.Steps.{Steps, entries, left_after}
 use Rattle.coap_layer.proofs.Facts.StepsOfLayer.{steps_split}
+use Rattle.coap_layer.specs.declared.setup.Setup.{Setup}
 use Rattle.coap_block.specs.Sizes.{Sizes}
 use Rattle.coap_exchange.specs.declared.asker.AskRefusal.{AskRefusal}
 use Rattle.coap_exchange.specs.declared.asker.Event.{Event}
@@ -43,14 +44,11 @@ abbrev known : (f o i p b c : Bool) → Known
 known f o i p b c = record { from_server = f; of_exchange = o; same_id = i; kept = p; bad_option = b; cancelled = c }
 
 replied_known : (id : ℕ) (f o i p b c : Bool) → Replies id (judged Con (known f o i p b c))
-replied_known id false o i p b c = (reset_bytes id, refl, inr refl)
-replied_known id true false i false b c = (reset_bytes id, refl, inr refl)
-replied_known id true false i true true c = (reset_bytes id, refl, inr refl)
 replied_known id true false i true false true = (ack_bytes id, refl, inl refl)
 replied_known id true false i true false false = (ack_bytes id, refl, inl refl)
-replied_known id true true i p true c = (reset_bytes id, refl, inr refl)
 replied_known id true true i p false true = (ack_bytes id, refl, inl refl)
 replied_known id true true i p false false = (ack_bytes id, refl, inl refl)
+replied_known id _ _ i _ _ c = (reset_bytes id, refl, inr refl)
 
 replied_con : (s : E.Own) (from : Endpoint) (m : Message) → m.kind ≡ Con
     → Replies m.id (verdict_on s from (L.Becomes (L.Response m)))
@@ -59,17 +57,17 @@ replied_con s from m con =
     subst (λ (kind : Kind). Replies m.id (judged kind k)) (sym con)
     (replied_known m.id k.from_server k.of_exchange k.same_id k.kept k.bad_option k.cancelled)
 
-module _ (server : Endpoint) (word : ℕ) where
+module _ (server : Endpoint) (setup : Setup) where
   -- what was asked first stands behind
   asked_behind : (past later first : List E.Call)
-      → (front : List G.Asked) × (asked_by_client server word past (later ++ first)
-      ≡ front ++ asked_by_client server word past first)
+      → (front : List G.Asked) × (asked_by_client server setup past (later ++ first)
+      ≡ front ++ asked_by_client server setup past first)
   asked_behind past [] first = ([], refl)
   asked_behind past (c ∷ later) first =
       let k = asked_behind past later first in
-      let here : List G.Asked = P.lower (X.own_of server word ((later ++ first) ++ past)) c in (
+      let here : List G.Asked = P.lower (X.own_of server setup ((later ++ first) ++ past)) c in (
         here ++ k.0,
-        ap (λ l. here ++ l) k.1 ∙ sym (append_assoc here k.0 (asked_by_client server word past first)),
+        ap (λ l. here ++ l) k.1 ∙ sym (append_assoc here k.0 (asked_by_client server setup past first)),
       )
 
   module _ (past : List E.Call) (now : ℕ) (from : Endpoint) (bytes : List ℕ) (m : Message) (settled : Bool)
@@ -78,7 +76,7 @@ module _ (server : Endpoint) (word : ℕ) where
     up = L.Becomes (L.Response m)
 
     abbrev s : E.Own
-    s = X.own_of server word past
+    s = X.own_of server setup past
 
     abbrev arrival : G.Asked
     arrival = asked now (L.Receive from bytes) up
@@ -89,7 +87,7 @@ module _ (server : Endpoint) (word : ℕ) where
     replied : Replies m.id (verdict_on s from up)
     replied = replied_con s from m con
 
-    received : asked_by_client server word past (E.Receive now from bytes up settled event ∷ [])
+    received : asked_by_client server setup past (E.Receive now from bytes up settled event ∷ [])
         ≡ settling (settles (verdict_on s from up)) s.server s.running settled ++ reply replied.0 ∷ arrival ∷ []
     received =
         let z : List G.Asked = settling (settles (verdict_on s from up)) s.server s.running settled in
@@ -97,7 +95,7 @@ module _ (server : Endpoint) (word : ℕ) where
         ∙ (ap (λ o. (z ++ replying from m.id o) ++ arrival ∷ []) replied.1
         ∙ append_assoc z (reply replied.0 ∷ []) (arrival ∷ []))
 
-module _ (server : Endpoint) (sizes : Sizes) (word : ℕ) where
+module _ (server : Endpoint) (sizes : Sizes) (setup : Setup) where
   module _ (past : List Call) (now : ℕ) (from : Endpoint) (bytes : List ℕ) (w : ℕ) (m : Message) (settled : Bool)
       (event : Option Event) (sent : L.Answer) (token : Result (List ℕ) AskRefusal) (kept : Bool)
       (con : m.kind ≡ Con) where
@@ -124,15 +122,15 @@ module _ (server : Endpoint) (sizes : Sizes) (word : ℕ) where
 
     -- the arrival and the reply are asked first
     asks : (front : List G.Asked) × (b : List ℕ) × ((b ≡ ack_bytes m.id) ⊎ (b ≡ reset_bytes m.id))
-        × (call_asks server sizes word past feed
+        × (call_asks server sizes setup past feed
         ≡ front ++ asked 0 (L.Reply from m.id b) L.Nothing
         ∷ asked moment (L.Receive from bytes) (L.Becomes (L.Response m)) ∷ [])
     unfolding asked_behind replied
     asks =
-        let k = asked_behind server word beneath later (first ++ input ∷ []) in
-        let j = asked_behind server word beneath first (input ∷ []) in
-        let r = replied server word beneath now from bytes m settled event con in
-        let s : E.Own = X.own_of server word beneath in
+        let k = asked_behind server setup beneath later (first ++ input ∷ []) in
+        let j = asked_behind server setup beneath first (input ∷ []) in
+        let r = replied server setup beneath now from bytes m settled event con in
+        let s : E.Own = X.own_of server setup beneath in
         let z : List G.Asked = settling (settles (verdict_on s from (L.Becomes (L.Response m)))) s.server s.running
         settled in
         let y : List G.Asked = asked 0 (L.Reply from m.id r.0) L.Nothing
@@ -141,14 +139,14 @@ module _ (server : Endpoint) (sizes : Sizes) (word : ℕ) where
           r.0,
           r.2,
           k.1 ∙ (ap (λ l. k.0 ++ l) (j.1
-              ∙ (ap (λ l. j.0 ++ l) (received server word beneath moment from bytes m settled event con)
+              ∙ (ap (λ l. j.0 ++ l) (received server setup beneath moment from bytes m settled event con)
               ∙ sym (append_assoc j.0 z y))) ∙ sym (append_assoc k.0 (j.0 ++ z) y)),
         )
 
-    replies_next : ClientLaw server sizes word (feed ∷ past)
-        → RepliesNext from bytes m (call_adds server sizes word past feed)
+    replies_next : ClientLaw server sizes setup (feed ∷ past)
+        → RepliesNext from bytes m (call_adds server sizes setup past feed)
     replies_next law =
-        let k = steps_here server sizes word past feed law in
+        let k = steps_here server sizes setup past feed law in
         let a = asks in
         let old : S.State = k.0 in
         let last : G.Asked = asked moment (L.Receive from bytes) (L.Becomes (L.Response m)) in
@@ -172,16 +170,16 @@ module _ (server : Endpoint) (sizes : Sizes) (word : ℕ) where
           at_once = refl;
         }
 
-  here : (past : List Call) (c : Call) → ClientLaw server sizes word (c ∷ past) → (now : ℕ) (from : Endpoint)
+  here : (past : List Call) (c : Call) → ClientLaw server sizes setup (c ∷ past) → (now : ℕ) (from : Endpoint)
       (bytes : List ℕ) (w : ℕ) (m : Message) (settled : Bool) (event : Option Event) (sent : L.Answer)
       (token : Result (List ℕ) AskRefusal) (kept : Bool)
       → c ≡ Feeds now from bytes w (L.Becomes (L.Response m)) settled event sent token kept → m.kind ≡ Con
-      → RepliesNext from bytes m (call_adds server sizes word past c)
+      → RepliesNext from bytes m (call_adds server sizes setup past c)
   here past c law now from bytes w m settled event sent token kept is con =
-      subst (λ (d : Call). RepliesNext from bytes m (call_adds server sizes word past d)) (sym is)
+      subst (λ (d : Call). RepliesNext from bytes m (call_adds server sizes setup past d)) (sym is)
       (replies_next past now from bytes w m settled event sent token kept con
-      (subst (λ (d : Call). ClientLaw server sizes word (d ∷ past)) is law))
+      (subst (λ (d : Call). ClientLaw server sizes setup (d ∷ past)) is law))
 
-  pub replies_to_cons : (t : List Call) → ClientLaw server sizes word t → RepliesToCons server sizes word t
+  pub replies_to_cons : (t : List Call) → ClientLaw server sizes setup t → RepliesToCons server sizes setup t
   replies_to_cons [] law = tt
-  replies_to_cons (c ∷ t) law = (here t c law, replies_to_cons t (client_back server sizes word (c ∷ []) t law))
+  replies_to_cons (c ∷ t) law = (here t c law, replies_to_cons t (client_back server sizes setup (c ∷ []) t law))

@@ -13,6 +13,7 @@ use Rattle.coap_layer.specs.Trace as L
 use Rattle.coap_layer.specs.Words.{Open, begun, copies_in}
 use Rattle.coap_layer.proofs.Facts.Sendings.{copied_by}
 use Rattle.coap_layer.proofs.Facts.StepsOfLayer.{steps_split}
+use Rattle.coap_layer.specs.declared.setup.Setup.{Setup}
 use Rattle.coap_block.specs.Sizes.{Sizes}
 use Rattle.coap_exchange.specs.declared.asker.AskRefusal.{AskRefusal}
 use Rattle.coap_exchange.specs.declared.asker.Exchange.{Exchange}
@@ -31,7 +32,7 @@ use Rattle.coap_client.specs.Trace.{NextReport, Asked as AskedFor}
 use Rattle.coap_client.specs.Own.{Own, Observation}
 use Rattle.coap_client.specs.Observations.{observation_of}
 use Rattle.coap_client.specs.Observing.{releases}
-use Rattle.coap_client.specs.Effects.{Deed, Rests, Asks, Keeps, Releases, Effect}
+use Rattle.coap_client.specs.Effects.{Deed, Rests, Effect}
 use Rattle.coap_client.specs.Deeds.{effect, close, deeds}
 use Rattle.coap_client.specs.Steps.{lower}
 use Rattle.coap_client.specs.Law.{ClientLaw, own_of, lower_of, layer_of}
@@ -85,32 +86,30 @@ lower_none s (E.Keep token answer) h = tt
 lower_none s (E.Release token answer) h = tt
 lower_none s (E.Take answer) h = (λ k. cc k, tt)
 
-asked_none : (server : Endpoint) (word : ℕ) (past later : List E.Call) → Every NoTurn later
-    → Every NoTick (asked_by_client server word past later)
-asked_none server word past [] h = tt
-asked_none server word past (c ∷ later) h =
-    every_join NoTick (P.lower (W.own_of server word (later ++ past)) c) (asked_by_client server word past later)
-    (lower_none (W.own_of server word (later ++ past)) c h.0) (asked_none server word past later h.1)
+asked_none : (server : Endpoint) (setup : Setup) (past later : List E.Call) → Every NoTurn later
+    → Every NoTick (asked_by_client server setup past later)
+asked_none server setup past [] h = tt
+asked_none server setup past (c ∷ later) h =
+    every_join NoTick (P.lower (W.own_of server setup (later ++ past)) c) (asked_by_client server setup past later)
+    (lower_none (W.own_of server setup (later ++ past)) c h.0) (asked_none server setup past later h.1)
 
 deeds_none : (d : Deed) (s : Own) (now word : ℕ) (sent : L.Answer) (token : Result (List ℕ) AskRefusal) (kept : Bool)
     → Every NoTurn (deeds d s now word sent token kept)
 deeds_none Rests s now word sent token kept = tt
-deeds_none (Asks op) s now word sent token kept = (tt, tt)
-deeds_none (Keeps key) s now word sent token kept = (tt, tt)
-deeds_none (Releases key) s now word sent token kept = (tt, tt)
+deeds_none _ s now word sent token kept = (tt, tt)
 
 -- what is asked behind other calls
-asked_append : (server : Endpoint) (word : ℕ) (past later earlier : List E.Call)
-    → asked_by_client server word past (later ++ earlier) ≡ asked_by_client server word (earlier ++ past) later
-    ++ asked_by_client server word past earlier
-asked_append server word past [] earlier = refl
-asked_append server word past (c ∷ later) earlier =
-    ap (λ t. P.lower (W.own_of server word t) c ++ asked_by_client server word past (later ++ earlier))
+asked_append : (server : Endpoint) (setup : Setup) (past later earlier : List E.Call)
+    → asked_by_client server setup past (later ++ earlier) ≡ asked_by_client server setup (earlier ++ past) later
+    ++ asked_by_client server setup past earlier
+asked_append server setup past [] earlier = refl
+asked_append server setup past (c ∷ later) earlier =
+    ap (λ t. P.lower (W.own_of server setup t) c ++ asked_by_client server setup past (later ++ earlier))
     (append_assoc later earlier past)
-    ∙ (ap (λ l. P.lower (W.own_of server word (later ++ (earlier ++ past))) c ++ l)
-    (asked_append server word past later earlier)
-    ∙ sym (append_assoc (P.lower (W.own_of server word (later ++ (earlier ++ past))) c)
-    (asked_by_client server word (earlier ++ past) later) (asked_by_client server word past earlier)))
+    ∙ (ap (λ l. P.lower (W.own_of server setup (later ++ (earlier ++ past))) c ++ l)
+    (asked_append server setup past later earlier)
+    ∙ sym (append_assoc (P.lower (W.own_of server setup (later ++ (earlier ++ past))) c)
+    (asked_by_client server setup (earlier ++ past) later) (asked_by_client server setup past earlier)))
 
 -- no entry of such calls sends again
 made_none : (old : S.State) (calls : List Asked) → Every NoTick calls
@@ -121,28 +120,20 @@ made_none old (a ∷ earlier) h = (h.0, made_none old earlier h.1)
 copy_ticks : (call : L.Call) (answer : L.Answer) (to : Endpoint) (id : ℕ) → copies_in call answer to id ≡ true
     → call ≡ L.Ticks
 copy_ticks L.Ticks answer to id h = refl
-copy_ticks (L.Receive from bytes) answer to id h = absurd (cc h)
-copy_ticks (L.Reply to2 id2 bytes) answer to id h = absurd (cc h)
-copy_ticks (L.Confirm to2 content word) answer to id h = absurd (cc h)
-copy_ticks (L.Plain to2 content) answer to id h = absurd (cc h)
-copy_ticks (L.Settle to2 id2) answer to id h = absurd (cc h)
-copy_ticks L.Take answer to id h = absurd (cc h)
-copy_ticks (L.Room to2) answer to id h = absurd (cc h)
-copy_ticks L.AsksFree answer to id h = absurd (cc h)
-copy_ticks L.Pass answer to id h = absurd (cc h)
+copy_ticks _ answer to id h = absurd (cc h)
 
 -- it is sent again here: the CON is outstanding, and the call a tick that copies
-pub record Copies (server : Endpoint) (sizes : Sizes) (word : ℕ) (con : Open) (past : List Call)
+pub record Copies (server : Endpoint) (sizes : Sizes) (setup : Setup) (con : Open) (past : List Call)
     (c : Call) : Type 0 where
-  pub is_open : IsOpen (layer_of server sizes word past) con
+  pub is_open : IsOpen (layer_of server sizes setup past) con
   pub copies : is_copy c ≡ true
 
-module _ (server : Endpoint) (sizes : Sizes) (word : ℕ) (con : Open) (past : List Call) (Z : L.Entry → Type 0) where
+module _ (server : Endpoint) (sizes : Sizes) (setup : Setup) (con : Open) (past : List Call) (Z : L.Entry → Type 0) where
   abbrev adds : Call → List L.Entry
-  adds c = call_adds server sizes word past c
+  adds c = call_adds server sizes setup past c
 
   abbrev earlier : List L.Entry
-  earlier = layer_of server sizes word past
+  earlier = layer_of server sizes setup past
 
   abbrev Holds : List L.Entry → L.Entry → Type 0
   Holds t e = SendsIt con t e → Z e
@@ -151,7 +142,7 @@ module _ (server : Endpoint) (sizes : Sizes) (word : ℕ) (con : Open) (past : L
   Begins c = (e : L.Entry) → IsIn e (adds c) → begun e ≡ Some con → Z e
 
   abbrev Again : Call → Type 0
-  Again c = (e : L.Entry) → IsIn e (adds c) → Copies server sizes word con past c → Z e
+  Again c = (e : L.Entry) → IsIn e (adds c) → Copies server sizes setup con past c → Z e
 
   -- entries that are no ticks
   no_ticks : (xs rest : List L.Entry) → ((e : L.Entry) → IsIn e xs → begun e ≡ Some con → Z e)
@@ -167,8 +158,8 @@ module _ (server : Endpoint) (sizes : Sizes) (word : ℕ) (con : Open) (past : L
   quiet : (c : Call) → Begins c → Every NoTurn (lower (own_of sizes past) c) → Always Holds earlier
       → Always Holds (adds c ++ earlier)
   quiet c begins h before =
-      no_ticks (adds c) earlier begins (made_none _ (call_asks server sizes word past c)
-      (asked_none server word (lower_of sizes past) (lower (own_of sizes past) c) h)) before
+      no_ticks (adds c) earlier begins (made_none _ (call_asks server sizes setup past c)
+      (asked_none server setup (lower_of sizes past) (lower (own_of sizes past) c) h)) before
 
   -- a tick: the first that it asks is the layer's, and what it asks behind that sends nothing again
   module _ (now w : ℕ) (below : L.Answer) (turn : Turn) (sent : L.Answer) (token : Result (List ℕ) AskRefusal)
@@ -195,37 +186,37 @@ module _ (server : Endpoint) (sizes : Sizes) (word : ℕ) (con : Open) (past : L
     under = lower_of sizes past
 
     abbrev front : List Asked
-    front = asked_by_client server word (input ∷ under) (later ++ first)
+    front = asked_by_client server setup (input ∷ under) (later ++ first)
 
     abbrev tick : Asked
     tick = Q.asked m L.Ticks below
 
-    asks_is : call_asks server sizes word past call ≡ front ++ tick ∷ []
-    asks_is = ap (asked_by_client server word under) (sym (append_assoc later first (input ∷ [])))
-        ∙ asked_append server word under (later ++ first) (input ∷ [])
+    asks_is : call_asks server sizes setup past call ≡ front ++ tick ∷ []
+    asks_is = ap (asked_by_client server setup under) (sym (append_assoc later first (input ∷ [])))
+        ∙ asked_append server setup under (later ++ first) (input ∷ [])
 
     front_none : Every NoTick front
     front_none =
-        asked_none server word (input ∷ under) (later ++ first)
+        asked_none server setup (input ∷ under) (later ++ first)
         (every_join NoTurn later first (deeds_none (close m done token).deed
         (close m done token).own m w sent token kept) (deeds_none done.deed done.own m w sent token kept))
 
-    module _ (law : ClientLaw server sizes word (call ∷ past)) where
+    module _ (law : ClientLaw server sizes setup (call ∷ past)) where
       copied : (old : S.State) → below ≡ S.answer_of old (S.moment old m L.Ticks) L.Ticks → IsOpen earlier con
           → copies_in L.Ticks (S.made old m L.Ticks).answer con.to con.id ≡ true
-          → Copies server sizes word con past call
+          → Copies server sizes setup con past call
       copied old is o h =
           let there : below ≡ L.Copied con.to con.id = is
           ∙ copied_by L.Ticks (S.made old m L.Ticks).answer con.to con.id h in
-          let right = (done_right (beneath server sizes word past) later first input
-          (law_front server word (later ++ (first ++ input ∷ [])) under law.exchanges.rows)).0 in
+          let right = (done_right (beneath server sizes setup past) later first input
+          (law_front server setup (later ++ (first ++ input ∷ [])) under law.exchanges.rows)).0 in
           let turned : turn ≡ turn_of.Copied = right
-          ∙ ap (R.turn_of (beneath server sizes word past) (max (beneath server sizes word past).clock m)) there in
+          ∙ ap (R.turn_of (beneath server sizes setup past) (max (beneath server sizes setup past).clock m)) there in
           record { is_open = o; copies = ap (λ z. is_copy (Ticks now w below z sent token kept answer)) turned }
 
       ticked : Begins call → Again call → Always Holds earlier → Always Holds (adds call ++ earlier)
       ticked begins again before =
-          let k = steps_here server sizes word past call law in
+          let k = steps_here server sizes setup past call law in
           let old : S.State = k.0 in
           let parts = steps_split old k.1 front (tick ∷ []) (subst (λ (z : List Asked). Steps old z k.1) asks_is k.2) in
           let answered : below ≡ S.answer_of old (S.moment old m L.Ticks) L.Ticks =
@@ -264,7 +255,7 @@ module _ (server : Endpoint) (sizes : Sizes) (word : ℕ) (con : Open) (past : L
       (every_join NoTurn (deeds e.deed e.own (max s.clock now) w sent token kept) _
       (deeds_none e.deed e.own (max s.clock now) w sent token kept) (tt, tt))
 
-  each_call : (c : Call) → ClientLaw server sizes word (c ∷ past) → Begins c → Again c → Always Holds earlier
+  each_call : (c : Call) → ClientLaw server sizes setup (c ∷ past) → Begins c → Again c → Always Holds earlier
       → Always Holds (adds c ++ earlier)
   each_call (Ticks now w below turn sent token kept answer) law begins again before =
       ticked now w below turn sent token kept answer law begins again before
@@ -283,7 +274,7 @@ module _ (server : Endpoint) (sizes : Sizes) (word : ℕ) (con : Open) (past : L
   each_call (AskedFor answer) law begins again before = quiet (AskedFor answer) begins tt before
 
   -- Each sending of the CON in what a call adds is its beginning, or a copy.
-  pub each_sending : (c : Call) → ClientLaw server sizes word (c ∷ past) → Begins c → Again c → Always Holds earlier
-      → Always Holds (layer_of server sizes word (c ∷ past))
-  each_sending c law begins again before = subst (Always Holds) (sym (layer_next server sizes word past c))
+  pub each_sending : (c : Call) → ClientLaw server sizes setup (c ∷ past) → Begins c → Again c → Always Holds earlier
+      → Always Holds (layer_of server sizes setup (c ∷ past))
+  each_sending c law begins again before = subst (Always Holds) (sym (layer_next server sizes setup past c))
       (each_call c law begins again before)

@@ -1,6 +1,7 @@
 -- The exchange that runs is that of the request that was sent last, for the operation that runs.
 use Rattle.std.proofs.Common.{◌≡◌, inl, inr, ℕ, Option, Some, None, List, refl, ap, sym, ◌∙◌}
 use Rattle.coap_types.specs.declared.endpoint.Endpoint.{Endpoint}
+use Rattle.coap_layer.specs.declared.setup.Setup.{Setup}
 use Rattle.coap_block.specs.Sizes.{Sizes}
 use Rattle.coap_exchange.specs.AskerLaw as X
 use Rattle.coap_exchange.specs.declared.asker.Exchange.{Exchange}
@@ -24,7 +25,7 @@ sent_call (Fetching n) x k r tr h is = let e : Fetching n ≡ Calling k r tr = s
 sent_call (Cancelling n) x k r tr h is = let e : Cancelling n ≡ Calling k r tr = sym h ∙ is in absurd (cc e)
 sent_call Dropped x k r tr h is = let e : Fetching h.0 ≡ Calling k r tr = sym h.1 ∙ is in absurd (cc e)
 
-module _ (sizes : Sizes) (server : Endpoint) (word : ℕ) where
+module _ (sizes : Sizes) (server : Endpoint) (setup : Setup) where
   pub record SentFor (t : List Call) (x : Exchange) : Type 0 where
     pub operation : Operation
     pub runs : (own_of sizes t).running ≡ Some operation
@@ -33,26 +34,23 @@ module _ (sizes : Sizes) (server : Endpoint) (word : ℕ) where
     pub is_for : IsSentFor operation sending
     pub token : x.token ≡ sending.token
 
-  module _ (t : List Call) (rows : ClientRows sizes t) (law : X.AskerLaw server word (lower_of sizes t)) where
+  module _ (t : List Call) (rows : ClientRows sizes t) (law : X.AskerLaw server setup (lower_of sizes t)) where
     is_for : (op : Operation) → (own_of sizes t).running ≡ Some op
-        → (z : Tracked sizes t op (beneath server sizes word t).running) → IsSentFor op z.sending
-    is_for (Calling k q u) is z = elim z.same [ inl d ↦ absurd (cc d) | inr e ↦ e ]
-    is_for (Registering k path) is z = elim z.same [ inl d ↦ absurd (cc d) | inr e ↦ e ]
-    is_for (Fetching k) is z = elim z.same [ inl d ↦ absurd (cc d) | inr e ↦ e ]
-    is_for (Cancelling k) is z = elim z.same [ inl d ↦ absurd (cc d) | inr e ↦ e ]
+        → (z : Tracked sizes t op (beneath server sizes setup t).running) → IsSentFor op z.sending
     is_for Dropped is z =
-        let d = if_dropped sizes server word t rows law is in
+        let d = if_dropped sizes server setup t rows law is in
         let both : Some d.sending ≡ Some z.sending = sym d.last ∙ z.last in
         let same : d.sending ≡ z.sending = cc both in
         (d.number, ap (λ (y : Sending). y.operation) (sym same) ∙ d.fetches)
+    is_for _ is z = elim z.same [ inl d ↦ absurd (cc d) | inr e ↦ e ]
 
-    pub sent_for : (x : Exchange) → (beneath server sizes word t).running ≡ Some x → SentFor t x
-    sent_for x runs = by (own_of sizes t).running refl (known server sizes word t rows law).linked
-        (all_sends sizes server word t rows law).tracked
+    pub sent_for : (x : Exchange) → (beneath server sizes setup t).running ≡ Some x → SentFor t x
+    sent_for x runs = by (own_of sizes t).running refl (known server sizes setup t rows law).linked
+        (all_sends sizes server setup t rows law).tracked
       where
         by : (o : Option Operation) → (own_of sizes t).running ≡ o
-            → Linked o (own_of sizes t).observations (beneath server sizes word t).running
-            → IfTracked sizes t o (beneath server sizes word t).running → SentFor t x
+            → Linked o (own_of sizes t).observations (beneath server sizes setup t).running
+            → IfTracked sizes t o (beneath server sizes setup t).running → SentFor t x
         by None is link z = let none : None ≡ Some x = sym link ∙ runs in absurd (cc none)
         by (Some op) is link z = record {
           operation = op;

@@ -7,9 +7,10 @@ use Rattle.coap_layer.specs.Sends.{IsIn, IsOpen, SendsIt, as_begun}
 use Rattle.coap_layer.specs.Trace as L
 use Rattle.coap_layer.specs.Words.{Open, begun, outstanding}
 use Rattle.coap_layer.proofs.Facts.Sendings.{some_in, was_begun}
+use Rattle.coap_layer.specs.declared.setup.Setup.{Setup}
 use Rattle.coap_block.specs.Sizes.{Sizes}
 use Rattle.coap_client.specs.Trace.{Call}
-use Rattle.coap_client.specs.Own.{Operation, Calling, Registering, Fetching, Cancelling, Dropped}
+use Rattle.coap_client.specs.Own.{Operation, Calling, Cancelling}
 use Rattle.coap_client.specs.Law.{ClientLaw, own_of, layer_of}
 use Rattle.coap_client.specs.Follows.Words.{Sending}
 use Rattle.coap_client.specs.Follows.Begins.{WasSent, IsRequestOf}
@@ -26,9 +27,7 @@ use Rattle.coap_client.proofs.Sending.SendingsOfACon.{Copies, each_sending}
 pub lone_upload : (k : ℕ) (op : Operation) → is_upload_of k (Some op) ≡ true → IsLone op
 lone_upload k (Calling n r t) h = tt
 lone_upload k (Cancelling n) h = tt
-lone_upload k (Registering n path) h = absurd (cc h)
-lone_upload k (Fetching n) h = absurd (cc h)
-lone_upload k Dropped h = absurd (cc h)
+lone_upload k _ h = absurd (cc h)
 
 -- a CON that is outstanding was begun
 pub open_begun : (t : List L.Entry) (con : Open) → IsOpen t con → Ever (λ b. begun b ≡ Some con) t
@@ -37,7 +36,7 @@ open_begun t con o =
     Ever_map (λ b. begun b ≡ Some (as_begun x.0)) (λ b. begun b ≡ Some con) (λ b h. h ∙ ap (λ (c : Open). Some c) x.2) t
     (was_begun t x.0 x.1)
 
-module _ (server : Endpoint) (sizes : Sizes) (word : ℕ) where
+module _ (server : Endpoint) (sizes : Sizes) (setup : Setup) where
   -- a datagram of this upload was sent, no earlier
   abbrev pub SentSince : ℕ → ℕ → List Call → Type 0
   SentSince k at t = Sometime (λ earlier b. SendsOf sizes k earlier b × (at ≤ moment (own_of sizes earlier) b)) t
@@ -48,16 +47,16 @@ module _ (server : Endpoint) (sizes : Sizes) (word : ℕ) where
     pub is : IsRequestOf server con sending
     pub when : (k : ℕ) → is_upload_of k (Some sending.operation) ≡ true → SentSince k e.at t
 
-  module _ (con : Open) (t : List Call) (c : Call) (law : ClientLaw server sizes word (c ∷ t)) where
+  module _ (con : Open) (t : List Call) (c : Call) (law : ClientLaw server sizes setup (c ∷ t)) where
     abbrev adds : List L.Entry
-    adds = call_adds server sizes word t c
+    adds = call_adds server sizes setup t c
 
     till : (e : L.Entry) → IsIn e adds → e.at ≤ moment (own_of sizes t) c
-    till e i = every_in (λ (x : L.Entry). x.at ≤ moment (own_of sizes t) c) adds e (adds_by server sizes word t c) i
+    till e i = every_in (λ (x : L.Entry). x.at ≤ moment (own_of sizes t) c) adds e (adds_by server sizes setup t c) i
 
     first : (e : L.Entry) → IsIn e adds → begun e ≡ Some con → SentIn con (c ∷ t) e
     first e i b =
-        let k = begins_now server sizes word t c law con
+        let k = begins_now server sizes setup t c law con
         (Ever_map (λ y. y ≡ e) (λ y. begun y ≡ Some con) (λ y h. ap begun h ∙ b) adds i) in
         record {
           sending = k.sending;
@@ -66,10 +65,10 @@ module _ (server : Endpoint) (sizes : Sizes) (word : ℕ) where
           when = λ n h. inl (inl (ap (sends_of n) k.sends_it ∙ h), till e i);
         }
 
-    again : (e : L.Entry) → IsIn e adds → Copies server sizes word con t c → SentIn con (c ∷ t) e
+    again : (e : L.Entry) → IsIn e adds → Copies server sizes setup con t c → SentIn con (c ∷ t) e
     again e i h =
-        let k = open_runs server sizes word con t (client_back server sizes word (c ∷ []) t law)
-        (open_begun (layer_of server sizes word t) con h.is_open) in
+        let k = open_runs server sizes setup con t (client_back server sizes setup (c ∷ []) t law)
+        (open_begun (layer_of server sizes setup t) con h.is_open) in
         record {
           sending = k.sending;
           sent = inr k.sent;
@@ -87,11 +86,11 @@ module _ (server : Endpoint) (sizes : Sizes) (word : ℕ) where
     later : (e : L.Entry) → SentIn con t e → SentIn con (c ∷ t) e
     later e h = record { sending = h.sending; sent = inr h.sent; is = h.is; when = λ n u. inr (h.when n u) }
 
-  pub sent_in : (con : Open) (t : List Call) → ClientLaw server sizes word t
-      → Always (λ p e. SendsIt con p e → SentIn con t e) (layer_of server sizes word t)
+  pub sent_in : (con : Open) (t : List Call) → ClientLaw server sizes setup t
+      → Always (λ p e. SendsIt con p e → SentIn con t e) (layer_of server sizes setup t)
   sent_in con [] law = tt
   sent_in con (c ∷ t) law =
-      each_sending server sizes word con t (SentIn con (c ∷ t)) c law (first con t c law) (again con t c law)
+      each_sending server sizes setup con t (SentIn con (c ∷ t)) c law (first con t c law) (again con t c law)
       (always_map (λ p e. SendsIt con p e → SentIn con t e) (λ p e. SendsIt con p e → SentIn con (c ∷ t) e)
-      (λ p e f s. later con t c law e (f s)) (layer_of server sizes word t)
-      (sent_in con t (client_back server sizes word (c ∷ []) t law)))
+      (λ p e f s. later con t c law e (f s)) (layer_of server sizes setup t)
+      (sent_in con t (client_back server sizes setup (c ∷ []) t law)))

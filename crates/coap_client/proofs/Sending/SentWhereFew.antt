@@ -7,6 +7,7 @@ use Rattle.coap_types.specs.declared.endpoint.Endpoint.{Endpoint}
 use Rattle.coap_types.proofs.Facts.Traces.{Always_back}
 use Rattle.coap_layer.specs.Taking.{is_then}
 use Rattle.coap_layer.specs.Trace as L
+use Rattle.coap_layer.specs.declared.setup.Setup.{Setup}
 use Rattle.coap_block.specs.Sizes.{Sizes}
 use Rattle.coap_exchange.specs.declared.asker.AskRefusal.{AskRefusal}
 use Rattle.coap_exchange.specs.declared.asker.AskRefusal.TheVariants as refusal
@@ -22,7 +23,7 @@ use Rattle.coap_exchange.specs.AskerTrace as E
 use Rattle.coap_exchange.specs.Counts.{count_then}
 use Rattle.coap_exchange.proofs.Facts.Verdicts.{TurnFits, turn_fits}
 use Rattle.coap_client.specs.Deeds.{at, close, deeds, forgets}
-use Rattle.coap_client.specs.Effects.{Deed, Rests, Asks, Keeps, Releases, Effect}
+use Rattle.coap_client.specs.Effects.{Deed, Rests, Asks, Effect}
 use Rattle.coap_client.specs.Events.{happened, passes}
 use Rattle.coap_client.specs.Follows.Ends.{ends_as, Unsent, unsent, IsWant}
 use Rattle.coap_client.specs.Follows.Free as free
@@ -32,7 +33,7 @@ use Rattle.coap_client.specs.Follows.Words.{hears}
 use Rattle.coap_client.specs.Law.{ClientLaw, own_of, lower_of}
 use Rattle.coap_client.specs.Own.{Own}
 use Rattle.coap_client.specs.Requests.{message_of}
-use Rattle.coap_client.specs.Trace.{Report, Call, Calls, Observes, Cancels, Forgets, Feeds, Ticks, NextOut, NextReport, Asked}
+use Rattle.coap_client.specs.Trace.{Report, Call, Forgets, Feeds, Ticks}
 use Rattle.coap_client.proofs.Facts.Laws.{clock_is}
 use Rattle.coap_client.proofs.Reporting.EffectReports.{unsent_asks}
 use Rattle.coap_client.proofs.Reporting.Ends.{all_ends}
@@ -48,9 +49,7 @@ Quiet l = Always (λ past x. ends x ≡ false) l
 quiet_deeds : (d : Deed) (o : Own) (m w : ℕ) (sent : L.Answer) (token : Result (List ℕ) AskRefusal) (kept : Bool)
     → Quiet (deeds d o m w sent token kept)
 quiet_deeds Rests o m w sent token kept = tt
-quiet_deeds (Asks op) o m w sent token kept = (refl, tt)
-quiet_deeds (Keeps t) o m w sent token kept = (refl, tt)
-quiet_deeds (Releases t) o m w sent token kept = (refl, tt)
+quiet_deeds _ o m w sent token kept = (refl, tt)
 
 module _ (clock : List E.Call → ℕ) (u : ℕ) where
   abbrev counted : List E.Call → ℕ
@@ -80,7 +79,7 @@ counts_alike false true p q m n e f le = absurd (cc e)
 counts_alike true true true false m n e f le = absurd (cc f)
 counts_alike true true false true m n e f le = absurd (cc f)
 
-module _ (server : Endpoint) (sizes : Sizes) (word : ℕ) where
+module _ (server : Endpoint) (sizes : Sizes) (setup : Setup) where
   -- the exchanges of a call end where it says so
 
   fed_ends : (now : ℕ) (from : Endpoint) (bytes : List ℕ) (w : ℕ) (up : L.Answer) (settled : Bool) (m : ℕ)
@@ -97,19 +96,16 @@ module _ (server : Endpoint) (sizes : Sizes) (word : ℕ) where
   tick_ends : (now w : ℕ) (below : L.Answer) (m : ℕ) (turn : Turn) (sent : L.Answer)
       (token : Result (List ℕ) AskRefusal) (kept answer : Bool) (s : E.Own) (at_m : ℕ) → TurnFits s at_m below turn
       → ends (E.Ticks m below turn) ≡ is_over (Ticks now w below turn sent token kept answer)
-  tick_ends now w below m turn_is.Idle sent token kept answer s at_m fits = refl
-  tick_ends now w below m turn_is.Copied sent token kept answer s at_m fits = refl
-  tick_ends now w below m (turn_is.End event_of.Timeout) sent token kept answer s at_m fits = refl
-  tick_ends now w below m (turn_is.End event_of.NoResponse) sent token kept answer s at_m fits = refl
   tick_ends now w below m (turn_is.End event_of.Reset) sent token kept answer s at_m fits = absurd fits
   tick_ends now w below m (turn_is.End (event_of.Answer x)) sent token kept answer s at_m fits = absurd fits
   tick_ends now w below m (turn_is.End (event_of.Notice x)) sent token kept answer s at_m fits = absurd fits
+  tick_ends now w below m _ sent token kept answer s at_m fits = refl
 
   abbrev beneath : List Call → E.Own
-  beneath t = X.own_of server word (lower_of sizes t)
+  beneath t = X.own_of server setup (lower_of sizes t)
 
   abbrev ended : ℕ → List E.Call → ℕ
-  ended u l = count_then (ids.clock_of server word) ends u l
+  ended u l = count_then (ids.clock_of server setup) ends u l
 
   abbrev over : ℕ → List Call → ℕ
   over u t = count_then (free.clock_of sizes) is_over u t
@@ -122,19 +118,19 @@ module _ (server : Endpoint) (sizes : Sizes) (word : ℕ) where
     by_input c m input here there same =
         counts_alike (ends input) (is_over c) _ _ _ _ same (ap (is_then u) (here ∙ sym there)) less
 
-    next : (c : Call) → ClientLaw server sizes word (c ∷ t)
+    next : (c : Call) → ClientLaw server sizes setup (c ∷ t)
         → ended u (lower_of sizes (c ∷ t)) ≤ over u (c ∷ t)
     next (Feeds now from bytes w up settled event sent token kept) law =
         let c : Call = Feeds now from bytes w up settled event sent token kept in
         let m : ℕ = max (own_of sizes t).clock now in
         let e : Effect = happened (at now (own_of sizes t)) m event in
         let input : E.Call = E.Receive m from bytes up settled event in
-        let clock = clocks server sizes word t in
+        let clock = clocks server sizes setup t in
         let here : max (beneath t).clock m ≡ m = omega (arith, clock) in
         let k = by_input c m input here (clock_is (own_of sizes t) c)
         (fed_ends now from bytes w up settled m event sent token kept) in
         subst (λ n. n ≤ over u (c ∷ t))
-        (sym (past_deeds (ids.clock_of server word) u
+        (sym (past_deeds (ids.clock_of server setup) u
         (deeds (close m e token).deed (close m e token).own m w sent token kept)
         (deeds e.deed e.own m w sent token kept) input (lower_of sizes t)
         (quiet_deeds (close m e token).deed (close m e token).own m w sent token kept)
@@ -144,11 +140,11 @@ module _ (server : Endpoint) (sizes : Sizes) (word : ℕ) where
         let m : ℕ = max (own_of sizes t).clock now in
         let e : Effect = passes (at now (own_of sizes t)) m turn in
         let input : E.Call = E.Ticks m below turn in
-        let clock = clocks server sizes word t in
+        let clock = clocks server sizes setup t in
         let here : max (beneath t).clock m ≡ m = omega (arith, clock) in
         let later : List E.Call = deeds (close m e token).deed (close m e token).own m w sent token kept in
         let first : List E.Call = deeds e.deed e.own m w sent token kept in
-        let right = (at_input (λ past x. P.IsRight (X.own_of server word past) x) later first input (lower_of sizes t)
+        let right = (at_input (λ past x. P.IsRight (X.own_of server setup past) x) later first input (lower_of sizes t)
         law.exchanges.rows).0 in
         let fits : TurnFits (beneath t) (max (beneath t).clock m) below turn =
         subst (TurnFits (beneath t) (max (beneath t).clock m) below) (sym right)
@@ -156,24 +152,19 @@ module _ (server : Endpoint) (sizes : Sizes) (word : ℕ) where
         let k = by_input c m input here (clock_is (own_of sizes t) c)
         (tick_ends now w below m turn sent token kept answer (beneath t) (max (beneath t).clock m) fits) in
         subst (λ n. n ≤ over u (c ∷ t))
-        (sym (past_deeds (ids.clock_of server word) u later first input (lower_of sizes t)
+        (sym (past_deeds (ids.clock_of server setup) u later first input (lower_of sizes t)
         (quiet_deeds (close m e token).deed (close m e token).own m w sent token kept)
         (quiet_deeds e.deed e.own m w sent token kept))) k
     next (Forgets number kept answer) law =
         subst (λ n. n ≤ over u t)
-        (sym (past_quiet (ids.clock_of server word) u
+        (sym (past_quiet (ids.clock_of server setup) u
         (deeds (forgets answer number (own_of sizes t)) (own_of sizes t) 0 0 L.Nothing (Ok []) kept) (lower_of sizes t)
         (quiet_deeds (forgets answer number (own_of sizes t)) (own_of sizes t) 0 0 L.Nothing (Ok []) kept))) less
-    next (Calls now r answer) law = less
-    next (Observes now path answer) law = less
-    next (Cancels now number answer) law = less
-    next (NextOut answer) law = less
-    next (NextReport answer) law = less
-    next (Asked answer) law = less
+    next _ law = less
 
-  few_end : (u : ℕ) (t : List Call) → ClientLaw server sizes word t → ended u (lower_of sizes t) ≤ over u t
+  few_end : (u : ℕ) (t : List Call) → ClientLaw server sizes setup t → ended u (lower_of sizes t) ≤ over u t
   few_end u [] law = omega arith
-  few_end u (c ∷ t) law = next u t (few_end u t (client_back server sizes word (c ∷ []) t law)) c law
+  few_end u (c ∷ t) law = next u t (few_end u t (client_back server sizes setup (c ∷ []) t law)) c law
 
   -- what can't be sent is refused by the exchanges
 
@@ -216,29 +207,23 @@ module _ (server : Endpoint) (sizes : Sizes) (word : ℕ) where
       (refused_is (deeds (close m e token).deed (close m e token).own m w sent token kept)
       (deeds e.deed e.own m w sent token kept) e.deed e.own m w sent token kept
       (E.Ticks m below turn) (lower_of sizes t) u.operation u.why refl k.0 k.1 none)
-  sent_here t (Calls now r answer) none want u is = cc is
-  sent_here t (Observes now path answer) none want u is = cc is
-  sent_here t (Cancels now number answer) none want u is = cc is
-  sent_here t (Forgets number kept answer) none want u is = cc is
-  sent_here t (NextOut answer) none want u is = cc is
-  sent_here t (NextReport answer) none want u is = cc is
-  sent_here t (Asked answer) none want u is = cc is
+  sent_here t _ none want u is = cc is
 
-  all_sent : (t : List Call) → ClientLaw server sizes word t → ids.NoneWanting (lower_of sizes t)
+  all_sent : (t : List Call) → ClientLaw server sizes setup t → ids.NoneWanting (lower_of sizes t)
       → AllAreSent sizes t
   all_sent [] law none = tt
   all_sent (c ∷ t) law none = (
-    sent_here t c none (λ u is. ((all_ends server sizes word (c ∷ t) law).0.each_unsent u is).0),
-    all_sent t (client_back server sizes word (c ∷ []) t law)
+    sent_here t c none (λ u is. ((all_ends server sizes setup (c ∷ t) law).0.each_unsent u is).0),
+    all_sent t (client_back server sizes setup (c ∷ []) t law)
         (Always_back (λ past x. ((y : AskRefusal) → ids.refused x ≡ Some y → y ≡ refusal.Running)) _ (lower_of sizes t)
         none),
   )
 
   -- where the exchanges send theirs
-  pub sent_where_few_end : (t : List Call) → ClientLaw server sizes word t
-      → ids.RequestsAreSent server word (lower_of sizes t) → SentWhereFewEnd sizes t
+  pub sent_where_few_end : (t : List Call) → ClientLaw server sizes setup t
+      → ids.RequestsAreSent server setup (lower_of sizes t) → SentWhereFewEnd sizes t
   sent_where_few_end t law sends most few_ids few till =
-      let clock = clocks server sizes word t in
+      let clock = clocks server sizes setup t in
       all_sent t law (sends most few_ids
       (λ u. (let a = few_end u t law in let b = few u in omega (arith, a, b))) (omega (arith, clock, till)))
 

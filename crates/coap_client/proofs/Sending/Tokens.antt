@@ -5,6 +5,7 @@ use Rattle.std.specs.Prelude.{◌==◌, filter}
 use Rattle.coap_types.specs.Past.{Ever, Always}
 use Rattle.coap_types.proofs.Facts.Traces.{Ever_back, Ever_front, Ever_map}
 use Rattle.coap_types.specs.declared.endpoint.Endpoint.{Endpoint}
+use Rattle.coap_layer.specs.declared.setup.Setup.{Setup}
 use Rattle.coap_block.specs.Sizes.{Sizes}
 use Rattle.coap_exchange.specs.declared.asker.AskRefusal.{AskRefusal}
 use Rattle.coap_exchange.specs.declared.asker.Event.{Event}
@@ -114,36 +115,26 @@ module _ (P : ℕ → List (List ℕ) → List ℕ → Type 0) where
 
   pub live_failed : (s : Own) (u : Transfer → Bool) (report : Report) (running : Option Operation)
       → AllLive P s.observations → AllLive P (failed u report s running).own.observations
-  live_failed s u report None h = h
   live_failed s u report (Some (Calling k r t)) h = live_held s (u t && is_upload t) (of k report) h
-  live_failed s u report (Some (Registering k path)) h = h
   live_failed s u report (Some (Fetching k)) h =
       live_changed k (λ o. record o { rest = None }) (λ o z. z) s.observations h
   live_failed s u report (Some (Cancelling k)) h = live_without k s.observations h
-  live_failed s u report (Some Dropped) h = h
+  live_failed s u report _ h = h
 
   module _ (s : Own) (now : ℕ) (told : Option Event) (h : AllLive P s.observations)
       (is_new : (k : ℕ) (path : List (List ℕ)) (m : _) → Hears told m → s.running ≡ Some (Registering k path)
       → P k path m.token) where
     pub live_moves : (mo : Move s now told) → AllLive P (left_by s now told mo).own.observations
-    live_moves (mv.rests un) = h
-    live_moves (mv.copies quiet_so) = h
-    live_moves (mv.starts_next op queue none rest first quiet_so) = h
-    live_moves (mv.fetches k none rest quiet_so) = h
-    live_moves (mv.goes_on k r tr next a hears runs asks) = h
     live_moves (mv.is_done k r tr final rep a hears runs ends_so) = live_held s (not final && is_upload tr) (of k rep) h
     live_moves (mv.registers k path a hears runs note) =
         live_more s.observations (begun k path s.sizes now a) h (is_new k path a hears runs)
-    live_moves (mv.refuses k path a hears runs note) = h
     live_moves (mv.fetches_on k n a num size hears runs rest code asks) =
         live_changed k (λ o. record o { rest = rest_left n.sequence n.fetch a (verdict.Ask num size) })
         (λ o z. z) s.observations h
     live_moves (mv.fetched k n a hears runs rest code done) =
         live_changed k (λ o. record o { rest = None }) (λ o z. z) s.observations h
     live_moves (mv.gives_up k a hears runs) = live_changed k (λ o. record o { rest = None }) (λ o z. z) s.observations h
-    live_moves (mv.fetched_none k a hears runs) = h
     live_moves (mv.cancels k a hears runs) = live_without k s.observations h
-    live_moves (mv.is_dropped a hears runs) = h
     live_moves (mv.fails e un) = live_failed s (λ t. true) (lapse e) s.running h
     live_moves (mv.is_ended o a notes found note) = live_without o.number s.observations h
     live_moves (mv.renews o a notes found note newer) =
@@ -154,6 +145,7 @@ module _ (P : ℕ → List (List ℕ) → List ℕ → Type 0) where
     live_moves (mv.passes_by o a notes found note newer) =
         live_changed o.number (λ p. record p { watch = arrived p.watch (sequence_in a) now false })
         (λ p z. z) s.observations h
+    live_moves _ = h
 
     live_closed : (e : Effect) (token : Result (List ℕ) AskRefusal) → AllLive P e.own.observations → Closing now e token
         → AllLive P (closed now e e.deed token).own.observations
@@ -190,10 +182,7 @@ last_was_sent sizes (c ∷ t) x h = by (sends (own_of sizes t) c) refl h (last_w
 token_asked : (os : List Observation) (op : Operation) (token : List ℕ) → (message_of os op).token ≡ Some token
     → (k : ℕ) × (op ≡ Cancelling k) × (token_of k os ≡ Some token)
 token_asked os (Cancelling k) token h = (k, refl, h)
-token_asked os (Calling k r t) token h = absurd (cc h)
-token_asked os (Registering k path) token h = absurd (cc h)
-token_asked os (Fetching k) token h = absurd (cc h)
-token_asked os Dropped token h = absurd (cc h)
+token_asked os _ token h = absurd (cc h)
 
 -- the observations that the request of a cancel is made of are those before
 pub same_observations : (s : Own) (now : ℕ) (told : Option Event) (mo : Move s now told) (op : Operation)
@@ -204,19 +193,10 @@ same_observations s now told (mv.copies quiet_so) op h = inl refl
 same_observations s now told (mv.starts_next o queue none rest first quiet_so) op h = inl refl
 same_observations s now told (mv.fetches k none rest quiet_so) op h = inl refl
 same_observations s now told (mv.goes_on k r tr next a hears runs asks) op h = inl refl
-same_observations s now told (mv.is_done k r tr final rep a hears runs ends_so) op h = absurd (cc h)
-same_observations s now told (mv.registers k path a hears runs note) op h = absurd (cc h)
-same_observations s now told (mv.refuses k path a hears runs note) op h = absurd (cc h)
 same_observations s now told (mv.fetches_on k n a num size hears runs rest code asks) op h = let e : Fetching k
     ≡ op = cc h in inr (k, sym e)
-same_observations s now told (mv.fetched k n a hears runs rest code done) op h = absurd (cc h)
-same_observations s now told (mv.gives_up k a hears runs) op h = absurd (cc h)
-same_observations s now told (mv.fetched_none k a hears runs) op h = absurd (cc h)
 same_observations s now told (mv.cancels k a hears runs) op h = absurd (releases_none _ op h)
-same_observations s now told (mv.is_dropped a hears runs) op h = absurd (cc h)
 same_observations s now told (mv.is_ended o a notes found note) op h = absurd (releases_none _ op h)
-same_observations s now told (mv.renews o a notes found note newer) op h = absurd (cc h)
-same_observations s now told (mv.passes_by o a notes found note newer) op h = absurd (cc h)
 same_observations s now told (mv.fails e un) op h = absurd (by s.running h)
   where
     by : (running : Option Operation) → (failed (λ t. true) (lapse e) s running).deed ≡ Asks op → ⊥
@@ -226,6 +206,7 @@ same_observations s now told (mv.fails e un) op h = absurd (by s.running h)
     by (Some (Fetching k)) h = cc h
     by (Some Dropped) h = cc h
     by (Some (Cancelling k)) h = releases_none _ op h
+same_observations s now told _ op h = absurd (cc h)
 
 module _ (sizes : Sizes) where
   -- the message of what is sent; that of a cancel has the token of its observation
@@ -264,13 +245,7 @@ module _ (sizes : Sizes) where
   made_of t (Ticks now w below turn sent token kept answer) x h =
       made_by t (Ticks now w below turn sent token kept answer) x
       (ticked_turned sizes t now w below turn sent token kept answer) h
-  made_of t (Calls now r answer) x h = absurd (cc h)
-  made_of t (Observes now path answer) x h = absurd (cc h)
-  made_of t (Cancels now k answer) x h = absurd (cc h)
-  made_of t (Forgets k kept answer) x h = absurd (cc h)
-  made_of t (NextOut answer) x h = absurd (cc h)
-  made_of t (NextReport answer) x h = absurd (cc h)
-  made_of t (Asked answer) x h = absurd (cc h)
+  made_of t _ x h = absurd (cc h)
 
   -- its registration was sent, under its token
   pub record Registered (t : List Call) (number : ℕ) (path : List (List ℕ)) (token : List ℕ) : Type 0 where
@@ -318,16 +293,16 @@ module _ (sizes : Sizes) where
   asks_cancels : (r : E.Request) (token : List ℕ) (b : E.Call) → AsksFor r token b → F.cancels b ≡ r.token
   asks_cancels r token b h = ap F.cancels h.is
 
-  module _ (server : Endpoint) (word : ℕ) where
-    new_here : (t : List Call) (c : Call) (k : Turned sizes t c) → ClientLaw server sizes word (c ∷ t)
+  module _ (server : Endpoint) (setup : Setup) where
+    new_here : (t : List Call) (c : Call) (k : Turned sizes t c) → ClientLaw server sizes setup (c ∷ t)
         → (n : ℕ) (path : List (List ℕ)) (m : _) → Hears k.told m → (own_of sizes t).running ≡ Some (Registering n path)
         → Registered (c ∷ t) n path m.token
     new_here t c k law n path m hears_it runs =
-        let past = law_back server word (lower (own_of sizes t) c) (lower_of sizes t) law.exchanges.rows in
-        let tracked : Tracked sizes t (Registering n path) (beneath server sizes word t).running =
-        subst (λ o. IfTracked sizes t o (beneath server sizes word t).running) runs
-        (all_sends sizes server word t law.rows.1 past).tracked in
-        let a : Answers sizes t c m = (answers_last sizes server word (c ∷ t) law).0 m
+        let past = law_back server setup (lower (own_of sizes t) c) (lower_of sizes t) law.exchanges.rows in
+        let tracked : Tracked sizes t (Registering n path) (beneath server sizes setup t).running =
+        subst (λ o. IfTracked sizes t o (beneath server sizes setup t).running) runs
+        (all_sends sizes server setup t law.rows.1 past).tracked in
+        let a : Answers sizes t c m = (answers_last sizes server setup (c ∷ t) law).0 m
         (k.hears_is ∙ ap heard_in hears_it) in
         let same : a.sending ≡ tracked.sending = (let z : Some a.sending ≡ Some tracked.sending = sym a.last
         ∙ tracked.last in cc z) in
@@ -338,7 +313,7 @@ module _ (sizes : Sizes) where
           token_is = a.token;
         }
 
-    live_step : (t : List Call) (c : Call) → ClientLaw server sizes word (c ∷ t)
+    live_step : (t : List Call) (c : Call) → ClientLaw server sizes setup (c ∷ t)
         → AllLive (Registered (c ∷ t)) (own_of sizes t).observations
         → AllLive (Registered (c ∷ t)) (own_of sizes (c ∷ t)).observations
     live_step t (Calls now r (Ok n)) law h = h
@@ -362,13 +337,13 @@ module _ (sizes : Sizes) where
         let k = ticked_turned sizes t now w below turn sent token kept answer in
         live_turned (Registered (c ∷ t)) sizes t c k h (new_here t c k law)
 
-    pub live : (t : List Call) → ClientLaw server sizes word t → AllLive (Registered t) (own_of sizes t).observations
+    pub live : (t : List Call) → ClientLaw server sizes setup t → AllLive (Registered t) (own_of sizes t).observations
     live [] law = tt
     live (c ∷ t) law = live_step t c law (live_to (Registered t) (Registered (c ∷ t)) (registered_later t c)
-        (own_of sizes t).observations (live t (client_back server sizes word (c ∷ []) t law)))
+        (own_of sizes t).observations (live t (client_back server sizes setup (c ∷ []) t law)))
 
     -- its token was given before
-    given_before : (t : List Call) → ClientLaw server sizes word t → (k : ℕ) (token : List ℕ)
+    given_before : (t : List Call) → ClientLaw server sizes setup t → (k : ℕ) (token : List ℕ)
         → token_of k (own_of sizes t).observations ≡ Some token → (path : List (List ℕ)) × Registered t k path token
     given_before t law k token is = live_found (Registered t) k (own_of sizes t).observations token (live t law) is
 
@@ -382,13 +357,13 @@ module _ (sizes : Sizes) where
         (lower_of sizes t) (was_asked t h.sending h.sent)
 
     -- a request that has a token was asked for a live observation
-    cancel_given : (t : List Call) (c : Call) → ClientLaw server sizes word (c ∷ t) → (x : Sending)
+    cancel_given : (t : List Call) (c : Call) → ClientLaw server sizes setup (c ∷ t) → (x : Sending)
         → sends (own_of sizes t) c ≡ Some x → (token : List ℕ) → x.request.token ≡ Some token
         → (k : ℕ) × (x.operation ≡ Cancelling k) × (path : List (List ℕ)) × Registered t k path token
     cancel_given t c law x is token has =
         let m = made_of t c x is in
         let a = token_asked m.observations x.operation token (sym (ap (λ (q : E.Request). q.token) m.request) ∙ has) in
-        let g = given_before t (client_back server sizes word (c ∷ []) t law) a.0 token
+        let g = given_before t (client_back server sizes setup (c ∷ []) t law) a.0 token
         (ap (token_of a.0) (sym (m.cancels a.0 a.1)) ∙ a.2) in
         (a.0, a.1, g.0, g.1)
 
@@ -408,14 +383,9 @@ module _ (sizes : Sizes) where
         → (r : E.Request) × (key : List ℕ) × AsksFor r key b × (r.token ≡ Some token)
     cancel_asks (E.Ask now r w below (Ok key)) token h =
         (r, key, record { now = now; word = w; below = below; is = refl }, h)
-    cancel_asks (E.Ask now r w below (Err why)) token h = absurd (cc h)
-    cancel_asks (E.Receive now from bytes up settled answer) token h = absurd (cc h)
-    cancel_asks (E.Ticks now below answer) token h = absurd (cc h)
-    cancel_asks (E.Keep key answer) token h = absurd (cc h)
-    cancel_asks (E.Release key answer) token h = absurd (cc h)
-    cancel_asks (E.Take answer) token h = absurd (cc h)
+    cancel_asks _ token h = absurd (cc h)
 
-    given_here : (t : List Call) (c : Call) → ClientLaw server sizes word (c ∷ t) → (b : E.Call)
+    given_here : (t : List Call) (c : Call) → ClientLaw server sizes setup (c ∷ t) → (b : E.Call)
         → Ever (λ z. z ≡ b) (lower (own_of sizes t) c) → (token : List ℕ) → F.cancels b ≡ Some token
         → Ever (λ z. F.fresh z ≡ Some token) (lower_of sizes t)
     given_here t c law b there token is =
@@ -426,30 +396,30 @@ module _ (sizes : Sizes) where
         let g = cancel_given t c law x.sending x.sends_it token (ap (λ (q : E.Request). q.token) x.request ∙ a.3) in
         registered_fresh t g.0 g.2 token g.3
 
-    pub cancels_are_given : (t : List Call) → ClientLaw server sizes word t → F.CancelsAreGiven (lower_of sizes t)
+    pub cancels_are_given : (t : List Call) → ClientLaw server sizes setup t → F.CancelsAreGiven (lower_of sizes t)
     cancels_are_given [] law = tt
     cancels_are_given (c ∷ t) law = front_given (lower (own_of sizes t) c) (lower_of sizes t) (given_here t c law)
-        (cancels_are_given t (client_back server sizes word (c ∷ []) t law))
+        (cancels_are_given t (client_back server sizes setup (c ∷ []) t law))
 
     -- where the request is asked, in the law of its tokens
     record AskedAt (x : Sending) (past : List E.Call) : Type 0 where
       front : List E.Call
       call : E.Call
       asks : AsksFor x.request x.token call
-      tokens : F.Tokens word (front ++ past) call
+      tokens : F.Tokens setup.word (front ++ past) call
       given : F.CancelsAreGiven (front ++ past)
 
-    asked_at : (x : Sending) (xs past : List E.Call) → F.AreTokens word (xs ++ past) → F.CancelsAreGiven (xs ++ past)
+    asked_at : (x : Sending) (xs past : List E.Call) → F.AreTokens setup.word (xs ++ past) → F.CancelsAreGiven (xs ++ past)
         → Ever (AsksFor x.request x.token) xs → AskedAt x past
     asked_at x (b ∷ xs) past law given (inl h) =
         record { front = xs; call = b; asks = h; tokens = law.0.0; given = given.1 }
     asked_at x (b ∷ xs) past law given (inr h) = asked_at x xs past law.1 given.1 h
     asked_at x [] past law given h = absurd h
 
-    asked_here : (t : List Call) (c : Call) → ClientLaw server sizes word (c ∷ t) → (x : Sending)
+    asked_here : (t : List Call) (c : Call) → ClientLaw server sizes setup (c ∷ t) → (x : Sending)
         → sends (own_of sizes t) c ≡ Some x → AskedAt x (lower_of sizes t)
     asked_here t c law x is = asked_at x (lower (own_of sizes t) c) (lower_of sizes t)
-        (are_tokens server word (lower_of sizes (c ∷ t)) law.exchanges.rows) (cancels_are_given (c ∷ t) law)
+        (are_tokens server setup (lower_of sizes (c ∷ t)) law.exchanges.rows) (cancels_are_given (c ∷ t) law)
         (asked_if_sent (own_of sizes t) c x is)
 
     -- a token that is new was of no request
@@ -479,14 +449,14 @@ module _ (sizes : Sizes) where
             ≡ n = cc number in inr (subst (λ j. 1 ≤ gone sizes j (c ∷ t)) (sym e) (omega (arith, final)))
 
     -- a cancel is sent once
-    pub one_cancel : (t : List Call) (c : Call) → ClientLaw server sizes word (c ∷ t) → (x y : Sending) (k : ℕ)
+    pub one_cancel : (t : List Call) (c : Call) → ClientLaw server sizes setup (c ∷ t) → (x y : Sending) (k : ℕ)
         → sends (own_of sizes t) c ≡ Some x → x.operation ≡ Cancelling k → WasSent sizes y t
         → y.operation ≡ Cancelling k
         → ⊥
     one_cancel t c law x y k is op was other = elim (cancel_runs t y k was other) [
       | inl runs ↦ by (fate sizes t c (Cancelling k) tt runs)
       | inr h ↦ (
-          let kn = known server sizes word (c ∷ t) law.rows law.exchanges.rows in
+          let kn = known server sizes setup (c ∷ t) law.rows law.exchanges.rows in
           let live_now : 1 ≤ in_observations k (own_of sizes (c ∷ t)).observations =
           subst (IfRuns (own_of sizes (c ∷ t)).observations)
           ((sent_now sizes t c x is).runs ∙ ap (λ o. Some o) op) kn.runs_on in
@@ -509,7 +479,7 @@ module _ (sizes : Sizes) where
     one_of (c ∷ t) own x y (inr h) (inl k) same = inr (inl (own.0 y x k h same))
     one_of (c ∷ t) own x y (inr h) (inr k) same = one_of t own.1 x y h k same
 
-    token_here : (t : List Call) (c : Call) → ClientLaw server sizes word (c ∷ t) → OwnTokens sizes t → (x y : Sending)
+    token_here : (t : List Call) (c : Call) → ClientLaw server sizes setup (c ∷ t) → OwnTokens sizes t → (x y : Sending)
         → sends (own_of sizes t) c ≡ Some x → WasSent sizes y t → y.token ≡ x.token → Deregisters y x
     token_here t c law own x y is was same = by x.request.token refl
       where
@@ -539,32 +509,32 @@ module _ (sizes : Sizes) where
               ]
             ]
 
-    pub own_tokens : (t : List Call) → ClientLaw server sizes word t → OwnTokens sizes t
+    pub own_tokens : (t : List Call) → ClientLaw server sizes setup t → OwnTokens sizes t
     own_tokens [] law = tt
     own_tokens (c ∷ t) law = let own = own_tokens t
-        (client_back server sizes word (c ∷ []) t law) in (token_here t c law own, own)
+        (client_back server sizes setup (c ∷ []) t law) in (token_here t c law own, own)
 
-    pub one_of_token : (t : List Call) → ClientLaw server sizes word t → OneOfToken sizes t
+    pub one_of_token : (t : List Call) → ClientLaw server sizes setup t → OneOfToken sizes t
     one_of_token t law = one_of t (own_tokens t law)
 
     -- fresh tokens have eight bytes
-    short_fresh : (calls : List E.Call) → F.AreTokens word calls → (token : List ℕ)
+    short_fresh : (calls : List E.Call) → F.AreTokens setup.word calls → (token : List ℕ)
         → Ever (λ b. F.fresh b ≡ Some token) calls → length token ≤ 8
     short_fresh (b ∷ calls) law token (inl h) = let e =
         (law.0.0.counted token h).0 in subst (λ z. length z ≤ 8) (sym e) (eight (F.fresh_in calls))
       where
-        eight : (n : ℕ) → length (given_token word n) ≤ 8
-        eight n = let e : length (given_token word n) ≡ 8 = refl in omega (arith, e)
+        eight : (n : ℕ) → length (given_token setup.word n) ≤ 8
+        eight n = let e : length (given_token setup.word n) ≡ 8 = refl in omega (arith, e)
     short_fresh (b ∷ calls) law token (inr h) = short_fresh calls law.1 token h
     short_fresh [] law token h = absurd h
 
-    short_here : (t : List Call) (c : Call) → ClientLaw server sizes word (c ∷ t) → (x : Sending)
+    short_here : (t : List Call) (c : Call) → ClientLaw server sizes setup (c ∷ t) → (x : Sending)
         → sends (own_of sizes t) c ≡ Some x → length x.token ≤ 8
     short_here t c law x is = by x.request.token refl
       where
         by : (o : Option (List ℕ)) → x.request.token ≡ o → length x.token ≤ 8
         by None none =
-            short_fresh (lower_of sizes (c ∷ t)) (are_tokens server word (lower_of sizes (c ∷ t)) law.exchanges.rows)
+            short_fresh (lower_of sizes (c ∷ t)) (are_tokens server setup (lower_of sizes (c ∷ t)) law.exchanges.rows)
             x.token
             (Ever_map (AsksFor x.request x.token) (λ b. F.fresh b ≡ Some x.token)
             (λ b a. asks_fresh x.request x.token b none a) (lower_of sizes (c ∷ t)) (was_asked (c ∷ t) x (inl is)))
@@ -574,12 +544,12 @@ module _ (sizes : Sizes) where
             let begins = a.tokens.cancel token (asks_cancels x.request x.token a.call a.asks ∙ has) in
             let key : x.token ≡ token = (let z : Some x.token
             ≡ Some token = sym (asks_begin x.request x.token a.call a.asks) ∙ begins in cc z) in
-            let past = client_back server sizes word (c ∷ []) t law in
+            let past = client_back server sizes setup (c ∷ []) t law in
             subst (λ z. length z ≤ 8) (sym key) (short_fresh (lower_of sizes t)
-            (are_tokens server word (lower_of sizes t) past.exchanges.rows) token
+            (are_tokens server setup (lower_of sizes t) past.exchanges.rows) token
             (registered_fresh t g.0 g.2 token g.3))
 
-    pub short_tokens : (t : List Call) → ClientLaw server sizes word t → ShortTokens sizes t
+    pub short_tokens : (t : List Call) → ClientLaw server sizes setup t → ShortTokens sizes t
     short_tokens [] law x h = absurd h
     short_tokens (c ∷ t) law x (inl h) = short_here t c law x h
-    short_tokens (c ∷ t) law x (inr h) = short_tokens t (client_back server sizes word (c ∷ []) t law) x h
+    short_tokens (c ∷ t) law x (inr h) = short_tokens t (client_back server sizes setup (c ∷ []) t law) x h

@@ -1,8 +1,7 @@
 -- What holds of each operation that a call puts behind those that wait, and goes on to hold, holds of all that wait.
-use Rattle.std.proofs.Common.{ℕ, max, true, false, Some, None, List, [], ◌∷◌, ◌++◌, Ok, Err}
+use Rattle.std.proofs.Common.{ℕ, max, true, None, List, [], ◌∷◌, ◌++◌, Ok}
 use Rattle.coap_block.specs.Sizes.{Sizes}
 use Rattle.coap_client.specs.Trace.{Request, Call, Calls, Observes, Cancels, Forgets, Feeds, Ticks}
-use Rattle.coap_client.specs.Trace.{NextOut, NextReport, Asked}
 use Rattle.coap_client.specs.Own.{Operation, Registering, Cancelling, Own}
 use Rattle.coap_client.specs.Effects.{Effect}
 use Rattle.coap_client.specs.Events.{happened, passes}
@@ -12,16 +11,7 @@ use Rattle.coap_client.specs.Law.{own_of}
 use Rattle.coap_client.proofs.Turning.BlockByBlock.{AllOf, all_uncancelled, happened_runs, passes_runs}
 use Rattle.coap_client.proofs.Turning.Turns.{closing}
 use Rattle.coap_client.proofs.Reporting.Bodies.{waits_closed}
-
-pub all_to : (P Q : Operation → Type 0) → ((op : Operation) → P op → Q op) → (ops : List Operation) → AllOf P ops
-    → AllOf Q ops
-all_to P Q f [] h = tt
-all_to P Q f (op ∷ ops) h = (f op h.0, all_to P Q f ops h.1)
-
-pub all_more : (P : Operation → Type 0) (ops : List Operation) (op : Operation) → AllOf P ops → P op
-    → AllOf P (ops ++ op ∷ [])
-all_more P [] op h k = (k, tt)
-all_more P (x ∷ ops) op h k = (h.0, all_more P ops op h.1 k)
+pub use Rattle.coap_client.proofs.Uploading.Pieces.{all_behind as all_more, map_all as all_to}
 
 module _ (sizes : Sizes) (P : List Call → Operation → Type 0)
     (later : (t : List Call) (c : Call) (op : Operation) → P t op → P (c ∷ t) op)
@@ -34,18 +24,11 @@ module _ (sizes : Sizes) (P : List Call → Operation → Type 0)
       → AllOf (P (c ∷ t)) (own_of sizes (c ∷ t)).queue
   by_call t (Calls now r (Ok n)) h = all_more (P (Calls now r (Ok n) ∷ t)) (own_of sizes t).queue
       (calling (own_of sizes t).sizes n r) h (called t now r n)
-  by_call t (Calls now r (Err why)) h = h
   by_call t (Observes now path (Ok n)) h = all_more (P (Observes now path (Ok n) ∷ t)) (own_of sizes t).queue
       (Registering n path) h (observed t now path n)
-  by_call t (Observes now path (Err why)) h = h
   by_call t (Cancels now k None) h = all_more (P (Cancels now k None ∷ t)) (own_of sizes t).queue
       (Cancelling k) h (cancelled t now k)
-  by_call t (Cancels now k (Some why)) h = h
   by_call t (Forgets k was true) h = all_uncancelled k (P (Forgets k was true ∷ t)) (own_of sizes t).queue h
-  by_call t (Forgets k was false) h = h
-  by_call t (NextOut answer) h = h
-  by_call t (NextReport answer) h = h
-  by_call t (Asked answer) h = h
   by_call t (Feeds now from bytes w up settled event sent token was) h =
       let s : Own = own_of sizes t in
       let m : ℕ = max s.clock now in
@@ -58,6 +41,7 @@ module _ (sizes : Sizes) (P : List Call → Operation → Type 0)
       let e : Effect = passes (at now s) m turn in
       let Q : Operation → Type 0 = P (Ticks now w below turn sent token was answer ∷ t) in
       waits_closed Q m e token ((passes_runs (at now s) m turn).waits Q h) (closing m e token)
+  by_call t _ h = h
 
   pub all_wait : (t : List Call) → AllOf (P t) (own_of sizes t).queue
   all_wait [] = tt

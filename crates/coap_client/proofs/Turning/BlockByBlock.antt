@@ -25,7 +25,7 @@ use Rattle.coap_block.specs.UploadStep.{continues}
 use Rattle.coap_client.specs.Trace.{Request, Report, Reported, Call, Calls, Observes, Cancels, Forgets}
 use Rattle.coap_client.specs.Trace.{Feeds, Ticks, NextOut, NextReport, Asked}
 use Rattle.coap_client.specs.Trace as R
-use Rattle.coap_client.specs.Own.{Transfer, Fetches, Uploads, Single, Operation, Calling, Registering}
+use Rattle.coap_client.specs.Own.{Transfer, Fetches, Uploads, Operation, Calling, Registering}
 use Rattle.coap_client.specs.Own.{Fetching, Cancelling, Dropped, Notified, Observation, Own}
 use Rattle.coap_client.specs.Observations.{observation_of, observation_with, rest_of, to_fetch}
 use Rattle.coap_client.specs.Observations.{is_cancel_of, dropped}
@@ -47,6 +47,7 @@ use Rattle.coap_client.proofs.Places.PlaceLemmas.{same_number}
 use Rattle.coap_client.specs.Follows.Places.{gone}
 use Rattle.coap_client.specs.Follows.Blocks.{Carried, carried}
 use Rattle.coap_client.proofs.Turning.ExchangeCame.{Came}
+use Rattle.coap_client.proofs.Turning.Moves.{releases_none}
 
 -- from where the operation that is asked for comes: the first of the queue, or the next block of the transfer that runs
 
@@ -82,18 +83,10 @@ no_carry s heard e a none deed op y is c =
     let same : a ≡ op = cc (deed, is) in
     let k : None ≡ Some y = sym none ∙ (ap carried same ∙ c) in absurd (cc k)
 
-pub releases_quiet : (o : Option Observation) (op : Operation) → releases o ≡ Asks op → ⊥
-releases_quiet None op h = cc h
-releases_quiet (Some o) op h = cc h
-
 pub failed_quiet : (u : Transfer → Bool) (report : Report) (s : Own) (running : Option Operation) (op : Operation)
     → (failed u report s running).deed ≡ Asks op → ⊥
-failed_quiet u report s None op h = cc h
-failed_quiet u report s (Some (Calling k r t)) op h = cc h
-failed_quiet u report s (Some (Registering k path)) op h = cc h
-failed_quiet u report s (Some (Fetching k)) op h = cc h
-failed_quiet u report s (Some Dropped) op h = cc h
-failed_quiet u report s (Some (Cancelling k)) op h = releases_quiet (observation_of k s.observations) op h
+failed_quiet u report s (Some (Cancelling k)) op h = releases_none (observation_of k s.observations) op h
+failed_quiet u report s _ op h = cc h
 
 pub noticed_quiet : (s : Own) (m : ℕ) (a : Message) (o : Option Observation) (op : Operation)
     → (noticed_by o s m a).deed ≡ Asks op → ⊥
@@ -102,7 +95,7 @@ noticed_quiet s m a (Some o) op h = by (not (is_notification a)) (is_newer o.wat
   where
     by : (b c : Bool) → (cond b (is_over o.number (R.Ended a.code) s)
         (cond c (renewed o s m a) (stays (passed o s m a)))).deed ≡ Asks op → ⊥
-    by true c h = releases_quiet (observation_of o.number s.observations) op h
+    by true c h = releases_none (observation_of o.number s.observations) op h
     by false true h = cc h
     by false false h = cc h
 
@@ -114,9 +107,7 @@ keeps_or_ends false e r o token s op h = cc h
 fetch_by_from : (s : Own) (heard : Option Message) (k : ℕ) (n : Notified) (m : Message) (v : Verdict)
     → From s heard (fetch_by k n s m v)
 fetch_by_from s heard k n m (verdict.Ask num szx) = no_carry s heard _ (Fetching k) refl refl
-fetch_by_from s heard k n m verdict.Done = quiet_from s heard _ (λ op h. cc h)
-fetch_by_from s heard k n m verdict.Again = quiet_from s heard _ (λ op h. cc h)
-fetch_by_from s heard k n m (verdict.Refuse why) = quiet_from s heard _ (λ op h. cc h)
+fetch_by_from s heard k n m _ = quiet_from s heard _ (λ op h. cc h)
 
 fetch_from : (s : Own) (heard : Option Message) (k : ℕ) (o : Option Notified) (m : Message)
     → From s heard (fetch_answered k o s m)
@@ -183,10 +174,8 @@ module _ (s : Own) (k : ℕ) (r : Request) (m : Message) where
 
 answered_from : (s : Own) (at : ℕ) (m : Message) (running : Option Operation) → s.running ≡ running
     → From s (Some m) (answered s at m running)
-answered_from s at m None is = quiet_from s (Some m) _ (λ op h. cc h)
 answered_from s at m (Some (Calling k r (Fetches f))) is = got_from s k r m f
 answered_from s at m (Some (Calling k r (Uploads u))) is = sent_from s k r m u is
-answered_from s at m (Some (Calling k r Single)) is = quiet_from s (Some m) _ (λ op h. cc h)
 answered_from s at m (Some (Registering k path)) is =
     quiet_from s (Some m) (registered k path s at m)
     (keeps_or_ends (is_notification m) (record s
@@ -194,8 +183,8 @@ answered_from s at m (Some (Registering k path)) is =
     (of k (R.Ended m.code)) m.token s)
 answered_from s at m (Some (Fetching k)) is = fetch_from s (Some m) k (rest_of k s.observations) m
 answered_from s at m (Some (Cancelling k)) is =
-    quiet_from s (Some m) _ (releases_quiet (observation_of k s.observations))
-answered_from s at m (Some Dropped) is = quiet_from s (Some m) _ (λ op h. cc h)
+    quiet_from s (Some m) _ (releases_none (observation_of k s.observations))
+answered_from s at m _ is = quiet_from s (Some m) _ (λ op h. cc h)
 
 abbrev pub heard_in : Option Event → Option Message
 heard_in (Some (event_of.Answer m)) = Some m
@@ -275,9 +264,7 @@ called_runs s k r t (calls.Ends final report) = held_runs s (not final && is_upl
 
 by_runs : (s : Own) (k : ℕ) (n : Notified) (m : Message) (v : Verdict) → Runs s (fetch_by k n s m v)
 by_runs s k n m (verdict.Ask num szx) = asks_runs s _ (Fetching k) refl refl
-by_runs s k n m verdict.Done = ends_runs s _ refl refl
-by_runs s k n m verdict.Again = ends_runs s _ refl refl
-by_runs s k n m (verdict.Refuse why) = ends_runs s _ refl refl
+by_runs s k n m _ = ends_runs s _ refl refl
 
 fetch_runs : (s : Own) (k : ℕ) (o : Option Notified) (m : Message) → Runs s (fetch_answered k o s m)
 fetch_runs s k None m = ends_runs s _ refl refl
@@ -312,10 +299,8 @@ pub failed_runs : (s : Own) (u : Transfer → Bool) (report : Report) (running :
     → Runs s (failed u report s running)
 failed_runs s u report None = same_runs s _ refl refl
 failed_runs s u report (Some (Calling k r t)) = held_runs s (u t && is_upload t) (of k report)
-failed_runs s u report (Some (Registering k path)) = ends_runs s _ refl refl
-failed_runs s u report (Some (Fetching k)) = ends_runs s _ refl refl
 failed_runs s u report (Some (Cancelling k)) = cancel_runs s k report
-failed_runs s u report (Some Dropped) = ends_runs s _ refl refl
+failed_runs s u report _ = ends_runs s _ refl refl
 
 noticed_runs : (s : Own) (at : ℕ) (m : Message) (o : Option Observation) → Runs s (noticed_by o s at m)
 noticed_runs s at m None = same_runs s _ refl refl

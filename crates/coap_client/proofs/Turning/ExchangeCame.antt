@@ -11,7 +11,7 @@ use Rattle.coap_exchange.specs.declared.asker.Event.TheVariants as event
 use Rattle.coap_exchange.specs.declared.asker.Exchange.{Exchange}
 use Rattle.coap_exchange.specs.declared.matching.Known.{Known}
 use Rattle.coap_exchange.specs.declared.matching.Verdict.{Verdict}
-use Rattle.coap_exchange.specs.declared.matching.Verdict.TheVariants.{Ignore, Reject, Acknowledge, AnswerCon, Answer}
+use Rattle.coap_exchange.specs.declared.matching.Verdict.TheVariants.{AnswerCon, Answer}
 use Rattle.coap_exchange.specs.declared.matching.Verdict.TheVariants.{NoticeCon, Notice, Await, EndByReset}
 use Rattle.coap_exchange.specs.AskerTrace.{Own}
 use Rattle.coap_exchange.specs.AskerArrivals.{has_token, known_of, verdict_on, told, running_after}
@@ -70,34 +70,13 @@ response_aside : (s : Own) (from : Endpoint) (m : Message) (v : Verdict) → Asi
     → IsAside s (L.Becomes (L.Response m)) v
 response_aside s from m NoticeCon h = h
 response_aside s from m Notice h = h
-response_aside s from m AnswerCon h = tt
-response_aside s from m Answer h = tt
-response_aside s from m Await h = tt
-response_aside s from m EndByReset h = tt
-response_aside s from m Ignore h = tt
-response_aside s from m Reject h = tt
-response_aside s from m Acknowledge h = tt
+response_aside s from m _ h = tt
 
 verdict_aside : (s : Own) (from : Endpoint) (up : L.Answer) → IsAside s up (verdict_on s from up)
 verdict_aside s from (L.Becomes (L.Response m)) =
     let k = known_of s from m in response_aside s from m _
     (aside_known m.kind k.from_server k.of_exchange k.same_id k.kept k.bad_option k.cancelled)
-verdict_aside s from (L.Becomes (L.Request m remembered)) = tt
-verdict_aside s from (L.Becomes (L.Acked id)) = tt
-verdict_aside s from (L.Becomes (L.Reset id)) = tt
-verdict_aside s from (L.Becomes L.Dropped) = tt
-verdict_aside s from (L.Becomes (L.Unmatched id)) = tt
-verdict_aside s from (L.Becomes L.Replayed) = tt
-verdict_aside s from (L.Becomes L.Rejected) = tt
-verdict_aside s from L.Nothing = tt
-verdict_aside s from (L.Is holds) = tt
-verdict_aside s from (L.Sent id) = tt
-verdict_aside s from L.Busied = tt
-verdict_aside s from L.NoIds = tt
-verdict_aside s from L.Idle = tt
-verdict_aside s from (L.Copied to id) = tt
-verdict_aside s from (L.Expired to id) = tt
-verdict_aside s from (L.Gives packet) = tt
+verdict_aside s from _ = tt
 
 -- what the event says of the exchange before it and behind it
 abbrev pub Came : Option Exchange → Option Exchange → Option Event → Type 0
@@ -118,15 +97,13 @@ module _ (s : Own) (from : Endpoint) (at : ℕ) where
   Tells v up = Came s.running (running_after at v s.running) (told v up)
 
   came_by : (v : Verdict) (up : L.Answer) → Fits s from up v → IsAside s up v → Tells v up
-  came_by Ignore up f a = refl
-  came_by Reject up f a = refl
-  came_by Acknowledge up f a = refl
   came_by Await up f a = acked_token s.running at
   came_by EndByReset up f a = (f.2.exchange, f.2.runs, refl)
   came_by AnswerCon up f a = subst (Tells AnswerCon) (sym f.is) (f.exchange, f.runs, f.token, refl)
   came_by Answer up f a = subst (Tells Answer) (sym f.is) (f.exchange, f.runs, f.token, refl)
   came_by NoticeCon up f a = subst (Tells NoticeCon) (sym f.is) (subst (λ u. IsAside s u NoticeCon) f.is a, refl)
   came_by Notice up f a = subst (Tells Notice) (sym f.is) (subst (λ u. IsAside s u Notice) f.is a, refl)
+  came_by _ up f a = refl
 
   pub came : (up : L.Answer) (e : Option Event) → e ≡ told (verdict_on s from up) up
       → Came s.running (running_after at (verdict_on s from up) s.running) e

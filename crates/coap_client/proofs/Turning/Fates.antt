@@ -43,9 +43,7 @@ IsLone op = ⊥
 pub dropped_lone : (j : ℕ) (op : Operation) → IsLone op → dropped j (Some op) ≡ Some op
 dropped_lone j (Calling number r t) lone = refl
 dropped_lone j (Cancelling number) lone = refl
-dropped_lone j (Registering number path) lone = absurd lone
-dropped_lone j (Fetching number) lone = absurd lone
-dropped_lone j Dropped lone = absurd lone
+dropped_lone j _ lone = absurd lone
 
 -- it runs on, with nothing sent; its next request is sent; or it is over
 pub data Fate (sizes : Sizes) (t : List Call) (c : Call) (op : Operation) : Type 0 where
@@ -111,9 +109,7 @@ module _ (sizes : Sizes) (t : List Call) (c : Call) (op : Operation) (lone : IsL
       ends_it k refl (final_one k report _ report_is last) sending
   failed_by (Cancelling k) l u report last sending report_is cl =
       over_by k report last (record s { running = None }) sending report_is cl
-  failed_by (Registering k path) l u report last sending report_is cl = absurd l
-  failed_by (Fetching k) l u report last sending report_is cl = absurd l
-  failed_by Dropped l u report last sending report_is cl = absurd l
+  failed_by _ l u report last sending report_is cl = absurd l
 
   apart : (o : Operation) → (IsLone o → ⊥) → (own_of sizes t).running ≡ Some op → (own_of sizes t).running ≡ Some o
       → Fate sizes t c op

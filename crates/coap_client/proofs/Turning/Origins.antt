@@ -36,16 +36,13 @@ pub data Origin (sizes : Sizes) (t : List Call) (c : Call) (k : ℕ) (r : Reques
 
 dropped_call : (j : ℕ) (running : Option Operation) (k : ℕ) (r : Request) (tr : Transfer)
     → dropped j running ≡ Some (Calling k r tr) → running ≡ Some (Calling k r tr)
-dropped_call j None k r tr is = absurd (cc is)
 dropped_call j (Some (Calling n q u)) k r tr is = is
-dropped_call j (Some (Registering n path)) k r tr is = absurd (cc is)
-dropped_call j (Some (Cancelling n)) k r tr is = absurd (cc is)
-dropped_call j (Some Dropped) k r tr is = absurd (cc is)
 dropped_call j (Some (Fetching n)) k r tr is = absurd (by (n == j) is)
   where
     by : (b : Bool) → cond b (Some Dropped) (Some (Fetching n)) ≡ Some (Calling k r tr) → ⊥
     by true e = cc e
     by false e = cc e
+dropped_call j _ k r tr is = absurd (cc is)
 
 failed_over : (u : Transfer → Bool) (report : Report) (s : Own) (running : Option Operation) (op : Operation)
     → s.running ≡ running → (failed u report s running).own.running ≡ Some op → ⊥
@@ -143,12 +140,6 @@ module _ (sizes : Sizes) (t : List Call) (c : Call) (k : ℕ) (r : Request) (tr 
           (heard ∙ ap heard_in hears_it)
           (ap (λ i. answer i old a) (sym request_is) ∙ (asks ∙ ap (λ i. calls.Asks i) next_is)) sending same
       by (Err why) own sending = refused e.own (Calling j q next) own runs
-  origin_by (mv.is_done j q old final rep a hears_it is ends_so) cl own sending heard runs = let z : None
-      ≡ Some (Calling k r tr) = sym (ap (λ (o : Own). o.running) own) ∙ runs in absurd (cc z)
-  origin_by (mv.registers j path a hears_it is note) cl own sending heard runs = let z : None
-      ≡ Some (Calling k r tr) = sym (ap (λ (o : Own). o.running) own) ∙ runs in absurd (cc z)
-  origin_by (mv.refuses j path a hears_it is note) cl own sending heard runs = let z : None
-      ≡ Some (Calling k r tr) = sym (ap (λ (o : Own). o.running) own) ∙ runs in absurd (cc z)
   origin_by (mv.fetches_on j n a num size hears_it is rest code asks) cl own sending heard runs = by token own
     where
       e : Effect
@@ -160,16 +151,8 @@ module _ (sizes : Sizes) (t : List Call) (c : Call) (k : ℕ) (r : Request) (tr 
       by (Ok key) own = let z : Some (Fetching j) ≡ Some (Calling k r tr) = sym (ap (λ (o : Own). o.running) own)
           ∙ runs in absurd (cc z)
       by (Err why) own = refused e.own (Fetching j) own runs
-  origin_by (mv.fetched j n a hears_it is rest code done) cl own sending heard runs = let z : None
-      ≡ Some (Calling k r tr) = sym (ap (λ (o : Own). o.running) own) ∙ runs in absurd (cc z)
-  origin_by (mv.gives_up j a hears_it is) cl own sending heard runs = let z : None
-      ≡ Some (Calling k r tr) = sym (ap (λ (o : Own). o.running) own) ∙ runs in absurd (cc z)
-  origin_by (mv.fetched_none j a hears_it is) cl own sending heard runs = let z : None
-      ≡ Some (Calling k r tr) = sym (ap (λ (o : Own). o.running) own) ∙ runs in absurd (cc z)
   origin_by (mv.cancels j a hears_it is) cl own sending heard runs =
       still (left_by s m told (mv.cancels j a hears_it is)) (λ z. absurd (cc z)) (releases_none _) cl own sending runs
-  origin_by (mv.is_dropped a hears_it is) cl own sending heard runs = let z : None
-      ≡ Some (Calling k r tr) = sym (ap (λ (o : Own). o.running) own) ∙ runs in absurd (cc z)
   origin_by (mv.fails e un) cl own sending heard runs =
       still (left_by s m told (mv.fails e un)) (λ z. absurd
       (failed_over (λ u. true) (lapse e) s s.running (Calling k r tr) refl z))
@@ -191,6 +174,7 @@ module _ (sizes : Sizes) (t : List Call) (c : Call) (k : ℕ) (r : Request) (tr 
       (λ z i. cc i) cl own sending runs
   origin_by (mv.passes_by o a notes found note newer) cl own sending heard runs =
       still (left_by s m told (mv.passes_by o a notes found note newer)) (λ z. z) (λ z i. cc i) cl own sending runs
+  origin_by _ cl own sending heard runs = let z : None ≡ Some (Calling k r tr) = sym (ap (λ (o : Own). o.running) own) ∙ runs in absurd (cc z)
 
 origin_turned : (sizes : Sizes) (t : List Call) (c : Call) (k : ℕ) (r : Request) (tr : Transfer) → Turned sizes t c
     → (own_of sizes (c ∷ t)).running ≡ Some (Calling k r tr) → Origin sizes t c k r tr

@@ -16,6 +16,7 @@ use Rattle.coap_block.specs.declared.fetch_verdict.Verdict.{Verdict}
 use Rattle.coap_block.specs.declared.fetch_verdict.Verdict.TheVariants as verdict
 use Rattle.coap_block.specs.UploadStep.{UploadState, upload_start, moved, more_follows, continues}
 use Rattle.coap_layer.specs.Trace as L
+use Rattle.coap_layer.specs.declared.setup.Setup.{Setup}
 use Rattle.coap_exchange.specs.declared.asker.AskRefusal.{AskRefusal}
 use Rattle.coap_exchange.specs.declared.asker.Event.{Event}
 use Rattle.coap_exchange.specs.declared.asker.Event.TheVariants as event_of
@@ -35,7 +36,7 @@ use Rattle.coap_client.specs.Reports.{lapse}
 use Rattle.coap_client.specs.Reports as reports_of
 use Rattle.coap_client.specs.Calls.{Next, answer}
 use Rattle.coap_client.specs.Calls as calls
-use Rattle.coap_client.specs.Effects.{Deed, Rests, Asks, Keeps, Releases, Effect, stays, runs, ends, of, held_by}
+use Rattle.coap_client.specs.Effects.{Deed, Rests, Asks, Effect, stays, runs, ends, of, held_by}
 use Rattle.coap_client.specs.Effects.{has_sent}
 use Rattle.coap_client.specs.Fetching.{fetch_by, fetch_answered}
 use Rattle.coap_client.specs.Observing.{is_over, renewed, passed, noticed_by}
@@ -55,6 +56,7 @@ use Rattle.coap_client.proofs.Turning.AllWaiting.{all_wait}
 use Rattle.coap_client.proofs.Turning.BlockByBlock.{AllOf, Starts, Follows, Runs, heard_in, happened_from}
 use Rattle.coap_client.proofs.Turning.BlockByBlock.{passes_from, happened_runs, passes_runs}
 use Rattle.coap_client.proofs.Uploading.Holds.{goes_fed, goes_ticked}
+use Rattle.coap_client.proofs.Places.PlaceEvents.{done_last}
 
 -- It is as it was, or it is set where what runs, an upload, is over without a final response.
 
@@ -110,13 +112,6 @@ held_step final s k r (Uploads u) is true report last so = by (is_longer u) refl
 abbrev Fair : Bool → Next → Type 0
 Fair continued (calls.Asks t) = Unit {0}
 Fair continued (calls.Ends final report) = (is_value report ≡ false) × (final ≡ false → continued ≡ true)
-
-done_last : (method : Method) (code : ℕ) → is_value (reports_of.done method code) ≡ false
-done_last method code = by (reports_of.is_success method code)
-  where
-    by : (b : Bool) → is_value (cond b (R.Done code) (R.Failed code)) ≡ false
-    by true = refl
-    by false = refl
 
 continued_fair : (u : UploadState) (o : Option Block) → Fair true (calls.continued u o)
 continued_fair u None = (refl, λ h. refl)
@@ -175,24 +170,18 @@ call_fair r Single m u is = absurd (cc is)
 
 answered_step : (s : Own) (at : ℕ) (m : Message) (running : Option Operation) → s.running ≡ running
     → Step (not (m.code == continue)) s (answered s at m running)
-answered_step s at m None is = plain (not (m.code == continue)) s _ refl refl
 answered_step s at m (Some (Calling k r t)) is =
     called_step s k r t (m.code == continue) (answer r t m) is (call_fair r t m)
 answered_step s at m (Some (Registering k path)) is =
     if_step (not (m.code == continue)) s (is_notification m) _ _ (plain (not (m.code == continue)) s _ refl refl)
     (plain (not (m.code == continue)) s _ refl refl)
 answered_step s at m (Some (Fetching k)) is = fetch_step (not (m.code == continue)) s k (rest_of k s.observations) m
-answered_step s at m (Some (Cancelling k)) is = plain (not (m.code == continue)) s _ refl refl
-answered_step s at m (Some Dropped) is = plain (not (m.code == continue)) s _ refl refl
+answered_step s at m _ is = plain (not (m.code == continue)) s _ refl refl
 
 failed_step : (s : Own) (report : Report) → is_value report ≡ false → (running : Option Operation)
     → s.running ≡ running → Step false s (failed (λ t. true) report s running)
-failed_step s report last None is = plain false s _ refl refl
 failed_step s report last (Some (Calling k r t)) is = held_step false s k r t is true report last (λ h. refl)
-failed_step s report last (Some (Registering k path)) is = plain false s _ refl refl
-failed_step s report last (Some (Fetching k)) is = plain false s _ refl refl
-failed_step s report last (Some (Cancelling k)) is = plain false s _ refl refl
-failed_step s report last (Some Dropped) is = plain false s _ refl refl
+failed_step s report last _ is = plain false s _ refl refl
 
 noticed_step : (s : Own) (at : ℕ) (m : Message) (o : Option Observation) → Step false s (noticed_by o s at m)
 noticed_step s at m None = plain false s _ refl refl
@@ -333,12 +322,6 @@ Caused final s e = (e.own.hold ≡ s.hold) ⊎ Sets final s e
 module _ (final : Bool) (s : Own) (e : Effect) (hold : e.own.hold ≡ s.hold) (sent : e.own.sent ≡ s.sent) where
   refused_caused : (op : Operation) → e.deed ≡ Asks op → AsksLater final s e
       → Caused final s (failed has_sent R.NoIds e.own (Some op))
-  refused_caused (Calling k r (Fetches f)) is asks = inl hold
-  refused_caused (Calling k r Single) is asks = inl hold
-  refused_caused (Registering k path) is asks = inl hold
-  refused_caused (Fetching k) is asks = inl hold
-  refused_caused (Cancelling k) is asks = inl hold
-  refused_caused Dropped is asks = inl hold
   refused_caused (Calling k r (Uploads u)) is asks = by (nat_lt 0 u.num) refl (is_longer u) refl
     where
       by : (a : Bool) → nat_lt 0 u.num ≡ a → (b : Bool) → is_longer u ≡ b → Caused final s
@@ -354,54 +337,28 @@ module _ (final : Bool) (s : Own) (e : Effect) (hold : e.own.hold ≡ s.hold) (s
       })
       by true f false g = inl hold
       by false f b g = inl hold
+  refused_caused _ is asks = inl hold
 
 closed_caused : (final : Bool) (s : Own) (now : ℕ) (e : Effect) (token : Result (List ℕ) AskRefusal) → Step final s e
     → AsksLater final s e → (d : Deed) → e.deed ≡ d → Caused final s (closed now e d token)
 closed_caused final s now e token st asks Rests is = elim st.cause [ inl x ↦ inl x | inr x ↦ inr x.0 ]
-closed_caused final s now e token st asks (Keeps t) is = elim st.cause [
-  | inl x ↦ inl x
-  | inr x ↦ (let z = x.0 in inr (record {
-    number = z.number;
-    up = z.up;
-    report = z.report;
-    made = z.made;
-    last = z.last;
-    unanswered = z.unanswered;
-    hold = z.hold;
-  }))
-]
-closed_caused final s now e token st asks (Releases t) is = elim st.cause [
-  | inl x ↦ inl x
-  | inr x ↦ (let z = x.0 in inr (record {
-    number = z.number;
-    up = z.up;
-    report = z.report;
-    made = z.made;
-    last = z.last;
-    unanswered = z.unanswered;
-    hold = z.hold;
-  }))
-]
 closed_caused final s now e (Ok key) st asks (Asks op) is = elim st.cause
     [ inl x ↦ inl x | inr x ↦ absurd (x.1 op is) ]
 closed_caused final s now e (Err why) st asks (Asks op) is = elim st.cause
     [ inl x ↦ refused_caused final s e x st.sent op is asks | inr x ↦ absurd (x.1 op is) ]
+closed_caused final s now e token st asks _ is = elim st.cause [ inl x ↦ inl x | inr x ↦ (let z = x.0 in inr (record { number = z.number; up = z.up; report = z.report; made = z.made; last = z.last; unanswered = z.unanswered; hold = z.hold })) ]
 
 -- an upload that runs behind an effect that asks for nothing ran before
 
 dropped_back : (k j : ℕ) (running : Option Operation) → is_upload_of k (dropped j running) ≡ true
     → is_upload_of k running ≡ true
-dropped_back k j None h = h
-dropped_back k j (Some (Calling n r t)) h = h
-dropped_back k j (Some (Registering n path)) h = h
-dropped_back k j (Some (Cancelling n)) h = h
-dropped_back k j (Some Dropped) h = h
 dropped_back k j (Some (Fetching n)) h = by (n == j) h
   where
     by : (b : Bool) → is_upload_of k (cond b (Some Dropped) (Some (Fetching n))) ≡ true
         → is_upload_of k (Some (Fetching n)) ≡ true
     by true h = absurd (cc h)
     by false h = h
+dropped_back k j _ h = h
 
 ran_back : (k : ℕ) (s : Own) (e : Effect) → Runs s e → Quiet e → is_upload_of k e.own.running ≡ true
     → is_upload_of k s.running ≡ true
@@ -424,7 +381,7 @@ refused_over k o (Fetching n) h = cc h
 refused_over k o (Cancelling n) h = cc h
 refused_over k o Dropped h = cc h
 
-module _ (server : Endpoint) (sizes : Sizes) (word : ℕ) where
+module _ (server : Endpoint) (sizes : Sizes) (setup : Setup) where
   abbrev own : List Call → Own
   own t = own_of sizes t
 
@@ -467,15 +424,6 @@ module _ (server : Endpoint) (sizes : Sizes) (word : ℕ) where
     runs_from : (e : Effect) → moment (own t) c ≡ m → e.own.sent ≡ s.sent → Runs s e
         → ((op : Operation) → e.deed ≡ Asks op → e.own.running ≡ Some op) → (token : Result (List ℕ) AskRefusal)
         → sends (own t) c ≡ sent_by e e.deed token → (d : Deed) → e.deed ≡ d → RunsFrom (closed m e d token).own
-    runs_from e at_is same r asks token sending Rests is k up =
-        subst (λ z. LastOf k z (c ∷ t)) (sym same)
-        (inr (h.running k (ran_back k s e r (λ op i. absurd (cc (is, i))) up)))
-    runs_from e at_is same r asks token sending (Keeps key) is k up =
-        subst (λ z. LastOf k z (c ∷ t)) (sym same)
-        (inr (h.running k (ran_back k s e r (λ op i. absurd (cc (is, i))) up)))
-    runs_from e at_is same r asks token sending (Releases key) is k up =
-        subst (λ z. LastOf k z (c ∷ t)) (sym same)
-        (inr (h.running k (ran_back k s e r (λ op i. absurd (cc (is, i))) up)))
     runs_from e at_is same r asks (Ok key) sending (Asks op) is k up =
         inl (
           inl (ap (sends_of k) (sending ∙ ap (λ d. sent_by e d (Ok key)) is)
@@ -483,6 +431,7 @@ module _ (server : Endpoint) (sizes : Sizes) (word : ℕ) where
           omega (arith, at_is),
         )
     runs_from e at_is same r asks (Err why) sending (Asks op) is k up = absurd (refused_over k e.own op up)
+    runs_from e at_is same r asks token sending _ is k up = subst (λ z. LastOf k z (c ∷ t)) (sym same) (inr (h.running k (ran_back k s e r (λ op i. absurd (cc (is, i))) up)))
 
     moved_on : (done : Effect) (final : Bool) → (own (c ∷ t)).sent ≡ done.own.sent
         → (own (c ∷ t)).hold ≡ done.own.hold → (own (c ∷ t)).running ≡ done.own.running
@@ -551,7 +500,7 @@ module _ (server : Endpoint) (sizes : Sizes) (word : ℕ) where
       (closed_caused false s m e token st (passes_asks t s (all_first sizes t) m (turn_of.End ev)) e.deed refl)
       (runs_from t c now h e refl st.sent (passes_runs s m (turn_of.End ev)) asks token refl e.deed refl)
 
-  causes : (t : List Call) → ClientRows sizes t → X.AskerLaw server word (lower_of sizes t) → Causes t
+  causes : (t : List Call) → ClientRows sizes t → X.AskerLaw server setup (lower_of sizes t) → Causes t
   causes [] rows law = record { running = λ k up. absurd (cc up); hold = λ z is. absurd (cc is) }
   causes (Calls now r (Ok n) ∷ t) rows law = still t (Calls now r (Ok n)) refl refl (λ k up. up) (causes t rows.1 law)
   causes (Calls now r (Err why) ∷ t) rows law = still t (Calls now r (Err why)) refl refl (λ k up. up)
@@ -565,7 +514,7 @@ module _ (server : Endpoint) (sizes : Sizes) (word : ℕ) where
       (causes t rows.1 law)
   causes (Forgets n kept true ∷ t) rows law =
       still t (Forgets n kept true) refl refl (λ k up. dropped_back k n (own t).running up)
-      (causes t rows.1 (law_back server word (lower (own t) (Forgets n kept true)) (lower_of sizes t) law))
+      (causes t rows.1 (law_back server setup (lower (own t) (Forgets n kept true)) (lower_of sizes t) law))
   causes (Forgets n kept false ∷ t) rows law = still t (Forgets n kept false) refl refl (λ k up. up)
       (causes t rows.1 law)
   causes (NextOut answer ∷ t) rows law = still t (NextOut answer) refl refl (λ k up. up) (causes t rows.1 law.1)
@@ -573,12 +522,12 @@ module _ (server : Endpoint) (sizes : Sizes) (word : ℕ) where
   causes (Asked answer ∷ t) rows law = still t (Asked answer) refl refl (λ k up. up) (causes t rows.1 law)
   causes (Feeds now from bytes w up settled event sent token kept ∷ t) rows law =
       let c : Call = Feeds now from bytes w up settled event sent token kept in
-      let below = law_back server word (lower (own t) c) (lower_of sizes t) law in
-      let k = known server sizes word t rows.1 below in
+      let below = law_back server setup (lower (own t) c) (lower_of sizes t) law in
+      let k = known server sizes setup t rows.1 below in
       let m : ℕ = max (own t).clock now in
       let s : Own = at now (own t) in
       let e : Effect = happened s m event in
-      let g = goes_fed server sizes word t now from bytes w up settled event sent token kept k law in
+      let g = goes_fed server sizes setup t now from bytes w up settled event sent token kept k law in
       let h = causes t rows.1 below in
       let st : Step (final_in event) s e = happened_step s m event in
       moved_on t c now h (close m e token) (final_in event) refl refl refl refl
@@ -587,9 +536,9 @@ module _ (server : Endpoint) (sizes : Sizes) (word : ℕ) where
       (runs_from t c now h e refl st.sent (happened_runs s m event) (λ op i. (g.asks op i).1) token refl e.deed refl)
   causes (Ticks now w below turn sent token kept answer ∷ t) rows law =
       let c : Call = Ticks now w below turn sent token kept answer in
-      let under = law_back server word (lower (own t) c) (lower_of sizes t) law in
-      let k = known server sizes word t rows.1 under in
-      let g = goes_ticked server sizes word t now turn k in
+      let under = law_back server setup (lower (own t) c) (lower_of sizes t) law in
+      let k = known server sizes setup t rows.1 under in
+      let g = goes_ticked server sizes setup t now turn k in
       ticked t now w below turn sent token kept answer (causes t rows.1 under) (λ op i. (g.asks op i).1)
 
   -- a hold that stands at this moment has its cause
@@ -605,7 +554,7 @@ module _ (server : Endpoint) (sizes : Sizes) (word : ℕ) where
   within k z now le (c ∷ t) (inl h) = let b = h.1 in inl (h.0, omega (arith, b, le))
   within k z now le (c ∷ t) (inr h) = inr (within k z now le t h)
 
-  pub held_for : (t : List Call) → ClientRows sizes t → X.AskerLaw server word (lower_of sizes t) → (now : ℕ)
+  pub held_for : (t : List Call) → ClientRows sizes t → X.AskerLaw server setup (lower_of sizes t) → (now : ℕ)
       → is_held (own_of sizes t) now ≡ true → HeldFor t now
   held_for t rows law now held = by (own_of sizes t).hold refl held
     where

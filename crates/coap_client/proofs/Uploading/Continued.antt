@@ -5,6 +5,7 @@ use Rattle.std.specs.Prelude.{zero, suc}
 use Rattle.std.proofs.Math.Nat.{suc-mul}
 use Rattle.coap_types.specs.declared.endpoint.Endpoint.{Endpoint}
 use Rattle.coap_types.specs.Piece.{size_of}
+use Rattle.coap_layer.specs.declared.setup.Setup.{Setup}
 use Rattle.coap_block.specs.Sizes.{Sizes}
 use Rattle.coap_block.specs.Sent.{Sent}
 use Rattle.coap_block.specs.UploadStep.{UploadState}
@@ -96,6 +97,6 @@ module _ (sizes : Sizes) where
     continued t law.1,
   )
 
-pub are_continued : (server : Endpoint) (sizes : Sizes) (word : ℕ) (t : List Call) → ClientLaw server sizes word t
+pub are_continued : (server : Endpoint) (sizes : Sizes) (setup : Setup) (t : List Call) → ClientLaw server sizes setup t
     → AreContinued sizes t
-are_continued server sizes word t law = continued sizes t (sends_pieces sizes server word t law)
+are_continued server sizes setup t law = continued sizes t (sends_pieces sizes server setup t law)

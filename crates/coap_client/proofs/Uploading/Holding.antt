@@ -17,8 +17,8 @@ use Rattle.coap_observe.specs.Newer.{is_newer}
 use Rattle.coap_block.specs.UploadStep.{continues}
 use Rattle.coap_client.specs.Trace.{is_value, Request, Report, Reported}
 use Rattle.coap_client.specs.Trace as R
-use Rattle.coap_client.specs.Own.{Transfer, Fetches, Uploads, Single, Operation, Calling, Registering}
-use Rattle.coap_client.specs.Own.{Fetching, Cancelling, Dropped, Notified, Observation, Own}
+use Rattle.coap_client.specs.Own.{Transfer, Uploads, Operation, Calling, Registering}
+use Rattle.coap_client.specs.Own.{Fetching, Notified, Observation, Own}
 use Rattle.coap_client.specs.Observations.{observation_of, observation_with, rest_of, to_fetch}
 use Rattle.coap_client.specs.Observations.{dropped}
 use Rattle.coap_client.specs.Requests.{is_longer}
@@ -37,6 +37,8 @@ use Rattle.coap_client.specs.Events.{idle, passes, closed}
 use Rattle.coap_client.specs.Follows.Holds.{is_upload_of}
 use Rattle.coap_client.proofs.Uploading.UploadSteps.{and_parts, longer_moved, later_moved}
 use Rattle.coap_client.proofs.Places.PlaceLemmas.{same_number}
+use Rattle.coap_client.proofs.Places.PlaceEvents.{lapse_last}
+use Rattle.coap_client.proofs.Turning.Moves.{releases_none}
 
 -- what becomes of the two moments
 
@@ -74,22 +76,16 @@ fetch_steady s at k None m = steady s at _ refl refl refl refl
 fetch_steady s at k (Some n) m = by_steady s at k n m _
 
 answered_steady : (s : Own) (at : ℕ) (m : Message) (running : Option Operation) → Steady s at (answered s at m running)
-answered_steady s at m None = steady s at _ refl refl refl refl
 answered_steady s at m (Some (Calling k r t)) = called_steady s at k r t (answer r t m)
 answered_steady s at m (Some (Registering k path)) =
     if_steady s at (is_notification m) _ _ (steady s at _ refl refl refl refl) (steady s at _ refl refl refl refl)
 answered_steady s at m (Some (Fetching k)) = fetch_steady s at k (rest_of k s.observations) m
-answered_steady s at m (Some (Cancelling k)) = steady s at _ refl refl refl refl
-answered_steady s at m (Some Dropped) = steady s at _ refl refl refl refl
+answered_steady s at m _ = steady s at _ refl refl refl refl
 
 failed_steady : (s : Own) (at : ℕ) (u : Transfer → Bool) (report : Report) (running : Option Operation)
     → Steady s at (failed u report s running)
-failed_steady s at u report None = steady s at _ refl refl refl refl
 failed_steady s at u report (Some (Calling k r t)) = held_steady s at (u t && is_upload t) (of k report)
-failed_steady s at u report (Some (Registering k path)) = steady s at _ refl refl refl refl
-failed_steady s at u report (Some (Fetching k)) = steady s at _ refl refl refl refl
-failed_steady s at u report (Some (Cancelling k)) = steady s at _ refl refl refl refl
-failed_steady s at u report (Some Dropped) = steady s at _ refl refl refl refl
+failed_steady s at u report _ = steady s at _ refl refl refl refl
 
 noticed_steady : (s : Own) (at : ℕ) (m : Message) (o : Option Observation) → Steady s at (noticed_by o s at m)
 noticed_steady s at m None = steady s at _ refl refl refl refl
@@ -105,9 +101,7 @@ pub happened_steady : (s : Own) (at : ℕ) (e : Option Event) → Steady s at (h
 happened_steady s at None = steady s at _ refl refl refl refl
 happened_steady s at (Some (event.Answer m)) = answered_steady s at m s.running
 happened_steady s at (Some (event.Notice m)) = noticed_steady s at m (observation_with m.token s.observations)
-happened_steady s at (Some event.Reset) = failed_steady s at (λ t. true) _ s.running
-happened_steady s at (Some event.Timeout) = failed_steady s at (λ t. true) _ s.running
-happened_steady s at (Some event.NoResponse) = failed_steady s at (λ t. true) _ s.running
+happened_steady s at _ = failed_steady s at (λ t. true) _ s.running
 
 starts_steady : (s : Own) (at : ℕ) (queue : List Operation) → Steady s at (starts s at queue)
 starts_steady s at [] = steady s at _ refl refl refl refl
@@ -148,10 +142,6 @@ steadied s at e token Rests is h = record {
   clock = h.clock;
   reports = h.reports;
 }
-steadied s at e token (Keeps t) is h = record
-    { hold = h.hold; sent = elim h.sent [ inl x ↦ inl x | inr x ↦ inr x.0 ]; clock = h.clock; reports = h.reports }
-steadied s at e token (Releases t) is h = record
-    { hold = h.hold; sent = elim h.sent [ inl x ↦ inl x | inr x ↦ inr x.0 ]; clock = h.clock; reports = h.reports }
 steadied s at e (Ok token) (Asks op) is h = record
     { hold = h.hold; sent = inr refl; clock = h.clock; reports = h.reports }
 steadied s at e (Err why) (Asks op) is h =
@@ -167,6 +157,7 @@ steadied s at e (Err why) (Asks op) is h =
       clock = f.clock ∙ h.clock;
       reports = f.reports ∙ h.reports;
     }
+steadied s at e token _ is h = record { hold = h.hold; sent = elim h.sent [ inl x ↦ inl x | inr x ↦ inr x.0 ]; clock = h.clock; reports = h.reports }
 
 -- what becomes of an upload that runs
 
@@ -201,13 +192,6 @@ done_last method code = by (reports_of.is_success method code)
     by : (b : Bool) → is_value (cond b (R.Done code) (R.Failed code)) ≡ false
     by true = refl
     by false = refl
-
-lapse_last : (e : Event) → is_value (lapse e) ≡ false
-lapse_last (event.Answer m) = refl
-lapse_last (event.Notice m) = refl
-lapse_last event.Timeout = refl
-lapse_last event.Reset = refl
-lapse_last event.NoResponse = refl
 
 module _ (other : ℕ) (s : Own) (k : ℕ) (r : Request) (u : UploadState) (same : (k == other) ≡ true)
     (longer : is_longer u ≡ true) where
@@ -286,16 +270,10 @@ pub record IsUp (other : ℕ) (running : Option Operation) : Type 0 where
   pub longer : is_longer upload ≡ true
 
 pub up_of : (other : ℕ) (running : Option Operation) → is_upload_of other running ≡ true → IsUp other running
-up_of other None h = absurd (cc h)
 up_of other (Some (Calling k r (Uploads u))) h = let b =
     and_parts (k == other) (is_longer u) h in record
     { number = k; request = r; upload = u; runs_it = refl; same = b.0; longer = b.1 }
-up_of other (Some (Calling k r (Fetches f))) h = absurd (cc h)
-up_of other (Some (Calling k r Single)) h = absurd (cc h)
-up_of other (Some (Registering k path)) h = absurd (cc h)
-up_of other (Some (Fetching k)) h = absurd (cc h)
-up_of other (Some (Cancelling k)) h = absurd (cc h)
-up_of other (Some Dropped) h = absurd (cc h)
+up_of other _ h = absurd (cc h)
 
 module _ (other : ℕ) (s : Own) (at : ℕ) (up : is_upload_of other s.running ≡ true) where
   it : IsUp other s.running
@@ -316,10 +294,6 @@ module _ (other : ℕ) (s : Own) (at : ℕ) (up : is_upload_of other s.running �
   dropped_same : (k : ℕ) → dropped k s.running ≡ s.running
   dropped_same k = ap (dropped k) it.runs_it ∙ sym it.runs_it
 
-  releases_quiet : (o : Option Observation) (op : Operation) → releases o ≡ Asks op → ⊥
-  releases_quiet None op h = cc h
-  releases_quiet (Some o) op h = cc h
-
   noticed_fate : (m : Message) (o : Option Observation) → Fate false other s (noticed_by o s at m)
   noticed_fate m None = stays_on (stays s) (λ op h. cc h) refl
   noticed_fate m (Some o) = by (not (is_notification m)) (is_newer o.watch.mark (sequence_in m) at)
@@ -327,7 +301,7 @@ module _ (other : ℕ) (s : Own) (at : ℕ) (up : is_upload_of other s.running �
       by : (b c : Bool) → Fate false other s (cond b (is_over o.number (R.Ended m.code) s)
           (cond c (renewed o s at m) (stays (passed o s at m))))
       by true c = stays_on (is_over o.number (R.Ended m.code) s)
-          (releases_quiet (observation_of o.number s.observations)) (dropped_same o.number)
+          (releases_none (observation_of o.number s.observations)) (dropped_same o.number)
       by false true = stays_on (renewed o s at m) (λ op h. cc h) (dropped_same o.number)
       by false false = stays_on (stays (passed o s at m)) (λ op h. cc h) refl
 

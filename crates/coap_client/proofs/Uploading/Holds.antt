@@ -27,6 +27,7 @@ use Rattle.coap_client.specs.Trace.{is_value, Request, Call, Calls, Observes, Ca
 use Rattle.coap_client.specs.Trace.{Forgets, Feeds, Ticks, NextOut, NextReport, Asked}
 use Rattle.coap_client.specs.Trace as R
 use Rattle.coap_types.specs.declared.transmission.TheConstants.{MAX_LATENCY_MS as max_latency}
+use Rattle.coap_layer.specs.declared.setup.Setup.{Setup}
 use Rattle.coap_client.specs.Own.{Transfer, Fetches, Uploads, Single, Operation, Calling, Registering}
 use Rattle.coap_client.specs.Own.{Fetching, Cancelling, Dropped, Notified, Own}
 use Rattle.coap_client.specs.Observations.{observation_of, observation_with, rest_of, to_fetch}
@@ -52,7 +53,7 @@ use Rattle.coap_client.specs.Follows.Blocks.{Carried, carried}
 use Rattle.coap_client.specs.Follows.Places.{hit, in_running, places, final_of, gone}
 use Rattle.coap_client.specs.Follows.Holds.{moment, is_copy, is_final, is_upload_of, sends_of, SendsOf}
 use Rattle.coap_client.specs.Follows.Holds.{EndsUnanswered, Holds, AllHold}
-use Rattle.coap_client.proofs.Turning.BlockByBlock.{failed_quiet, keeps_or_ends, noticed_quiet, releases_quiet}
+use Rattle.coap_client.proofs.Turning.BlockByBlock.{failed_quiet, keeps_or_ends, noticed_quiet}
 use Rattle.coap_client.proofs.Places.PlaceLemmas.{same_number, hit_self}
 use Rattle.coap_client.proofs.Uploading.UploadSteps.{number_moved}
 use Rattle.coap_client.proofs.Turning.ExchangeCame.{came}
@@ -64,6 +65,7 @@ use Rattle.coap_client.proofs.Places.Once.{known, from_place}
 use Rattle.coap_client.proofs.Uploading.Holding.{Steadied, steadied, happened_steady, passes_steady, IsOver}
 use Rattle.coap_client.proofs.Uploading.Holding.{up_of}
 use Rattle.coap_client.proofs.Uploading.Holding.{happened_fate, passes_fate, finality, closed_fate}
+use Rattle.coap_client.proofs.Turning.Moves.{releases_none}
 
 -- what is sent on an answer is no first block
 
@@ -129,9 +131,7 @@ quiet_later d q op y is c zero = q op is
 by_later : (k : ℕ) (n : Notified) (s : Own) (m : Message) (v : Verdict) → Later (fetch_by k n s m v).deed
 by_later k n s m (verdict.Ask num szx) op y is c zero = let same : Fetching k ≡ op = cc is in let e : None
     ≡ Some y = ap carried same ∙ c in cc e
-by_later k n s m verdict.Done op y is c zero = cc is
-by_later k n s m verdict.Again op y is c zero = cc is
-by_later k n s m (verdict.Refuse why) op y is c zero = cc is
+by_later k n s m _ op y is c zero = cc is
 
 fetch_later : (k : ℕ) (o : Option Notified) (s : Own) (m : Message) → Later (fetch_answered k o s m).deed
 fetch_later k None s m op y is c zero = cc is
@@ -154,7 +154,7 @@ answered_later s m a None = quiet_later _ (λ op h. cc h)
 answered_later s m a (Some (Calling k r t)) = called_later k r t s (answer r t a) (answer_later r t a)
 answered_later s m a (Some (Registering k path)) = registered_later k path s m a
 answered_later s m a (Some (Fetching k)) = fetch_later k (rest_of k s.observations) s a
-answered_later s m a (Some (Cancelling k)) = quiet_later _ (releases_quiet (observation_of k s.observations))
+answered_later s m a (Some (Cancelling k)) = quiet_later _ (releases_none (observation_of k s.observations))
 answered_later s m a (Some Dropped) = quiet_later _ (λ op h. cc h)
 
 happened_later : (s : Own) (m : ℕ) (e : Option Event) → Later (happened s m e).deed
@@ -174,12 +174,7 @@ IsFree s m d = (op : Operation) (y : Carried) → d ≡ Asks op → carried op �
 upload_op : (op : Operation) (y : Carried) → carried op ≡ Some y → is_longer y.upload ≡ true → is_upload_op op ≡ true
 upload_op (Calling k r (Uploads u)) y c h = let e : ◌≡◌ {A = Carried} (record { number = k; upload = u }) y =
     cc c in ap (λ (z : Carried). is_longer z.upload) e ∙ h
-upload_op (Calling k r (Fetches f)) y c h = absurd (cc c)
-upload_op (Calling k r Single) y c h = absurd (cc c)
-upload_op (Registering k path) y c h = absurd (cc c)
-upload_op (Fetching k) y c h = absurd (cc c)
-upload_op (Cancelling k) y c h = absurd (cc c)
-upload_op Dropped y c h = absurd (cc c)
+upload_op _ y c h = absurd (cc c)
 
 module _ (s : Own) (m : ℕ) where
   starts_free : (queue : List Operation) → s.running ≡ None → IsFree s m (starts s m queue).deed
@@ -225,10 +220,7 @@ sent_of e (Asks op) (Ok token) x h =
       request = sym (ap (λ (z : Sending). z.request) same)
           ∙ ap (λ (z : Sending). message_of e.own.observations z.operation) same;
     }
-sent_of e (Asks op) (Err why) x h = absurd (cc h)
-sent_of e Rests token x h = absurd (cc h)
-sent_of e (Keeps t) token x h = absurd (cc h)
-sent_of e (Releases t) token x h = absurd (cc h)
+sent_of e _ _ x h = absurd (cc h)
 
 -- where a transfer's block is sent, it runs from then on
 sends_now : (m other : ℕ) (e : Effect) (token : Result (List ℕ) AskRefusal) (d : Deed)
@@ -247,7 +239,7 @@ copies_now m other s t token is up = subst (λ u. ((close m (passes s m u) token
     × (is_upload_of other (close m (passes s m u) token).own.running ≡ true)) (sym is) (refl, up)
 
 -- an upload that runs has its place
-up_place : (other : ℕ) (s : Own) → is_upload_of other s.running ≡ true → 1 ≤ places other s
+pub up_place : (other : ℕ) (s : Own) → is_upload_of other s.running ≡ true → 1 ≤ places other s
 up_place other s h =
     let u = up_of other s.running h in
     let a : in_running other s.running ≡ hit u.number other = ap (in_running other) u.runs_it in
@@ -259,37 +251,37 @@ dropped_up : (other k : ℕ) (running : Option Operation) → is_upload_of other
 dropped_up other k running h = let u = up_of other running h in subst (λ r. is_upload_of other (dropped k r) ≡ true)
     (sym u.runs_it) (ap (is_upload_of other) (sym u.runs_it) ∙ h)
 
-module _ (server : Endpoint) (sizes : Sizes) (word : ℕ) where
+module _ (server : Endpoint) (sizes : Sizes) (setup : Setup) where
   abbrev own : List Call → Own
   own t = own_of sizes t
 
   -- the exchange beneath, and the effect
   pub goes_fed : (t : List Call) (now : ℕ) (from : Endpoint) (bytes : List ℕ) (w : ℕ) (up : L.Answer) (settled : Bool)
       (event : Option Event) (sent : L.Answer) (token : Result (List ℕ) AskRefusal) (kept : Bool)
-      → Known server sizes word t
-      → X.AskerLaw server word (lower_of sizes (Feeds now from bytes w up settled event sent token kept ∷ t))
-      → Goes (at now (own t)) (P.after (beneath server sizes word t)
+      → Known server sizes setup t
+      → X.AskerLaw server setup (lower_of sizes (Feeds now from bytes w up settled event sent token kept ∷ t))
+      → Goes (at now (own t)) (P.after (beneath server sizes setup t)
       (E.Receive (max (own t).clock now) from bytes up settled event)).running
       (happened (at now (own t)) (max (own t).clock now) event)
   goes_fed t now from bytes w up settled event sent token kept k law =
       let m : ℕ = max (own t).clock now in
       let e : Effect = happened (at now (own t)) m event in
-      let z = sound_of server sizes word t k in
+      let z = sound_of server sizes setup t k in
       let i : E.Call = E.Receive m from bytes up settled event in
       let later : List E.Call = deeds (close m e token).deed (close m e token).own m w sent token kept in
       let first : List E.Call = deeds e.deed e.own m w sent token kept in
-      let right = done_right (beneath server sizes word t) later first i
-      (law_front server word (later ++ (first ++ i ∷ [])) (lower_of sizes t) law) in
-      happened_goes (at now (own t)) (beneath server sizes word t).running _
+      let right = done_right (beneath server sizes setup t) later first i
+      (law_front server setup (later ++ (first ++ i ∷ [])) (lower_of sizes t) law) in
+      happened_goes (at now (own t)) (beneath server sizes setup t).running _
       (record { at_most = z.at_most; waits = z.waits; runs_on = z.runs_on }) k.linked m event
-      (came (beneath server sizes word t) from _ up event right.0)
+      (came (beneath server sizes setup t) from _ up event right.0)
 
-  pub goes_ticked : (t : List Call) (now : ℕ) (turn : Turn) → Known server sizes word t
-      → Goes (at now (own t)) (A.running_unless turn (beneath server sizes word t).running)
+  pub goes_ticked : (t : List Call) (now : ℕ) (turn : Turn) → Known server sizes setup t
+      → Goes (at now (own t)) (A.running_unless turn (beneath server sizes setup t).running)
       (passes (at now (own t)) (max (own t).clock now) turn)
   goes_ticked t now turn k =
-      let z = sound_of server sizes word t k in
-      passes_goes (at now (own t)) (beneath server sizes word t).running
+      let z = sound_of server sizes setup t k in
+      passes_goes (at now (own t)) (beneath server sizes setup t).running
       (record { at_most = z.at_most; waits = z.waits; runs_on = z.runs_on }) k.linked (max (own t).clock now) turn
 
   unanswered_gone : (other : ℕ) (t : List Call) → Sometime (EndsUnanswered sizes other) t → 1 ≤ gone sizes other t
@@ -350,7 +342,7 @@ module _ (server : Endpoint) (sizes : Sizes) (word : ℕ) where
 
   -- an event, or a turn
   module _ (t : List Call) (c : Call) (now : ℕ) (e : Effect) (token : Result (List ℕ) AskRefusal)
-      (k : Known server sizes word t) (law : X.AskerLaw server word (lower_of sizes (c ∷ t)))
+      (k : Known server sizes setup t) (law : X.AskerLaw server setup (lower_of sizes (c ∷ t)))
       (keeping : Keeping t) where
     abbrev m : ℕ
     m = max (own t).clock now
@@ -392,7 +384,7 @@ module _ (server : Endpoint) (sizes : Sizes) (word : ℕ) where
               omega (arith, o),
               λ w. elim w [
                 | inl y ↦ absurd (both_one (places y.report.number (own t)) (gone sizes y.report.number t) _
-                    (k.one y.report.number) (from_place server sizes word t c k law y.report y.made)
+                    (k.one y.report.number) (from_place server sizes setup t c k law y.report y.made)
                     (subst (λ i. 1 ≤ gone sizes i t) (sym y.is) o))
                 | inr y ↦ elim st.hold [
                   | inl same ↦ (let q = over.1 y in (q.0, hold ∙ (same ∙ q.1), q.2))
@@ -459,7 +451,7 @@ module _ (server : Endpoint) (sizes : Sizes) (word : ℕ) where
   cancel_keeps None k s = (refl, refl, refl, refl)
   cancel_keeps (Some why) k s = (refl, refl, refl, refl)
 
-  pub keeping : (t : List Call) → ClientRows sizes t → X.AskerLaw server word (lower_of sizes t) → Keeping t
+  pub keeping : (t : List Call) → ClientRows sizes t → X.AskerLaw server setup (lower_of sizes t) → Keeping t
   keeping [] rows law = record { sent = omega arith; stands = λ other z h. absurd h }
   keeping (Calls now r answer ∷ t) rows law =
       let a = answer_keeps answer
@@ -481,7 +473,7 @@ module _ (server : Endpoint) (sizes : Sizes) (word : ℕ) where
   keeping (Forgets number kept true ∷ t) rows law =
       plain t (Forgets number kept true) refl refl refl refl refl (omega arith)
       (λ other h. dropped_up other number (own t).running h)
-      (keeping t rows.1 (law_back server word (lower (own t) (Forgets number kept true)) (lower_of sizes t) law))
+      (keeping t rows.1 (law_back server setup (lower (own t) (Forgets number kept true)) (lower_of sizes t) law))
   keeping (Forgets number kept false ∷ t) rows law =
       plain t (Forgets number kept false) refl refl refl refl refl (omega arith) (λ other h. h) (keeping t rows.1 law)
   keeping (NextOut answer ∷ t) rows law = plain t (NextOut answer) refl refl refl refl refl (omega arith) (λ other h. h)
@@ -492,8 +484,8 @@ module _ (server : Endpoint) (sizes : Sizes) (word : ℕ) where
       (keeping t rows.1 law)
   keeping (Feeds now from bytes w up settled event sent token kept ∷ t) rows law =
       let c : Call = Feeds now from bytes w up settled event sent token kept in
-      let below = law_back server word (lower (own t) c) (lower_of sizes t) law in
-      let k = known server sizes word t rows.1 below in
+      let below = law_back server setup (lower (own t) c) (lower_of sizes t) law in
+      let k = known server sizes setup t rows.1 below in
       let m : ℕ = max (own t).clock now in
       let s : Own = at now (own t) in
       let e : Effect = happened s m event in
@@ -512,8 +504,8 @@ module _ (server : Endpoint) (sizes : Sizes) (word : ℕ) where
       ])
   keeping (Ticks now w below turn sent token kept answer ∷ t) rows law =
       let c : Call = Ticks now w below turn sent token kept answer in
-      let under = law_back server word (lower (own t) c) (lower_of sizes t) law in
-      let k = known server sizes word t rows.1 under in
+      let under = law_back server setup (lower (own t) c) (lower_of sizes t) law in
+      let k = known server sizes setup t rows.1 under in
       let m : ℕ = max (own t).clock now in
       let s : Own = at now (own t) in
       let e : Effect = passes s m turn in
@@ -555,19 +547,13 @@ module _ (server : Endpoint) (sizes : Sizes) (word : ℕ) where
       let e : Effect = passes (at now (own t)) m turn in
       let f = passes_free (at now (own t)) m turn x.operation y (sent_of e e.deed token x h).asks c l in
       record { held = λ other ended is. free t k now other m f.0 f.1 ended is }
-  holds_here t (Calls now r answer) k x y h c l zero = absurd (cc h)
-  holds_here t (Observes now path answer) k x y h c l zero = absurd (cc h)
-  holds_here t (Cancels now number answer) k x y h c l zero = absurd (cc h)
-  holds_here t (Forgets number kept answer) k x y h c l zero = absurd (cc h)
-  holds_here t (NextOut answer) k x y h c l zero = absurd (cc h)
-  holds_here t (NextReport answer) k x y h c l zero = absurd (cc h)
-  holds_here t (Asked answer) k x y h c l zero = absurd (cc h)
+  holds_here t _ k x y h c l zero = absurd (cc h)
 
-  pub all_hold : (t : List Call) → ClientLaw server sizes word t → AllHold sizes t
+  pub all_hold : (t : List Call) → ClientLaw server sizes setup t → AllHold sizes t
   all_hold t law = all t law.rows law.exchanges.rows
     where
-      all : (t : List Call) → ClientRows sizes t → X.AskerLaw server word (lower_of sizes t) → AllHold sizes t
+      all : (t : List Call) → ClientRows sizes t → X.AskerLaw server setup (lower_of sizes t) → AllHold sizes t
       all [] rows law = tt
       all (c ∷ t) rows law =
-          let under = law_back server word (lower (own t) c) (lower_of sizes t) law in
+          let under = law_back server setup (lower (own t) c) (lower_of sizes t) law in
           (λ x y h carries l zero. holds_here t c (keeping t rows.1 under) x y h carries l zero, all t rows.1 under)

@@ -14,6 +14,7 @@ use Rattle.coap_block.specs.UploadStep.{UploadState, upload_start, moved}
 use Rattle.coap_block.proofs.Facts.Laws.{sent_by_part}
 use Rattle.coap_layer.specs.Trace as L
 use Rattle.std.proofs.lemmas.Bool.{ltb-true, lt-ltb}
+use Rattle.coap_layer.specs.declared.setup.Setup.{Setup}
 use Rattle.coap_exchange.specs.declared.asker.AskRefusal.{AskRefusal}
 use Rattle.coap_exchange.specs.declared.asker.Event.{Event}
 use Rattle.coap_exchange.specs.declared.asker.Event.TheVariants as event_of
@@ -25,7 +26,7 @@ use Rattle.coap_exchange.specs.AskerLaw as X
 use Rattle.coap_client.specs.Trace.{Request, Reported, Call, Calls, Observes, Cancels, Forgets, Feeds}
 use Rattle.coap_client.specs.Trace.{Ticks, NextOut, NextReport, Asked}
 use Rattle.coap_client.specs.Trace as R
-use Rattle.coap_client.specs.Own.{Fetches, Uploads, Single, Operation, Calling, Registering, Fetching}
+use Rattle.coap_client.specs.Own.{Uploads, Operation, Calling, Registering, Fetching}
 use Rattle.coap_client.specs.Own.{Cancelling, Dropped, Observation, Own}
 use Rattle.coap_client.specs.Follows.Answered.{of_call, NoneAfter}
 use Rattle.coap_client.specs.Follows.AnswersLastRequest.{Answers, AnswersLast}
@@ -59,6 +60,7 @@ use Rattle.coap_client.proofs.Turning.BlockByBlock.{Starts, Follows, From, heard
 use Rattle.coap_client.proofs.Turning.BlockByBlock.{AllOf}
 use Rattle.coap_client.proofs.Turning.BlockByBlock.{Runs, all_uncancelled, failed_runs, happened_runs, passes_runs}
 use Rattle.coap_client.proofs.Turning.BlockByBlock.{TokenStays, came_stays, turned_stays, token_sent}
+use Rattle.coap_client.proofs.Turning.Moves.{releases_none}
 
 sent_at_start : (body : List ℕ) (szx : ℕ) → Sent [] (upload_start body szx)
 sent_at_start [] szx = record { pieces = tt; chained = tt; at = omega arith; begins = inr (refl, refl) }
@@ -76,12 +78,12 @@ all_zero : (k : ℕ) (ops : List Operation) → AllOf (λ op. in_op k op ≡ 0) 
 all_zero k [] h = refl
 all_zero k (op ∷ ops) h = let a = h.0 in let b = all_zero k ops h.1 in omega (arith, a, b)
 
-map_all : (P Q : Operation → Type 0) → ((op : Operation) → P op → Q op) → (ops : List Operation) → AllOf P ops
+pub map_all : (P Q : Operation → Type 0) → ((op : Operation) → P op → Q op) → (ops : List Operation) → AllOf P ops
     → AllOf Q ops
 map_all P Q f [] h = tt
 map_all P Q f (op ∷ ops) h = (f op h.0, map_all P Q f ops h.1)
 
-all_behind : (P : Operation → Type 0) (ops : List Operation) (op : Operation) → AllOf P ops → P op
+pub all_behind : (P : Operation → Type 0) (ops : List Operation) (op : Operation) → AllOf P ops → P op
     → AllOf P (ops ++ op ∷ [])
 all_behind P [] op h k = (k, tt)
 all_behind P (x ∷ ops) op h k = (h.0, all_behind P ops op h.1 k)
@@ -94,12 +96,7 @@ IsFresh t op = Unit {0}
 
 fresh_later : (t : List Call) (c : Call) (op : Operation) → IsFresh t op → IsFresh (c ∷ t) op
 fresh_later t c (Calling k r (Uploads u)) h = (h.0, h.1, inr h.2, h.3)
-fresh_later t c (Calling k r (Fetches f)) h = tt
-fresh_later t c (Calling k r Single) h = tt
-fresh_later t c (Registering k path) h = tt
-fresh_later t c (Fetching k) h = tt
-fresh_later t c (Cancelling k) h = tt
-fresh_later t c Dropped h = tt
+fresh_later t c _ h = tt
 
 fresh_call : (t : List Call) (now : ℕ) (sizes : Sizes) (k : ℕ) (r : Request) (method : Method)
     → IsFresh (Calls now r (Ok k) ∷ t) (Calling k (record r { body = [] }) (transfer_of sizes r method))
@@ -125,12 +122,10 @@ module _ (x : E.Own) (e : Effect) (m w : ℕ) (sent : L.Answer) (kept : Bool) wh
   key_ran : (token : Result (List ℕ) AskRefusal) (d : Deed) → AreRight x (all_of d token)
       → (op : Operation) (key : List ℕ) → d ≡ Asks op → token ≡ Ok key → (y : Exchange)
       → (ran x (all_of d token)).running ≡ Some y → y.token ≡ key
-  key_ran token Rests right op key is given y runs = absurd (cc is)
-  key_ran token (Keeps k) right op key is given y runs = absurd (cc is)
-  key_ran token (Releases k) right op key is given y runs = absurd (cc is)
   key_ran (Err why) (Asks a) right op key is given y runs = absurd (cc given)
   key_ran (Ok k) (Asks a) right op key is given y runs = let t =
       token_sent x (message_of e.own.observations a) sent k right.0 y runs in let same : k ≡ key = cc given in t ∙ same
+  key_ran token _ right op key is given y runs = absurd (cc is)
 
 module _ (sizes : Sizes) where
   -- the blocks of the transfer that runs were sent, the last one too
@@ -156,15 +151,12 @@ module _ (sizes : Sizes) where
   dropped_tracked : (t : List Call) (k : ℕ) (running : Option Operation) (x : Option Exchange) → IfTracked t running x
       → IfTracked t (dropped k running) x
   dropped_tracked t k None x h = tt
-  dropped_tracked t k (Some (Calling j r u)) x h = h
-  dropped_tracked t k (Some (Registering j path)) x h = h
-  dropped_tracked t k (Some (Cancelling j)) x h = h
-  dropped_tracked t k (Some Dropped) x h = h
   dropped_tracked t k (Some (Fetching j)) x h = by (j == k)
     where
       by : (b : Bool) → IfTracked t (cond b (Some Dropped) (Some (Fetching j))) x
       by true = record { sending = h.sending; last = h.last; token = h.token; same = inl refl; up = tt }
       by false = h
+  dropped_tracked t k _ x h = h
 
   -- nothing is sent
   blocks_same : (t : List Call) (c : Call) → sends (own_of sizes t) c ≡ None → (k : ℕ)
@@ -174,12 +166,7 @@ module _ (sizes : Sizes) where
   up_later : (t : List Call) (c : Call) → sends (own_of sizes t) c ≡ None → (op : Operation) → UpSent t op
       → UpSent (c ∷ t) op
   up_later t c none (Calling k r (Uploads u)) h = (h.0, h.1, blocks_same t c none k ∙ h.2, h.3, inr h.4, h.5)
-  up_later t c none (Calling k r (Fetches f)) h = tt
-  up_later t c none (Calling k r Single) h = tt
-  up_later t c none (Registering k path) h = tt
-  up_later t c none (Fetching k) h = tt
-  up_later t c none (Cancelling k) h = tt
-  up_later t c none Dropped h = tt
+  up_later t c none _ h = tt
 
   last_same : (t : List Call) (c : Call) → sends (own_of sizes t) c ≡ None → last_sent sizes (c ∷ t) ≡ last_sent sizes t
   last_same t c none = ap (λ z. elim z [ Some x ↦ Some x | None ↦ last_sent sizes t ]) none
@@ -200,11 +187,11 @@ module _ (sizes : Sizes) where
   abbrev pub NoneWait : List Call → Own → Type 0
   NoneWait t s = (k : ℕ) → (blocks sizes k t ≡ []) ⊎ ((in_queue k s.queue ≡ 0) × (nat_lt k s.taken ≡ true))
 
-  module _ (server : Endpoint) (word : ℕ) where
+  module _ (server : Endpoint) (setup : Setup) where
     pub record Sends (t : List Call) : Type 0 where
       pub fresh : AllOf (IsFresh t) (own_of sizes t).queue
       pub waits : NoneWait t (own_of sizes t)
-      pub tracked : IfTracked t (own_of sizes t).running (beneath server sizes word t).running
+      pub tracked : IfTracked t (own_of sizes t).running (beneath server sizes setup t).running
 
     -- what runs now is what ran, or dropped, or nothing
     abbrev Goes : Option Operation → Option Operation → Type 0
@@ -219,33 +206,28 @@ module _ (sizes : Sizes) where
 
     unsent : (t : List Call) (c : Call) → sends (own_of sizes t) c ≡ None
         → Goes (own_of sizes t).running (own_of sizes (c ∷ t)).running
-        → TokenStays (beneath server sizes word t).running (beneath server sizes word (c ∷ t)).running
+        → TokenStays (beneath server sizes setup t).running (beneath server sizes setup (c ∷ t)).running
         → AllOf (IsFresh (c ∷ t)) (own_of sizes (c ∷ t)).queue → NoneWait t (own_of sizes (c ∷ t)) → Sends t
         → Sends (c ∷ t)
     unsent t c none goes token fresh waits h = record {
       fresh = fresh;
       waits = λ k. elim (waits k) [ inl e ↦ inl (blocks_same t c none k ∙ e) | inr w ↦ inr w ];
       tracked = goes_tracked (c ∷ t) (own_of sizes t).running (own_of sizes (c ∷ t)).running
-          (beneath server sizes word (c ∷ t)).running goes
-          (tracked_later t c none (own_of sizes t).running (beneath server sizes word t).running
-          (beneath server sizes word (c ∷ t)).running token h.tracked);
+          (beneath server sizes setup (c ∷ t)).running goes
+          (tracked_later t c none (own_of sizes t).running (beneath server sizes setup t).running
+          (beneath server sizes setup (c ∷ t)).running token h.tracked);
     }
 
     -- a request is sent
     abbrev pub heard_by : List Call → Call → Option Message → Type 0
     heard_by t c heard = (m : Message) → heard ≡ Some m
-        → (hears c ≡ Some m) × ((e : Exchange) × ((beneath server sizes word t).running ≡ Some e) × (m.token ≡ e.token))
+        → (hears c ≡ Some m) × ((e : Exchange) × ((beneath server sizes setup t).running ≡ Some e) × (m.token ≡ e.token))
 
     up_op : (op : Operation) (y : Carried) → carried op ≡ Some y
         → (r : Request) × (op ≡ Calling y.number r (Uploads y.upload))
     up_op (Calling k r (Uploads u)) y c = let e : ◌≡◌ {A = Carried} (record { number = k; upload = u }) y =
         cc c in (r, ap (λ (z : Carried). Calling z.number r (Uploads z.upload)) e)
-    up_op (Calling k r (Fetches f)) y c = absurd (cc c)
-    up_op (Calling k r Single) y c = absurd (cc c)
-    up_op (Registering k path) y c = absurd (cc c)
-    up_op (Fetching k) y c = absurd (cc c)
-    up_op (Cancelling k) y c = absurd (cc c)
-    up_op Dropped y c = absurd (cc c)
+    up_op _ y c = absurd (cc c)
 
     in_first : (k : ℕ) (r : Request) (u : UploadState) (queue rest : List Operation)
         → queue ≡ Calling k r (Uploads u) ∷ rest → in_queue k queue ≡ 0 → ⊥
@@ -289,8 +271,8 @@ module _ (sizes : Sizes) where
 
       piece_follows : (now : ℕ) → Follows (at now (own_of sizes t)) heard x.operation → SendsPiece sizes t c x y
       piece_follows now fo =
-          let k : Tracked t (Calling fo.number fo.request (Uploads fo.upload)) (beneath server sizes word t).running =
-          subst (λ o. IfTracked t o (beneath server sizes word t).running) fo.runs_it h.tracked in
+          let k : Tracked t (Calling fo.number fo.request (Uploads fo.upload)) (beneath server sizes setup t).running =
+          subst (λ o. IfTracked t o (beneath server sizes setup t).running) fo.runs_it h.tracked in
           let up = k.up in
           let same : Calling y.number request_of (Uploads y.upload)
           ≡ Calling fo.number fo.request (Uploads (moved fo.upload fo.block)) = sym operation_is ∙ fo.is in
@@ -349,8 +331,8 @@ module _ (sizes : Sizes) where
       module _ (taken_is : new.taken ≡ (own_of sizes t).taken) (runs : Runs s e) (from : From s heard e)
           (asks : (op : Operation) → e.deed ≡ Asks op → (e.report ≡ None) × (e.own.running ≡ Some op))
           (stays : ((op : Operation) → e.deed ≡ Asks op → ⊥)
-          → TokenStays (beneath server sizes word t).running (beneath server sizes word (c ∷ t)).running)
-          (now_known : Known server sizes word (c ∷ t)) where
+          → TokenStays (beneath server sizes setup t).running (beneath server sizes setup (c ∷ t)).running)
+          (now_known : Known server sizes setup (c ∷ t)) where
         fresh_now : AllOf (IsFresh (c ∷ t)) e.own.queue
         fresh_now = runs.waits (IsFresh (c ∷ t)) (map_all (IsFresh t) (IsFresh (c ∷ t)) (fresh_later t c)
             (own_of sizes t).queue h.fresh)
@@ -403,14 +385,14 @@ module _ (sizes : Sizes) where
             record {
               fresh = subst (AllOf (IsFresh (c ∷ t))) (sym queue) (f.waits (IsFresh (c ∷ t)) fresh_now);
               waits = λ k. elim (waits k) [ inl n ↦ inl (blocks_same t c none k ∙ n) | inr w ↦ inr w ];
-              tracked = subst (λ o. IfTracked (c ∷ t) o (beneath server sizes word (c ∷ t)).running) (sym running) tt;
+              tracked = subst (λ o. IfTracked (c ∷ t) o (beneath server sizes setup (c ∷ t)).running) (sym running) tt;
             }
 
         -- a request goes out
         module _ (op : Operation) (key : List ℕ) (is : e.deed ≡ Asks op)
             (sending : sends (own_of sizes t) c ≡ Some (record
             { operation = op; token = key; request = message_of e.own.observations op }))
-            (key_is : (x : Exchange) → (beneath server sizes word (c ∷ t)).running ≡ Some x → x.token ≡ key)
+            (key_is : (x : Exchange) → (beneath server sizes setup (c ∷ t)).running ≡ Some x → x.token ≡ key)
             (running : new.running ≡ Some op) (queue : new.queue ≡ e.own.queue) where
           abbrev z : Sending
           z = record { operation = op; token = key; request = message_of e.own.observations op }
@@ -432,12 +414,7 @@ module _ (sizes : Sizes) where
                 inr p.taken,
                 p.body,
               )
-          up_now (Calling k r (Fetches f)) same = tt
-          up_now (Calling k r Single) same = tt
-          up_now (Registering k path) same = tt
-          up_now (Fetching k) same = tt
-          up_now (Cancelling k) same = tt
-          up_now Dropped same = tt
+          up_now _ same = tt
 
           -- what goes out waits no more
           out_of_queue : (k : ℕ) → in_op k op ≡ 1 → (in_queue k new.queue ≡ 0) × (nat_lt k new.taken ≡ true)
@@ -479,7 +456,7 @@ module _ (sizes : Sizes) where
           goes_out = record {
             fresh = subst (AllOf (IsFresh (c ∷ t))) (sym queue) fresh_now;
             waits = waits_now (carried op) refl;
-            tracked = subst (λ o. IfTracked (c ∷ t) o (beneath server sizes word (c ∷ t)).running) (sym running)
+            tracked = subst (λ o. IfTracked (c ∷ t) o (beneath server sizes setup (c ∷ t)).running) (sym running)
                 (record {
                   sending = z;
                   last = ap (λ o. elim o [ Some x ↦ Some x | None ↦ last_sent sizes t ]) sending;
@@ -491,23 +468,21 @@ module _ (sizes : Sizes) where
 
         next : (d : Deed) (token : Result (List ℕ) AskRefusal) → e.deed ≡ d
             → ((op : Operation) (key : List ℕ) → d ≡ Asks op → token ≡ Ok key → (x : Exchange)
-            → (beneath server sizes word (c ∷ t)).running ≡ Some x → x.token ≡ key) → Next d token
-        next Rests token is key sending running queue = quietly (λ op i. cc (i, is)) sending running queue
-        next (Keeps k) token is key sending running queue = quietly (λ op i. cc (i, is)) sending running queue
-        next (Releases k) token is key sending running queue = quietly (λ op i. cc (i, is)) sending running queue
+            → (beneath server sizes setup (c ∷ t)).running ≡ Some x → x.token ≡ key) → Next d token
         next (Asks op) (Err why) is key sending running queue = refused op sending (running ∙ failed_none op) queue
         next (Asks op) (Ok k) is key sending running queue =
             goes_out op k is sending (key op k refl refl) (running ∙ (asks op is).1) queue
+        next _ token is key sending running queue = quietly (λ op i. cc (i, is)) sending running queue
 
     -- what is handed in
     module _ (t : List Call) (now w : ℕ) (sent : L.Answer) (token : Result (List ℕ) AskRefusal) (kept : Bool)
-        (e : Effect) (input : E.Call) (law : X.AskerLaw server word
+        (e : Effect) (input : E.Call) (law : X.AskerLaw server setup
         (done_for e (max (own_of sizes t).clock now) w sent token kept input ++ lower_of sizes t)) where
       abbrev moment : ℕ
       moment = max (own_of sizes t).clock now
 
       abbrev x1 : E.Own
-      x1 = P.after (beneath server sizes word t) input
+      x1 = P.after (beneath server sizes setup t) input
 
       abbrev later : List E.Call
       later = deeds (close moment e token).deed (close moment e token).own moment w sent token kept
@@ -515,21 +490,21 @@ module _ (sizes : Sizes) where
       abbrev first : List E.Call
       first = deeds e.deed e.own moment w sent token kept
 
-      right : P.IsRight (beneath server sizes word t) input × AreRight x1 (later ++ first)
-      right = done_right (beneath server sizes word t) later first input
-          (law_front server word (later ++ (first ++ input ∷ [])) (lower_of sizes t) law)
+      right : P.IsRight (beneath server sizes setup t) input × AreRight x1 (later ++ first)
+      right = done_right (beneath server sizes setup t) later first input
+          (law_front server setup (later ++ (first ++ input ∷ [])) (lower_of sizes t) law)
 
-      behind : (X.own_of server word (done_for e moment w sent token kept input ++ lower_of sizes t)).running
+      behind : (X.own_of server setup (done_for e moment w sent token kept input ++ lower_of sizes t)).running
           ≡ (ran x1 (later ++ first)).running
-      behind = ap (λ (y : E.Own). y.running) (own_ran server word (later ++ (first ++ input ∷ [])) (lower_of sizes t)
-          ∙ done_ran (beneath server sizes word t) later first input)
+      behind = ap (λ (y : E.Own). y.running) (own_ran server setup (later ++ (first ++ input ∷ [])) (lower_of sizes t)
+          ∙ done_ran (beneath server sizes setup t) later first input)
 
       quiet_behind : ((op : Operation) → e.deed ≡ Asks op → ⊥)
-          → (X.own_of server word (done_for e moment w sent token kept input ++ lower_of sizes t)).running ≡ x1.running
+          → (X.own_of server setup (done_for e moment w sent token kept input ++ lower_of sizes t)).running ≡ x1.running
       quiet_behind quiet = behind ∙ quiet_ran x1 e moment w sent kept token e.deed refl quiet
 
       key_behind : (op : Operation) (key : List ℕ) → e.deed ≡ Asks op → token ≡ Ok key → (y : Exchange)
-          → (X.own_of server word (done_for e moment w sent token kept input ++ lower_of sizes t)).running ≡ Some y
+          → (X.own_of server setup (done_for e moment w sent token kept input ++ lower_of sizes t)).running ≡ Some y
           → y.token ≡ key
       key_behind op key is given y runs = key_ran x1 e moment w sent kept token e.deed right.1 op key is given y
           (sym behind ∙ runs)
@@ -541,15 +516,11 @@ module _ (sizes : Sizes) where
         → heard_in event ≡ Some m → (e : Exchange) × (before ≡ Some e) × (m.token ≡ e.token)
     came_heard before now (Some (event_of.Answer a)) m c is = let same : a
         ≡ m = cc is in (c.0, c.1, ap (λ (z : Message). z.token) (sym same) ∙ c.2)
-    came_heard before now (Some (event_of.Notice a)) m c is = absurd (cc is)
-    came_heard before now (Some event_of.Reset) m c is = absurd (cc is)
-    came_heard before now (Some event_of.Timeout) m c is = absurd (cc is)
-    came_heard before now (Some event_of.NoResponse) m c is = absurd (cc is)
-    came_heard before now None m c is = absurd (cc is)
+    came_heard before now _ m c is = absurd (cc is)
 
     module _ (t : List Call) (now : ℕ) (from : Endpoint) (bytes : List ℕ) (w : ℕ) (up : L.Answer) (settled : Bool)
         (event : Option Event) (sent : L.Answer) (token : Result (List ℕ) AskRefusal) (kept : Bool)
-        (law : X.AskerLaw server word (lower_of sizes (Feeds now from bytes w up settled event sent token kept ∷ t)))
+        (law : X.AskerLaw server setup (lower_of sizes (Feeds now from bytes w up settled event sent token kept ∷ t)))
       where
         abbrev feed : Call
         feed = Feeds now from bytes w up settled event sent token kept
@@ -560,9 +531,9 @@ module _ (sizes : Sizes) where
         abbrev fed_input : E.Call
         fed_input = E.Receive (max (own_of sizes t).clock now) from bytes up settled event
 
-        fed_came : Came (beneath server sizes word t).running
-            (P.after (beneath server sizes word t) fed_input).running event
-        fed_came = came (beneath server sizes word t) from _ up event
+        fed_came : Came (beneath server sizes setup t).running
+            (P.after (beneath server sizes setup t) fed_input).running event
+        fed_came = came (beneath server sizes setup t) from _ up event
             (right t now w sent token kept fed_effect fed_input law).0
 
         hears_as : (m : Message) → heard_in event ≡ Some m → hears feed ≡ Some m
@@ -580,16 +551,16 @@ module _ (sizes : Sizes) where
         fed_hear : heard_by t feed (heard_in event)
         fed_hear m is = (
           hears_as m is,
-          came_heard (beneath server sizes word t).running
-              (P.after (beneath server sizes word t) fed_input).running event m fed_came is,
+          came_heard (beneath server sizes setup t).running
+              (P.after (beneath server sizes setup t) fed_input).running event m fed_came is,
         )
 
-        fed_sends : Known server sizes word t → Known server sizes word (feed ∷ t) → Sends t → Sends (feed ∷ t)
+        fed_sends : Known server sizes setup t → Known server sizes setup (feed ∷ t) → Sends t → Sends (feed ∷ t)
         fed_sends k now_known h =
             let e : Effect = fed_effect in
-            let g = goes_fed server sizes word t now from bytes w up settled event sent token kept k law in
+            let g = goes_fed server sizes setup t now from bytes w up settled event sent token kept k law in
             next t feed now e token h (heard_in event) fed_hear
-            (fed server sizes word t now from bytes w up settled event sent token kept k law).taken_is
+            (fed server sizes setup t now from bytes w up settled event sent token kept k law).taken_is
             (happened_runs (at now (own_of sizes t)) (max (own_of sizes t).clock now) event)
             (happened_from (at now (own_of sizes t)) (max (own_of sizes t).clock now) event) g.asks
             (λ quiet. stays_by _ _ _ (quiet_behind t now w sent token kept e fed_input law quiet)
@@ -598,24 +569,24 @@ module _ (sizes : Sizes) where
 
     module _ (t : List Call) (now w : ℕ) (below : L.Answer) (turn : Turn) (sent : L.Answer)
         (token : Result (List ℕ) AskRefusal) (kept answer : Bool)
-        (law : X.AskerLaw server word (lower_of sizes (Ticks now w below turn sent token kept answer ∷ t))) where
+        (law : X.AskerLaw server setup (lower_of sizes (Ticks now w below turn sent token kept answer ∷ t))) where
       abbrev tick : Call
       tick = Ticks now w below turn sent token kept answer
 
       no_hear : heard_by t tick None
       no_hear m is = absurd (cc is)
 
-      ticked_sends : Known server sizes word t → Known server sizes word (tick ∷ t) → Sends t → Sends (tick ∷ t)
+      ticked_sends : Known server sizes setup t → Known server sizes setup (tick ∷ t) → Sends t → Sends (tick ∷ t)
       ticked_sends k now_known h =
           let m : ℕ = max (own_of sizes t).clock now in
           let s : Own = at now (own_of sizes t) in
           let e : Effect = passes s m turn in
           let i : E.Call = E.Ticks m below turn in
-          let g = goes_ticked server sizes word t now turn k in
-          next t tick now e token h None no_hear (ticked server sizes word t now w below turn sent token kept answer k
+          let g = goes_ticked server sizes setup t now turn k in
+          next t tick now e token h None no_hear (ticked server sizes setup t now w below turn sent token kept answer k
           law).taken_is (passes_runs s m turn) (passes_from s m turn) g.asks
           (λ quiet. stays_by _ _ _ (quiet_behind t now w sent token kept e i law quiet)
-          (turned_stays (beneath server sizes word t).running turn)) now_known e.deed token refl
+          (turned_stays (beneath server sizes setup t).running turn)) now_known e.deed token refl
           (key_behind t now w sent token kept e i law) refl refl refl
 
     same_stays : (x y : Option Exchange) → y ≡ x → TokenStays x y
@@ -625,7 +596,7 @@ module _ (sizes : Sizes) where
     given : (t : List Call) (c : Call) (op : Operation) → sends (own_of sizes t) c ≡ None
         → (own_of sizes (c ∷ t)).queue ≡ (own_of sizes t).queue ++ op ∷ []
         → (own_of sizes (c ∷ t)).running ≡ (own_of sizes t).running
-        → beneath server sizes word (c ∷ t) ≡ beneath server sizes word t
+        → beneath server sizes setup (c ∷ t) ≡ beneath server sizes setup t
         → ((k : ℕ) → nat_lt k (own_of sizes t).taken ≡ true → nat_lt k (own_of sizes (c ∷ t)).taken ≡ true)
         → ((k : ℕ) → nat_lt k (own_of sizes t).taken ≡ true → in_op k op ≡ 0) → IsFresh (c ∷ t) op → Sends t
         → Sends (c ∷ t)
@@ -647,7 +618,7 @@ module _ (sizes : Sizes) where
         → (own_of sizes (c ∷ t)).queue ≡ (own_of sizes t).queue
         → (own_of sizes (c ∷ t)).running ≡ (own_of sizes t).running
         → (own_of sizes (c ∷ t)).taken ≡ (own_of sizes t).taken
-        → (beneath server sizes word (c ∷ t)).running ≡ (beneath server sizes word t).running → Sends t → Sends (c ∷ t)
+        → (beneath server sizes setup (c ∷ t)).running ≡ (beneath server sizes setup t).running → Sends t → Sends (c ∷ t)
     plain_sends t c none queue running taken same h =
         unsent t c none (inr (inr running)) (same_stays _ _ same)
         (subst (AllOf (IsFresh (c ∷ t))) (sym queue)
@@ -664,7 +635,7 @@ module _ (sizes : Sizes) where
         → (own_of sizes (c ∷ t)).queue ≡ (own_of sizes t).queue ++ op ∷ []
         → (own_of sizes (c ∷ t)).running ≡ (own_of sizes t).running
         → (own_of sizes (c ∷ t)).observations ≡ (own_of sizes t).observations
-        → Known server sizes word t → Known server sizes word (c ∷ t) → (k : ℕ) → gone sizes k t ≤ gone sizes k (c ∷ t)
+        → Known server sizes setup t → Known server sizes setup (c ∷ t) → (k : ℕ) → gone sizes k t ≤ gone sizes k (c ∷ t)
         → nat_lt k (own_of sizes t).taken ≡ true → in_op k op ≡ 0
     given_apart t c op queue running observations before now k more b =
         let a0 = before.one k in
@@ -680,11 +651,7 @@ module _ (sizes : Sizes) where
     lt_next : (k n : ℕ) → nat_lt k n ≡ true → nat_lt k (n + 1) ≡ true
     lt_next k n h = let a = ltb-true k n h in lt-ltb k (n + 1) (omega (arith, a))
 
-    releases_quiet : (o : Option Observation) (op : Operation) → releases o ≡ Asks op → ⊥
-    releases_quiet None op h = cc h
-    releases_quiet (Some o) op h = cc h
-
-    pub all_sends : (t : List Call) → ClientRows sizes t → X.AskerLaw server word (lower_of sizes t) → Sends t
+    pub all_sends : (t : List Call) → ClientRows sizes t → X.AskerLaw server setup (lower_of sizes t) → Sends t
     all_sends [] rows law = record { fresh = tt; waits = λ k. inl refl; tracked = tt }
     all_sends (Calls now r (Err why) ∷ t) rows law =
         plain_sends t (Calls now r (Err why)) refl refl refl refl refl (all_sends t rows.1 law)
@@ -692,16 +659,16 @@ module _ (sizes : Sizes) where
         let c : Call = Calls now r (Ok k) in
         let op : Operation = calling (own_of sizes t).sizes k r in
         given t c op refl refl refl refl (λ i b. lt_next i (own_of sizes t).taken b)
-        (λ i b. given_apart t c op refl refl refl (known server sizes word t rows.1 law)
-        (known server sizes word (c ∷ t) rows law) i (omega arith) b)
+        (λ i b. given_apart t c op refl refl refl (known server sizes setup t rows.1 law)
+        (known server sizes setup (c ∷ t) rows law) i (omega arith) b)
         (fresh_call t now (own_of sizes t).sizes k r r.method) (all_sends t rows.1 law)
     all_sends (Observes now path (Err why) ∷ t) rows law =
         plain_sends t (Observes now path (Err why)) refl refl refl refl refl (all_sends t rows.1 law)
     all_sends (Observes now path (Ok k) ∷ t) rows law =
         let c : Call = Observes now path (Ok k) in
         given t c (Registering k path) refl refl refl refl (λ i b. lt_next i (own_of sizes t).taken b)
-        (λ i b. given_apart t c (Registering k path) refl refl refl (known server sizes word t rows.1 law)
-        (known server sizes word (c ∷ t) rows law) i (omega arith) b) tt (all_sends t rows.1 law)
+        (λ i b. given_apart t c (Registering k path) refl refl refl (known server sizes setup t rows.1 law)
+        (known server sizes setup (c ∷ t) rows law) i (omega arith) b) tt (all_sends t rows.1 law)
     all_sends (Cancels now k (Some why) ∷ t) rows law =
         plain_sends t (Cancels now k (Some why)) refl refl refl refl refl (all_sends t rows.1 law)
     all_sends (Cancels now k None ∷ t) rows law =
@@ -712,11 +679,11 @@ module _ (sizes : Sizes) where
     all_sends (Forgets k kept true ∷ t) rows law =
         let c : Call = Forgets k kept true in
         let s : Own = own_of sizes t in
-        let h = all_sends t rows.1 (law_back server word (lower s c) (lower_of sizes t) law) in
+        let h = all_sends t rows.1 (law_back server setup (lower s c) (lower_of sizes t) law) in
         let d : Deed = releases (observation_of k s.observations) in
-        let same = ap (λ (y : E.Own). y.running) (own_ran server word (deeds d s 0 0 L.Nothing (Ok []) kept)
-        (lower_of sizes t)) ∙ quiet_deeds 0 0 L.Nothing kept (Ok []) d s (beneath server sizes word t)
-        (releases_quiet (observation_of k s.observations)) in
+        let same = ap (λ (y : E.Own). y.running) (own_ran server setup (deeds d s 0 0 L.Nothing (Ok []) kept)
+        (lower_of sizes t)) ∙ quiet_deeds 0 0 L.Nothing kept (Ok []) d s (beneath server sizes setup t)
+        (releases_none (observation_of k s.observations)) in
         unsent t c refl (inr (inl (k, refl))) (same_stays _ _ same)
         (all_uncancelled k (IsFresh (c ∷ t)) s.queue
         (map_all (IsFresh t) (IsFresh (c ∷ t)) (fresh_later t c) s.queue h.fresh))
@@ -729,17 +696,17 @@ module _ (sizes : Sizes) where
         (all_sends t rows.1 law)
     all_sends (Feeds now from bytes w up settled event sent token kept ∷ t) rows law =
         let c : Call = Feeds now from bytes w up settled event sent token kept in
-        let under = law_back server word (lower (own_of sizes t) c) (lower_of sizes t) law in
-        fed_sends t now from bytes w up settled event sent token kept law (known server sizes word t rows.1 under)
-        (known server sizes word (c ∷ t) rows law) (all_sends t rows.1 under)
+        let under = law_back server setup (lower (own_of sizes t) c) (lower_of sizes t) law in
+        fed_sends t now from bytes w up settled event sent token kept law (known server sizes setup t rows.1 under)
+        (known server sizes setup (c ∷ t) rows law) (all_sends t rows.1 under)
     all_sends (Ticks now w below turn sent token kept answer ∷ t) rows law =
         let c : Call = Ticks now w below turn sent token kept answer in
-        let under = law_back server word (lower (own_of sizes t) c) (lower_of sizes t) law in
-        ticked_sends t now w below turn sent token kept answer law (known server sizes word t rows.1 under)
-        (known server sizes word (c ∷ t) rows law) (all_sends t rows.1 under)
+        let under = law_back server setup (lower (own_of sizes t) c) (lower_of sizes t) law in
+        ticked_sends t now w below turn sent token kept answer law (known server sizes setup t rows.1 under)
+        (known server sizes setup (c ∷ t) rows law) (all_sends t rows.1 under)
 
     -- each piece
-    piece_here : (t : List Call) (c : Call) → X.AskerLaw server word (lower_of sizes (c ∷ t)) → Sends t
+    piece_here : (t : List Call) (c : Call) → X.AskerLaw server setup (lower_of sizes (c ∷ t)) → Sends t
         → (x : Sending) (y : Carried) → sends (own_of sizes t) c ≡ Some x → carried x.operation ≡ Some y
         → SendsPiece sizes t c x y
     piece_here t (Feeds now from bytes w up settled event sent token kept) law h x y is carries =
@@ -757,29 +724,23 @@ module _ (sizes : Sizes) where
         piece t (Ticks now w below turn sent token kept answer) h None
         (no_hear t now w below turn sent token kept answer law) x e.own.observations o.request y carries e now
         (passes_from (at now (own_of sizes t)) m turn x.operation y o.asks carries)
-    piece_here t (Calls now r answer) law h x y is carries = absurd (cc is)
-    piece_here t (Observes now path answer) law h x y is carries = absurd (cc is)
-    piece_here t (Cancels now number answer) law h x y is carries = absurd (cc is)
-    piece_here t (Forgets number kept answer) law h x y is carries = absurd (cc is)
-    piece_here t (NextOut answer) law h x y is carries = absurd (cc is)
-    piece_here t (NextReport answer) law h x y is carries = absurd (cc is)
-    piece_here t (Asked answer) law h x y is carries = absurd (cc is)
+    piece_here t _ law h x y is carries = absurd (cc is)
 
-    pub sends_pieces : (t : List Call) → ClientLaw server sizes word t → SendsPieces sizes t
+    pub sends_pieces : (t : List Call) → ClientLaw server sizes setup t → SendsPieces sizes t
     sends_pieces t law = all t law.rows law.exchanges.rows
       where
-        all : (t : List Call) → ClientRows sizes t → X.AskerLaw server word (lower_of sizes t) → SendsPieces sizes t
+        all : (t : List Call) → ClientRows sizes t → X.AskerLaw server setup (lower_of sizes t) → SendsPieces sizes t
         all [] rows law = tt
         all (c ∷ t) rows law =
-            let under = law_back server word (lower (own_of sizes t) c) (lower_of sizes t) law in
+            let under = law_back server setup (lower (own_of sizes t) c) (lower_of sizes t) law in
             (λ x y is carries. piece_here t c law (all_sends t rows.1 under) x y is carries, all t rows.1 under)
 
     -- what is heard answers the request that was sent last
     runs_sent : (t : List Call) (m : Message) (running : Option Operation)
-        → IfTracked t running (beneath server sizes word t).running
-        → Linked running (own_of sizes t).observations (beneath server sizes word t).running
+        → IfTracked t running (beneath server sizes setup t).running
+        → Linked running (own_of sizes t).observations (beneath server sizes setup t).running
         → (own_of sizes t).running ≡ running
-        → (e : Exchange) → (beneath server sizes word t).running ≡ Some e → m.token ≡ e.token → (c : Call)
+        → (e : Exchange) → (beneath server sizes setup t).running ≡ Some e → m.token ≡ e.token → (c : Call)
         → Answers sizes t c m
     runs_sent t m None tracked linked is e runs token c = absurd (cc (linked, runs))
     runs_sent t m (Some op) tracked linked is e runs token c = record {
@@ -800,36 +761,25 @@ module _ (sizes : Sizes) where
         (event : Option Event) (sent : L.Answer) (token : Result (List ℕ) AskRefusal) (kept : Bool) (m : Message)
         → hears (Feeds now from bytes w up settled event sent token kept) ≡ Some m → heard_in event ≡ Some m
     heard_event now from bytes w up settled (Some (event_of.Answer a)) sent token kept m h = h
-    heard_event now from bytes w up settled (Some (event_of.Notice a)) sent token kept m h = absurd (cc h)
-    heard_event now from bytes w up settled (Some event_of.Reset) sent token kept m h = absurd (cc h)
-    heard_event now from bytes w up settled (Some event_of.Timeout) sent token kept m h = absurd (cc h)
-    heard_event now from bytes w up settled (Some event_of.NoResponse) sent token kept m h = absurd (cc h)
-    heard_event now from bytes w up settled None sent token kept m h = absurd (cc h)
+    heard_event now from bytes w up settled _ sent token kept m h = absurd (cc h)
 
-    answer_here : (t : List Call) (c : Call) → X.AskerLaw server word (lower_of sizes (c ∷ t)) → Sends t
-        → Known server sizes word t → (m : Message) → hears c ≡ Some m → Answers sizes t c m
+    answer_here : (t : List Call) (c : Call) → X.AskerLaw server setup (lower_of sizes (c ∷ t)) → Sends t
+        → Known server sizes setup t → (m : Message) → hears c ≡ Some m → Answers sizes t c m
     answer_here t (Feeds now from bytes w up settled event sent token kept) law h k m is =
         let f = fed_hear t now from bytes w up settled event sent token kept law m
         (heard_event now from bytes w up settled event sent token kept m is) in
         runs_sent t m (own_of sizes t).running h.tracked k.linked refl f.1.0 f.1.1 f.1.2
         (Feeds now from bytes w up settled event sent token kept)
-    answer_here t (Ticks now w below turn sent token kept answer) law h k m is = absurd (cc is)
-    answer_here t (Calls now r answer) law h k m is = absurd (cc is)
-    answer_here t (Observes now path answer) law h k m is = absurd (cc is)
-    answer_here t (Cancels now number answer) law h k m is = absurd (cc is)
-    answer_here t (Forgets number kept answer) law h k m is = absurd (cc is)
-    answer_here t (NextOut answer) law h k m is = absurd (cc is)
-    answer_here t (NextReport answer) law h k m is = absurd (cc is)
-    answer_here t (Asked answer) law h k m is = absurd (cc is)
+    answer_here t _ law h k m is = absurd (cc is)
 
-    pub answers_last : (t : List Call) → ClientLaw server sizes word t → AnswersLast sizes t
+    pub answers_last : (t : List Call) → ClientLaw server sizes setup t → AnswersLast sizes t
     answers_last t law = all t law.rows law.exchanges.rows
       where
-        all : (t : List Call) → ClientRows sizes t → X.AskerLaw server word (lower_of sizes t) → AnswersLast sizes t
+        all : (t : List Call) → ClientRows sizes t → X.AskerLaw server setup (lower_of sizes t) → AnswersLast sizes t
         all [] rows law = tt
         all (c ∷ t) rows law =
-            let under = law_back server word (lower (own_of sizes t) c) (lower_of sizes t) law in (
-              λ m is. answer_here t c law (all_sends t rows.1 under) (known server sizes word t rows.1 under) m is,
+            let under = law_back server setup (lower (own_of sizes t) c) (lower_of sizes t) law in (
+              λ m is. answer_here t c law (all_sends t rows.1 under) (known server sizes setup t rows.1 under) m is,
               all t rows.1 under,
             )
 
@@ -859,37 +809,31 @@ module _ (sizes : Sizes) where
         let d = ap (final_of k) a.0 in
         omega (arith, p, b, d)
 
-    after_here : (t : List Call) (c : Call) → X.AskerLaw server word (lower_of sizes (c ∷ t))
-        → Known server sizes word t
+    after_here : (t : List Call) (c : Call) → X.AskerLaw server setup (lower_of sizes (c ∷ t))
+        → Known server sizes setup t
         → (x : Sending) (k : ℕ) → sends (own_of sizes t) c ≡ Some x → of_call x.operation ≡ Some k
         → 1 ≤ places k (own_of sizes t)
     after_here t (Feeds now from bytes w up settled event sent token kept) law kn x k is n =
         let e : Effect = happened (at now (own_of sizes t)) (max (own_of sizes t).clock now) event in
         goes_place (at now (own_of sizes t)) _ e
-        (goes_fed server sizes word t now from bytes w up settled event sent token
+        (goes_fed server sizes setup t now from bytes w up settled event sent token
         kept kn law) x.operation k (sent_of e e.deed token x is).asks n
     after_here t (Ticks now w below turn sent token kept answer) law kn x k is n =
         let e : Effect = passes (at now (own_of sizes t)) (max (own_of sizes t).clock now) turn in
-        goes_place (at now (own_of sizes t)) _ e (goes_ticked server sizes word t now turn kn) x.operation k
+        goes_place (at now (own_of sizes t)) _ e (goes_ticked server sizes setup t now turn kn) x.operation k
         (sent_of e e.deed token x is).asks n
-    after_here t (Calls now r answer) law kn x k is n = absurd (cc is)
-    after_here t (Observes now path answer) law kn x k is n = absurd (cc is)
-    after_here t (Cancels now number answer) law kn x k is n = absurd (cc is)
-    after_here t (Forgets number kept answer) law kn x k is n = absurd (cc is)
-    after_here t (NextOut answer) law kn x k is n = absurd (cc is)
-    after_here t (NextReport answer) law kn x k is n = absurd (cc is)
-    after_here t (Asked answer) law kn x k is n = absurd (cc is)
+    after_here t _ law kn x k is n = absurd (cc is)
 
-    pub none_after : (t : List Call) → ClientLaw server sizes word t → NoneAfter server sizes word t
+    pub none_after : (t : List Call) → ClientLaw server sizes setup t → NoneAfter server sizes setup t
     none_after t law = all t law.rows law.exchanges.rows
       where
-        all : (t : List Call) → ClientRows sizes t → X.AskerLaw server word (lower_of sizes t)
-            → NoneAfter server sizes word t
+        all : (t : List Call) → ClientRows sizes t → X.AskerLaw server setup (lower_of sizes t)
+            → NoneAfter server sizes setup t
         all [] rows law = tt
         all (c ∷ t) rows law =
-            let under = law_back server word (lower (own_of sizes t) c) (lower_of sizes t) law in
-            let kn = known server sizes word t rows.1 under in (
+            let under = law_back server setup (lower (own_of sizes t) c) (lower_of sizes t) law in
+            let kn = known server sizes setup t rows.1 under in (
               λ x k is n reported. both_one (places k (own_of sizes t)) (gone sizes k t) _ (kn.one k)
-                  (after_here t c law kn x k is n) (final_gone server sizes word k t reported),
+                  (after_here t c law kn x k is n) (final_gone server sizes setup k t reported),
               all t rows.1 under,
             )

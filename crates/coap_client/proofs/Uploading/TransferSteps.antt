@@ -30,6 +30,7 @@ use Rattle.coap_client.proofs.Reporting.Bodies.{part_asks}
 use Rattle.coap_client.proofs.Places.PlaceLemmas.{same_number}
 use Rattle.coap_client.proofs.Uploading.UploadSteps.{continues_is}
 pub use Rattle.coap_common.proofs.Facts.Comparisons.{lt_not}
+use Rattle.coap_client.proofs.Uploading.UploadSteps.{at_most as no_larger}
 
 pub size_least : (szx : ℕ) → 16 ≤ size_of szx
 size_least szx = pow_mono {i = 4} {j = szx + 4} (omega arith)
@@ -287,10 +288,6 @@ pub record UploadLater (sizes : Sizes) (body : List ℕ) (u : UploadState) (n : 
 
 abbrev pub UploadWithin : Sizes → List ℕ → UploadState → ℕ → Type 0
 UploadWithin sizes body u n = ((u ≡ upload_start body sizes.szx) × (n ≤ 1)) ⊎ UploadLater sizes body u n
-
-no_larger : (u : UploadState) (szx : ℕ) → KeepsSize u szx → szx ≤ u.szx
-no_larger u szx (inl e) = omega (arith, e)
-no_larger u szx (inr h) = let lt = h.1 in omega (arith, lt)
 
 more_by : (offset size next n : ℕ) → next ≡ offset + size → 16 ≤ size → 16 * n ≤ offset + 16 → 16 * (1 + n) ≤ next + 16
 more_by offset size next n e least few = omega (arith, e, least, few)

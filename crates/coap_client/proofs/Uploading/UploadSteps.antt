@@ -10,10 +10,7 @@ use Rattle.coap_block.proofs.Facts.Laws.{continues_is_tested}
 use Rattle.coap_block.proofs.Facts.Sizes.{size_some, aligned_to}
 use Rattle.coap_block.specs.UploadStep.{continues}
 use Rattle.coap_client.specs.Requests.{is_longer}
-
-pub and_parts : (a b : Bool) → (a && b) ≡ true → (a ≡ true) × (b ≡ true)
-and_parts true b h = (refl, h)
-and_parts false b h = absurd (cc h)
+pub use Rattle.std.proofs.lemmas.Bool.{and_parts}
 
 lt_is : (a b : ℕ) → nat_lt a b ≡ true → a < b
 lt_is a b h = grind (arith, nat_tests)
@@ -24,7 +21,7 @@ is_lt a b h = grind (arith, nat_tests)
 pub continues_is : (u : UploadState) (b : Block) → continues u b ≡ true → Continues u b
 continues_is u b h = (continues_is_tested u b).0 h
 
-at_most : (u : UploadState) (szx : ℕ) → KeepsSize u szx → szx ≤ u.szx
+pub at_most : (u : UploadState) (szx : ℕ) → KeepsSize u szx → szx ≤ u.szx
 at_most u szx (inl e) = omega (arith, e)
 at_most u szx (inr h) = let lt = h.1 in omega (arith, lt)
 

@@ -7,10 +7,11 @@ use Rattle.std.proofs.Math.Nat.{lt_of_not-le}
 use Rattle.coap_types.specs.Past.{Ever, Sometime, Always}
 use Rattle.coap_types.specs.declared.endpoint.Endpoint.{Endpoint}
 use Rattle.coap_types.specs.declared.transmission.TheConstants.{MAX_LATENCY_MS as max_latency}
+use Rattle.coap_layer.specs.declared.setup.Setup.{Setup}
 use Rattle.coap_codec.specs.Message.{Message}
 use Rattle.coap_block.specs.Sizes.{Sizes}
 use Rattle.coap_client.specs.Trace.{is_value, Reported, Call}
-use Rattle.coap_client.specs.Own.{Uploads, Fetches, Single, Operation, Calling, Registering, Fetching}
+use Rattle.coap_client.specs.Own.{Uploads, Operation, Calling, Registering, Fetching}
 use Rattle.coap_client.specs.Own.{Cancelling, Dropped, Own}
 use Rattle.coap_client.specs.Requests.{is_longer}
 use Rattle.coap_client.specs.Responses.{continue}
@@ -33,22 +34,10 @@ use Rattle.coap_client.proofs.Places.Once.{known, both_one}
 use Rattle.coap_client.proofs.Queueing.OneByOne.{are_in_order, sent_now, last_same}
 use Rattle.coap_client.proofs.Places.PlaceLemmas.{same_number, hit_self}
 use Rattle.coap_client.proofs.Sending.Moments.{moment_same, moment_from}
+use Rattle.coap_client.proofs.Uploading.Holds.{up_place}
+use Rattle.coap_client.proofs.Queueing.OneByOne.{lone_call}
 
 -- an upload that runs has its place
-up_place : (other : ℕ) (s : Own) → is_upload_of other s.running ≡ true → 1 ≤ places other s
-up_place other s h =
-    let u = up_of other s.running h in
-    let a : in_running other s.running ≡ hit u.number other = ap (in_running other) u.runs_it in
-    let b : hit u.number other ≡ 1 = ap (λ i. hit i other) (same_number u.number other u.same) ∙ hit_self other in
-    omega (arith, a, b)
-
-lone_call : (op : Operation) (k : ℕ) → call_of op ≡ Some k → IsLone op
-lone_call (Calling n r t) k h = tt
-lone_call (Registering n path) k h = absurd (cc h)
-lone_call (Fetching n) k h = absurd (cc h)
-lone_call (Cancelling n) k h = absurd (cc h)
-lone_call Dropped k h = absurd (cc h)
-
 -- the last report that is there
 record Final (n : ℕ) (o : Option Reported) : Type 0 where
   report : Reported
@@ -151,13 +140,13 @@ module _ (sizes : Sizes) where
   none_since k till [] f = tt
   none_since k till (c ∷ t) f = (λ s. lt_of_not-le (λ le. f (inl (s, le))), none_since k till t (λ h. f (inr h)))
 
-  module _ (server : Endpoint) (word : ℕ) where
+  module _ (server : Endpoint) (setup : Setup) where
     -- an upload that ended sends no more
-    pub none_behind_end : (t : List Call) (c : Call) → ClientLaw server sizes word (c ∷ t) → (k : ℕ)
+    pub none_behind_end : (t : List Call) (c : Call) → ClientLaw server sizes setup (c ∷ t) → (k : ℕ)
         → Sometime (EndsUnanswered sizes k) t → SendsOf sizes k t c → ⊥
     none_behind_end t c law k over (inr copy) =
-        let past = client_back server sizes word (c ∷ []) t law in
-        let kn = known server sizes word t past.rows past.exchanges.rows in
+        let past = client_back server sizes setup (c ∷ []) t law in
+        let kn = known server sizes setup t past.rows past.exchanges.rows in
         both_one (places k (own_of sizes t)) (gone sizes k t) _ (kn.one k) (up_place k (own_of sizes t) copy.1)
         (unanswered_gone k t over)
     none_behind_end t c law k over (inl s) = by (sends (own_of sizes t) c) refl s
@@ -168,13 +157,13 @@ module _ (sizes : Sizes) where
         by : (o : Option Sending) → sends (own_of sizes t) c ≡ o → sends_of k o ≡ true → ⊥
         by None is h = cc h
         by (Some z) is h =
-            let kn = known server sizes word (c ∷ t) law.rows law.exchanges.rows in
+            let kn = known server sizes setup (c ∷ t) law.rows law.exchanges.rows in
             let up : is_upload_of k (own_of sizes (c ∷ t)).running
             ≡ true = ap (is_upload_of k) (sent_now sizes t c z is).runs ∙ h in
             both_one (places k (own_of sizes (c ∷ t))) (gone sizes k (c ∷ t)) _ (kn.one k)
             (up_place k (own_of sizes (c ∷ t)) up) kept
 
-    past_later : (t : List Call) (c : Call) → ClientLaw server sizes word (c ∷ t) → (k till : ℕ) → Past k till t
+    past_later : (t : List Call) (c : Call) → ClientLaw server sizes setup (c ∷ t) → (k till : ℕ) → Past k till t
         → Past k till (c ∷ t)
     past_later t c law k till p = record {
       ended = inr p.ended;
@@ -182,13 +171,13 @@ module _ (sizes : Sizes) where
     }
 
     -- where a first block is sent
-    pub at_first : (t : List Call) (c : Call) → ClientLaw server sizes word (c ∷ t)
+    pub at_first : (t : List Call) (c : Call) → ClientLaw server sizes setup (c ∷ t)
         → (x y : Sending) (k : ℕ) (b : Carried) → sends (own_of sizes t) c ≡ Some y → WasSent sizes x t
         → call_of x.operation ≡ Some k
         → carried y.operation ≡ Some b → is_longer b.upload ≡ true → b.upload.num ≡ 0
         → Ever (HearsBy x.token) (c ∷ t) ⊎ Past k (moment (own_of sizes t) c) t
     at_first t c law x y k b sends_it was is carries longer zero =
-        by (lot t (answers_last sizes server word (c ∷ t) law).1 x k was is)
+        by (lot t (answers_last sizes server setup (c ∷ t) law).1 x k was is)
       where
         stops : (z : Sending) → sends (own_of sizes t) c ≡ Some z → sends (own_of sizes t) c ≡ None → ⊥
         stops z h none = let e : Some z ≡ None = sym h ∙ none in cc e
@@ -196,14 +185,14 @@ module _ (sizes : Sizes) where
         by : Lot t x k → Ever (HearsBy x.token) (c ∷ t) ⊎ Past k (moment (own_of sizes t) c) t
         by (heard h) = inl (inr h)
         by (ended h) =
-            let held = ((all_hold server sizes word (c ∷ t) law).0 y b sends_it carries longer zero).held k h in
+            let held = ((all_hold server sizes setup (c ∷ t) law).0 y b sends_it carries longer zero).held k h in
             inr (record { ended = h; old = none_since k (moment (own_of sizes t) c) t held })
         by (waits runs last) = then_ (fate sizes t c x.operation (lone_call x.operation k is) runs)
           where
             then_ : Fate sizes t c x.operation → Ever (HearsBy x.token) (c ∷ t) ⊎ Past k (moment (own_of sizes t) c) t
             then_ (runs_on run none) = absurd (stops y sends_it none)
             then_ (goes_on n r tr next m z op_is hears_it asks sends_z z_is run) =
-                inl (inl (heard_now t c m x ((answers_last sizes server word (c ∷ t) law).0 m hears_it) last hears_it))
+                inl (inl (heard_now t c m x ((answers_last sizes server setup (c ∷ t) law).0 m hears_it) last hears_it))
             then_ (ends_it n number final none) = absurd (stops y sends_it none)
 
     -- .. and since
@@ -217,21 +206,13 @@ module _ (sizes : Sizes) where
     carried_turn (Calling n r (Uploads u)) b h =
         let e : ◌≡◌ {A = Carried} (record { number = n; upload = u }) b = cc h in
         (ap (λ (z : Carried). Some z.number) e, ap (λ (z : Carried). Some z.number) e)
-    carried_turn (Calling n r (Fetches f)) b h = absurd (cc h)
-    carried_turn (Calling n r Single) b h = absurd (cc h)
-    carried_turn (Registering n path) b h = absurd (cc h)
-    carried_turn (Fetching n) b h = absurd (cc h)
-    carried_turn (Cancelling n) b h = absurd (cc h)
-    carried_turn Dropped b h = absurd (cc h)
+    carried_turn _ b h = absurd (cc h)
 
     call_turn : (op : Operation) (k : ℕ) → call_of op ≡ Some k → turn_of op ≡ Some k
     call_turn (Calling n r t) k h = h
-    call_turn (Registering n path) k h = absurd (cc h)
-    call_turn (Fetching n) k h = absurd (cc h)
-    call_turn (Cancelling n) k h = absurd (cc h)
-    call_turn Dropped k h = absurd (cc h)
+    call_turn _ k h = absurd (cc h)
 
-    pub since_first : (t : List Call) → ClientLaw server sizes word t → (x y : Sending) (k : ℕ) (b : Carried)
+    pub since_first : (t : List Call) → ClientLaw server sizes setup t → (x y : Sending) (k : ℕ) (b : Carried)
         → WasSent sizes y t → WasSent sizes x t → call_of x.operation ≡ Some k
         → carried y.operation ≡ Some b → is_longer b.upload ≡ true → b.upload.num ≡ 0 → k < b.number
         → Ever (HearsBy x.token) t ⊎ Gone x k t
@@ -250,11 +231,11 @@ module _ (sizes : Sizes) where
               (record { till = moment (own_of sizes t) c; by = omega (arith, here); past = past_later t c law k _ p }))
         ]
     since_first (c ∷ t) law x y k b (inr first) (inl was) is carries longer zero less =
-        let le = ((are_in_order sizes server word (c ∷ t) law).0).in_turn y x b.number k was first
+        let le = ((are_in_order sizes server setup (c ∷ t) law).0).in_turn y x b.number k was first
         (carried_turn y.operation b carries).1 (call_turn x.operation k is) in
         absurd (omega (arith, le, less))
     since_first (c ∷ t) law x y k b (inr first) (inr was) is carries longer zero less =
-        elim (since_first t (client_back server sizes word (c ∷ []) t law) x y k b first was is carries longer zero
+        elim (since_first t (client_back server sizes setup (c ∷ []) t law) x y k b first was is carries longer zero
         less) [
           | inl h ↦ inl (inr h)
           | inr g ↦ (let here = moment_same (own_of sizes t) c in let from = moment_from

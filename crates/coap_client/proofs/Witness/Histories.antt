@@ -24,13 +24,13 @@ bytes_are (b ∷ bytes) e =
     AreBytes-cons b bytes (ltb-true b 256 k.0) (bytes_are bytes k.1)
 
 abbrev below : List Asked
-below = X.lower_of server 0 (lower_of sizes run)
+below = X.lower_of server (L.usual 0) (lower_of sizes run)
 
 rows_of : ClientRows sizes run
 unfolding option_bytes options_bytes
 rows_of = (refl, (tt, (tt, (refl, (tt, (tt, (refl, (refl, (refl, tt)))))))))
 
-asked_of : X.AskerLaw server 0 (lower_of sizes run)
+asked_of : X.AskerLaw server (L.usual 0) (lower_of sizes run)
 asked_of = (tt, (refl, (refl, (refl, (tt, (refl, (refl, (refl, tt))))))))
 
 steps_of : Steps (L.start (L.usual 0)) below (left_after (L.start (L.usual 0)) below)
@@ -82,7 +82,7 @@ steps_of = (
   record { may = tt; right = refl; new_is = refl },
 )
 
-pub witness : ClientLaw server sizes 0 run
+pub witness : ClientLaw server sizes (L.usual 0) run
 witness = record {
   rows = rows_of;
   exchanges =
@@ -92,13 +92,13 @@ witness = record {
 -- .. and that of an upload
 
 abbrev below_upload : List Asked
-below_upload = X.lower_of server 0 (lower_of upload_sizes upload)
+below_upload = X.lower_of server (L.usual 0) (lower_of upload_sizes upload)
 
 upload_rows : ClientRows upload_sizes upload
 unfolding option_bytes options_bytes
 upload_rows = (tt, (tt, (tt, (refl, (refl, tt)))))
 
-upload_asked : X.AskerLaw server 0 (lower_of upload_sizes upload)
+upload_asked : X.AskerLaw server (L.usual 0) (lower_of upload_sizes upload)
 upload_asked = (tt, (refl, (refl, (tt, (refl, (refl, tt))))))
 
 upload_steps : Steps (L.start (L.usual 0)) below_upload (left_after (L.start (L.usual 0)) below_upload)
@@ -154,7 +154,7 @@ upload_steps = (
   record { may = tt; right = refl; new_is = refl },
 )
 
-pub uploads : ClientLaw server upload_sizes 0 upload
+pub uploads : ClientLaw server upload_sizes (L.usual 0) upload
 uploads = record {
   rows = upload_rows;
   exchanges =

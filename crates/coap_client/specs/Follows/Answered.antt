@@ -6,6 +6,7 @@ use Rattle.coap_types.specs.declared.endpoint.Moment.{Moment}
 use Rattle.coap_types.specs.declared.transmission.TheConstants.{EXCHANGE_LIFETIME_MS as exchange_lifetime}
 use Rattle.coap_types.specs.declared.transmission.TheConstants.{FAILURE_TIMEOUTS as failure_timeouts}
 use Rattle.coap_types.specs.declared.transmission.TheConstants.{MAX_LATENCY_MS as max_latency}
+use Rattle.coap_layer.specs.declared.setup.Setup.{Setup}
 use Rattle.coap_block.specs.Sizes.{Sizes}
 use Rattle.coap_exchange.specs.declared.asker.Exchange.{Exchange}
 use Rattle.coap_exchange.specs.AskerFollows.{Begun}
@@ -28,7 +29,7 @@ IsSentFor (Fetching number) x = x.operation ≡ Fetching number
 IsSentFor (Cancelling number) x = x.operation ≡ Cancelling number
 IsSentFor Dropped x = (number : ℕ) × (x.operation ≡ Fetching number)
 
-module _ (server : Endpoint) (sizes : Sizes) (word : ℕ) where
+module _ (server : Endpoint) (sizes : Sizes) (setup : Setup) where
   -- A call has at most one report that is final.
   pub record IsFinal (past : List Call) (c : Call) (x : Reported) : Type 0 where
     pub made : reports (own_of sizes past) c ≡ Some x
@@ -53,9 +54,9 @@ module _ (server : Endpoint) (sizes : Sizes) (word : ℕ) where
     pub sent_for : IsSentFor operation sending
     pub exchange : Exchange
     pub token : exchange.token ≡ sending.token
-    pub running : (X.own_of server word (lower_of sizes t)).running ≡ Some exchange
+    pub running : (X.own_of server setup (lower_of sizes t)).running ≡ Some exchange
     pub not_due :
-        ((exchange.acked ≡ None) × ((begun : Begun) × (A.last_begun server word (lower_of sizes t) ≡ Some begun)
+        ((exchange.acked ≡ None) × ((begun : Begun) × (A.last_begun server setup (lower_of sizes t) ≡ Some begun)
         × (at - begun.at < begun.timeout * failure_timeouts)))
         ⊎ ((acked : Moment) × (exchange.acked ≡ Some acked) × (at - acked.0 < exchange_lifetime))
 
@@ -100,8 +101,8 @@ of_call (Fetching number) = Some number
 of_call (Cancelling number) = Some number
 of_call Dropped = None
 
-module _ (server : Endpoint) (sizes : Sizes) (word : ℕ) where
+module _ (server : Endpoint) (sizes : Sizes) (setup : Setup) where
   -- Nothing is sent for a number behind its last report.
   abbrev pub NoneAfter : List Call → Type 0
   NoneAfter trace = Always (λ past c. (x : Sending) (number : ℕ) → sends (own_of sizes past) c ≡ Some x
-      → of_call x.operation ≡ Some number → HasReport server sizes word number past → ⊥) trace
+      → of_call x.operation ≡ Some number → HasReport server sizes setup number past → ⊥) trace

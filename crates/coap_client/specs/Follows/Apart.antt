@@ -6,6 +6,7 @@ use Rattle.coap_types.specs.declared.endpoint.Endpoint.{Endpoint}
 use Rattle.coap_types.specs.declared.transmission.TheConstants.{MAX_LATENCY_MS as max_latency}
 use Rattle.coap_layer.specs.Sends.{SendsIt}
 use Rattle.coap_layer.specs.Words.{Open, begun}
+use Rattle.coap_layer.specs.declared.setup.Setup.{Setup}
 use Rattle.coap_block.specs.Sizes.{Sizes}
 use Rattle.coap_client.specs.Trace.{Call}
 use Rattle.coap_client.specs.Requests.{is_longer}
@@ -23,13 +24,13 @@ pub record IsBlockOf (x : Sending) (number : ℕ) : Type 0 where
   pub number_is : block.number ≡ number
   pub longer : is_longer block.upload ≡ true
 
-module _ (server : Endpoint) (sizes : Sizes) (word : ℕ) where
+module _ (server : Endpoint) (sizes : Sizes) (setup : Setup) where
   -- Each sending of the request, the retransmissions too, is older than MAX_LATENCY where this call begins a CON.
   abbrev pub IsQuiet : List Call → Call → Sending → Type 0
   IsQuiet past c x =
-      (old new : Open) → Ever (λ b. begun b ≡ Some old) (layer_of server sizes word past) → IsRequestOf server old x
-      → Ever (λ b. begun b ≡ Some new) (call_adds server sizes word past c)
-      → Always (λ t e. SendsIt old t e → e.at + max_latency < new.first) (layer_of server sizes word (c ∷ past))
+      (old new : Open) → Ever (λ b. begun b ≡ Some old) (layer_of server sizes setup past) → IsRequestOf server old x
+      → Ever (λ b. begun b ≡ Some new) (call_adds server sizes setup past c)
+      → Always (λ t e. SendsIt old t e → e.at + max_latency < new.first) (layer_of server sizes setup (c ∷ past))
 
   -- Where a block is sent, each block of another call's upload was answered, or is quiet.
   abbrev pub BlocksApart : List Call → Type 0

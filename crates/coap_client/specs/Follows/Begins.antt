@@ -1,6 +1,6 @@
 -- Which Confirmable messages a client's message layer begins: the requests that its calls send, alone (RFC 7252,
 -- sections 4.2 and 5.2).
-use Rattle.std.specs.Prelude.{◌≡◌, ℕ, Some, List}
+use Rattle.std.specs.Prelude.{◌≡◌, Some, List}
 use Rattle.coap_types.specs.Past.{Ever, Sometime, Always}
 use Rattle.coap_types.specs.declared.endpoint.Endpoint.{Endpoint}
 use Rattle.coap_types.specs.declared.message.Kind.TheVariants.{Con}
@@ -8,6 +8,7 @@ use Rattle.coap_codec.specs.Spelling.{message_bytes}
 use Rattle.coap_layer.specs.Rows.{IsSpelled}
 use Rattle.coap_layer.specs.Trace.{with_head}
 use Rattle.coap_layer.specs.Words.{Open, begun}
+use Rattle.coap_layer.specs.declared.setup.Setup.{Setup}
 use Rattle.coap_block.specs.Sizes.{Sizes}
 use Rattle.coap_exchange.specs.AskerRequests.{content_of}
 use Rattle.coap_client.specs.Trace.{Call}
@@ -32,11 +33,11 @@ pub record SendsNow (server : Endpoint) (sizes : Sizes) (con : Open) (past : Lis
   pub is : IsRequestOf server con sending
 
 -- A CON begins in the entries that the very call adds which sends its request.
-abbrev pub BeginAtOnce : Endpoint → (sizes : Sizes) (word : ℕ) → List Call → Type 0
-BeginAtOnce server sizes word t = Always (λ past c. (con : Open)
-    → Ever (λ b. begun b ≡ Some con) (call_adds server sizes word past c) → SendsNow server sizes con past c) t
+abbrev pub BeginAtOnce : Endpoint → (sizes : Sizes) (setup : Setup) → List Call → Type 0
+BeginAtOnce server sizes setup t = Always (λ past c. (con : Open)
+    → Ever (λ b. begun b ≡ Some con) (call_adds server sizes setup past c) → SendsNow server sizes con past c) t
 
 -- Each CON is a request that was sent.
-abbrev pub ConsAreRequests : Endpoint → (sizes : Sizes) (word : ℕ) → List Call → Type 0
-ConsAreRequests server sizes word t = (con : Open) → Ever (λ b. begun b ≡ Some con) (layer_of server sizes word t)
+abbrev pub ConsAreRequests : Endpoint → (sizes : Sizes) (setup : Setup) → List Call → Type 0
+ConsAreRequests server sizes setup t = (con : Open) → Ever (λ b. begun b ≡ Some con) (layer_of server sizes setup t)
     → (x : Sending) × WasSent sizes x t × IsRequestOf server con x

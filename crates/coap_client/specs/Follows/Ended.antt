@@ -2,6 +2,7 @@
 use Rattle.std.specs.Prelude.{◌≡◌, ℕ, Some, List}
 use Rattle.coap_types.specs.Past.{Ever, Always}
 use Rattle.coap_types.specs.declared.endpoint.Endpoint.{Endpoint}
+use Rattle.coap_layer.specs.declared.setup.Setup.{Setup}
 use Rattle.coap_block.specs.Sizes.{Sizes}
 use Rattle.coap_client.specs.Trace.{Reported, Call, NextReport}
 use Rattle.coap_client.specs.Own.{Cancelling}
@@ -24,11 +25,11 @@ module _ (sizes : Sizes) where
     pub sent : WasSent sizes sending t
     pub cancels : sending.operation ≡ Cancelling number
 
-  module _ (server : Endpoint) (word : ℕ) where
+  module _ (server : Endpoint) (setup : Setup) where
     -- No value of it is reported any more behind its last report, its forget or the sending of its cancel; behind its
     -- forget nothing of it is reported or given.
     pub record IsOver (past : List Call) (c : Call) : Type 0 where
-      pub ended : (number : ℕ) → HasReport server sizes word number past → ShowsValue sizes number past c → ⊥
+      pub ended : (number : ℕ) → HasReport server sizes setup number past → ShowsValue sizes number past c → ⊥
       pub cancelled : (number : ℕ) → WasCancelled number past → ShowsValue sizes number past c → ⊥
       pub forgotten : (r : Reported) → WasForgotten r.number past → reports (own_of sizes past) c ≡ Some r → ⊥
       pub none_given : (r : Reported) → WasForgotten r.number past → c ≡ NextReport (Some r) → ⊥

@@ -2,6 +2,7 @@
 use Rattle.std.specs.Prelude.{◌≡◌, ◌⊎◌, ℕ, true, Option, Some, None, List, ◌∷◌}
 use Rattle.coap_types.specs.Past.{Ever, Always}
 use Rattle.coap_types.specs.declared.endpoint.Endpoint.{Endpoint}
+use Rattle.coap_layer.specs.declared.setup.Setup.{Setup}
 use Rattle.coap_block.specs.Sizes.{Sizes}
 use Rattle.coap_exchange.specs.AskerLaw as X
 use Rattle.coap_exchange.specs.Tokens.{is_kept}
@@ -64,21 +65,21 @@ module _ (sizes : Sizes) where
       ⊎ (((own_of sizes t).running ≡ Some (Registering number path))
       ⊎ ((token : List ℕ) × IsLive number path token t))
 
-  module _ (server : Endpoint) (word : ℕ) where
+  module _ (server : Endpoint) (setup : Setup) where
     -- So is each that was taken, was not forgotten, and has no last report.
     abbrev pub AreThere : List Call → Type 0
     AreThere t = (x : Observed) → WasObserved x t → (WasForgotten x.number t → ⊥)
-        → (HasReport server sizes word x.number t → ⊥) → IsThere x.number x.path t
+        → (HasReport server sizes setup x.number t → ⊥) → IsThere x.number x.path t
 
     -- .. and, where a notification of it was taken, it is live, under the token of that.
     abbrev pub AreWatched : List Call → Type 0
     AreWatched t =
         (x : Observed) (n : Newly) → WasObserved x t → newest sizes x.number t ≡ Some n
-        → (WasForgotten x.number t → ⊥) → (HasReport server sizes word x.number t → ⊥)
+        → (WasForgotten x.number t → ⊥) → (HasReport server sizes setup x.number t → ⊥)
         → IsLive x.number x.path n.message.token t
 
     -- The exchanges keep the token of each that is live.
     abbrev pub TokensAreKept : List Call → Type 0
     TokensAreKept t =
         (number : ℕ) (path : List (List ℕ)) (token : List ℕ) → IsLive number path token t
-        → is_kept token (X.own_of server word (lower_of sizes t)).kept ≡ true
+        → is_kept token (X.own_of server setup (lower_of sizes t)).kept ≡ true

@@ -10,6 +10,7 @@ use Rattle.coap_types.specs.declared.message.Kind.TheVariants.{Con, Non}
 use Rattle.coap_types.specs.declared.option_number.TheConstants.{BLOCK2 as block2}
 use Rattle.coap_codec.specs.Message.{Message}
 use Rattle.coap_layer.specs.Trace as L
+use Rattle.coap_layer.specs.declared.setup.Setup.{Setup}
 use Rattle.coap_block.specs.Sizes.{Sizes}
 use Rattle.coap_exchange.specs.declared.asker.AskRefusal.{AskRefusal}
 use Rattle.coap_exchange.specs.declared.asker.Event.{Event}
@@ -40,7 +41,7 @@ pub record IsOneBlock (m : Message) : Type 0 where
 abbrev pub IsAllOf : Message → Type 0
 IsAllOf m = (value_of block2 (said m) ≡ None) ⊎ IsOneBlock m
 
-module _ (server : Endpoint) (sizes : Sizes) (word : ℕ) where
+module _ (server : Endpoint) (sizes : Sizes) (setup : Setup) where
   -- A CON or a NON from the server with the token of a live observation is noted, where no cancel of that runs and each
   -- critical option is recognised (RFC 7252, sections 5.3.2 and 5.4.1; RFC 7641, section 3.2).
   abbrev pub NoticesAreHeard : List Call → Type 0
@@ -49,7 +50,7 @@ module _ (server : Endpoint) (sizes : Sizes) (word : ℕ) where
       (event : Option Event) (sent : L.Answer) (token : Result (List ℕ) AskRefusal) (kept : Bool) (number : ℕ)
       (path : List (List ℕ))
       → c ≡ Feeds now from bytes w (L.Becomes (L.Response m)) settled event sent token kept
-      → IsSound server word from m → IsLive sizes number path m.token past
+      → IsSound server setup from m → IsLive sizes number path m.token past
       → ((own_of sizes past).running ≡ Some (Cancelling number) → ⊥) → (m.kind ≡ Con) ⊎ (m.kind ≡ Non)
       → notes c ≡ Some m) trace
 

@@ -11,6 +11,7 @@ use Rattle.coap_types.specs.declared.transmission.TheConstants.{EXCHANGE_LIFETIM
 use Rattle.coap_types.specs.declared.transmission.TheConstants.{FAILURE_TIMEOUTS as failure_timeouts}
 use Rattle.coap_codec.specs.Message.{Message}
 use Rattle.coap_layer.specs.Trace as L
+use Rattle.coap_layer.specs.declared.setup.Setup.{Setup}
 use Rattle.coap_block.specs.Sizes.{Sizes}
 use Rattle.coap_exchange.specs.declared.asker.AskRefusal.{AskRefusal}
 use Rattle.coap_exchange.specs.declared.asker.Event.{Event}
@@ -49,14 +50,14 @@ module _ (sizes : Sizes) where
   abbrev pub AllEndInTime : List Call → Type 0
   AllEndInTime trace = Always (λ past c. (at : ℕ) → IsOpenSince at past → EndsInTime past c at) trace
 
-module _ (server : Endpoint) (sizes : Sizes) (word : ℕ) where
+module _ (server : Endpoint) (sizes : Sizes) (setup : Setup) where
   -- The exchange that runs began at this moment. It has the token of the request that was sent last, and that was sent
   -- for the operation that runs.
   pub record RunsSince (at : ℕ) (t : List Call) : Type 0 where
     pub exchange : Exchange
-    pub runs : (X.own_of server word (lower_of sizes t)).running ≡ Some exchange
+    pub runs : (X.own_of server setup (lower_of sizes t)).running ≡ Some exchange
     pub begun : Begun
-    pub last_begun : A.last_begun server word (lower_of sizes t) ≡ Some begun
+    pub last_begun : A.last_begun server setup (lower_of sizes t) ≡ Some begun
     pub moment : begun.at ≡ at
     pub operation : Operation
     pub operates : (own_of sizes t).running ≡ Some operation
@@ -70,7 +71,7 @@ module _ (server : Endpoint) (sizes : Sizes) (word : ℕ) where
   -- An exchange is open exactly where one runs.
   pub record OpenRuns (t : List Call) : Type 0 where
     pub runs : (at : ℕ) → IsOpenSince sizes at t → RunsSince at t
-    pub is_open : (x : Exchange) → (X.own_of server word (lower_of sizes t)).running ≡ Some x
+    pub is_open : (x : Exchange) → (X.own_of server setup (lower_of sizes t)).running ≡ Some x
         → (at : ℕ) × IsOpenSince sizes at t × RunsSince at t
 
   -- What is heard answers the exchange that is open, under its token.
@@ -97,5 +98,5 @@ module _ (server : Endpoint) (sizes : Sizes) (word : ℕ) where
       Always (λ past c. (now : ℕ) (from : Endpoint) (bytes : List ℕ) (w : ℕ) (m : Message) (settled : Bool)
       (event : Option Event) (sent : L.Answer) (token : Result (List ℕ) AskRefusal) (kept : Bool) (x : Exchange)
       → c ≡ Feeds now from bytes w (L.Becomes (L.Response m)) settled event sent token kept
-      → IsSound server word from m → (X.own_of server word (lower_of sizes past)).running ≡ Some x
+      → IsSound server setup from m → (X.own_of server setup (lower_of sizes past)).running ≡ Some x
       → m.token ≡ x.token → ComesAsAnswer x m → hears c ≡ Some m) trace

@@ -6,6 +6,7 @@ use Rattle.coap_types.specs.declared.message.Kind.TheVariants.{Con}
 use Rattle.coap_codec.specs.Message.{Message}
 use Rattle.coap_layer.specs.EmptyMessages.{ack_bytes, reset_bytes}
 use Rattle.coap_layer.specs.Trace as L
+use Rattle.coap_layer.specs.declared.setup.Setup.{Setup}
 use Rattle.coap_block.specs.Sizes.{Sizes}
 use Rattle.coap_exchange.specs.declared.asker.AskRefusal.{AskRefusal}
 use Rattle.coap_exchange.specs.declared.asker.Event.{Event}
@@ -27,9 +28,9 @@ pub record RepliesNext (from : Endpoint) (bytes : List ℕ) (m : Message) (adds 
   pub at_once : reply.at ≡ arrival.at
 
 -- It replies so to each, whatever it makes of it.
-abbrev pub RepliesToCons : Endpoint → (sizes : Sizes) (word : ℕ) → List Call → Type 0
-RepliesToCons server sizes word t =
+abbrev pub RepliesToCons : Endpoint → (sizes : Sizes) (setup : Setup) → List Call → Type 0
+RepliesToCons server sizes setup t =
     Always (λ past c. (now : ℕ) (from : Endpoint) (bytes : List ℕ) (w : ℕ) (m : Message) (settled : Bool)
     (event : Option Event) (sent : L.Answer) (token : Result (List ℕ) AskRefusal) (kept : Bool)
     → c ≡ Feeds now from bytes w (L.Becomes (L.Response m)) settled event sent token kept → m.kind ≡ Con
-    → RepliesNext from bytes m (call_adds server sizes word past c)) t
+    → RepliesNext from bytes m (call_adds server sizes setup past c)) t

@@ -6,6 +6,7 @@ use Rattle.coap_types.specs.declared.endpoint.Endpoint.{Endpoint}
 use Rattle.coap_types.specs.declared.token.TheConstants.{MAX_TOKEN_LEN as max_token_len}
 use Rattle.coap_codec.specs.Message.{Message, Spells}
 use Rattle.coap_layer.specs.Words.{Open, begun}
+use Rattle.coap_layer.specs.declared.setup.Setup.{Setup}
 use Rattle.coap_block.specs.Sizes.{Sizes}
 use Rattle.coap_client.specs.Trace.{Call}
 use Rattle.coap_client.specs.Own.{Registering, Cancelling}
@@ -45,10 +46,10 @@ pub record Ends (server : Endpoint) (sizes : Sizes) (t : List Call) (a b : Open)
   pub deregisters : Deregisters first second
 
 -- Two CONs whose messages have one token are one, or an observation and its cancel.
-abbrev pub OneConOrCancel : Endpoint → (sizes : Sizes) (word : ℕ) → List Call → Type 0
-OneConOrCancel server sizes word t =
-    (a b : Open) → Ever (λ e. begun e ≡ Some a) (layer_of server sizes word t)
-    → Ever (λ e. begun e ≡ Some b) (layer_of server sizes word t) → (x y : Message) → AreBytes a.bytes
+abbrev pub OneConOrCancel : Endpoint → (sizes : Sizes) (setup : Setup) → List Call → Type 0
+OneConOrCancel server sizes setup t =
+    (a b : Open) → Ever (λ e. begun e ≡ Some a) (layer_of server sizes setup t)
+    → Ever (λ e. begun e ≡ Some b) (layer_of server sizes setup t) → (x y : Message) → AreBytes a.bytes
     → AreBytes b.bytes
     → Spells a.bytes x → Spells b.bytes y → x.token ≡ y.token
     → (a ≡ b) ⊎ (Ends server sizes t a b ⊎ Ends server sizes t b a)

@@ -3,6 +3,7 @@ use Rattle.std.specs.Prelude.{◌≡◌, ◌≤◌, ◌==◌, ℕ, Bool, true, f
 use Rattle.std.specs.Prelude.{if◌then◌else◌, Result}
 use Rattle.coap_types.specs.declared.endpoint.Endpoint.{Endpoint}
 use Rattle.coap_layer.specs.Trace as L
+use Rattle.coap_layer.specs.declared.setup.Setup.{Setup}
 use Rattle.coap_codec.specs.Message.{Message}
 use Rattle.coap_block.specs.Sizes.{Sizes}
 use Rattle.coap_observe.specs.Newer.{Watched as Mark}
@@ -92,7 +93,7 @@ resting number rest s = record s { observations = with_rest number rest s.observ
 
 -- calls led to it
 abbrev pub WasLed : State → Type 0
-WasLed s = (server : Endpoint) × (sizes : Sizes) × (word : ℕ) × (t : List Call) × Led server sizes word t s
+WasLed s = (server : Endpoint) × (sizes : Sizes) × (setup : Setup) × (t : List Call) × Led server sizes setup t s
 
 -- the observation of that number is as fresh as that ..
 abbrev pub watching : ℕ → Mark → Own → Own

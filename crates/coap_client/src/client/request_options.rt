@@ -135,6 +135,7 @@ pub fn told<A: Allocator + Copy>(request: &Request<A>) -> Option<UintBytes>
 
 /// The options of a call, in the order of their numbers, with that Block option (RFC 7252, section
 /// 5.10).
+#[inline(always)]
 pub fn call_options<'a, A: Allocator + Copy>(
     request: &'a Request<A>,
     told: Option<&'a [u8]>,

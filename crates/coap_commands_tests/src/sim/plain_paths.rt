@@ -1,6 +1,7 @@
 //! Observations of a path whose observers are told in Non-confirmable messages (RFC 7641, section 4.5).
 use crate::rows::{check_row, words_of};
 use coap_commands::{Status, command, sim_with};
+use coap_types::Remembered;
 use coap_words::{StoreKind, path_of_text};
 use std::alloc::{AllocError, Global};
 use std::fs;
@@ -142,6 +143,7 @@ fn too_many_plain_paths(rt: HostRuntime) -> Result<(), Fail> {
         &mut script,
         StoreKind::Map,
         paths.as_slice(),
+        Remembered::default(),
         &mut out,
     );
     assert!(rt; matches!(ended, Ok(Status::Words)));

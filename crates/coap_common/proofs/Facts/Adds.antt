@@ -3,6 +3,7 @@ use Rattle.std.proofs.Common.{◌≡◌, ℕ, List, [], ◌∷◌, ◌++◌, ref
 use Rattle.coap_types.specs.declared.endpoint.Endpoint.{Endpoint}
 use Rattle.coap_layer.specs.Machine.State.{State, made, after, forgotten}
 use Rattle.coap_layer.specs.Machine.Steps.{Asked, left_after, entries}
+use Rattle.coap_layer.specs.declared.setup.Setup.{Setup}
 use Rattle.coap_exchange.specs.AskerTrace as A
 use Rattle.coap_exchange.specs.AskerLaw as asker
 use Rattle.coap_exchange.specs.AskerSteps as asker_steps
@@ -28,13 +29,13 @@ entries_append old (a ∷ later) earlier =
 
 -- what the exchanges ask, one behind the other
 
-pub asker_append : (to : Endpoint) (word : ℕ) (later past : List A.Call)
-    → asker.lower_of to word (later ++ past) ≡ asked_by_client to word past later ++ asker.lower_of to word past
-asker_append to word [] past = refl
-asker_append to word (c ∷ later) past =
-    ap (λ t. asker_steps.lower (asker.own_of to word (later ++ past)) c ++ t) (asker_append to word later past)
-    ∙ sym (append_assoc (asker_steps.lower (asker.own_of to word (later ++ past)) c)
-    (asked_by_client to word past later) (asker.lower_of to word past))
+pub asker_append : (to : Endpoint) (setup : Setup) (later past : List A.Call)
+    → asker.lower_of to setup (later ++ past) ≡ asked_by_client to setup past later ++ asker.lower_of to setup past
+asker_append to setup [] past = refl
+asker_append to setup (c ∷ later) past =
+    ap (λ t. asker_steps.lower (asker.own_of to setup (later ++ past)) c ++ t) (asker_append to setup later past)
+    ∙ sym (append_assoc (asker_steps.lower (asker.own_of to setup (later ++ past)) c)
+    (asked_by_client to setup past later) (asker.lower_of to setup past))
 
 pub answerer_append : (later past : List R.Call)
     → answerer.lower_of (later ++ past) ≡ asked_by_server past later ++ answerer.lower_of past

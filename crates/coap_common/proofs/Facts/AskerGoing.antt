@@ -21,6 +21,7 @@ use Rattle.coap_exchange.specs.AskerArrivals as R
 use Rattle.coap_exchange.specs.AskerLaw as E
 use Rattle.coap_exchange.specs.AskerLaw.{ExchangeLaw}
 use Rattle.coap_layer.proofs.Facts.StepsOfLayer.{steps_join}
+use Rattle.coap_layer.specs.declared.setup.Setup.{Setup}
 use Rattle.coap_common.proofs.Facts.AskerReplies.{what_replies}
 
 -- one call of the layer
@@ -36,17 +37,17 @@ unfolding left_by
 one_step s now call may = record { may = may; right = refl; new_is = refl }
 
 -- the calls of the exchanges
-module _ (server : Endpoint) (word : ℕ) (calls : List A.Call) (law : ExchangeLaw server word calls) where
+module _ (server : Endpoint) (setup : Setup) (calls : List A.Call) (law : ExchangeLaw server setup calls) where
   abbrev own : A.Own
-  own = E.own_of server word calls
+  own = E.own_of server setup calls
 
   -- one call of the layer for one of the exchanges
   single : (now : ℕ) (call : L.Call) → S.May law.left call
-      → Steps (S.start (S.usual word)) (asked now call (answer_by law.left now call) ∷ E.lower_of server word calls)
+      → Steps (S.start setup) (asked now call (answer_by law.left now call) ∷ E.lower_of server setup calls)
       (left_by law.left now call)
   single now call may = (law.left, law.layer, one_step law.left now call may)
 
-  pub takes : (answer : Option L.Packet) × ExchangeLaw server word (A.Take answer ∷ calls)
+  pub takes : (answer : Option L.Packet) × ExchangeLaw server setup (A.Take answer ∷ calls)
   takes = (
     slice_get law.left.queue 0,
     record {
@@ -56,7 +57,7 @@ module _ (server : Endpoint) (word : ℕ) (calls : List A.Call) (law : ExchangeL
     },
   )
 
-  pub ticks : (at : ℕ) → (below : L.Answer) × (d : Turn) × ExchangeLaw server word (A.Ticks at below d ∷ calls)
+  pub ticks : (at : ℕ) → (below : L.Answer) × (d : Turn) × ExchangeLaw server setup (A.Ticks at below d ∷ calls)
   ticks at = (
     answer_by law.left at L.Ticks,
     R.turn_of own (max own.clock at) (answer_by law.left at L.Ticks),
@@ -65,7 +66,7 @@ module _ (server : Endpoint) (word : ℕ) (calls : List A.Call) (law : ExchangeL
 
   pub asks : (at w : ℕ) (r : A.Request) → IsSpelled (content_of (Q.request_token own r) r)
       → (sent : L.Answer) × (token : Result (List ℕ) AskRefusal)
-      × ExchangeLaw server word (A.Ask at r w sent token ∷ calls)
+      × ExchangeLaw server setup (A.Ask at r w sent token ∷ calls)
   asks at w r spelled =
       let call : L.Call = Q.beneath (Q.opening_of own r) own.server (content_of (Q.request_token own r) r) w in
       let sent : L.Answer = answer_by law.left at call in (
@@ -114,7 +115,7 @@ module _ (server : Endpoint) (word : ℕ) (calls : List A.Call) (law : ExchangeL
     settles false running s = (false, s, refl)
 
     pub receives : (up : L.Answer) × (settled : Bool) × (event : Option Event)
-        × ExchangeLaw server word (A.Receive at from bytes up settled event ∷ calls)
+        × ExchangeLaw server setup (A.Receive at from bytes up settled event ∷ calls)
     receives =
         let v = R.verdict_on own from up in
         let r = replies (R.reply_by v (R.id_in up)) refl in
@@ -131,7 +132,7 @@ module _ (server : Endpoint) (word : ℕ) (calls : List A.Call) (law : ExchangeL
           record {
             rows = (refl, law.rows);
             left = s.1;
-            layer = steps_join (S.start (S.usual word)) law.left s.1 (calls_under ++ receive)
-                (E.lower_of server word calls) law.layer inner;
+            layer = steps_join (S.start setup) law.left s.1 (calls_under ++ receive)
+                (E.lower_of server setup calls) law.layer inner;
           },
         )

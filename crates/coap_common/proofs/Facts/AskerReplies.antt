@@ -30,6 +30,7 @@ use Rattle.coap_exchange.specs.AskerLaw as W
 use Rattle.coap_layer.proofs.Facts.StepsOfLayer.{steps_split}
 use Rattle.coap_layer.specs.Machine.Calls.{message_in}
 use Rattle.coap_layer.proofs.Facts.HandedUp.{spelled}
+use Rattle.coap_layer.specs.declared.setup.Setup.{Setup}
 
 -- Empty messages
 
@@ -261,30 +262,30 @@ beneath_none Running server content word = refl
 beneath_none Spent server content word = refl
 beneath_none Sends server content word = refl
 
-module _ (server : Endpoint) (word : ℕ) where
+module _ (server : Endpoint) (setup : Setup) where
   abbrev own : List E.Call → E.Own
-  own t = W.own_of server word t
+  own t = W.own_of server setup t
 
   abbrev below : List E.Call → List Asked
-  below t = W.lower_of server word t
+  below t = W.lower_of server setup t
 
-  pub replies_so : (t : List E.Call) → W.AskerLaw server word t → (h : L.State) → Steps (L.start (L.usual word)) (below t) h
-      → So (L.start (L.usual word)) (below t)
+  pub replies_so : (t : List E.Call) → W.AskerLaw server setup t → (h : L.State) → Steps (L.start setup) (below t) h
+      → So (L.start setup) (below t)
   replies_so [] law h steps = tt
   replies_so (c ∷ t) law h steps =
-      let parts = steps_split (L.start (L.usual word)) h (P.lower (own t) c) (below t) steps in
+      let parts = steps_split (L.start setup) h (P.lower (own t) c) (below t) steps in
       go c h parts.0 parts.1 parts.2 (replies_so t law.1 parts.0 parts.1)
     where
-      go : (c : E.Call) (h mid : L.State) → Steps (L.start (L.usual word)) (below t) mid → Steps mid (P.lower (own t) c) h
-          → So (L.start (L.usual word)) (below t) → So (L.start (L.usual word)) (P.lower (own t) c ++ below t)
+      go : (c : E.Call) (h mid : L.State) → Steps (L.start setup) (below t) mid → Steps mid (P.lower (own t) c) h
+          → So (L.start setup) (below t) → So (L.start setup) (P.lower (own t) c ++ below t)
       go (E.Ask now r w b answer) h mid before steps so =
-          over (L.start (L.usual word)) (P.lower (own t) (E.Ask now r w b answer)) (below t)
+          over (L.start setup) (P.lower (own t) (E.Ask now r w b answer)) (below t)
           (beneath_none (Q.opening_of (own t) r) (own t).server (Q.content_of (Q.request_token (own t) r) r) w, tt) so
       go (E.Ticks now b answer) h mid before steps so =
-          over (L.start (L.usual word)) (P.lower (own t) (E.Ticks now b answer)) (below t) (refl, tt) so
+          over (L.start setup) (P.lower (own t) (E.Ticks now b answer)) (below t) (refl, tt) so
       go (E.Keep token answer) h mid before steps so = so
       go (E.Release token answer) h mid before steps so = so
-      go (E.Take answer) h mid before steps so = over (L.start (L.usual word)) (P.lower (own t) (E.Take answer)) (below t)
+      go (E.Take answer) h mid before steps so = over (L.start setup) (P.lower (own t) (E.Take answer)) (below t)
           (refl, tt) so
       go (E.Receive now from bytes up settled answer) h mid before steps so =
           let s : E.Own = own t in
@@ -295,12 +296,12 @@ module _ (server : Endpoint) (word : ℕ) where
           let first = steps_split mid h (R.acts s from up settled v) (a ∷ []) steps in
           let step : L.Step mid now (T.Receive from bytes) up first.0 =
           subst (λ w. L.Step w now (T.Receive from bytes) up first.0) first.1.1 first.1.2 in
-          let received : So (L.start (L.usual word)) (a ∷ below t) = over (L.start (L.usual word)) (a ∷ []) (below t) (refl, tt) so in
-          let with_reply : So (L.start (L.usual word)) (replies ++ (a ∷ below t)) =
-          reply_if (L.start (L.usual word)) from (R.id_in up) (R.reply_by v (R.id_in up)) now bytes up
+          let received : So (L.start setup) (a ∷ below t) = over (L.start setup) (a ∷ []) (below t) (refl, tt) so in
+          let with_reply : So (L.start setup) (replies ++ (a ∷ below t)) =
+          reply_if (L.start setup) from (R.id_in up) (R.reply_by v (R.id_in up)) now bytes up
           (below t) mid first.0 before step (λ b is. what_replies s from up b is) received in
-          let all : So (L.start (L.usual word)) (settles ++ (replies ++ (a ∷ below t))) =
-          over (L.start (L.usual word)) settles (replies ++ (a ∷ below t))
+          let all : So (L.start setup) (settles ++ (replies ++ (a ∷ below t))) =
+          over (L.start setup) settles (replies ++ (a ∷ below t))
           (settling_none (R.settles v) s.server s.running settled) with_reply in
-          subst (So (L.start (L.usual word))) (sym (append_assoc (settles ++ replies) (a ∷ []) (below t)
+          subst (So (L.start setup)) (sym (append_assoc (settles ++ replies) (a ∷ []) (below t)
           ∙ append_assoc settles replies (a ∷ below t))) all

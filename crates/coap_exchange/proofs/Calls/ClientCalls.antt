@@ -60,9 +60,7 @@ judged_replies Rst true true i p false false id h = absurd (cc h)
 
 request_replies : (kind : Kind) (id : ℕ) → is_some (reply_by (request_judged kind) id) ≡ true → is_kept kind ≡ true
 request_replies Con id h = refl
-request_replies Non id h = absurd (cc h)
-request_replies Ack id h = absurd (cc h)
-request_replies Rst id h = absurd (cc h)
+request_replies _ id h = absurd (cc h)
 
 either_quiet : (b : Bool) (v : Verdict) (id : ℕ) → reply_by v id ≡ None
     → is_some (reply_by (if b then v else Ignore) id) ≡ true → ⊥

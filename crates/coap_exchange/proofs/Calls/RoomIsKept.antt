@@ -32,8 +32,7 @@ lt_later last now later le h = grind (arith, nat_tests)
 rested_later : (now later : ℕ) (used : Option (Option ℕ)) → now ≤ later → is_rested now used ≡ true
     → is_rested later used ≡ true
 rested_later now later (Some (Some last)) le h = lt_later last now later le h
-rested_later now later (Some None) le h = refl
-rested_later now later None le h = refl
+rested_later now later _ le h = refl
 
 either : (a b c : Bool) → (b ≡ true → c ≡ true) → (a || b) ≡ true → (a || c) ≡ true
 either true b c f h = refl
@@ -133,9 +132,8 @@ still_may old new now call answer step still one two m to one_is two_is room may
 
 -- a tick, and asking whether there is room
 tick_gives : (t : Tick) (done : T.Answer) (at : ℕ) → IsTick t done → issued_by at done ≡ []
-tick_gives tick.Idle done at h = ap (issued_by at) h
 tick_gives (tick.Copied id) done at h = ap (issued_by at) h.1
-tick_gives (tick.Expired to id) done at h = ap (issued_by at) h
+tick_gives _ done at h = ap (issued_by at) h
 
 tick_confirms : (l from mid : L.State) (now : ℕ) (t : Tick) (done : T.Answer) → from ≡ l → IsTick t done
     → L.Step from now T.Ticks done mid → (m : ℕ) (to : Endpoint) → MayConfirm l m to → MayConfirm mid m to

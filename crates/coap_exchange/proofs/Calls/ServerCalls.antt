@@ -56,22 +56,7 @@ rejected_if m false e h = let k : is_some (reject_by (T.Becomes (T.Response m)))
 pub rejected : (up : T.Answer) → is_some (reject_by up) ≡ true
     → (m : Message) × (handed_by up ≡ Some m) × (m.id ≡ id_in up)
 rejected (T.Becomes (T.Response m)) h = (m, rejected_if m (is_kept m.kind) refl h, refl)
-rejected (T.Becomes (T.Request m k)) h = absurd (cc h)
-rejected (T.Becomes (T.Acked id)) h = absurd (cc h)
-rejected (T.Becomes (T.Reset id)) h = absurd (cc h)
-rejected (T.Becomes T.Dropped) h = absurd (cc h)
-rejected (T.Becomes (T.Unmatched id)) h = absurd (cc h)
-rejected (T.Becomes T.Replayed) h = absurd (cc h)
-rejected (T.Becomes T.Rejected) h = absurd (cc h)
-rejected T.Nothing h = absurd (cc h)
-rejected (T.Is holds) h = absurd (cc h)
-rejected (T.Sent id) h = absurd (cc h)
-rejected T.Busied h = absurd (cc h)
-rejected T.NoIds h = absurd (cc h)
-rejected T.Idle h = absurd (cc h)
-rejected (T.Copied to id) h = absurd (cc h)
-rejected (T.Expired to id) h = absurd (cc h)
-rejected (T.Gives packet) h = absurd (cc h)
+rejected _ h = absurd (cc h)
 
 -- the token of what is handed up has at most 8 bytes
 
@@ -82,21 +67,7 @@ kept_in m n false h = absurd (cc h)
 in_message : (up : T.Answer) (m : Message) → handed_by up ≡ Some m → message_in up ≡ Some m
 in_message (T.Becomes (T.Request n k)) m h = h
 in_message (T.Becomes (T.Response n)) m h = kept_in n m (is_kept n.kind) h
-in_message (T.Becomes (T.Acked id)) m h = absurd (cc h)
-in_message (T.Becomes (T.Reset id)) m h = absurd (cc h)
-in_message (T.Becomes T.Dropped) m h = absurd (cc h)
-in_message (T.Becomes (T.Unmatched id)) m h = absurd (cc h)
-in_message (T.Becomes T.Replayed) m h = absurd (cc h)
-in_message (T.Becomes T.Rejected) m h = absurd (cc h)
-in_message T.Nothing m h = absurd (cc h)
-in_message (T.Is holds) m h = absurd (cc h)
-in_message (T.Sent id) m h = absurd (cc h)
-in_message T.Busied m h = absurd (cc h)
-in_message T.NoIds m h = absurd (cc h)
-in_message T.Idle m h = absurd (cc h)
-in_message (T.Copied to id) m h = absurd (cc h)
-in_message (T.Expired to id) m h = absurd (cc h)
-in_message (T.Gives packet) m h = absurd (cc h)
+in_message _ m h = absurd (cc h)
 
 pub short_token : (old new : L.State) (now : ℕ) (from : Endpoint) (bytes : List ℕ) (up : T.Answer) (m : Message)
     → L.Step old now (T.Receive from bytes) up new → handed_by up ≡ Some m → length m.token ≤ max_token_len
@@ -125,9 +96,7 @@ sent_con l h kind a r e f = subst (λ k. Sends l h k a r) (sym e) (T.Nothing, re
 pub sent_plain : (l h : L.State) (kind : Kind) (a : Asked) (r : Response) → (kind ≡ Con → ⊥)
     → (id : ℕ) × L.Step l l.clock (T.Plain a.from (content_of a r)) (T.Sent id) h → Sends l h kind a r
 sent_plain l h Con a r n f = absurd (n refl)
-sent_plain l h Non a r n f = (T.Sent f.0, (f.0, refl), λ s. f.1)
-sent_plain l h Ack a r n f = (T.Sent f.0, (f.0, refl), λ s. f.1)
-sent_plain l h Rst a r n f = (T.Sent f.0, (f.0, refl), λ s. f.1)
+sent_plain l h _ a r n f = (T.Sent f.0, (f.0, refl), λ s. f.1)
 
 max_self : (n : ℕ) → max n n ≡ n
 max_self n = omega (arith)
@@ -135,9 +104,7 @@ max_self n = omega (arith)
 answering_clock : (l : L.State) (s : Own) (kind : Kind) (a : Asked) (r : Response)
     → moment l l.clock (answering s kind a r) ≡ l.clock
 answering_clock l s Con a r = refl
-answering_clock l s Non a r = max_self l.clock
-answering_clock l s Ack a r = max_self l.clock
-answering_clock l s Rst a r = max_self l.clock
+answering_clock l s _ a r = max_self l.clock
 
 pub answered : (l h : L.State) (pending : Option Asked) (deferred : List Deferred) (separate : List Separate)
     (ended : Option Ended) (unmatched : Option Sending) (old : State) (a : Asked) (r : Response) (sent : T.Answer)
@@ -208,9 +175,8 @@ given_kept n true = λ other. refl
 given_kept n false = tt
 
 again_kept : (free : Bool) (a : T.Disposition) → IfKept free a → (r f : Bool) → IfKept free (again_or r f a)
-again_kept free a h true f = tt
-again_kept free a h false true = tt
 again_kept free a h false false = h
+again_kept free a h _ _ = tt
 
 up_kept : (kind : Kind) (c : Role) (n : Message) (o r f free : Bool) → n.kind ≡ kind
     → IfKept free (up_of kind c n o r f free)

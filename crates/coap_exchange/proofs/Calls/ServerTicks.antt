@@ -33,15 +33,12 @@ use Rattle.std.proofs.lemmas.Bool.{and_parts}
 use Rattle.coap_layer.specs.Machine.Calls.{entry_of}
 use Rattle.coap_layer.proofs.Facts.CallsOfLayer.{step_clock, step_opens, left_same_nil}
 use Rattle.coap_exchange.proofs.Calls.Lists.{over_is}
+use Rattle.std.proofs.lemmas.Bool.{not-true as not_true}
 
 clock_then : (a n : ℕ) → max (max a n) n ≡ max a n
 clock_then a n = omega (arith)
 
 -- a CON can be sent
-
-not_true : (b : Bool) → not b ≡ true → b ≡ false
-not_true true h = absurd (cc h)
-not_true false h = refl
 
 pub room_idle : (l h : L.State) (now : ℕ) (to : Endpoint) (b : Bool) → L.Step l now (T.Room to) (T.Is b) h → b ≡ true
     → is_busy to h.open_cons ≡ false
@@ -121,15 +118,7 @@ idle_tick (tick.Expired to id) done h e = absurd (cc (h, e))
 
 not_idle : (done : T.Answer) (d : Option Deferred) → done ≢ T.Idle → ready_if done d ≡ None
 not_idle T.Idle d h = absurd (h refl)
-not_idle (T.Copied to id) d h = refl
-not_idle (T.Expired to id) d h = refl
-not_idle (T.Becomes what) d h = refl
-not_idle T.Nothing d h = refl
-not_idle (T.Is holds) d h = refl
-not_idle (T.Sent id) d h = refl
-not_idle T.Busied d h = refl
-not_idle T.NoIds d h = refl
-not_idle (T.Gives packet) d h = refl
+not_idle _ d h = refl
 
 module _ (l from mid : L.State) (now : ℕ) (t : Tick) (done : T.Answer) (same : from ≡ l) (told : IsTick t done)
     (step : L.Step from now T.Ticks done mid) where
@@ -177,22 +166,13 @@ Readies done d room a = (room ≡ true) × (option_map (λ (d : Deferred). d.ask
 
 if_ready : (d : Option Deferred) (room : Bool) (a : Asked) → due_if d room ≡ due.Ready a
     → (room ≡ true) × (option_map (λ (d : Deferred). d.asked) d ≡ Some a)
-if_ready None room a h = absurd (cc h)
-if_ready (Some d) false a h = absurd (cc h)
 if_ready (Some d) true a h = let same : d.asked ≡ a = cc h in (refl, ap (λ x. Some x) same)
+if_ready _ _ a h = absurd (cc h)
 
 pub due_ready : (done : T.Answer) (d : Option Deferred) (room : Bool) (a : Asked) → due_of done d room ≡ due.Ready a
     → Readies done d room a
 due_ready T.Idle d room a h = let k = if_ready d room a h in (k.0, k.1, refl)
-due_ready (T.Copied to id) d room a h = absurd (cc h)
-due_ready (T.Expired to id) d room a h = absurd (cc h)
-due_ready (T.Becomes what) d room a h = absurd (cc h)
-due_ready T.Nothing d room a h = absurd (cc h)
-due_ready (T.Is holds) d room a h = absurd (cc h)
-due_ready (T.Sent id) d room a h = absurd (cc h)
-due_ready T.Busied d room a h = absurd (cc h)
-due_ready T.NoIds d room a h = absurd (cc h)
-due_ready (T.Gives packet) d room a h = absurd (cc h)
+due_ready _ d room a h = absurd (cc h)
 
 module _ (l : L.State) (pending : Option Asked) (deferred : List Deferred) (separate : List Separate)
     (ended : Option Ended) (unmatched : Option Sending) where

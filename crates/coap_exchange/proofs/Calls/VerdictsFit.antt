@@ -20,6 +20,7 @@ use Rattle.coap_exchange.specs.AskerArrivals.{acked_in, turn_of}
 use Rattle.coap_exchange.specs.Matching.{judged, request_judged}
 use Rattle.coap_exchange.proofs.Facts.SameToken.{same_token_is}
 use Rattle.coap_exchange.specs.Machine.VerdictFits.{Answers, OfRequest, Fits, TurnFits}
+use Rattle.std.proofs.lemmas.Bool.{and_parts as both}
 
 -- a verdict on a response that takes it rests on its source and its token
 abbrev Rests : Known → Verdict → Type 0
@@ -81,11 +82,6 @@ with_id : (running : Option Exchange) (id : ℕ) → has_id running id ≡ true
 with_id None id h = absurd (cc h)
 with_id (Some x) id h = (x, refl, (unsigned_Decides id x.id.0).0 h)
 
-both : (a b : Bool) → (a && b) ≡ true → (a ≡ true) × (b ≡ true)
-both true true h = (refl, refl)
-both true false h = absurd (cc h)
-both false b h = absurd (cc h)
-
 pub of_request : (s : Own) (from : Endpoint) (id : ℕ) → is_of_request s from id ≡ true → OfRequest s from id
 of_request s from id h =
     let b = both (same_endpoint from s.server) (has_id s.running id) h in
@@ -105,9 +101,7 @@ response_fits s from m NoticeCon r = record { message = m; is = refl; there = r.
 response_fits s from m Notice r = record { message = m; is = refl; there = r.0; kept = r.1 }
 response_fits s from m Await r = absurd r
 response_fits s from m EndByReset r = absurd r
-response_fits s from m Ignore r = tt
-response_fits s from m Reject r = tt
-response_fits s from m Acknowledge r = tt
+response_fits s from m _ r = tt
 
 request_fits : (s : Own) (from : Endpoint) (up : L.Answer) (kind : Kind) → Fits s from up (request_judged kind)
 request_fits s from up Con = tt
@@ -130,19 +124,7 @@ verdict_fits s from (L.Becomes (L.Response m)) = response_fits s from m _ (rests
 verdict_fits s from (L.Becomes (L.Request m remembered)) = request_fits s from _ m.kind
 verdict_fits s from (L.Becomes (L.Acked id)) = acked_fits s from id (is_of_request s from id) refl
 verdict_fits s from (L.Becomes (L.Reset id)) = reset_fits s from id (is_of_request s from id) refl
-verdict_fits s from (L.Becomes L.Dropped) = tt
-verdict_fits s from (L.Becomes (L.Unmatched id)) = tt
-verdict_fits s from (L.Becomes L.Replayed) = tt
-verdict_fits s from (L.Becomes L.Rejected) = tt
-verdict_fits s from L.Nothing = tt
-verdict_fits s from (L.Is holds) = tt
-verdict_fits s from (L.Sent id) = tt
-verdict_fits s from L.Busied = tt
-verdict_fits s from L.NoIds = tt
-verdict_fits s from L.Idle = tt
-verdict_fits s from (L.Copied to id) = tt
-verdict_fits s from (L.Expired to id) = tt
-verdict_fits s from (L.Gives packet) = tt
+verdict_fits s from _ = tt
 
 expired_fits : (s : Own) (at : ℕ) (to : Endpoint) (id : ℕ) (b : Bool) → is_of_request s to id ≡ b
     → TurnFits s at (L.Expired to id) (cond b (turn.End event.Timeout) turn.Idle)
@@ -163,10 +145,4 @@ pub turn_fits : (s : Own) (at : ℕ) (below : L.Answer) → TurnFits s at below 
 turn_fits s at (L.Expired to id) = expired_fits s at to id (is_of_request s to id) refl
 turn_fits s at (L.Copied to id) = (to, id, refl)
 turn_fits s at L.Idle = waited_fits s at (has_waited at (acked_in s.running)) refl
-turn_fits s at (L.Becomes what) = tt
-turn_fits s at L.Nothing = tt
-turn_fits s at (L.Is holds) = tt
-turn_fits s at (L.Sent id) = tt
-turn_fits s at L.Busied = tt
-turn_fits s at L.NoIds = tt
-turn_fits s at (L.Gives packet) = tt
+turn_fits s at _ = tt

@@ -32,32 +32,33 @@ use Rattle.coap_exchange.proofs.Ending.RequestIsOutstanding.{turned_lone}
 use Rattle.coap_exchange.proofs.Facts.Verdicts.{verdict_fits, TurnFits, turn_fits}
 use Rattle.coap_exchange.proofs.Facts.Moves as move
 use Rattle.coap_exchange.proofs.Facts.Moves.{AskRow, ask_row}
+use Rattle.coap_layer.specs.declared.setup.Setup.{Setup}
 
-module _ (server : Endpoint) (word : ℕ) where
-  module _ (t : List Call) (mid : L.State) (old : IsBeneath server word t mid) (h : L.State) where
+module _ (server : Endpoint) (setup : Setup) where
+  module _ (t : List Call) (mid : L.State) (old : IsBeneath server setup t mid) (h : L.State) where
     abbrev s : Own
-    s = own_of server word t
+    s = own_of server setup t
 
     asked_fits : (now w : ℕ) (r : Request) (below : T.Answer) (answer : Result (List ℕ) AskRefusal)
         → AskRow s r below answer → Opens mid h now s.server (content_of (request_token s r) r) w
         (sent_as (opening_of s r) below)
-        → IsBeneath server word (Ask now r w below answer ∷ t) h
+        → IsBeneath server setup (Ask now r w below answer ∷ t) h
     asked_fits now w r below answer (move.refused e is none) o = record {
       clock = o.clock ∙ ap (λ z. max z now) old.clock;
       lone = subst (λ a. Lone (after s (Ask now r w below answer)).server (after s (Ask now r w below answer)).running
-          (last_begun server word (Ask now r w below a ∷ t)) h.open_cons) (sym is)
-          (refused_lone s r now w below mid h (last_begun server word t) none o old.lone);
+          (last_begun server setup (Ask now r w below a ∷ t)) h.open_cons) (sym is)
+          (refused_lone s r now w below mid h (last_begun server setup t) none o old.lone);
     }
     asked_fits now w r below answer (move.sent id is some opens by) o = record {
       clock = o.clock ∙ ap (λ z. max z now) old.clock;
       lone = subst (λ a. Lone (after s (Ask now r w below answer)).server (after s (Ask now r w below answer)).running
-          (last_begun server word (Ask now r w below a ∷ t)) h.open_cons) (sym is)
-          (sent_lone s r now w below mid h (last_begun server word t) id some opens o old.clock old.lone);
+          (last_begun server setup (Ask now r w below a ∷ t)) h.open_cons) (sym is)
+          (sent_lone s r now w below mid h (last_begun server setup t) id some opens o old.clock old.lone);
     }
 
     received_fits : (now : ℕ) (from : Endpoint) (bytes : List ℕ) (up : T.Answer) (settled : Bool) (answer : _)
         → Steps mid (acts s from up settled (verdict_on s from up) ++ asked now (T.Receive from bytes) up ∷ []) h
-        → IsBeneath server word (Receive now from bytes up settled answer ∷ t) h
+        → IsBeneath server setup (Receive now from bytes up settled answer ∷ t) h
     received_fits now from bytes up settled answer steps =
         let v = verdict_on s from up in
         let first = steps_split mid h (acts s from up settled v) (asked now (T.Receive from bytes) up ∷ []) steps in
@@ -77,40 +78,40 @@ module _ (server : Endpoint) (word : ℕ) where
         ∙ ap (λ (z : L.State). opens_then at (T.Receive from bytes) up out z.open_cons) first.1.1 in
         record {
           clock = ended.0 ∙ (replied.0 ∙ clock);
-          lone = subst (λ cs. Lone s.server (running_after (max s.clock now) v s.running) (last_begun server word t) cs)
+          lone = subst (λ cs. Lone s.server (running_after (max s.clock now) v s.running) (last_begun server setup t) cs)
               (sym (ended.1 ∙ ap (settled_opens (settles v) s.server s.running) (replied.1 ∙ opens)))
-              (left_by_verdict s (last_begun server word t)
+              (left_by_verdict s (last_begun server setup t)
               (max s.clock now) at from bytes out mid.open_cons old.lone up v refl (verdict_fits s from up));
         }
 
     ticked_fits : (now : ℕ) (below : T.Answer) (answer : Turn) → answer ≡ turn_of s (max s.clock now) below
-        → L.Step mid now T.Ticks below h → IsBeneath server word (Ticks now below answer ∷ t) h
+        → L.Step mid now T.Ticks below h → IsBeneath server setup (Ticks now below answer ∷ t) h
     ticked_fits now below answer right step =
         let at : ℕ = max mid.clock now in
         let out : List T.Packet = out_of mid at T.Ticks in
         record {
           clock = step_clock mid h now T.Ticks below step ∙ ap (λ z. max z now) old.clock;
-          lone = subst (λ a. Lone s.server (running_unless a s.running) (last_begun server word t) h.open_cons)
+          lone = subst (λ a. Lone s.server (running_unless a s.running) (last_begun server setup t) h.open_cons)
               (sym right)
               (subst (Lone s.server (running_unless (turn_of s (max s.clock now) below) s.running)
-              (last_begun server word t)) (sym (step_opens mid h now T.Ticks below step))
-              (turned_lone s (last_begun server word t) (max s.clock now) at out mid.open_cons old.lone below));
+              (last_begun server setup t)) (sym (step_opens mid h now T.Ticks below step))
+              (turned_lone s (last_begun server setup t) (max s.clock now) at out mid.open_cons old.lone below));
         }
 
-  pub fits : (t : List Call) → AskerLaw server word t → (h : L.State) → Steps (L.start (L.usual word)) (lower_of server word t) h
-      → IsBeneath server word t h
+  pub fits : (t : List Call) → AskerLaw server setup t → (h : L.State) → Steps (L.start setup) (lower_of server setup t) h
+      → IsBeneath server setup t h
   fits [] law h steps = record {
     clock = ap (λ (z : L.State). z.clock) steps;
     lone = ap (λ (z : L.State). z.open_cons) steps;
   }
   fits (Ask now r w below answer ∷ t) law h steps =
-      let s : Own = own_of server word t in
+      let s : Own = own_of server setup t in
       asked_fits t steps.0 (fits t law.1 steps.0 steps.1) h now w r below answer (ask_row s r below answer law.0)
       (ask_opens (opening_of s r) steps.0 h now s.server (content_of (request_token s r) r) w below steps.2)
   fits (Receive now from bytes up settled answer ∷ t) law h steps =
-      let s : Own = own_of server word t in
-      let parts = steps_split (L.start (L.usual word)) h (lower s (Receive now from bytes up settled answer))
-      (lower_of server word t) steps in
+      let s : Own = own_of server setup t in
+      let parts = steps_split (L.start setup) h (lower s (Receive now from bytes up settled answer))
+      (lower_of server setup t) steps in
       received_fits t parts.0 (fits t law.1 parts.0 parts.1) h now from bytes up settled answer parts.2
   fits (Ticks now below answer ∷ t) law h steps =
       ticked_fits t steps.0 (fits t law.1 steps.0 steps.1) h now below answer law.0 steps.2
@@ -119,11 +120,11 @@ module _ (server : Endpoint) (word : ℕ) where
   fits (Release token answer ∷ t) law h steps = let old =
       fits t law.1 h steps in record { clock = old.clock; lone = old.lone }
   fits (Take answer ∷ t) law h steps =
-      let s : Own = own_of server word t in
+      let s : Own = own_of server setup t in
       let old = fits t law.1 steps.0 steps.1 in
       record {
         clock = step_clock steps.0 h 0 T.Take (T.Gives answer) steps.2 ∙ old.clock;
-        lone = subst (Lone s.server s.running (last_begun server word t))
+        lone = subst (Lone s.server s.running (last_begun server setup t))
             (sym (step_opens steps.0 h 0 T.Take (T.Gives answer) steps.2
             ∙ left_same_nil (entry_of steps.0.clock T.Take (T.Gives answer) (out_of steps.0 steps.0.clock T.Take))
             (λ c. refl) steps.0.open_cons)) old.lone;
@@ -131,17 +132,17 @@ module _ (server : Endpoint) (word : ℕ) where
 
   -- the ends
   times_out : (t : List Call) (now : ℕ) (below : T.Answer)
-      → AskerLaw server word (Ticks now below (turn.End event.Timeout) ∷ t) → (h : L.State)
-      → Steps (L.start (L.usual word)) (lower_of server word (Ticks now below (turn.End event.Timeout) ∷ t)) h
-      → TimesOut server word t now
+      → AskerLaw server setup (Ticks now below (turn.End event.Timeout) ∷ t) → (h : L.State)
+      → Steps (L.start setup) (lower_of server setup (Ticks now below (turn.End event.Timeout) ∷ t)) h
+      → TimesOut server setup t now
   times_out t now below law h steps =
-      let s : Own = own_of server word t in
+      let s : Own = own_of server setup t in
       let old = fits t law.1 steps.0 steps.1 in
       let f : TurnFits s (max s.clock now) below (turn.End event.Timeout) =
       subst (TurnFits s (max s.clock now) below) (sym law.0) (turn_fits s (max s.clock now) below) in
-      let lone : Lone s.server (Some f.3.exchange) (last_begun server word t) steps.0.open_cons =
-      subst (λ r. Lone s.server r (last_begun server word t) steps.0.open_cons) f.3.runs old.lone in
-      let has = failed s.server f.3.exchange (last_begun server word t) steps.0.open_cons
+      let lone : Lone s.server (Some f.3.exchange) (last_begun server setup t) steps.0.open_cons =
+      subst (λ r. Lone s.server r (last_begun server setup t) steps.0.open_cons) f.3.runs old.lone in
+      let has = failed s.server f.3.exchange (last_begun server setup t) steps.0.open_cons
       (max steps.0.clock now) f.0 f.1 lone (sym f.2 ∙ steps.2.right) in
       record {
         begun = has.begun;
@@ -155,23 +156,23 @@ module _ (server : Endpoint) (word : ℕ) where
   waited_at at (Some acked) h = (acked, refl, leb-true _ _ h)
 
   gives_up : (t : List Call) (now : ℕ) (below : T.Answer)
-      → AskerLaw server word (Ticks now below (turn.End event.NoResponse) ∷ t) → GivesUp server word t now
+      → AskerLaw server setup (Ticks now below (turn.End event.NoResponse) ∷ t) → GivesUp server setup t now
   gives_up t now below law =
-      let s : Own = own_of server word t in
+      let s : Own = own_of server setup t in
       let f : TurnFits s (max s.clock now) below (turn.End event.NoResponse) =
       subst (TurnFits s (max s.clock now) below) (sym law.0) (turn_fits s (max s.clock now) below) in
       let w = waited_at (max s.clock now) f.0.acked f.2 in
       record { exchange = f.0; runs = f.1; acked = w.0; since = w.1; late = w.2 }
 
-  pub in_time : (t : List Call) → AskerLaw server word t → (h : L.State)
-      → Steps (L.start (L.usual word)) (lower_of server word t) h → EndInTime server word t
+  pub in_time : (t : List Call) → AskerLaw server setup t → (h : L.State)
+      → Steps (L.start setup) (lower_of server setup t) h → EndInTime server setup t
   in_time [] law h steps = tt
   in_time (c ∷ t) law h steps =
-      let parts = steps_split (L.start (L.usual word)) h (lower (own_of server word t) c) (lower_of server word t) steps in (
+      let parts = steps_split (L.start setup) h (lower (own_of server setup t) c) (lower_of server setup t) steps in (
         record {
-          timeout = λ now below is. times_out t now below (subst (λ d. AskerLaw server word (d ∷ t)) is law) h
-              (subst (λ d. Steps (L.start (L.usual word)) (lower_of server word (d ∷ t)) h) is steps);
-          no_response = λ now below is. gives_up t now below (subst (λ d. AskerLaw server word (d ∷ t)) is law);
+          timeout = λ now below is. times_out t now below (subst (λ d. AskerLaw server setup (d ∷ t)) is law) h
+              (subst (λ d. Steps (L.start setup) (lower_of server setup (d ∷ t)) h) is steps);
+          no_response = λ now below is. gives_up t now below (subst (λ d. AskerLaw server setup (d ∷ t)) is law);
         },
         in_time t law.1 parts.0 parts.1,
       )

@@ -178,10 +178,7 @@ settling_opens true server (Some x) settled old new h = (
   step_opens h.0 new 0 (T.Settle server x.id.0) (T.Is settled) h.2
       ∙ ap (λ (s : L.State). without server x.id.0 s.open_cons) h.1,
 )
-settling_opens true server None settled old new h =
-    (ap (λ (x : L.State). x.clock) h, ap (λ (x : L.State). x.open_cons) h)
-settling_opens false server running settled old new h =
-    (ap (λ (x : L.State). x.clock) h, ap (λ (x : L.State). x.open_cons) h)
+settling_opens _ server _ settled old new h = (ap (λ (x : L.State). x.clock) h, ap (λ (x : L.State). x.open_cons) h)
 
 module _ (s : Own) (b : Option Begun) (at now : ℕ) (from : Endpoint) (bytes : List ℕ) (out : List T.Packet)
     (cs : List Open) (lone : Lone s.server s.running b cs) (up : T.Answer) where
@@ -196,11 +193,6 @@ module _ (s : Own) (b : Option Begun) (at now : ℕ) (from : Endpoint) (bytes : 
 
   pub left_by_verdict : (v : Verdict) → verdict_on s from up ≡ v → match.Fits s from up v
       → Lone s.server (running_after at v s.running) b (settled_opens (settles v) s.server s.running heard)
-  left_by_verdict Ignore is f = quiet_lone s b now from bytes out cs lone up (subst Quiet (sym is) tt)
-  left_by_verdict Reject is f = quiet_lone s b now from bytes out cs lone up (subst Quiet (sym is) tt)
-  left_by_verdict Acknowledge is f = quiet_lone s b now from bytes out cs lone up (subst Quiet (sym is) tt)
-  left_by_verdict NoticeCon is f = quiet_lone s b now from bytes out cs lone up (subst Quiet (sym is) tt)
-  left_by_verdict Notice is f = quiet_lone s b now from bytes out cs lone up (subst Quiet (sym is) tt)
   left_by_verdict AnswerCon is f = settled_none
       (quiet_lone s b now from bytes out cs lone up (subst Quiet (sym is) tt)) f.exchange f.runs
   left_by_verdict Answer is f = settled_none (quiet_lone s b now from bytes out cs lone up (subst Quiet (sym is) tt))
@@ -212,6 +204,7 @@ module _ (s : Own) (b : Option Begun) (at now : ℕ) (from : Endpoint) (bytes : 
       ∙ gone s b now from bytes out cs lone f.0 f.2 in
       subst (λ r. Lone s.server (running_after at Await r) b heard) (sym f.2.runs)
       (inr (record { none = none; at = record { 0 = at }; since = refl }))
+  left_by_verdict _ is f = quiet_lone s b now from bytes out cs lone up (subst Quiet (sym is) tt)
 
 -- time passes
 module _ (s : Own) (b : Option Begun) (at l_at : ℕ) (out : List T.Packet) (cs : List Open)

@@ -18,15 +18,16 @@ use Rattle.coap_exchange.specs.AskerOpen.{IsOutstanding}
 use Rattle.coap_exchange.specs.Machine.Outstanding.{Lone}
 use Rattle.coap_exchange.proofs.Ending.NoEarlier.{fits}
 use Rattle.coap_exchange.proofs.Telling.FromServer.{server_is}
+use Rattle.coap_layer.specs.declared.setup.Setup.{Setup}
 
 -- what is outstanding by the layer's state is so by its calls
-opens_are : (server : Endpoint) (word : ℕ) (t : List Call) (law : ExchangeLaw server word t)
-    → law.left.open_cons ≡ outstanding (below_of server word t)
-opens_are server word t law =
+opens_are : (server : Endpoint) (setup : Setup) (t : List Call) (law : ExchangeLaw server setup t)
+    → law.left.open_cons ≡ outstanding (below_of server setup t)
+opens_are server setup t law =
     ap (λ (s : L.State). s.open_cons)
-    (led_steps (L.usual word) [] (L.start (L.usual word)) law.left (lower_of server word t)
+    (led_steps setup [] (L.start setup) law.left (lower_of server setup t)
     (record { law = tt; kept = refl }) law.layer).kept
-    ∙ ap outstanding (append-nil (below_of server word t))
+    ∙ ap outstanding (append-nil (below_of server setup t))
 
 is_to_self : (server to : Endpoint) (id n : ℕ) (c : Open) → c.to ≡ to → to ≡ server → c.id ≡ n → n ≡ id
     → is_to server id c ≡ true
@@ -34,18 +35,18 @@ is_to_self server to id n c to_is server_is id_is same =
     subst (λ x. same_endpoint x server && (c.id == id) ≡ true) (sym (to_is ∙ server_is))
     (ap (λ b. b && (c.id == id)) (same_endpoint_self server) ∙ (unsigned_Decides c.id id).1 (id_is ∙ same))
 
-pub still_outstanding : (server : Endpoint) (word : ℕ) (t : List Call) → ExchangeLaw server word t
-    → IsOutstanding server word t
-still_outstanding server word t law x runs unheard = go here
+pub still_outstanding : (server : Endpoint) (setup : Setup) (t : List Call) → ExchangeLaw server setup t
+    → IsOutstanding server setup t
+still_outstanding server setup t law x runs unheard = go here
   where
-    here : Lone (own_of server word t).server (Some x) (last_begun server word t) law.left.open_cons
-    here = subst (λ o. Lone (own_of server word t).server o (last_begun server word t) law.left.open_cons) runs
-        (fits server word t law.rows law.left law.layer).lone
+    here : Lone (own_of server setup t).server (Some x) (last_begun server setup t) law.left.open_cons
+    here = subst (λ o. Lone (own_of server setup t).server o (last_begun server setup t) law.left.open_cons) runs
+        (fits server setup t law.rows law.left law.layer).lone
 
-    go : Lone (own_of server word t).server (Some x) (last_begun server word t) law.left.open_cons
-        → Outstanding (below_of server word t) server x.id.0
+    go : Lone (own_of server setup t).server (Some x) (last_begun server setup t) law.left.open_cons
+        → Outstanding (below_of server setup t) server x.id.0
     go (inl z) = subst (λ cs. Ever (λ c. is_to server x.id.0 c ≡ true) cs)
-        (sym z.only ∙ opens_are server word t law)
-        (inl (is_to_self server (own_of server word t).server x.id.0 x.id.0 z.con z.to_is (server_is server word t)
+        (sym z.only ∙ opens_are server setup t law)
+        (inl (is_to_self server (own_of server setup t).server x.id.0 x.id.0 z.con z.to_is (server_is server setup t)
         z.id_is refl))
     go (inr h) = absurd (cc (h.since, unheard))

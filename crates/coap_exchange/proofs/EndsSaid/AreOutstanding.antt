@@ -30,6 +30,7 @@ use Rattle.coap_layer.proofs.Facts.StepsOfLayer.{steps_split}
 use Rattle.coap_exchange.proofs.Ending.RequestIsOutstanding.{replying_opens}
 use Rattle.coap_layer.specs.Machine.Calls.{opens_then, entry_of}
 use Rattle.coap_layer.proofs.Facts.CallsOfLayer.{step_opens, left_same, left_same_nil}
+use Rattle.coap_layer.specs.declared.setup.Setup.{Setup}
 
 -- one goes where the other goes, under its Message ID
 abbrev Mirrors : List Separate → List Open → Type 0
@@ -61,8 +62,7 @@ module _ (to : Endpoint) (id : ℕ) where
       (sym e)
       (left_one x (without_separate to id xs) c (without_con to id cs) (same to id x.to x.id.0) m.0 m.1
       (without_mirrors xs cs m.2))
-  without_mirrors [] (c ∷ cs) m = absurd m
-  without_mirrors (x ∷ xs) [] m = absurd m
+  without_mirrors _ _ m = absurd m
 
   copied_one : (at : ℕ) (x : Separate) (xs : List Separate) (c : Open) (cs : List Open) (b : Bool) → x.to ≡ c.to
       → x.id.0 ≡ c.id → Mirrors xs cs → Mirrors (x ∷ xs)
@@ -74,23 +74,20 @@ module _ (to : Endpoint) (id : ℕ) where
   copied_mirrors at [] [] m = tt
   copied_mirrors at (x ∷ xs) (c ∷ cs) m = copied_one at x xs c (copied_con at to id cs) (same to id c.to c.id) m.0 m.1
       (copied_mirrors at xs cs m.2)
-  copied_mirrors at [] (c ∷ cs) m = absurd m
-  copied_mirrors at (x ∷ xs) [] m = absurd m
+  copied_mirrors at _ _ m = absurd m
 
 with_mirrors : (xs : List Separate) (cs : List Open) (x : Separate) (c : Open) → x.to ≡ c.to → x.id.0 ≡ c.id
     → Mirrors xs cs → Mirrors (xs ++ x ∷ []) (cs ++ c ∷ [])
 with_mirrors [] [] x c p q m = (p, q, tt)
 with_mirrors (y ∷ xs) (d ∷ cs) x c p q m = (m.0, m.1, with_mirrors xs cs x c p q m.2)
-with_mirrors [] (d ∷ cs) x c p q m = absurd m
-with_mirrors (y ∷ xs) [] x c p q m = absurd m
+with_mirrors _ _ x c p q m = absurd m
 
 busy_mirrors : (to : Endpoint) (xs : List Separate) (cs : List Open) → Mirrors xs cs
     → is_waited_for to xs ≡ is_busy to cs
 busy_mirrors to [] [] m = refl
 busy_mirrors to (x ∷ xs) (c ∷ cs) m = ap (λ p. same_endpoint p to || is_waited_for to xs) m.0
     ∙ ap (λ b. same_endpoint c.to to || b) (busy_mirrors to xs cs m.2)
-busy_mirrors to [] (c ∷ cs) m = absurd m
-busy_mirrors to (x ∷ xs) [] m = absurd m
+busy_mirrors to _ _ m = absurd m
 
 outstanding_mirrors : (to : Endpoint) (id : ℕ) (xs : List Separate) (cs : List Open) → Mirrors xs cs
     → list_any (goes_to to id) xs ≡ is_outstanding to id cs
@@ -99,8 +96,7 @@ outstanding_mirrors to id (x ∷ xs) (c ∷ cs) m =
     ap (λ p. same to id p x.id.0 || list_any (goes_to to id) xs) m.0
     ∙ (ap (λ n. same to id c.to n || list_any (goes_to to id) xs) m.1
     ∙ ap (λ b. same to id c.to c.id || b) (outstanding_mirrors to id xs cs m.2))
-outstanding_mirrors to id [] (c ∷ cs) m = absurd m
-outstanding_mirrors to id (x ∷ xs) [] m = absurd m
+outstanding_mirrors to id _ _ m = absurd m
 
 -- what each call of the layer leaves
 module _ (at : ℕ) (out : List T.Packet) (xs : List Separate) (cs : List Open) (m : Mirrors xs cs) where
@@ -189,49 +185,49 @@ room_mirrors now (Some d) room old new xs h m =
     still h.0 new now (T.Room d.asked.from) (T.Is room) xs h.2 (λ at out c. refl) (λ at. refl)
     (subst (λ (z : L.State). Mirrors xs z.open_cons) (sym h.1) m)
 
-pub mirrors : (word : ℕ) (t : List Call) (h : L.State) → Steps (L.start (L.usual word)) (lower_of t) h
+pub mirrors : (setup : Setup) (t : List Call) (h : L.State) → Steps (L.start setup) (lower_of t) h
     → Mirrors (own_of t).separate h.open_cons
-mirrors word [] h steps = subst (λ (z : L.State). Mirrors [] z.open_cons) (sym steps) tt
-mirrors word (Incoming now from bytes up answer ∷ t) h steps =
+mirrors setup [] h steps = subst (λ (z : L.State). Mirrors [] z.open_cons) (sym steps) tt
+mirrors setup (Incoming now from bytes up answer ∷ t) h steps =
     let s : Own = own_of t in
-    let parts = steps_split (L.start (L.usual word)) h (lower s (Incoming now from bytes up answer)) (lower_of t) steps in
+    let parts = steps_split (L.start setup) h (lower s (Incoming now from bytes up answer)) (lower_of t) steps in
     let more = steps_split parts.0 h (replying from (id_in up) (reject_by up))
     (asked now (T.Receive from bytes) up ∷ []) parts.2 in
     let mid : L.State = more.1.0 in
     let at : ℕ = max mid.clock now in
     let old : Mirrors s.separate mid.open_cons =
-    subst (λ (z : L.State). Mirrors s.separate z.open_cons) (sym more.1.1) (mirrors word t parts.0 parts.1) in
+    subst (λ (z : L.State). Mirrors s.separate z.open_cons) (sym more.1.1) (mirrors setup t parts.0 parts.1) in
     let here : Mirrors (separate_after from up s.separate) more.0.open_cons =
     subst (Mirrors (separate_after from up s.separate))
     (sym (step_opens mid more.0 now (T.Receive from bytes) up more.1.2))
     (arrival_mirrors at (out_of mid at (T.Receive from bytes)) s.separate mid.open_cons old from bytes up) in
     subst (Mirrors (separate_after from up s.separate))
     (sym (replying_opens from (id_in up) (reject_by up) more.0 h more.2).1) here
-mirrors word (Answers a r below ∷ t) h steps =
+mirrors setup (Answers a r below ∷ t) h steps =
     answered_mirrors a.kind (own_of t) a r below steps.0 h (own_of t).clock (own_of t).separate steps.2
-    (mirrors word t steps.0 steps.1)
-mirrors word (Defers now a delay answer ∷ t) h steps =
+    (mirrors setup t steps.0 steps.1)
+mirrors setup (Defers now a delay answer ∷ t) h steps =
     let s : Own = own_of t in
-    let parts = steps_split (L.start (L.usual word)) h (lower s (Defers now a delay answer)) (lower_of t) steps in
+    let parts = steps_split (L.start setup) h (lower s (Defers now a delay answer)) (lower_of t) steps in
     let more = steps_split parts.0 h (deferring (may_defer s.deferred) a) (asked now T.Pass T.Nothing ∷ []) parts.2 in
     let old : Mirrors s.separate more.1.0.open_cons =
-    subst (λ (z : L.State). Mirrors s.separate z.open_cons) (sym more.1.1) (mirrors word t parts.0 parts.1) in
+    subst (λ (z : L.State). Mirrors s.separate z.open_cons) (sym more.1.1) (mirrors setup t parts.0 parts.1) in
     deferring_mirrors (may_defer s.deferred) a more.0 h s.separate more.2
     (still more.1.0 more.0 now T.Pass T.Nothing s.separate more.1.2 (λ at out c. refl) (λ at. refl) old)
-mirrors word (Ticks now below room answer ∷ t) h steps =
+mirrors setup (Ticks now below room answer ∷ t) h steps =
     let s : Own = own_of t in
-    let parts = steps_split (L.start (L.usual word)) h (lower s (Ticks now below room answer)) (lower_of t) steps in
+    let parts = steps_split (L.start setup) h (lower s (Ticks now below room answer)) (lower_of t) steps in
     let more = steps_split parts.0 h (asking_room now (ready_if below (ready_at s now)) room)
     (asked now T.Ticks below ∷ []) parts.2 in
     let mid : L.State = more.1.0 in
     let at : ℕ = max mid.clock now in
     let old : Mirrors s.separate mid.open_cons =
-    subst (λ (z : L.State). Mirrors s.separate z.open_cons) (sym more.1.1) (mirrors word t parts.0 parts.1) in
+    subst (λ (z : L.State). Mirrors s.separate z.open_cons) (sym more.1.1) (mirrors setup t parts.0 parts.1) in
     let here : Mirrors (separate_unless below s.separate) more.0.open_cons =
     subst (Mirrors (separate_unless below s.separate)) (sym (step_opens mid more.0 now T.Ticks below more.1.2))
     (tick_mirrors at (out_of mid at T.Ticks) s.separate mid.open_cons old below) in
     room_mirrors now (ready_if below (ready_at s now)) room more.0 h (separate_unless below s.separate) more.2 here
-mirrors word (Responds now a r w id ∷ t) h steps =
+mirrors setup (Responds now a r w id ∷ t) h steps =
     let s : Own = own_of t in
     let mid : L.State = steps.0 in
     let call : T.Call = T.Confirm a.from (content_of a r) w in
@@ -240,11 +236,11 @@ mirrors word (Responds now a r w id ∷ t) h steps =
     (sym (step_opens mid h now call (T.Sent id) steps.2
     ∙ ap (λ z. z ++ option_to_list (begun_in at call (T.Sent id)))
     (left_same (entry_of at call (T.Sent id) (out_of mid at call)) (λ c. refl) mid.open_cons)))
-    (with_mirrors s.separate mid.open_cons _ _ refl refl (mirrors word t mid steps.1))
-mirrors word (Ready now to answer ∷ t) h steps =
+    (with_mirrors s.separate mid.open_cons _ _ refl refl (mirrors setup t mid steps.1))
+mirrors setup (Ready now to answer ∷ t) h steps =
     still steps.0 h now (T.Room to) (T.Is answer) (own_of t).separate steps.2 (λ at out c. refl) (λ at. refl)
-    (mirrors word t steps.0 steps.1)
-mirrors word (Notifies now to token r w id ∷ t) h steps =
+    (mirrors setup t steps.0 steps.1)
+mirrors setup (Notifies now to token r w id ∷ t) h steps =
     let s : Own = own_of t in
     let mid : L.State = steps.0 in
     let call : T.Call = T.Confirm to (content_with token r) w in
@@ -253,16 +249,16 @@ mirrors word (Notifies now to token r w id ∷ t) h steps =
     (sym (step_opens mid h now call (T.Sent id) steps.2
     ∙ ap (λ z. z ++ option_to_list (begun_in at call (T.Sent id)))
     (left_same (entry_of at call (T.Sent id) (out_of mid at call)) (λ c. refl) mid.open_cons)))
-    (with_mirrors s.separate mid.open_cons _ _ refl refl (mirrors word t mid steps.1))
-mirrors word (NotifiesPlain now to token r id ∷ t) h steps =
+    (with_mirrors s.separate mid.open_cons _ _ refl refl (mirrors setup t mid steps.1))
+mirrors setup (NotifiesPlain now to token r id ∷ t) h steps =
     still steps.0 h now (T.Plain to (content_with token r)) (T.Sent id) (own_of t).separate steps.2 (λ at out c. refl)
-    (λ at. refl) (mirrors word t steps.0 steps.1)
-mirrors word (Take answer ∷ t) h steps = still steps.0 h 0 T.Take (T.Gives answer) (own_of t).separate steps.2
-    (λ at out c. refl) (λ at. refl) (mirrors word t steps.0 steps.1)
+    (λ at. refl) (mirrors setup t steps.0 steps.1)
+mirrors setup (Take answer ∷ t) h steps = still steps.0 h 0 T.Take (T.Gives answer) (own_of t).separate steps.2
+    (λ at out c. refl) (λ at. refl) (mirrors setup t steps.0 steps.1)
 
-pub waits : (word : ℕ) (t : List Call) (law : ResponseLaw word t) → WaitsForOutstanding word t law
-waits word t law to = busy_mirrors to (own_of t).separate law.left.open_cons (mirrors word t law.left law.layer)
+pub waits : (setup : Setup) (t : List Call) (law : ResponseLaw setup t) → WaitsForOutstanding setup t law
+waits setup t law to = busy_mirrors to (own_of t).separate law.left.open_cons (mirrors setup t law.left law.layer)
 
-pub waits_for : (word : ℕ) (t : List Call) (h : L.State) → Steps (L.start (L.usual word)) (lower_of t) h
+pub waits_for : (setup : Setup) (t : List Call) (h : L.State) → Steps (L.start setup) (lower_of t) h
     → (to : Endpoint) (id : ℕ) → list_any (goes_to to id) (own_of t).separate ≡ is_outstanding to id h.open_cons
-waits_for word t h steps to id = outstanding_mirrors to id (own_of t).separate h.open_cons (mirrors word t h steps)
+waits_for setup t h steps to id = outstanding_mirrors to id (own_of t).separate h.open_cons (mirrors setup t h steps)

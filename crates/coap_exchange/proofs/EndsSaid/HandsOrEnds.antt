@@ -15,22 +15,7 @@ use Rattle.coap_exchange.specs.AnswererTells.{HandsOrEnds}
 pub none_ended : (from : Endpoint) (up : T.Answer) (p : Asked × Message) (xs : List Separate)
     → Some p ≡ handed_up from up → reset_by from up xs ≡ None
 none_ended from (T.Becomes (T.Reset id)) p xs e = absurd (cc e)
-none_ended from (T.Becomes (T.Request m k)) p xs e = refl
-none_ended from (T.Becomes (T.Response m)) p xs e = refl
-none_ended from (T.Becomes (T.Acked id)) p xs e = refl
-none_ended from (T.Becomes T.Dropped) p xs e = refl
-none_ended from (T.Becomes (T.Unmatched id)) p xs e = refl
-none_ended from (T.Becomes T.Replayed) p xs e = refl
-none_ended from (T.Becomes T.Rejected) p xs e = refl
-none_ended from T.Nothing p xs e = refl
-none_ended from (T.Is holds) p xs e = refl
-none_ended from (T.Sent id) p xs e = refl
-none_ended from T.Busied p xs e = refl
-none_ended from T.NoIds p xs e = refl
-none_ended from T.Idle p xs e = refl
-none_ended from (T.Copied to id) p xs e = refl
-none_ended from (T.Expired to id) p xs e = refl
-none_ended from (T.Gives packet) p xs e = refl
+none_ended from _ p xs e = refl
 
 by : (past : List Call) (now : ℕ) (from : Endpoint) (bytes : List ℕ) (up : T.Answer) (answer : Option (Asked × Message))
     → answer ≡ handed_up from up

@@ -8,8 +8,7 @@ use Rattle.coap_types.proofs.Facts.Endpoints.{same_endpoint_self}
 use Rattle.coap_layer.specs.Trace as L
 use Rattle.coap_exchange.specs.declared.answerer.Ended.{Ended}
 use Rattle.coap_exchange.specs.declared.separate.Separate.{Separate}
-use Rattle.coap_exchange.specs.AnswererTrace.{Call, Incoming, Answers, Defers, Ticks, Responds, Ready, Notifies, Take}
-use Rattle.coap_exchange.specs.AnswererTrace.{NotifiesPlain}
+use Rattle.coap_exchange.specs.AnswererTrace.{Call, Incoming, Ticks, Responds, Notifies}
 use Rattle.coap_exchange.specs.AnswererSteps.{goes_to, found, ended_as, separate_of, without_separate, separate_after}
 use Rattle.coap_exchange.specs.AnswererSteps.{separate_unless, reset_by, failed_by}
 use Rattle.coap_exchange.specs.AnswererLaw.{own_of}
@@ -67,33 +66,11 @@ module _ (x : Ended) (ys : List Separate) where
   arrival_fewer : (from : Endpoint) (up : L.Answer) → Fewer (reset_by from up ys) (separate_after from up ys)
   arrival_fewer from (L.Becomes (L.Acked id)) = let l = less x from id ys in omega (arith, l)
   arrival_fewer from (L.Becomes (L.Reset id)) = found_less x from id ys
-  arrival_fewer from (L.Becomes (L.Response m)) = omega arith
-  arrival_fewer from (L.Becomes (L.Request m k)) = omega arith
-  arrival_fewer from (L.Becomes L.Dropped) = omega arith
-  arrival_fewer from (L.Becomes (L.Unmatched id)) = omega arith
-  arrival_fewer from (L.Becomes L.Replayed) = omega arith
-  arrival_fewer from (L.Becomes L.Rejected) = omega arith
-  arrival_fewer from L.Nothing = omega arith
-  arrival_fewer from (L.Is holds) = omega arith
-  arrival_fewer from (L.Sent id) = omega arith
-  arrival_fewer from L.Busied = omega arith
-  arrival_fewer from L.NoIds = omega arith
-  arrival_fewer from L.Idle = omega arith
-  arrival_fewer from (L.Copied to id) = omega arith
-  arrival_fewer from (L.Expired to id) = omega arith
-  arrival_fewer from (L.Gives packet) = omega arith
+  arrival_fewer from _ = omega arith
 
   tick_fewer : (below : L.Answer) → Fewer (failed_by below ys) (separate_unless below ys)
   tick_fewer (L.Expired to id) = found_less x to id ys
-  tick_fewer (L.Becomes what) = omega arith
-  tick_fewer L.Nothing = omega arith
-  tick_fewer (L.Is holds) = omega arith
-  tick_fewer (L.Sent id) = omega arith
-  tick_fewer L.Busied = omega arith
-  tick_fewer L.NoIds = omega arith
-  tick_fewer L.Idle = omega arith
-  tick_fewer (L.Copied to id) = omega arith
-  tick_fewer (L.Gives packet) = omega arith
+  tick_fewer _ = omega arith
 
 -- what was said and what is outstanding was sent
 abbrev Sent : List Call → Type 0
@@ -131,20 +108,16 @@ module _ (t : List Call) (sent : Sent t) where
         says_one (Ticks now below room answer) (separate_unless below (own_of t).separate) f,
         λ x. let k = sent x in let l = f x in omega (arith, k, l),
       )
-  on (Answers a r below) = (quiet _ refl, λ x. let k = sent x in omega (arith, k))
-  on (Defers now a delay answer) = (quiet _ refl, λ x. let k = sent x in omega (arith, k))
   on (Responds now a r word id) = (
     quiet _ refl,
     λ x. let k = sent x in let l = hits_with x (own_of t).separate (separate_of a.from id a.token r) in omega
         (arith, k, l),
   )
-  on (Ready now to answer) = (quiet _ refl, λ x. let k = sent x in omega (arith, k))
   on (Notifies now to token r word id) = (
     quiet _ refl,
     λ x. let k = sent x in let l = hits_with x (own_of t).separate (separate_of to id token r) in omega (arith, k, l),
   )
-  on (NotifiesPlain now to token r id) = (quiet _ refl, λ x. let k = sent x in omega (arith, k))
-  on (Take answer) = (quiet _ refl, λ x. let k = sent x in omega (arith, k))
+  on _ = (quiet _ refl, λ x. let k = sent x in omega (arith, k))
 
 said : (t : List Call) → EndsOnce t × Sent t
 said [] = (tt, λ x. omega arith)

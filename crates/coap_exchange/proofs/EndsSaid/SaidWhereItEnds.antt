@@ -38,6 +38,7 @@ use Rattle.coap_exchange.specs.AskerArrivals.{id_in, replying}
 use Rattle.coap_layer.proofs.Facts.StepsOfLayer.{steps_split}
 use Rattle.coap_exchange.proofs.EndsSaid.AreOutstanding.{waits, waits_for}
 use Rattle.std.proofs.lemmas.Bool.{and_parts}
+use Rattle.coap_layer.specs.declared.setup.Setup.{Setup}
 
 -- the layer says of an outstanding CON alone that it was rejected
 
@@ -46,9 +47,8 @@ IfReset n o (T.Reset id) = (n ≡ id) × (o ≡ true)
 IfReset n o _ = Unit {0}
 
 again_reset : (n : ℕ) (o : Bool) (a : T.Disposition) → IfReset n o a → (r f : Bool) → IfReset n o (again_or r f a)
-again_reset n o a h true f = tt
-again_reset n o a h false true = tt
 again_reset n o a h false false = h
+again_reset n o a h _ _ = tt
 
 up_resets : (kind : Kind) (c : Role) (m : Message) (o r f i : Bool) → IfReset m.id o (up_of kind c m o r f i)
 up_resets Con role.Empty m o r f i = tt
@@ -211,21 +211,7 @@ arrives t now from bytes answer (T.Becomes (T.Reset id)) last some =
     (record { ended = f.one; said = f.is; last = f.last }, last_without t from id (own_of t).separate last)
 arrives t now from bytes answer (T.Becomes (T.Acked id)) last some =
     (refl, last_without t from id (own_of t).separate last)
-arrives t now from bytes answer (T.Becomes (T.Response m)) last some = (refl, last)
-arrives t now from bytes answer (T.Becomes (T.Request m k)) last some = (refl, last)
-arrives t now from bytes answer (T.Becomes T.Dropped) last some = (refl, last)
-arrives t now from bytes answer (T.Becomes (T.Unmatched id)) last some = (refl, last)
-arrives t now from bytes answer (T.Becomes T.Replayed) last some = (refl, last)
-arrives t now from bytes answer (T.Becomes T.Rejected) last some = (refl, last)
-arrives t now from bytes answer T.Nothing last some = (refl, last)
-arrives t now from bytes answer (T.Is holds) last some = (refl, last)
-arrives t now from bytes answer (T.Sent id) last some = (refl, last)
-arrives t now from bytes answer T.Busied last some = (refl, last)
-arrives t now from bytes answer T.NoIds last some = (refl, last)
-arrives t now from bytes answer T.Idle last some = (refl, last)
-arrives t now from bytes answer (T.Copied to id) last some = (refl, last)
-arrives t now from bytes answer (T.Expired to id) last some = (refl, last)
-arrives t now from bytes answer (T.Gives packet) last some = (refl, last)
+arrives t now from bytes answer _ last some = (refl, last)
 
 passes : (t : List Call) (now : ℕ) (room : Bool) (answer : _) (below : T.Answer) → AllLast t (own_of t).separate
     → ((to : Endpoint) (id : ℕ) → below ≡ T.Expired to id → list_any (goes_to to id) (own_of t).separate ≡ true)
@@ -233,22 +219,14 @@ passes : (t : List Call) (now : ℕ) (room : Bool) (answer : _) (below : T.Answe
 passes t now room answer (T.Expired to id) last some =
     let f = find to id t (own_of t).separate last (some to id refl) in
     (record { ended = f.one; said = f.is; last = f.last }, last_without t to id (own_of t).separate last)
-passes t now room answer (T.Becomes what) last some = (refl, last)
-passes t now room answer T.Nothing last some = (refl, last)
-passes t now room answer (T.Is holds) last some = (refl, last)
-passes t now room answer (T.Sent id) last some = (refl, last)
-passes t now room answer T.Busied last some = (refl, last)
-passes t now room answer T.NoIds last some = (refl, last)
-passes t now room answer T.Idle last some = (refl, last)
-passes t now room answer (T.Copied to id) last some = (refl, last)
-passes t now room answer (T.Gives packet) last some = (refl, last)
+passes t now room answer _ last some = (refl, last)
 
 -- a CON that is sent began where none was outstanding
 sent_alone : (busy free : Bool) (n id : ℕ) → T.Sent id ≡ cond busy T.Busied (sending free n) → busy ≡ false
 sent_alone true free n id h = absurd (cc h)
 sent_alone false free n id h = refl
 
-module _ (word : ℕ) (t : List Call) (rows : AnswererLaw t) (last : AllLast t (own_of t).separate) where
+module _ (setup : Setup) (t : List Call) (rows : AnswererLaw t) (last : AllLast t (own_of t).separate) where
   abbrev xs : List Separate
   xs = (own_of t).separate
 
@@ -259,38 +237,38 @@ module _ (word : ℕ) (t : List Call) (rows : AnswererLaw t) (last : AllLast t (
       → is_waited_for x.to xs ≡ false → AllLast (c ∷ t) (xs ++ x ∷ [])
   begun_on c x is sent idle = last_with (c ∷ t) xs x (begun_last c x.to is t xs idle last) (inl sent)
 
-  on : (c : Call) (h : L.State) → Steps (L.start (L.usual word)) (lower_of (c ∷ t)) h → On c
+  on : (c : Call) (h : L.State) → Steps (L.start setup) (lower_of (c ∷ t)) h → On c
   on (Incoming now from bytes up answer) h steps =
       let s : Own = own_of t in
-      let parts = steps_split (L.start (L.usual word)) h (lower s (Incoming now from bytes up answer)) (lower_of t) steps in
+      let parts = steps_split (L.start setup) h (lower s (Incoming now from bytes up answer)) (lower_of t) steps in
       let more = steps_split parts.0 h (replying from (id_in up) (reject_by up))
       (asked now (T.Receive from bytes) up ∷ []) parts.2 in
-      let under : Steps (L.start (L.usual word)) (lower_of t) more.1.0 =
-      subst (Steps (L.start (L.usual word)) (lower_of t)) (sym more.1.1) parts.1 in
-      let k = arrives t now from bytes answer up last (λ id e. waits_for word t more.1.0 under from id
+      let under : Steps (L.start setup) (lower_of t) more.1.0 =
+      subst (Steps (L.start setup) (lower_of t)) (sym more.1.1) parts.1 in
+      let k = arrives t now from bytes answer up last (λ id e. waits_for setup t more.1.0 under from id
       ∙ reset_open more.1.0 (max more.1.0.clock now) from id (arrival_at bytes)
       (became (answer_to more.1.0 (max more.1.0.clock now) from (arrival_at bytes)) (T.Reset id)
       (sym more.1.2.right ∙ e))) in
       (k.0, still_last (Incoming now from bytes up answer) refl t (separate_after from up xs) k.1)
   on (Ticks now below room answer) h steps =
       let s : Own = own_of t in
-      let parts = steps_split (L.start (L.usual word)) h (lower s (Ticks now below room answer)) (lower_of t) steps in
+      let parts = steps_split (L.start setup) h (lower s (Ticks now below room answer)) (lower_of t) steps in
       let more = steps_split parts.0 h (asking_room now (ready_if below (ready_at s now)) room)
       (asked now T.Ticks below ∷ []) parts.2 in
-      let under : Steps (L.start (L.usual word)) (lower_of t) more.1.0 =
-      subst (Steps (L.start (L.usual word)) (lower_of t)) (sym more.1.1) parts.1 in
-      let k = passes t now room answer below last (λ to id e. waits_for word t more.1.0 under to id
+      let under : Steps (L.start setup) (lower_of t) more.1.0 =
+      subst (Steps (L.start setup) (lower_of t)) (sym more.1.1) parts.1 in
+      let k = passes t now room answer below last (λ to id e. waits_for setup t more.1.0 under to id
       ∙ failed_open (max more.1.0.clock now) to id more.1.0.open_cons (sym more.1.2.right ∙ e)) in
       (k.0, still_last (Ticks now below room answer) refl t (separate_unless below xs) k.1)
   on (Responds now a r w id) h steps =
-      let idle = waits word t (record { rows = rows; left = steps.0; layer = steps.1 }) a.from
+      let idle = waits setup t (record { rows = rows; left = steps.0; layer = steps.1 }) a.from
       ∙ sent_alone (is_busy a.from steps.0.open_cons) _ _ id steps.2.right in (
         refl,
         begun_on (Responds now a r w id) (separate_of a.from id a.token r) refl
             (record { there = refl; sent = refl }) idle,
       )
   on (Notifies now to token r w id) h steps =
-      let idle = waits word t (record { rows = rows; left = steps.0; layer = steps.1 }) to
+      let idle = waits setup t (record { rows = rows; left = steps.0; layer = steps.1 }) to
       ∙ sent_alone (is_busy to steps.0.open_cons) _ _ id steps.2.right in (
         refl,
         begun_on (Notifies now to token r w id) (separate_of to id token r) refl
@@ -302,14 +280,14 @@ module _ (word : ℕ) (t : List Call) (rows : AnswererLaw t) (last : AllLast t (
   on (NotifiesPlain now to token r id) h steps = (refl, still_last (NotifiesPlain now to token r id) refl t xs last)
   on (Take answer) h steps = (refl, still_last (Take answer) refl t xs last)
 
-told_so : (word : ℕ) (t : List Call) → AnswererLaw t → (h : L.State) → Steps (L.start (L.usual word)) (lower_of t) h
+told_so : (setup : Setup) (t : List Call) → AnswererLaw t → (h : L.State) → Steps (L.start setup) (lower_of t) h
     → EndsTold t × AllLast t (own_of t).separate
-told_so word [] rows h steps = (tt, tt)
-told_so word (c ∷ t) rows h steps =
-    let parts = steps_split (L.start (L.usual word)) h (lower (own_of t) c) (lower_of t) steps in
-    let earlier = told_so word t rows.1 parts.0 parts.1 in
-    let here = on word t rows.1 earlier.1 c h steps in
+told_so setup [] rows h steps = (tt, tt)
+told_so setup (c ∷ t) rows h steps =
+    let parts = steps_split (L.start setup) h (lower (own_of t) c) (lower_of t) steps in
+    let earlier = told_so setup t rows.1 parts.0 parts.1 in
+    let here = on setup t rows.1 earlier.1 c h steps in
     ((here.0, earlier.0), here.1)
 
-pub told : (word : ℕ) (t : List Call) → ResponseLaw word t → EndsTold t
-told word t law = (told_so word t law.rows law.left law.layer).0
+pub told : (setup : Setup) (t : List Call) → ResponseLaw setup t → EndsTold t
+told setup t law = (told_so setup t law.rows law.left law.layer).0

@@ -5,8 +5,6 @@ use Rattle.coap_exchange.specs.AnswererTrace.{NotifiesPlain}
 use Rattle.coap_exchange.specs.AnswererTells.{UnmatchedTold}
 
 pub unmatched_told : (t : List Call) → UnmatchedTold t
-unmatched_told [] = refl
-unmatched_told (Incoming now from bytes up answer ∷ t) = refl
 unmatched_told (Answers a r below ∷ t) = unmatched_told t
 unmatched_told (Defers now a delay answer ∷ t) = unmatched_told t
 unmatched_told (Ticks now below room answer ∷ t) = unmatched_told t
@@ -15,3 +13,4 @@ unmatched_told (Ready now to answer ∷ t) = unmatched_told t
 unmatched_told (Notifies now to token r word id ∷ t) = unmatched_told t
 unmatched_told (NotifiesPlain now to token r id ∷ t) = unmatched_told t
 unmatched_told (Take answer ∷ t) = unmatched_told t
+unmatched_told _ = refl

@@ -5,20 +5,16 @@ use Rattle.std.proofs.lemmas.Map.Views.{any-filter_same}
 use Rattle.std.proofs.lemmas.List.Folds.{list_any-append}
 use Rattle.coap_exchange.specs.Tokens.{same_token, is_kept, max_kept, may_keep, kept_with, kept_without}
 use Rattle.coap_exchange.proofs.Facts.SameToken.{same_token_is}
+use Rattle.std.proofs.Math.Bool.{or-false as or_false}
 
 pub without_is : (t token : List ℕ) (kept : List (List ℕ))
     → is_kept token (kept_without t kept) ≡ (not (same_token t token) && is_kept token kept)
 without_is t token kept = any-filter_same (same_token token) (λ other. not (same_token t other))
     (not (same_token t token)) (λ k h. ap (λ x. not (same_token t x)) (sym (same_token_is token k h))) kept
 
-or_false : (b : Bool) → (b || false) ≡ b
-or_false true = refl
-or_false false = refl
-
 or_implied : (a b : Bool) → (b ≡ true → a ≡ true) → a ≡ (a || b)
-or_implied true b f = refl
 or_implied false true f = absurd (cc (f refl))
-or_implied false false f = refl
+or_implied _ _ f = refl
 
 kept_or : (t token : List ℕ) (kept : List (List ℕ)) → is_kept t kept ≡ true
     → is_kept token kept ≡ (is_kept token kept || same_token token t)

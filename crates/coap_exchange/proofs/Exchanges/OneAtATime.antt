@@ -7,10 +7,10 @@ use Rattle.coap_layer.specs.Trace as L
 use Rattle.coap_exchange.specs.declared.asker.Event.{Event}
 use Rattle.coap_exchange.specs.declared.asker.Event.TheVariants as event
 use Rattle.coap_exchange.specs.declared.matching.Verdict.{Verdict}
-use Rattle.coap_exchange.specs.declared.matching.Verdict.TheVariants.{Ignore, Reject, Acknowledge, AnswerCon, Answer}
-use Rattle.coap_exchange.specs.declared.matching.Verdict.TheVariants.{NoticeCon, Notice, Await, EndByReset}
+use Rattle.coap_exchange.specs.declared.matching.Verdict.TheVariants.{AnswerCon, Answer}
+use Rattle.coap_exchange.specs.declared.matching.Verdict.TheVariants.{NoticeCon, Notice, EndByReset}
 use Rattle.coap_exchange.specs.declared.asker.Exchange.{Exchange}
-use Rattle.coap_exchange.specs.AskerTrace.{Request, Own, Call, Ask, Receive, Ticks, Keep, Release, Take}
+use Rattle.coap_exchange.specs.AskerTrace.{Request, Own, Call, Ask, Receive, Keep, Release}
 use Rattle.coap_exchange.specs.AskerSteps.{IsRight, after}
 use Rattle.coap_exchange.specs.AskerArrivals.{told, verdict_on}
 use Rattle.coap_exchange.specs.AskerRequests.{opened, opening_of, sent_as}
@@ -22,6 +22,8 @@ use Rattle.coap_exchange.proofs.Exchanges.KeptLemmas.{without_is, with_is}
 use Rattle.coap_exchange.proofs.Facts.Verdicts.{Fits, verdict_fits}
 use Rattle.coap_exchange.proofs.Facts.Moves as move
 use Rattle.coap_exchange.proofs.Facts.Moves.{token_in, Moves, moves}
+use Rattle.coap_layer.specs.declared.setup.Setup.{Setup}
+use Rattle.std.proofs.lemmas.Bool.{and_parts}
 
 -- the exchange that runs is the one that the words find
 pub record Runs (t : List Call) (running : Option Exchange) : Type 0 where
@@ -82,10 +84,6 @@ pub record Keeps (t : List Call) (kept : List (List ℕ)) : Type 0 where
 or_split : (a b : Bool) → (a || b) ≡ true → (a ≡ true) ⊎ (b ≡ true)
 or_split true b h = inl refl
 or_split false b h = inr h
-
-and_parts : (a b : Bool) → (a && b) ≡ true → (a ≡ true) × (b ≡ true)
-and_parts true b h = (refl, h)
-and_parts false b h = absurd (cc h)
 
 or_left : (a b : Bool) → a ≡ true → (a || b) ≡ true
 or_left a b h = rw h refl
@@ -188,11 +186,9 @@ opened_kept s r (Some id) = refl
 keeps_next : (s : Own) (t : List Call) (c : Call) → IsRight s c → Keeps t s.kept → Keeps (c ∷ t) (after s c).kept
 keeps_next s t (Ask now r word below answer) right k =
     subst (Keeps _) (sym (opened_kept s r (sent_as (opening_of s r) below))) (keeps_still t s.kept k _ refl refl)
-keeps_next s t (Receive now from bytes up settled answer) right k = keeps_still t s.kept k _ refl refl
-keeps_next s t (Ticks now below answer) right k = keeps_still t s.kept k _ refl refl
 keeps_next s t (Keep token answer) right k = keep_on t s.kept k token answer answer refl right
 keeps_next s t (Release token answer) right k = release_on t s.kept k token answer answer refl right
-keeps_next s t (Take answer) right k = keeps_still t s.kept k _ refl refl
+keeps_next s t _ right k = keeps_still t s.kept k _ refl refl
 
 -- a notification has a kept token
 module _ (s : Own) (t : List Call) (k : Keeps t s.kept) (now : ℕ) (from : Endpoint) (bytes : List ℕ) (up : L.Answer)
@@ -209,43 +205,36 @@ module _ (s : Own) (t : List Call) (k : Keeps t s.kept) (now : ℕ) (from : Endp
       ∙ h in let same : n ≡ m = cc e in subst (λ (x : Message). Kept x.token t) same (k.held n.token kept)
 
   notice_by : (v : Verdict) → Fits s from up v → answer ≡ told v up → told_of answer ≡ Some m → Kept m.token t
-  notice_by Ignore f right h = not_noticed None right refl h
-  notice_by Reject f right h = not_noticed None right refl h
-  notice_by Acknowledge f right h = not_noticed None right refl h
-  notice_by Await f right h = not_noticed None right refl h
   notice_by EndByReset f right h = not_noticed _ right refl h
   notice_by AnswerCon f right h = not_noticed _ (right ∙ ap (told AnswerCon) f.is) refl h
   notice_by Answer f right h = not_noticed _ (right ∙ ap (told Answer) f.is) refl h
   notice_by NoticeCon f right h = as_noticed f.message (right ∙ ap (told NoticeCon) f.is) f.kept h
   notice_by Notice f right h = as_noticed f.message (right ∙ ap (told Notice) f.is) f.kept h
+  notice_by _ f right h = not_noticed None right refl h
 
 notice_of : (s : Own) (t : List Call) (c : Call) → IsRight s c → Keeps t s.kept → (m : Message) → noticed c ≡ Some m
     → Kept m.token t
-notice_of s t (Ask now r word below answer) right k m h = absurd (cc h)
 notice_of s t (Receive now from bytes up settled answer) right k m h =
     notice_by s t k now from bytes up settled answer m (verdict_on s from up) (verdict_fits s from up) right h
-notice_of s t (Ticks now below answer) right k m h = absurd (cc h)
-notice_of s t (Keep token answer) right k m h = absurd (cc h)
-notice_of s t (Release token answer) right k m h = absurd (cc h)
-notice_of s t (Take answer) right k m h = absurd (cc h)
+notice_of s t _ right k m h = absurd (cc h)
 
 -- what the words find
 pub record Known (t : List Call) (s : Own) : Type 0 where
   pub runs : Runs t s.running
   pub keeps_them : Keeps t s.kept
 
-pub known : (server : Endpoint) (word : ℕ) (t : List Call) → AskerLaw server word t
-    → AreExchanges t × Known t (own_of server word t)
-known server word [] law = (
+pub known : (server : Endpoint) (setup : Setup) (t : List Call) → AskerLaw server setup t
+    → AreExchanges t × Known t (own_of server setup t)
+known server setup [] law = (
   tt,
   record {
     runs = record { opens = λ token h. absurd (cc h); runs_it = λ token o. absurd o };
     keeps_them = record { held = λ token h. absurd (cc h); holds = λ token h. absurd h };
   },
 )
-known server word (c ∷ t) law =
-    let earlier = known server word t law.1 in
-    let s : Own = own_of server word t in
+known server setup (c ∷ t) law =
+    let earlier = known server setup t law.1 in
+    let s : Own = own_of server setup t in
     let here = runs_on t c s.running (after s c).running earlier.1.runs (moves s c law.0) in (
       (
         record {

@@ -25,6 +25,7 @@ use Rattle.coap_exchange.proofs.Ending.NoEarlier.{fits}
 use Rattle.coap_layer.proofs.Facts.StepsOfLayer.{steps_split}
 use Rattle.coap_exchange.specs.Machine.Outstanding.{Lone}
 use Rattle.coap_exchange.proofs.Facts.Moves.{token_in, not_running}
+use Rattle.coap_layer.specs.declared.setup.Setup.{Setup}
 
 -- the layer beneath is not busy where nothing is outstanding
 not_busied : (cs : List OpenCon) (server : Endpoint) (free : Bool) (id : ℕ) → cs ≡ []
@@ -68,19 +69,19 @@ token_running : (running : Option Exchange) (token : List ℕ) → token_in runn
 token_running None token h = absurd (cc h)
 token_running (Some x) token h = refl
 
-module _ (server : Endpoint) (word : ℕ) where
+module _ (server : Endpoint) (setup : Setup) where
   module _ (t : List Call) (now w : ℕ) (r : Request) (below : T.Answer) (answer : Result (List ℕ) AskRefusal)
-      (law : AskerLaw server word (Ask now r w below answer ∷ t)) (h : L.State)
-      (steps : Steps (L.start (L.usual word)) (lower_of server word (Ask now r w below answer ∷ t)) h) where
+      (law : AskerLaw server setup (Ask now r w below answer ∷ t)) (h : L.State)
+      (steps : Steps (L.start setup) (lower_of server setup (Ask now r w below answer ∷ t)) h) where
     abbrev s : Own
-    s = own_of server word t
+    s = own_of server setup t
 
     quiet_if_sends : opening_of s r ≡ Sends → is_busied below ≡ false
     quiet_if_sends opens =
         let mid : L.State = steps.0 in
-        let old = fits server word t law.1 mid steps.1 in
+        let old = fits server setup t law.1 mid steps.1 in
         let none : mid.open_cons ≡ [] = subst (λ running. Lone s.server running
-        (last_begun server word t) mid.open_cons) (not_running s r opens) old.lone in
+        (last_begun server setup t) mid.open_cons) (not_running s r opens) old.lone in
         let step : L.Step mid now (T.Confirm s.server (content_of (request_token s r) r) w) below h =
         subst (λ o. L.Step mid now (beneath o s.server (content_of (request_token s r) r) w) below h) opens steps.2
         in
@@ -91,24 +92,24 @@ module _ (server : Endpoint) (word : ℕ) where
     runs_if_told is =
         let running = running_by s r below (opening_of s r) refl quiet_if_sends (sym law.0 ∙ is) in
         let token = some_running s.running running in
-        (token.0, (known server word t law.1).1.runs.opens token.0 token.1)
+        (token.0, (known server setup t law.1).1.runs.opens token.0 token.1)
 
     told_if_runs : (token : List ℕ) → Open token t → answer ≡ Err refusal.Running
     told_if_runs token open_now = law.0 ∙ refused_where s r below
-        (token_running s.running token ((known server word t law.1).1.runs.runs_it token open_now))
+        (token_running s.running token ((known server setup t law.1).1.runs.runs_it token open_now))
 
-  pub refused : (t : List Call) → AskerLaw server word t → (h : L.State)
-      → Steps (L.start (L.usual word)) (lower_of server word t) h → AreRefused t
+  pub refused : (t : List Call) → AskerLaw server setup t → (h : L.State)
+      → Steps (L.start setup) (lower_of server setup t) h → AreRefused t
   refused [] law h steps = tt
   refused (c ∷ t) law h steps =
-      let parts = steps_split (L.start (L.usual word)) h (lower (own_of server word t) c) (lower_of server word t) steps in (
+      let parts = steps_split (L.start setup) h (lower (own_of server setup t) c) (lower_of server setup t) steps in (
         record {
           runs = λ now w r below is.
-              runs_if_told t now w r below (Err refusal.Running) (subst (λ d. AskerLaw server word (d ∷ t)) is law) h
-              (subst (λ d. Steps (L.start (L.usual word)) (lower_of server word (d ∷ t)) h) is steps) refl;
+              runs_if_told t now w r below (Err refusal.Running) (subst (λ d. AskerLaw server setup (d ∷ t)) is law) h
+              (subst (λ d. Steps (L.start setup) (lower_of server setup (d ∷ t)) h) is steps) refl;
           told = λ now w r below answer token is open_now.
-              told_if_runs t now w r below answer (subst (λ d. AskerLaw server word (d ∷ t)) is law) h
-              (subst (λ d. Steps (L.start (L.usual word)) (lower_of server word (d ∷ t)) h) is steps) token open_now;
+              told_if_runs t now w r below answer (subst (λ d. AskerLaw server setup (d ∷ t)) is law) h
+              (subst (λ d. Steps (L.start setup) (lower_of server setup (d ∷ t)) h) is steps) token open_now;
         },
         refused t law.1 parts.0 parts.1,
       )

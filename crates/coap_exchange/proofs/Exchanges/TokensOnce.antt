@@ -6,11 +6,12 @@ use Rattle.coap_types.specs.Past.{Ever}
 use Rattle.coap_types.specs.declared.endpoint.Endpoint.{Endpoint}
 use Rattle.coap_layer.specs.Trace as L
 use Rattle.coap_layer.specs.Words.{sent_by}
+use Rattle.coap_layer.specs.declared.setup.Setup.{Setup}
 use Rattle.coap_exchange.specs.declared.asker.AskRefusal.{AskRefusal}
 use Rattle.coap_exchange.specs.declared.asker.AskRefusal.TheVariants as refusal
 use Rattle.coap_exchange.specs.declared.matching.Opening.{Opening}
 use Rattle.coap_exchange.specs.declared.matching.Opening.TheVariants.{Running, Spent, Sends}
-use Rattle.coap_exchange.specs.AskerTrace.{Request, Own, Call, Ask, Receive, Ticks, Keep, Release, Take}
+use Rattle.coap_exchange.specs.AskerTrace.{Request, Own, Call, Ask}
 use Rattle.coap_exchange.specs.AskerSteps.{IsRight, after}
 use Rattle.coap_exchange.specs.AskerRequests.{opening, opening_of, opened, sent_as, request_token, token_or, is_busied}
 use Rattle.coap_exchange.specs.AskerRequests.{send_refusal, sent_answer, ask_answer}
@@ -71,9 +72,8 @@ module _ (s : Own) (now : ℕ) (r : Request) (word : ℕ) (below : L.Answer) (an
   sent_not_spent (Some id) h = cc h
 
   spent_if : (running spent cancel : Bool) → opening running spent cancel ≡ Spent → spent ≡ true
-  spent_if true spent cancel h = absurd (cc h)
   spent_if false true cancel h = refl
-  spent_if false false cancel h = absurd (cc h)
+  spent_if _ _ cancel h = absurd (cc h)
 
   spent_by : (o : Opening) → opening_of s r ≡ o → ask_answer o below (request_token s r) ≡ Err refusal.TokensSpent
       → is_spent s.given ≡ true
@@ -93,20 +93,12 @@ gives_of s (Ask now r word below answer) right =
         → Gives s (after s (Ask now r word below answer)) (Ask now r word below answer)
     moved (gives f left n w) = gives f left n w
     moved (gives_none f n w) = gives_none f n w
-gives_of s (Receive now from bytes up settled answer) right = gives_none refl refl refl
-gives_of s (Ticks now below answer) right = gives_none refl refl refl
-gives_of s (Keep token answer) right = gives_none refl refl refl
-gives_of s (Release token answer) right = gives_none refl refl refl
-gives_of s (Take answer) right = gives_none refl refl refl
+gives_of s _ right = gives_none refl refl refl
 
 cancel_of : (s : Own) (c : Call) → IsRight s c → (token : List ℕ) → cancels c ≡ Some token → Begins token c
 cancel_of s (Ask now r word below answer) right token h =
     cancel_is s now r word below answer (ask_row s r below answer right) token h
-cancel_of s (Receive now from bytes up settled answer) right token h = absurd (cc h)
-cancel_of s (Ticks now below answer) right token h = absurd (cc h)
-cancel_of s (Keep k answer) right token h = absurd (cc h)
-cancel_of s (Release k answer) right token h = absurd (cc h)
-cancel_of s (Take answer) right token h = absurd (cc h)
+cancel_of s _ right token h = absurd (cc h)
 
 spent_of : (s : Own) (c : Call) → IsRight s c → (now w : ℕ) (r : Request) (below : L.Answer)
     → c ≡ Ask now r w below (Err refusal.TokensSpent) → s.given ≡ 2 ^ 64 - 1
@@ -122,12 +114,7 @@ fresh_or_cancel (Ask now r word below (Ok x)) token h = by r.token refl
         ⊎ ((y : List ℕ) × (cancels (Ask now r word below (Ok x)) ≡ Some y))
     by None none = inl (ap (λ y. unless_cancel y x) none ∙ h)
     by (Some y) is = inr (y, is)
-fresh_or_cancel (Ask now r word below (Err e)) token h = absurd (cc h)
-fresh_or_cancel (Receive now from bytes up settled answer) token h = absurd (cc h)
-fresh_or_cancel (Ticks now below answer) token h = absurd (cc h)
-fresh_or_cancel (Keep k answer) token h = absurd (cc h)
-fresh_or_cancel (Release k answer) token h = absurd (cc h)
-fresh_or_cancel (Take answer) token h = absurd (cc h)
+fresh_or_cancel _ token h = absurd (cc h)
 
 -- what the words find
 pub record Counted (word : ℕ) (t : List Call) (s : Own) : Type 0 where
@@ -207,9 +194,9 @@ module _ (word : ℕ) (t : List Call) (s : Own) (c : Call) (new : Own) (known : 
     },
   )
 
-pub counted : (server : Endpoint) (word : ℕ) (t : List Call) → AskerLaw server word t
-    → AreTokens word t × Counted word t (own_of server word t)
-counted server word [] law = (
+pub counted : (server : Endpoint) (setup : Setup) (t : List Call) → AskerLaw server setup t
+    → AreTokens setup.word t × Counted setup.word t (own_of server setup t)
+counted server setup [] law = (
   tt,
   record {
     word_is = refl;
@@ -218,10 +205,10 @@ counted server word [] law = (
     each = λ token h. absurd h;
   },
 )
-counted server word (c ∷ t) law =
-    let earlier = counted server word t law.1 in
-    let s : Own = own_of server word t in
-    let here = counted_on word t s c (after s c) earlier.1 earlier.0 (gives_of s c law.0) (cancel_of s c law.0) in (
+counted server setup (c ∷ t) law =
+    let earlier = counted server setup t law.1 in
+    let s : Own = own_of server setup t in
+    let here = counted_on setup.word t s c (after s c) earlier.1 earlier.0 (gives_of s c law.0) (cancel_of s c law.0) in (
       (
         (here.0, record { spent = λ now w r below is. sym earlier.1.given ∙ spent_of s c law.0 now w r below is }),
         earlier.0,

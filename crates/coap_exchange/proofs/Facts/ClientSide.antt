@@ -1,5 +1,5 @@
 -- The law of the client's side: what leads to it, and what follows from it.
-use Rattle.std.proofs.Common.{ℕ, List}
+use Rattle.std.proofs.Common.{List}
 use Rattle.coap_types.specs.declared.endpoint.Endpoint.{Endpoint}
 use Rattle.coap_exchange.specs.AskerTrace.{Call}
 use Rattle.coap_exchange.specs.AskerLaw.{AskerLaw, ExchangeLaw}
@@ -8,6 +8,7 @@ use Rattle.coap_exchange.proofs.Exchanges.OneAtATime.{known}
 use Rattle.coap_exchange.specs.AskerTells.{AreRefused}
 use Rattle.coap_exchange.proofs.Exchanges.TokensOnce.{counted}
 use Rattle.coap_exchange.proofs.Exchanges.RefusedWhileOneRuns.{refused}
+use Rattle.coap_layer.specs.declared.setup.Setup.{Setup}
 pub use Rattle.coap_exchange.proofs.Leading.ClientLeads.{led_start, led_call, led_exchanged, led_law, layer_stands}
 pub use Rattle.coap_exchange.proofs.Leading.ClientLeads.{exchanged_join, exchanged_split, exchanged_own}
 pub use Rattle.coap_exchange.proofs.Exact.ClientExactly.{exact}
@@ -16,11 +17,11 @@ pub use Rattle.coap_exchange.proofs.Telling.ResponsesMatch.{matched}
 pub use Rattle.coap_exchange.proofs.Ending.WhenDue.{when_due}
 pub use Rattle.coap_exchange.proofs.Resting.ClientRests.{rests_led, turns_led}
 
-pub are_exchanges : (server : Endpoint) (word : ℕ) (t : List Call) → AskerLaw server word t → AreExchanges t
-are_exchanges server word t law = (known server word t law).0
+pub are_exchanges : (server : Endpoint) (setup : Setup) (t : List Call) → AskerLaw server setup t → AreExchanges t
+are_exchanges server setup t law = (known server setup t law).0
 
-pub are_tokens : (server : Endpoint) (word : ℕ) (t : List Call) → AskerLaw server word t → AreTokens word t
-are_tokens server word t law = (counted server word t law).0
+pub are_tokens : (server : Endpoint) (setup : Setup) (t : List Call) → AskerLaw server setup t → AreTokens setup.word t
+are_tokens server setup t law = (counted server setup t law).0
 
-pub are_refused : (server : Endpoint) (word : ℕ) (t : List Call) → ExchangeLaw server word t → AreRefused t
-are_refused server word t law = refused server word t law.rows law.left law.layer
+pub are_refused : (server : Endpoint) (setup : Setup) (t : List Call) → ExchangeLaw server setup t → AreRefused t
+are_refused server setup t law = refused server setup t law.rows law.left law.layer

@@ -12,12 +12,12 @@ use Rattle.coap_exchange.specs.declared.asker.Turn.{Turn}
 use Rattle.coap_exchange.specs.declared.asker.Turn.TheVariants as turn
 use Rattle.coap_exchange.specs.declared.asker.AskRefusal.{AskRefusal}
 use Rattle.coap_exchange.specs.declared.matching.Opening.{Opening}
-use Rattle.coap_exchange.specs.declared.matching.Opening.TheVariants.{Running, Spent, Sends}
+use Rattle.coap_exchange.specs.declared.matching.Opening.TheVariants.{Sends}
 use Rattle.coap_exchange.specs.declared.matching.Verdict.{Verdict}
 use Rattle.coap_exchange.specs.declared.matching.Verdict.TheVariants.{Ignore, Reject, Acknowledge, AnswerCon, Answer}
 use Rattle.coap_exchange.specs.declared.matching.Verdict.TheVariants.{NoticeCon, Notice, Await, EndByReset}
 use Rattle.coap_exchange.specs.declared.asker.Exchange.{Exchange}
-use Rattle.coap_exchange.specs.AskerTrace.{Request, Own, Call, Ask, Receive, Ticks, Keep, Release, Take}
+use Rattle.coap_exchange.specs.AskerTrace.{Request, Own, Call, Ask, Receive, Ticks}
 use Rattle.coap_exchange.specs.AskerSteps.{IsRight, after}
 use Rattle.coap_exchange.specs.AskerRequests.{opening, opening_of, opened, sent_as, send_refusal, sent_answer}
 use Rattle.coap_exchange.specs.AskerRequests.{ask_answer, request_token}
@@ -39,12 +39,9 @@ module _ (s : Own) (r : Request) (below : L.Answer) (answer : Result (List ℕ) 
 
   row_by : (o : Opening) → opening_of s r ≡ o → answer ≡ ask_answer (opening_of s r) below (request_token s r)
       → AskRow s r below answer
-  row_by Running is right = refused _ (right ∙ ap (λ w. ask_answer w below (request_token s r)) is)
-      (ap (λ w. sent_as w below) is)
-  row_by Spent is right = refused _ (right ∙ ap (λ w. ask_answer w below (request_token s r)) is)
-      (ap (λ w. sent_as w below) is)
   row_by Sends is right = sends_row is (sent_by below) refl
       (right ∙ ap (λ w. ask_answer w below (request_token s r)) is)
+  row_by _ is right = refused _ (right ∙ ap (λ w. ask_answer w below (request_token s r)) is) (ap (λ w. sent_as w below) is)
 
 pub ask_row : (s : Own) (r : Request) (below : L.Answer) (answer : Result (List ℕ) AskRefusal)
     → answer ≡ ask_answer (opening_of s r) below (request_token s r) → AskRow s r below answer
@@ -59,9 +56,8 @@ pub not_running : (s : Own) (r : Request) → opening_of s r ≡ Sends → s.run
 not_running s r h = idle_if_sends s.running (is_spent s.given) (is_some r.token) h
 
 left_if_sends : (running spent : Bool) → opening running spent false ≡ Sends → spent ≡ false
-left_if_sends true spent h = absurd (cc h)
-left_if_sends false true h = absurd (cc h)
 left_if_sends false false h = refl
+left_if_sends _ _ h = absurd (cc h)
 
 pub not_spent : (s : Own) (r : Request) → r.token ≡ None → opening_of s r ≡ Sends → is_spent s.given ≡ false
 not_spent s r none h = left_if_sends (is_some s.running) (is_spent s.given)
@@ -139,9 +135,7 @@ module _ (s : Own) where
   tick_moves now below turn.Copied f = keeps refl refl refl refl
   tick_moves now below (turn.End event.Timeout) f = stops f.3.exchange refl refl (λ m h. absurd (cc h)) f.3.runs refl
   tick_moves now below (turn.End event.NoResponse) f = stops f.0 refl refl (λ m h. absurd (cc h)) f.1 refl
-  tick_moves now below (turn.End event.Reset) f = absurd f
-  tick_moves now below (turn.End (event.Answer m)) f = absurd f
-  tick_moves now below (turn.End (event.Notice m)) f = absurd f
+  tick_moves now below _ f = absurd f
 
 pub moves : (s : Own) (c : Call) → IsRight s c → Moves s.running (after s c).running c
 moves s (Ask now r word below answer) right = ask_moves s now r word below answer (ask_row s r below answer right)
@@ -150,6 +144,4 @@ moves s (Receive now from bytes up settled answer) right =
 moves s (Ticks now below answer) right =
     subst (λ a. Moves s.running (running_unless a s.running) (Ticks now below a)) (sym right)
     (tick_moves s now below (turn_of s (max s.clock now) below) (turn_fits s (max s.clock now) below))
-moves s (Keep token answer) right = keeps refl refl refl refl
-moves s (Release token answer) right = keeps refl refl refl refl
-moves s (Take answer) right = keeps refl refl refl refl
+moves s _ right = keeps refl refl refl refl

@@ -20,9 +20,8 @@ is_handed e = is_some (handed e)
 
 step : (o : Option Incoming) (b : Bool) (x y : ℕ) → x ≡ y
     → elim o [ Some m ↦ (if b then 1 + x else x) | None ↦ x ] ≡ cond (is_some o && b) (1 + y) y
-step None b x y e = e
 step (Some m) true x y e = ap (λ n. 1 + n) e
-step (Some m) false x y e = e
+step _ _ x y e = e
 
 came_counts : (u : ℕ) (t : List Entry) → came_since u t ≡ count_since clock is_handed u t
 came_counts u [] = refl

@@ -5,7 +5,7 @@ use Rattle.std.specs.Option.{option_map}
 use Rattle.std.proofs.lemmas.Bool.{cases_lt}
 use Rattle.coap_types.specs.declared.endpoint.Endpoint.{Endpoint}
 use Rattle.coap_types.specs.declared.message.Kind.{Kind}
-use Rattle.coap_types.specs.declared.message.Kind.TheVariants.{Con, Non, Ack, Rst}
+use Rattle.coap_types.specs.declared.message.Kind.TheVariants.{Con}
 use Rattle.coap_codec.specs.Message.{Message}
 use Rattle.coap_layer.specs.Machine.State as L
 use Rattle.coap_layer.specs.Machine.State.{made, tick_of}
@@ -13,6 +13,7 @@ use Rattle.coap_layer.specs.Machine.Steps.{Asked as Below, Steps, left_after, en
 use Rattle.coap_layer.specs.Taking.{issued_since, came_since}
 use Rattle.coap_layer.specs.Trace as T
 use Rattle.coap_layer.specs.Trace.{Entry}
+use Rattle.coap_layer.specs.declared.setup.Setup.{Setup}
 use Rattle.coap_layer.specs.Words.{clock, handed, handed_in, numbers}
 use Rattle.coap_layer.proofs.Facts.Calls.{steps_left}
 use Rattle.coap_layer.proofs.Facts.StepsOfLayer.{steps_split}
@@ -32,6 +33,7 @@ use Rattle.coap_exchange.proofs.Ids.CountsOfFew.{since_one}
 use Rattle.coap_exchange.proofs.Ids.FewGive.{came_grows, came_one, at_most_one, gives_none, none_issued, tick_none}
 use Rattle.coap_exchange.proofs.Leading.ServerLeads.{layer_stands}
 use Rattle.coap_exchange.proofs.Responding.OneResponse.{counted}
+use Rattle.coap_exchange.proofs.Responding.OneResponse.{length_with as longer_by_one}
 
 -- how many wait for their responses
 abbrev pending_in : Option Asked → ℕ
@@ -56,35 +58,15 @@ module _ (at : ℕ) (xs : List Separate) (a : Asked) where
       by true f h = omega arith
       by false f h = let k = f h in omega (arith, k)
 
-longer_by_one : (ds : List Deferred) (d : Deferred) → length (ds ++ d ∷ []) ≡ length ds + 1
-longer_by_one [] d = refl
-longer_by_one (e ∷ ds) d = let h = longer_by_one ds d in omega (arith, h)
-
 -- what is handed up, the layer handed up
 handed_when : (from : Endpoint) (bytes : List ℕ) (up : T.Answer) (pair : Asked × Message)
     → handed_up from up ≡ Some pair → is_some (handed_in (T.Receive from bytes) up) ≡ true
 handed_when from bytes (T.Becomes (T.Request m true)) pair h = refl
-handed_when from bytes (T.Becomes (T.Request m false)) pair h = absurd (cc h)
-handed_when from bytes (T.Becomes (T.Response m)) pair h = absurd (cc h)
-handed_when from bytes (T.Becomes T.Dropped) pair h = absurd (cc h)
-handed_when from bytes (T.Becomes T.Replayed) pair h = absurd (cc h)
-handed_when from bytes (T.Becomes T.Rejected) pair h = absurd (cc h)
-handed_when from bytes (T.Becomes (T.Acked id)) pair h = absurd (cc h)
-handed_when from bytes (T.Becomes (T.Reset id)) pair h = absurd (cc h)
-handed_when from bytes (T.Becomes (T.Unmatched id)) pair h = absurd (cc h)
-handed_when from bytes T.Nothing pair h = absurd (cc h)
-handed_when from bytes (T.Is holds) pair h = absurd (cc h)
-handed_when from bytes (T.Sent id) pair h = absurd (cc h)
-handed_when from bytes T.Busied pair h = absurd (cc h)
-handed_when from bytes T.NoIds pair h = absurd (cc h)
-handed_when from bytes T.Idle pair h = absurd (cc h)
-handed_when from bytes (T.Copied to id) pair h = absurd (cc h)
-handed_when from bytes (T.Expired to id) pair h = absurd (cc h)
-handed_when from bytes (T.Gives packet) pair h = absurd (cc h)
+handed_when from bytes _ pair h = absurd (cc h)
 
-module _ (word : ℕ) where
+module _ (setup : Setup) where
   abbrev begin : L.State
-  begin = L.start (L.usual word)
+  begin = L.start setup
 
   abbrev reached : List Call → L.State
   reached t = left_after begin (lower_of t)
@@ -123,17 +105,12 @@ module _ (word : ℕ) where
         let n : max (max (reached t).clock now) now ≡ max (own_of t).clock now = omega (arith, k) in n
 
     answers : (a : Asked) (r : Response) (kind : Kind)
-        → clock (made (reached t) (own_of t).clock (answering (own_of t) kind a r) ∷ below_of word t)
+        → clock (made (reached t) (own_of t).clock (answering (own_of t) kind a r) ∷ below_of setup t)
         ≡ (own_of t).clock
     answers a r Con = before
-    answers a r Non = let k = before in let n : max (reached t).clock (own_of t).clock ≡ (own_of t).clock =
-        omega (arith, k) in n
-    answers a r Ack = let k = before in let n : max (reached t).clock (own_of t).clock ≡ (own_of t).clock =
-        omega (arith, k) in n
-    answers a r Rst = let k = before in let n : max (reached t).clock (own_of t).clock ≡ (own_of t).clock =
-        omega (arith, k) in n
+    answers a r _ = let k = before in let n : max (reached t).clock (own_of t).clock ≡ (own_of t).clock = omega (arith, k) in n
 
-    clock_next : (c : Call) → clock (below_of word (c ∷ t)) ≡ (own_of (c ∷ t)).clock
+    clock_next : (c : Call) → clock (below_of setup (c ∷ t)) ≡ (own_of (c ∷ t)).clock
     clock_next (Incoming now from bytes up answer) = incoming now from bytes up (id_in up) (reject_by up)
     clock_next (Answers a r below) = answers a r a.kind
     clock_next (Defers now a delay answer) = defers now a (may_defer (own_of t).deferred)
@@ -144,14 +121,14 @@ module _ (word : ℕ) where
     clock_next (NotifiesPlain now to token r id) = later now
     clock_next (Take answer) = before
 
-  pub clock_is : (t : List Call) → clock (below_of word t) ≡ (own_of t).clock
+  pub clock_is : (t : List Call) → clock (below_of setup t) ≡ (own_of t).clock
   clock_is [] = refl
   clock_is (c ∷ t) = clock_next t (reached_clock (lower_of t) ∙ clock_is t) c
 
   -- each Message ID that was given since has a request that came since, or a notification; but for those that waited
   abbrev Potential : ℕ → List Call → Type 0
-  Potential u t = issued_since u (numbers (below_of word t)) + waiting_in (own_of t)
-      ≤ most_waiting + came_since u (below_of word t) + notified_since u t
+  Potential u t = issued_since u (numbers (below_of setup t)) + waiting_in (own_of t)
+      ≤ most_waiting + came_since u (below_of setup t) + notified_since u t
 
   module _ (u : ℕ) (t : List Call) (old : Potential u t) where
     abbrev s : Own
@@ -180,16 +157,16 @@ module _ (word : ℕ) where
             (handed_when from bytes up p h)
 
         go : (answer : Option (Asked × Message)) → answer ≡ handed_up from up
-            → issued_then (below_of word t) + waiting_in (after s (Incoming now from bytes up answer))
-            ≤ most_waiting + came_since u (e ∷ below_of word t) + notified_since u t
-        go None right = let g = came_grows u e (below_of word t) in omega (arith, old, g)
+            → issued_then (below_of setup t) + waiting_in (after s (Incoming now from bytes up answer))
+            ≤ most_waiting + came_since u (e ∷ below_of setup t) + notified_since u t
+        go None right = let g = came_grows u e (below_of setup t) in omega (arith, old, g)
         go (Some p) right =
-            let g = came_one u e (below_of word t) (up_is p (sym right)) late in
+            let g = came_one u e (below_of setup t) (up_is p (sym right)) late in
             omega (arith, old, g)
 
         by : (o : Option (List ℕ))
-            → issued_then (below_of word t) + waiting_in (after s (Incoming now from bytes up answer))
-            ≤ most_waiting + came_since u (e ∷ below_of word t) + notified_since u t
+            → issued_then (below_of setup t) + waiting_in (after s (Incoming now from bytes up answer))
+            ≤ most_waiting + came_since u (e ∷ below_of setup t) + notified_since u t
             → issued_then (entries begin
             ((replying from id o ++ asked now (T.Receive from bytes) up ∷ []) ++ lower_of t))
             + waiting_in (after s (Incoming now from bytes up answer))
@@ -203,8 +180,8 @@ module _ (word : ℕ) where
         → Potential u (Answers a r below ∷ t)
     answers_on a r below is =
         let e : Entry = made (reached t) s.clock (answering s a.kind a r) in
-        let one = at_most_one u e (below_of word t) in
-        let g = came_grows u e (below_of word t) in
+        let one = at_most_one u e (below_of setup t) in
+        let g = came_grows u e (below_of setup t) in
         let w : pending_in s.pending ≡ 1 = ap pending_in is in
         omega (arith, old, one, g, w)
 
@@ -220,8 +197,8 @@ module _ (word : ℕ) where
         d : Deferred
         d = record { asked = a; at = record { 0 = max s.clock now }; delay = delay }
 
-        go : (answer : Bool) → issued_then (below_of word t) + waiting_in (after s (Defers now a delay answer))
-            ≤ most_waiting + came_since u (below_of word t) + notified_since u t
+        go : (answer : Bool) → issued_then (below_of setup t) + waiting_in (after s (Defers now a delay answer))
+            ≤ most_waiting + came_since u (below_of setup t) + notified_since u t
         go true =
             let l = longer_by_one s.deferred d in
             let w : pending_in s.pending ≡ 1 = ap pending_in is in
@@ -229,8 +206,8 @@ module _ (word : ℕ) where
         go false = old
 
         by : (b : Bool)
-            → issued_then (below_of word t) + waiting_in (after s (Defers now a delay answer))
-            ≤ most_waiting + came_since u (below_of word t) + notified_since u t
+            → issued_then (below_of setup t) + waiting_in (after s (Defers now a delay answer))
+            ≤ most_waiting + came_since u (below_of setup t) + notified_since u t
             → issued_then (entries begin
             ((deferring b a ++ asked now T.Pass T.Nothing ∷ []) ++ lower_of t))
             + waiting_in (after s (Defers now a delay answer))
@@ -251,8 +228,8 @@ module _ (word : ℕ) where
         e : Entry
         e = made (reached t) now T.Ticks
 
-        none : issued_then (e ∷ below_of word t) ≡ issued_then (below_of word t)
-        none = gives_none u e (below_of word t) (tick_none (max (reached t).clock now) (reached t).open_cons)
+        none : issued_then (e ∷ below_of setup t) ≡ issued_then (below_of setup t)
+        none = gives_none u e (below_of setup t) (tick_none (max (reached t).clock now) (reached t).open_cons)
 
         by : (o : Option Deferred)
             → issued_then (entries begin
@@ -261,19 +238,19 @@ module _ (word : ℕ) where
             ((asking_room now o room ++ asked now T.Ticks below ∷ []) ++ lower_of t))
             + notified_since u t
         by None =
-            let k : issued_then (e ∷ below_of word t) + length s.deferred
-            ≤ most_waiting + came_since u (below_of word t) + notified_since u t = omega (arith, old, none) in
+            let k : issued_then (e ∷ below_of setup t) + length s.deferred
+            ≤ most_waiting + came_since u (below_of setup t) + notified_since u t = omega (arith, old, none) in
             k
         by (Some d) =
-            let k : issued_then (e ∷ below_of word t) + length s.deferred
-            ≤ most_waiting + came_since u (below_of word t) + notified_since u t = omega (arith, old, none) in
+            let k : issued_then (e ∷ below_of setup t) + length s.deferred
+            ≤ most_waiting + came_since u (below_of setup t) + notified_since u t = omega (arith, old, none) in
             k
 
     responds_on : (now : ℕ) (a : Asked) (r : Response) (w id : ℕ)
         → option_map (λ (d : Deferred). d.asked) (ready_at s now) ≡ Some a → Potential u (Responds now a r w id ∷ t)
     responds_on now a r w id is =
         let e : Entry = made (reached t) now (T.Confirm a.from (content_of a r) w) in
-        let one = at_most_one u e (below_of word t) in
+        let one = at_most_one u e (below_of setup t) in
         let l = one_less (max s.clock now) s.separate a s.deferred is in
         omega (arith, old, one, l)
 
@@ -281,7 +258,7 @@ module _ (word : ℕ) where
         → u ≤ max s.clock now → Potential u (Notifies now to token r w id ∷ t)
     notifies_on now to token r w id late =
         let e : Entry = made (reached t) now (T.Confirm to (content_with token r) w) in
-        let one = at_most_one u e (below_of word t) in
+        let one = at_most_one u e (below_of setup t) in
         let n = since_one (λ past. (own_of past).clock) notifies u (Notifies now to token r w id) t refl late in
         omega (arith, old, one, n)
 
@@ -289,13 +266,13 @@ module _ (word : ℕ) where
         → u ≤ max s.clock now → Potential u (NotifiesPlain now to token r id ∷ t)
     plain_on now to token r id late =
         let e : Entry = made (reached t) now (T.Plain to (content_with token r)) in
-        let one = at_most_one u e (below_of word t) in
+        let one = at_most_one u e (below_of setup t) in
         let n = since_one (λ past. (own_of past).clock) notifies u (NotifiesPlain now to token r id) t refl late in
         omega (arith, old, one, n)
 
     -- a call at that moment or later
     on : (c : Call) → IsRight s c → (h : L.State) → Steps begin (lower_of (c ∷ t)) h
-        → u ≤ clock (below_of word (c ∷ t)) → Potential u (c ∷ t)
+        → u ≤ clock (below_of setup (c ∷ t)) → Potential u (c ∷ t)
     on (Incoming now from bytes up answer) right h steps late =
         let parts = steps_split begin h (lower s (Incoming now from bytes up answer)) (lower_of t)
         steps in
@@ -313,13 +290,12 @@ module _ (word : ℕ) where
     on (Ticks now below room answer) right h steps late =
         let k = ticks_on now below room (ready_if below (ready_at s now)) in omega (arith, k)
     on (Responds now a r w id) right h steps late = responds_on now a r w id right.0
-    on (Ready now to answer) right h steps late = old
     on (Notifies now to token r w id) right h steps late =
         notifies_on now to token r w id
         (subst (λ n. u ≤ n) (clock_is (Notifies now to token r w id ∷ t)) late)
     on (NotifiesPlain now to token r id) right h steps late =
         plain_on now to token r id (subst (λ n. u ≤ n) (clock_is (NotifiesPlain now to token r id ∷ t)) late)
-    on (Take answer) right h steps late = old
+    on _ right h steps late = old
 
   pending_few : (o : Option Asked) → pending_in o ≤ 1
   pending_few None = omega arith
@@ -332,15 +308,15 @@ module _ (word : ℕ) where
       ⊎_elim early
       (λ late. (let parts = steps_split begin h (lower (own_of t) c) (lower_of t) steps in
       on u t (potential u t law.1 parts.0 parts.1) c law.0 h steps (omega (arith, late))))
-      (cases_lt (clock (below_of word (c ∷ t))) u)
+      (cases_lt (clock (below_of setup (c ∷ t))) u)
     where
-      early : clock (below_of word (c ∷ t)) < u → Potential u (c ∷ t)
+      early : clock (below_of setup (c ∷ t)) < u → Potential u (c ∷ t)
       early less =
-          let none = none_issued (L.usual word) u (below_of word (c ∷ t))
-          (layer_stands word (c ∷ t) (record { rows = law; left = h; layer = steps })) less in
+          let none = none_issued setup u (below_of setup (c ∷ t))
+          (layer_stands setup (c ∷ t) (record { rows = law; left = h; layer = steps })) less in
           let few = (counted (c ∷ t) law).1.few in
           let one = pending_few (own_of (c ∷ t)).pending in
           omega (arith, none, few, one)
 
-  pub ids_counted : (t : List Call) → ResponseLaw word t → IdsCounted word t
+  pub ids_counted : (t : List Call) → ResponseLaw setup t → IdsCounted setup t
   ids_counted t law u = let k = potential u t law.rows law.left law.layer in omega (arith, k)

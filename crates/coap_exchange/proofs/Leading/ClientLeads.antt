@@ -1,5 +1,5 @@
 -- One call more, for all calls of the client's side.
-use Rattle.std.proofs.Common.{◌≡◌, ℕ, List, [], ◌∷◌, ◌++◌, subst, refl}
+use Rattle.std.proofs.Common.{◌≡◌, List, [], ◌∷◌, ◌++◌, subst, refl}
 use Rattle.std.proofs.lemmas.List.{append-nil}
 use Rattle.coap_types.specs.declared.endpoint.Endpoint.{Endpoint}
 use Rattle.coap_layer.specs.Machine.State as L
@@ -13,16 +13,17 @@ use Rattle.coap_exchange.specs.AskerTrace.{start, Call}
 use Rattle.coap_exchange.specs.AskerSteps.{lower, IsRight, after}
 use Rattle.coap_exchange.specs.AskerLaw.{lower_of, below_of, fresh_state, ExchangeLaw, State, Step, Exchanged, Led}
 use Rattle.coap_layer.proofs.Facts.StepsOfLayer.{steps_join}
+use Rattle.coap_layer.specs.declared.setup.Setup.{Setup}
 
-pub led_call : (server : Endpoint) (word : ℕ) (t : List Call) (c : Call) (old new : State) → Led server word t old
-    → Step old c new → Led server word (c ∷ t) new
-led_call server word t c old new led step = above_call IsRight after lower Steps (start server word)
-    (L.start (L.usual word)) steps_join t c old new led step
+pub led_call : (server : Endpoint) (setup : Setup) (t : List Call) (c : Call) (old new : State) → Led server setup t old
+    → Step old c new → Led server setup (c ∷ t) new
+led_call server setup t c old new led step = above_call IsRight after lower Steps (start server setup.word)
+    (L.start setup) steps_join t c old new led step
 
-pub led_exchanged : (server : Endpoint) (word : ℕ) (t calls : List Call) (old new : State) → Led server word t old
-    → Exchanged old calls new → Led server word (calls ++ t) new
-led_exchanged server word t calls old new led h =
-    above_chain IsRight after lower Steps (start server word) (L.start (L.usual word)) steps_join t calls old new led h
+pub led_exchanged : (server : Endpoint) (setup : Setup) (t calls : List Call) (old new : State) → Led server setup t old
+    → Exchanged old calls new → Led server setup (calls ++ t) new
+led_exchanged server setup t calls old new led h =
+    above_chain IsRight after lower Steps (start server setup.word) (L.start setup) steps_join t calls old new led h
 
 pub exchanged_join : (old mid new : State) (later earlier : List Call) → Exchanged old earlier mid
     → Exchanged mid later new → Exchanged old (later ++ earlier) new
@@ -37,16 +38,16 @@ pub exchanged_own : (old new : State) (calls : List Call) → Exchanged old call
     → new.own ≡ sum_of old.own after calls
 exchanged_own = chain_own IsRight after lower Steps
 
-pub led_law : (server : Endpoint) (word : ℕ) (t : List Call) (s : State) → Led server word t s
-    → ExchangeLaw server word t
-led_law server word t s led = record { rows = led.rows; left = s.layer; layer = led.layer }
+pub led_law : (server : Endpoint) (setup : Setup) (t : List Call) (s : State) → Led server setup t s
+    → ExchangeLaw server setup t
+led_law server setup t s led = record { rows = led.rows; left = s.layer; layer = led.layer }
 
-pub led_start : (server : Endpoint) (word : ℕ) → Led server word [] (fresh_state server word)
-led_start server word = record { rows = tt; own_is = refl; layer = refl }
+pub led_start : (server : Endpoint) (setup : Setup) → Led server setup [] (fresh_state server setup)
+led_start server setup = record { rows = tt; own_is = refl; layer = refl }
 
-pub layer_stands : (server : Endpoint) (word : ℕ) (t : List Call) → ExchangeLaw server word t
-    → LayerLaw (L.usual word) (below_of server word t)
-layer_stands server word t law =
-    subst (LayerLaw (L.usual word)) (append-nil (below_of server word t))
-    (led_steps (L.usual word) [] (L.start (L.usual word)) law.left (lower_of server word t)
+pub layer_stands : (server : Endpoint) (setup : Setup) (t : List Call) → ExchangeLaw server setup t
+    → LayerLaw setup (below_of server setup t)
+layer_stands server setup t law =
+    subst (LayerLaw setup) (append-nil (below_of server setup t))
+    (led_steps setup [] (L.start setup) law.left (lower_of server setup t)
     (record { law = tt; kept = refl }) law.layer).law

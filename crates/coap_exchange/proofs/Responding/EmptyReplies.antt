@@ -3,15 +3,13 @@ use Rattle.std.proofs.Common.{◌≡◌, ◌⊎◌, inl, inr, ℕ, Bool, true, f
 use Rattle.std.proofs.Common.{ap, ◌∙◌, cond}
 use Rattle.coap_types.specs.declared.endpoint.Endpoint.{Endpoint}
 use Rattle.coap_types.specs.declared.message.Kind.{Kind}
-use Rattle.coap_types.specs.declared.message.Kind.TheVariants.{Con, Non, Ack, Rst}
+use Rattle.coap_types.specs.declared.message.Kind.TheVariants.{Con, Non, Ack}
 use Rattle.coap_codec.specs.Message.{Message}
 use Rattle.coap_layer.specs.Trace as T
 use Rattle.coap_layer.specs.Words.{is_kept}
 use Rattle.coap_exchange.specs.declared.answerer.Asked.{Asked}
 use Rattle.coap_exchange.specs.declared.separate.Deferred.{Deferred}
-use Rattle.coap_exchange.specs.AnswererTrace.{Response, Own, Call, Incoming, Answers, Defers, Ticks, Responds, Ready}
-use Rattle.coap_exchange.specs.AnswererTrace.{Notifies, Take}
-use Rattle.coap_exchange.specs.AnswererTrace.{NotifiesPlain}
+use Rattle.coap_exchange.specs.AnswererTrace.{Response, Own, Call, Incoming, Answers, Defers, Ticks}
 use Rattle.coap_exchange.specs.AnswererSteps.{reject_by, answering, IsRight, may_defer, deferring, asking_room}
 use Rattle.coap_exchange.specs.AnswererSteps.{ready_if, ready_at}
 use Rattle.coap_exchange.specs.AnswererLaw.{own_of, AnswererLaw}
@@ -50,22 +48,7 @@ rejects from bytes now (T.Becomes (T.Response m)) =
       λ kind. is ∙ (rejected from m).0 kind,
       λ e. is ∙ (rejected from m).1 e,
     )
-rejects from bytes now (T.Becomes (T.Request m kept)) = refl
-rejects from bytes now (T.Becomes (T.Acked id)) = refl
-rejects from bytes now (T.Becomes (T.Reset id)) = refl
-rejects from bytes now (T.Becomes T.Dropped) = refl
-rejects from bytes now (T.Becomes (T.Unmatched id)) = refl
-rejects from bytes now (T.Becomes T.Replayed) = refl
-rejects from bytes now (T.Becomes T.Rejected) = refl
-rejects from bytes now T.Nothing = refl
-rejects from bytes now (T.Is holds) = refl
-rejects from bytes now (T.Sent id) = refl
-rejects from bytes now T.Busied = refl
-rejects from bytes now T.NoIds = refl
-rejects from bytes now T.Idle = refl
-rejects from bytes now (T.Copied to id) = refl
-rejects from bytes now (T.Expired to id) = refl
-rejects from bytes now (T.Gives packet) = refl
+rejects from bytes now _ = refl
 
 none_asked : (now : ℕ) (below : T.Answer) (d : Option Deferred) (room : Bool)
     → replies_in (asking_room now d room ++ asked now T.Ticks below ∷ []) ≡ []
@@ -74,18 +57,15 @@ none_asked now below (Some d) room = refl
 
 defers : (now : ℕ) (a : Asked) (b answer : Bool) → answer ≡ b
     → replies_in (deferring b a ++ asked now T.Pass T.Nothing ∷ []) ≡ cond answer (acknowledging a.from a.id.0) []
-defers now a true true e = refl
-defers now a false false e = refl
 defers now a true false e = absurd (cc e)
 defers now a false true e = absurd (cc e)
+defers now a _ _ e = refl
 
 -- a NON isn't replied to
 no_reply : (s : Own) (kind : Kind) (a : Asked) (r : Response) (below : T.Answer) → (kind ≡ Con → ⊥)
     → replies_in (asked s.clock (answering s kind a r) below ∷ []) ≡ []
 no_reply s Con a r below other = absurd (other refl)
-no_reply s Non a r below other = refl
-no_reply s Ack a r below other = refl
-no_reply s Rst a r below other = refl
+no_reply s _ a r below other = refl
 
 answers : (s : Own) (a : Asked) (r : Response) (below : T.Answer)
     → AnswersIn a r (replies_in (asked s.clock (answering s a.kind a r) below ∷ []))
@@ -100,11 +80,7 @@ rightly t (Answers a r below) right = answers (own_of t) a r below
 rightly t (Defers now a delay true) right = defers now a (may_defer (own_of t).deferred) true right.2
 rightly t (Defers now a delay false) right = defers now a (may_defer (own_of t).deferred) false right.2
 rightly t (Ticks now below room answer) right = none_asked now below (ready_if below (ready_at (own_of t) now)) room
-rightly t (Responds now a r word id) right = refl
-rightly t (Ready now to answer) right = refl
-rightly t (Notifies now to token r word id) right = refl
-rightly t (NotifiesPlain now to token r id) right = refl
-rightly t (Take answer) right = refl
+rightly t _ right = refl
 
 pub are_replied : (t : List Call) → AnswererLaw t → AreReplied t
 are_replied [] law = tt

@@ -92,16 +92,8 @@ small_id a (Incoming now from bytes up (Some p) ∷ t) (inl h) came =
     let id : a.id.0 ≡ p.1.id = ap (λ (x : Asked). x.id.0) (sym same ∙ k.0) in
     let bound = k.1.id in
     omega (arith, id, bound)
-small_id a (Incoming now from bytes up None ∷ t) (inl h) came = absurd (cc h)
-small_id a (Answers b r below ∷ t) (inl h) came = absurd (cc h)
-small_id a (Defers now b delay answer ∷ t) (inl h) came = absurd (cc h)
-small_id a (Ticks now below room answer ∷ t) (inl h) came = absurd (cc h)
-small_id a (Responds now b r setup id ∷ t) (inl h) came = absurd (cc h)
-small_id a (Ready now to answer ∷ t) (inl h) came = absurd (cc h)
-small_id a (Notifies now to token r setup id ∷ t) (inl h) came = absurd (cc h)
-small_id a (NotifiesPlain now to token r id ∷ t) (inl h) came = absurd (cc h)
-small_id a (Take answer ∷ t) (inl h) came = absurd (cc h)
 small_id a (c ∷ t) (inr h) came = small_id a t h came.1
+small_id a _ (inl h) came = absurd (cc h)
 
 -- an answer, by the type of its request
 module _ (setup : Setup) (past : List Entry) (s : Own) (a : Asked) (r : Response) (below : T.Answer) (old : L.State)
@@ -131,50 +123,46 @@ module _ (setup : Setup) (past : List Entry) (s : Own) (a : Asked) (r : Response
       (sent.0, plained setup past (Entered Rst) a.from (content_of a r) sent.0 here (told ∙ sent.1) refl)
 
 -- each call
-module _ (word : ℕ) (t : List Call) (law : AnswererLaw t) (came : AreRequests t) (h : L.State) where
+module _ (setup : Setup) (t : List Call) (law : AnswererLaw t) (came : AreRequests t) (h : L.State) where
   abbrev past : List Entry
-  past = below_of word t
+  past = below_of setup t
 
   abbrev Here : Call → Type 0
-  Here c = GoesBack word t c × IfSome (begins c) (λ to. Busy past to → ⊥)
+  Here c = GoesBack setup t c × IfSome (begins c) (λ to. Busy past to → ⊥)
 
   abbrev entered : ℕ → T.Call → Entry
-  entered now call = made (left_after (L.start (L.usual word)) (lower_of t)) now call
+  entered now call = made (left_after (L.start setup) (lower_of t)) now call
 
-  pub here : (c : Call) → IsRight (own_of t) c → Steps (L.start (L.usual word)) (lower_of (c ∷ t)) h
-      → LayerLaw (L.usual word) (below_of word (c ∷ t)) → Here c
-  here (Incoming now from bytes up answer) right steps stands = (tt, tt)
+  pub here : (c : Call) → IsRight (own_of t) c → Steps (L.start setup) (lower_of (c ∷ t)) h
+      → LayerLaw setup (below_of setup (c ∷ t)) → Here c
   here (Answers a r below) right steps stands =
       let s : Own = own_of t in
       let call : T.Call = answering s a.kind a r in
       let bound = small_id a t ((counted t law).1.pending a right.0) came in
-      let k = answered (L.usual word) past s a r below (left_after (L.start (L.usual word)) (lower_of t)) right.1 bound a.kind right.2
-      (told_by (L.start (L.usual word)) steps.0 h (lower_of t) s.clock call below steps.1 steps.2) stands.0 in (
+      let k = answered setup past s a r below (left_after (L.start setup) (lower_of t)) right.1 bound a.kind right.2
+      (told_by (L.start setup) steps.0 h (lower_of t) s.clock call below steps.1 steps.2) stands.0 in (
         (
           λ e. record { entry = entered s.clock call; makes = refl; sends = k.0 e },
           λ n. let l = k.1 n in (l.0, record { entry = entered s.clock call; makes = refl; sends = l.1 }),
         ),
         tt,
       )
-  here (Defers now a delay answer) right steps stands = (tt, tt)
-  here (Ticks now below room answer) right steps stands = (tt, tt)
   here (Responds now a r w id) right steps stands =
       let call : T.Call = T.Confirm a.from (content_of a r) w in
-      let k = confirmed (L.usual word) past (entered now call) a.from (content_of a r) id stands.0
-      (told_by (L.start (L.usual word)) steps.0 h (lower_of t) now call (T.Sent id) steps.1 steps.2) w refl in
+      let k = confirmed setup past (entered now call) a.from (content_of a r) id stands.0
+      (told_by (L.start setup) steps.0 h (lower_of t) now call (T.Sent id) steps.1 steps.2) w refl in
       (record { entry = entered now call; makes = refl; sends = k.0 }, k.1)
-  here (Ready now to answer) right steps stands = (tt, tt)
   here (Notifies now to token r w id) right steps stands =
       let call : T.Call = T.Confirm to (content_with token r) w in
-      let k = confirmed (L.usual word) past (entered now call) to (content_with token r) id stands.0
-      (told_by (L.start (L.usual word)) steps.0 h (lower_of t) now call (T.Sent id) steps.1 steps.2) w refl in
+      let k = confirmed setup past (entered now call) to (content_with token r) id stands.0
+      (told_by (L.start setup) steps.0 h (lower_of t) now call (T.Sent id) steps.1 steps.2) w refl in
       (record { entry = entered now call; makes = refl; sends = k.0 }, k.1)
   here (NotifiesPlain now to token r id) right steps stands =
       let call : T.Call = T.Plain to (content_with token r) in
-      let k = plained (L.usual word) past (entered now call) to (content_with token r) id stands.0
-      (told_by (L.start (L.usual word)) steps.0 h (lower_of t) now call (T.Sent id) steps.1 steps.2) refl in
+      let k = plained setup past (entered now call) to (content_with token r) id stands.0
+      (told_by (L.start setup) steps.0 h (lower_of t) now call (T.Sent id) steps.1 steps.2) refl in
       (record { entry = entered now call; makes = refl; sends = k }, tt)
-  here (Take answer) right steps stands = (tt, tt)
+  here _ right steps stands = (tt, tt)
 
 -- where there is room for a CON, none is outstanding
 has_room : (setup : Setup) (past : List Entry) (e : Entry) (to : Endpoint) → Stands setup past e → e.call ≡ T.Room to
@@ -186,44 +174,37 @@ has_room setup past e to here is told = go (subst (Row setup past e) is here.row
     go (inl k) = k.0
     go (inr k) = let other = k.1 in absurd (cc (other, told))
 
-module _ (word : ℕ) (t : List Call) (law : AnswererLaw t) (h : L.State) where
-  alone_here : (c : Call) → Steps (L.start (L.usual word)) (lower_of (c ∷ t)) h
-      → LayerLaw (L.usual word) (below_of word (c ∷ t))
-      → (now : ℕ) (to : Endpoint) → c ≡ Ready now to true → Busy (below_of word t) to → ⊥
+module _ (setup : Setup) (t : List Call) (law : AnswererLaw t) (h : L.State) where
+  alone_here : (c : Call) → Steps (L.start setup) (lower_of (c ∷ t)) h
+      → LayerLaw setup (below_of setup (c ∷ t))
+      → (now : ℕ) (to : Endpoint) → c ≡ Ready now to true → Busy (below_of setup t) to → ⊥
   alone_here (Ready at there answer) steps stands now to e =
       let there_is : there ≡ to = cc e in
       let answer_is : answer ≡ true = cc e in
       let call : T.Call = T.Room there in
-      let entry : Entry = made (left_after (L.start (L.usual word)) (lower_of t)) at call in
-      subst (λ x. Busy (below_of word t) x → ⊥) there_is
-      (has_room (L.usual word) (below_of word t) entry there stands.0 refl
-      (told_by (L.start (L.usual word)) steps.0 h (lower_of t) at call (T.Is answer) steps.1 steps.2
+      let entry : Entry = made (left_after (L.start setup) (lower_of t)) at call in
+      subst (λ x. Busy (below_of setup t) x → ⊥) there_is
+      (has_room setup (below_of setup t) entry there stands.0 refl
+      (told_by (L.start setup) steps.0 h (lower_of t) at call (T.Is answer) steps.1 steps.2
       ∙ ap T.Is answer_is))
-  alone_here (Incoming at from bytes up answer) steps stands now to e = absurd (cc e)
-  alone_here (Answers a r below) steps stands now to e = absurd (cc e)
-  alone_here (Defers at a delay answer) steps stands now to e = absurd (cc e)
-  alone_here (Ticks at below room answer) steps stands now to e = absurd (cc e)
-  alone_here (Responds at a r w id) steps stands now to e = absurd (cc e)
-  alone_here (Notifies at there token r w id) steps stands now to e = absurd (cc e)
-  alone_here (NotifiesPlain at there token r id) steps stands now to e = absurd (cc e)
-  alone_here (Take answer) steps stands now to e = absurd (cc e)
+  alone_here _ steps stands now to e = absurd (cc e)
 
-pub ready_alone : (word : ℕ) (t : List Call) → AnswererLaw t → (h : L.State)
-    → Steps (L.start (L.usual word)) (lower_of t) h → ReadyAlone word t
-ready_alone word [] law h steps = tt
-ready_alone word (c ∷ t) law h steps =
-    let parts = steps_split (L.start (L.usual word)) h (lower (own_of t) c) (lower_of t) steps in (
-      alone_here word t law.1 h c steps
-          (layer_stands word (c ∷ t) (record { rows = law; left = h; layer = steps })),
-      ready_alone word t law.1 parts.0 parts.1,
+pub ready_alone : (setup : Setup) (t : List Call) → AnswererLaw t → (h : L.State)
+    → Steps (L.start setup) (lower_of t) h → ReadyAlone setup t
+ready_alone setup [] law h steps = tt
+ready_alone setup (c ∷ t) law h steps =
+    let parts = steps_split (L.start setup) h (lower (own_of t) c) (lower_of t) steps in (
+      alone_here setup t law.1 h c steps
+          (layer_stands setup (c ∷ t) (record { rows = law; left = h; layer = steps })),
+      ready_alone setup t law.1 parts.0 parts.1,
     )
 
-pub sends_so : (word : ℕ) (t : List Call) → AnswererLaw t → (h : L.State) → Steps (L.start (L.usual word)) (lower_of t) h
-    → AllGoBack word t × BeginAlone word t
-sends_so word [] law h steps = (tt, tt)
-sends_so word (c ∷ t) law h steps =
-    let parts = steps_split (L.start (L.usual word)) h (lower (own_of t) c) (lower_of t) steps in
-    let earlier = sends_so word t law.1 parts.0 parts.1 in
-    let k = here word t law.1 (came_in word t law.1 parts.0 parts.1) h c law.0 steps
-    (layer_stands word (c ∷ t) (record { rows = law; left = h; layer = steps })) in
+pub sends_so : (setup : Setup) (t : List Call) → AnswererLaw t → (h : L.State) → Steps (L.start setup) (lower_of t) h
+    → AllGoBack setup t × BeginAlone setup t
+sends_so setup [] law h steps = (tt, tt)
+sends_so setup (c ∷ t) law h steps =
+    let parts = steps_split (L.start setup) h (lower (own_of t) c) (lower_of t) steps in
+    let earlier = sends_so setup t law.1 parts.0 parts.1 in
+    let k = here setup t law.1 (came_in setup t law.1 parts.0 parts.1) h c law.0 steps
+    (layer_stands setup (c ∷ t) (record { rows = law; left = h; layer = steps })) in
     ((k.0, earlier.0), (k.1, earlier.1))

@@ -97,7 +97,7 @@ module _ (t : List Call) (at : ℕ) (xs : List Separate) where
   ready_handed a (d ∷ ds) h e = ready_by a d ds (is_ready at xs d) h (ready_handed a ds h.1) e
 
 -- how many are deferred
-length_with : (ds : List Deferred) (d : Deferred) → length (ds ++ d ∷ []) ≡ length ds + 1
+pub length_with : (ds : List Deferred) (d : Deferred) → length (ds ++ d ∷ []) ≡ length ds + 1
 length_with [] d = refl
 length_with (e ∷ ds) d = let h = length_with ds d in omega (arith, h)
 

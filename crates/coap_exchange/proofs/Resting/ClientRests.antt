@@ -23,12 +23,14 @@ use Rattle.coap_exchange.specs.AskerTrace.{Call, Own, Ticks}
 use Rattle.coap_exchange.specs.Machine.Outstanding.{Lone}
 use Rattle.coap_exchange.specs.Machine.Rests.{AskerRests, AskerTurns, has_turn}
 use Rattle.coap_exchange.proofs.Ending.NoEarlier.{fits}
+use Rattle.coap_layer.specs.declared.setup.Setup.{Setup}
+use Rattle.coap_exchange.proofs.Ending.WhenDue.{own_request}
 
-or_left : (b c : Bool) → (b || c) ≡ false → b ≡ false
+pub or_left : (b c : Bool) → (b || c) ≡ false → b ≡ false
 or_left false c h = refl
 or_left true c h = h
 
-or_right : (b c : Bool) → (b || c) ≡ false → c ≡ false
+pub or_right : (b c : Bool) → (b || c) ≡ false → c ≡ false
 or_right false c h = h
 or_right true c h = absurd (cc h)
 
@@ -54,12 +56,6 @@ rests s now same none below answer new h =
     (or_right (any_has_step at s.layer.open_cons) _ none))
 
 -- where something is due, it is told
-own_request : (s : Own) (x : Exchange) → s.running ≡ Some x → is_of_request s s.server x.id.0 ≡ true
-own_request s x runs =
-    let has : has_id s.running x.id.0 ≡ true = subst (λ r. has_id r x.id.0 ≡ true) (sym runs)
-    ((unsigned_Decides x.id.0 x.id.0).1 refl) in
-    ap (λ w. w && has_id s.running x.id.0) (same_endpoint_self s.server) ∙ has
-
 module _ (s : Own) (at : ℕ) where
   expires : (x : Exchange) (to : Endpoint) (id : ℕ) → s.running ≡ Some x → to ≡ s.server → id ≡ x.id.0
       → turn_of s at (T.Expired to id) ≡ turn.End event.Timeout
@@ -105,15 +101,15 @@ module _ (s : Own) (at : ℕ) where
       absurd (cc (h, none))
   turns_where b cs (Some x) runs lone h = runs_one b cs x runs lone h
 
-pub turns : (server : Endpoint) (word : ℕ) (t : List Call) (s : State) (now : ℕ) → Led server word t s
+pub turns : (server : Endpoint) (setup : Setup) (t : List Call) (s : State) (now : ℕ) → Led server setup t s
     → s.layer.clock ≡ s.own.clock → has_turn s (max s.own.clock now) ≡ true → AskerTurns s now
-turns server word t s now led same due below answer new h is =
-    let under = fits server word t led.rows s.layer led.layer in
-    let lone : Lone s.own.server s.own.running (last_begun server word t) s.layer.open_cons =
-    subst (λ (o : Own). Lone o.server o.running (last_begun server word t) s.layer.open_cons) (sym led.own_is)
+turns server setup t s now led same due below answer new h is =
+    let under = fits server setup t led.rows s.layer led.layer in
+    let lone : Lone s.own.server s.own.running (last_begun server setup t) s.layer.open_cons =
+    subst (λ (o : Own). Lone o.server o.running (last_begun server setup t) s.layer.open_cons) (sym led.own_is)
     under.lone in
     let at = max s.own.clock now in
-    turns_where s.own at (last_begun server word t) s.layer.open_cons s.own.running refl lone due
+    turns_where s.own at (last_begun server setup t) s.layer.open_cons s.own.running refl lone due
     (ap (λ n. turn_of s.own at (tick_of (max n now) s.layer.open_cons)) (sym same)
     ∙ (sym (turn_is s new now below answer h) ∙ is))
 
@@ -134,12 +130,12 @@ some_of s now (Some at) same h = λ later le less. rests s later same
 
 pub does_of : (s : State) (now : ℕ) (m : Option Moment) → s.layer.clock ≡ s.own.clock
     → IsFirstMoment (has_turn s) (max s.own.clock now) m
-    → IfSome m (λ at. (server : Endpoint) (word : ℕ) (t : List Call) → Led server word t s → AskerTurns s at.0)
+    → IfSome m (λ at. (server : Endpoint) (setup : Setup) (t : List Call) → Led server setup t s → AskerTurns s at.0)
 does_of s now None same h = tt
-does_of s now (Some at) same h = λ server word t led.
+does_of s now (Some at) same h = λ server setup t led.
     let le : max s.own.clock now ≤ at.0 = h.from_on in
     let is : at.0 ≡ max s.own.clock at.0 = omega (arith, le) in
-    turns server word t s at.0 led same (subst (λ (n : ℕ). has_turn s n ≡ true) is h.does)
+    turns server setup t s at.0 led same (subst (λ (n : ℕ). has_turn s n ≡ true) is h.does)
 
 pub from_of : (s : State) (from : ℕ) (m : Option Moment) → IsFirstMoment (has_turn s) from m
     → IfSome m (λ at. from ≤ at.0)
@@ -147,12 +143,12 @@ from_of s from None h = tt
 from_of s from (Some at) h = h.from_on
 
 -- .. where calls led to it
-module _ (server : Endpoint) (word : ℕ) (t : List Call) (s : State) (led : Led server word t s) where
+module _ (server : Endpoint) (setup : Setup) (t : List Call) (s : State) (led : Led server setup t s) where
   pub clocks : s.layer.clock ≡ s.own.clock
-  clocks = (fits server word t led.rows s.layer led.layer).clock ∙ ap (λ (o : Own). o.clock) (sym led.own_is)
+  clocks = (fits server setup t led.rows s.layer led.layer).clock ∙ ap (λ (o : Own). o.clock) (sym led.own_is)
 
   pub rests_led : (now : ℕ) → has_turn s (max s.own.clock now) ≡ false → AskerRests s now
   rests_led now none = rests s now clocks none
 
   pub turns_led : (now : ℕ) → has_turn s (max s.own.clock now) ≡ true → AskerTurns s now
-  turns_led now due = turns server word t s now led clocks due
+  turns_led now due = turns server setup t s now led clocks due

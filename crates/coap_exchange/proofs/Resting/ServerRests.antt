@@ -31,14 +31,8 @@ use Rattle.coap_exchange.specs.Machine.Rests.{AnswererRests, AnswererTurns, has_
 use Rattle.coap_exchange.proofs.Calls.ServerTicks.{idle_room}
 use Rattle.coap_exchange.proofs.Calls.WhatIsDue.{takes, asked_answer, asked_same}
 use Rattle.coap_exchange.proofs.EndsSaid.AreOutstanding.{waits}
-
-or_left : (b c : Bool) → (b || c) ≡ false → b ≡ false
-or_left false c h = refl
-or_left true c h = h
-
-or_right : (b c : Bool) → (b || c) ≡ false → c ≡ false
-or_right false c h = h
-or_right true c h = absurd (cc h)
+use Rattle.coap_layer.specs.declared.setup.Setup.{Setup}
+use Rattle.coap_exchange.proofs.Resting.ClientRests.{or_left, or_right}
 
 -- one more that may be ready
 pub grown_ready : (now : ℕ) (xs : List Separate) (ds : List Deferred) (d : Deferred)
@@ -184,17 +178,17 @@ pub rests : (s : State) (now : ℕ) → s.layer.clock ≡ s.own.clock → has_du
 rests s now same none below room answer new h = rests_here s new now below room answer h same none
 
 -- no CON is outstanding where none is waited for
-alone_where : (word : ℕ) (t : List Call) (s : State) (to : Endpoint) → Led word t s
+alone_where : (setup : Setup) (t : List Call) (s : State) (to : Endpoint) → Led setup t s
     → is_waited_for to s.own.separate ≡ false → is_busy to s.layer.open_cons ≡ false
-alone_where word t s to led free =
-    let law : ResponseLaw word t = record { rows = led.rows; left = s.layer; layer = led.layer } in
-    let known = waits word t law to in
+alone_where setup t s to led free =
+    let law : ResponseLaw setup t = record { rows = led.rows; left = s.layer; layer = led.layer } in
+    let known = waits setup t law to in
     let own = led.own_is in
     sym known ∙ (sym (ap (λ (o : Own). is_waited_for to o.separate) own) ∙ free)
 
-pub turns : (word : ℕ) (t : List Call) (s : State) (now : ℕ) → Led word t s → s.layer.clock ≡ s.own.clock
+pub turns : (setup : Setup) (t : List Call) (s : State) (now : ℕ) → Led setup t s → s.layer.clock ≡ s.own.clock
     → has_due s (max s.own.clock now) ≡ true → AnswererTurns s now
-turns word t s now led same some below room answer new h =
+turns setup t s now led same some below room answer new h =
     go (any_has_step (max s.own.clock now) s.layer.open_cons) refl some
   where
     at : ℕ
@@ -212,7 +206,7 @@ turns word t s now led same some below room answer new h =
         let parts = and_parts (nat_le d.delay (max s.own.clock now - d.at.0))
         (not (is_waited_for d.asked.from s.own.separate)) ready in
         responds s new now below room answer h d is idle same
-        (alone_where word t s d.asked.from led (not_false _ parts.1)) k
+        (alone_where setup t s d.asked.from led (not_false _ parts.1)) k
       where
         not_false : (b : Bool) → not b ≡ true → b ≡ false
         not_false true z = absurd (cc z)
@@ -246,12 +240,12 @@ some_of s now (Some at) same h = λ later le less. rests s later same
 
 pub does_of : (s : State) (now : ℕ) (m : Option Moment) → s.layer.clock ≡ s.own.clock
     → IsFirstMoment (has_due s) (max s.own.clock now) m
-    → IfSome m (λ at. (word : ℕ) (t : List Call) → Led word t s → AnswererTurns s at.0)
+    → IfSome m (λ at. (setup : Setup) (t : List Call) → Led setup t s → AnswererTurns s at.0)
 does_of s now None same h = tt
-does_of s now (Some at) same h = λ word t led.
+does_of s now (Some at) same h = λ setup t led.
     let le : max s.own.clock now ≤ at.0 = h.from_on in
     let is : at.0 ≡ max s.own.clock at.0 = omega (arith, le) in
-    turns word t s at.0 led same (subst (λ (n : ℕ). has_due s n ≡ true) is h.does)
+    turns setup t s at.0 led same (subst (λ (n : ℕ). has_due s n ≡ true) is h.does)
 
 pub from_of : (s : State) (from : ℕ) (m : Option Moment) → IsFirstMoment (has_due s) from m
     → IfSome m (λ at. from ≤ at.0)
@@ -259,12 +253,12 @@ from_of s from None h = tt
 from_of s from (Some at) h = h.from_on
 
 -- .. where calls led to it
-module _ (word : ℕ) (t : List Call) (s : State) (led : Led word t s) (same : s.layer.clock ≡ s.own.clock) where
+module _ (setup : Setup) (t : List Call) (s : State) (led : Led setup t s) (same : s.layer.clock ≡ s.own.clock) where
   pub rests_led : (now : ℕ) → has_due s (max s.own.clock now) ≡ false → AnswererRests s now
   rests_led now none = rests s now same none
 
   pub turns_led : (now : ℕ) → has_due s (max s.own.clock now) ≡ true → AnswererTurns s now
-  turns_led now some = turns word t s now led same some
+  turns_led now some = turns setup t s now led same some
 
 -- whether a CON can be sent there, before and after what leaves that
 module _ (x y : State) (now : ℕ) (to : Endpoint) (b : Bool) (h : Step x (Ready now to b) y) where

@@ -11,7 +11,7 @@ use Rattle.coap_exchange.specs.declared.asker.Exchange.{Exchange}
 use Rattle.coap_exchange.specs.declared.matching.Known.{Known}
 use Rattle.coap_exchange.specs.declared.matching.Verdict.{Verdict}
 use Rattle.coap_exchange.specs.declared.matching.Verdict.TheVariants.{Ignore, Await, EndByReset}
-use Rattle.coap_exchange.specs.AskerTrace.{Own, Call, Ask, Receive, Ticks, Keep, Release, Take}
+use Rattle.coap_exchange.specs.AskerTrace.{Own, Call, Ask, Receive}
 use Rattle.coap_exchange.specs.AskerRequests.{asked, opening_of, request_token, content_of, beneath}
 use Rattle.coap_exchange.specs.declared.matching.Opening.{Opening}
 use Rattle.coap_exchange.specs.declared.matching.Opening.TheVariants.{Running, Spent, Sends}
@@ -23,6 +23,7 @@ use Rattle.coap_exchange.specs.AskerFollows.{message_told}
 use Rattle.coap_exchange.specs.AskerEmpties.{RepliesTo, RepliesBy, RepliesRightly, AreReplied}
 use Rattle.coap_exchange.specs.EmptyMessages.{ack_bytes, reset_bytes, replies_in}
 use Rattle.coap_exchange.specs.Matching.{judged, request_judged}
+use Rattle.coap_layer.specs.declared.setup.Setup.{Setup}
 
 -- what a verdict replies
 
@@ -170,9 +171,7 @@ module _ (s : Own) (from : Endpoint) (m : Message) where
 
 request_other : (kind : Kind) (id : ℕ) → kind ≢ Con → reply_by (request_judged kind) id ≡ None
 request_other Con id other = absurd (other refl)
-request_other Non id other = refl
-request_other Ack id other = refl
-request_other Rst id other = refl
+request_other _ id other = refl
 
 none_acked : (b : Bool) (id : ℕ) → reply_by (cond b Await Ignore) id ≡ None
 none_acked true id = refl
@@ -192,19 +191,7 @@ replied_by s from (T.Becomes (T.Request m kept)) answer right = (
 )
 replied_by s from (T.Becomes (T.Acked id)) answer right = ap (packets from) (none_acked (is_of_request s from id) 0)
 replied_by s from (T.Becomes (T.Reset id)) answer right = ap (packets from) (none_reset (is_of_request s from id) 0)
-replied_by s from (T.Becomes T.Dropped) answer right = refl
-replied_by s from (T.Becomes (T.Unmatched id)) answer right = refl
-replied_by s from (T.Becomes T.Replayed) answer right = refl
-replied_by s from (T.Becomes T.Rejected) answer right = refl
-replied_by s from T.Nothing answer right = refl
-replied_by s from (T.Is holds) answer right = refl
-replied_by s from (T.Sent id) answer right = refl
-replied_by s from T.Busied answer right = refl
-replied_by s from T.NoIds answer right = refl
-replied_by s from T.Idle answer right = refl
-replied_by s from (T.Copied to id) answer right = refl
-replied_by s from (T.Expired to id) answer right = refl
-replied_by s from (T.Gives packet) answer right = refl
+replied_by s from _ answer right = refl
 
 none_asked : (o : Opening) (server : Endpoint) (content : T.Content) (now w : ℕ) (below : T.Answer)
     → replies_in (asked now (beneath o server content w) below ∷ []) ≡ []
@@ -212,21 +199,18 @@ none_asked Running server content now w below = refl
 none_asked Spent server content now w below = refl
 none_asked Sends server content now w below = refl
 
-module _ (server : Endpoint) (word : ℕ) where
-  rightly : (t : List Call) (c : Call) → IsRight (own_of server word t) c → RepliesRightly server word t c
+module _ (server : Endpoint) (setup : Setup) where
+  rightly : (t : List Call) (c : Call) → IsRight (own_of server setup t) c → RepliesRightly server setup t c
   rightly t (Receive now from bytes up settled answer) right =
-      let s : Own = own_of server word t in
+      let s : Own = own_of server setup t in
       let v : Verdict = verdict_on s from up in
       subst (RepliesBy s from up answer) (sym (replies_by from s.server bytes now (id_in up) up settled
       (settles v) s.running (reply_by v (id_in up)))) (replied_by s from up answer right)
   rightly t (Ask now r w below answer) right =
-      let s : Own = own_of server word t in none_asked (opening_of s r) s.server
+      let s : Own = own_of server setup t in none_asked (opening_of s r) s.server
       (content_of (request_token s r) r) now w below
-  rightly t (Ticks now below answer) right = refl
-  rightly t (Keep token answer) right = refl
-  rightly t (Release token answer) right = refl
-  rightly t (Take answer) right = refl
+  rightly t _ right = refl
 
-  pub are_replied : (t : List Call) → AskerLaw server word t → AreReplied server word t
+  pub are_replied : (t : List Call) → AskerLaw server setup t → AreReplied server setup t
   are_replied [] law = tt
   are_replied (c ∷ t) law = (rightly t c law.0, are_replied t law.1)

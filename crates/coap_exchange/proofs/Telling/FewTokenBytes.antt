@@ -6,8 +6,8 @@ use Rattle.coap_codec.specs.Message.{Message}
 use Rattle.coap_layer.specs.Machine.State as L
 use Rattle.coap_layer.specs.Trace as T
 use Rattle.coap_exchange.specs.declared.matching.Verdict.{Verdict}
-use Rattle.coap_exchange.specs.declared.matching.Verdict.TheVariants.{Ignore, Reject, Acknowledge, AnswerCon, Answer}
-use Rattle.coap_exchange.specs.declared.matching.Verdict.TheVariants.{NoticeCon, Notice, Await, EndByReset}
+use Rattle.coap_exchange.specs.declared.matching.Verdict.TheVariants.{AnswerCon, Answer}
+use Rattle.coap_exchange.specs.declared.matching.Verdict.TheVariants.{NoticeCon, Notice}
 use Rattle.coap_exchange.specs.AskerTrace.{Own}
 use Rattle.coap_exchange.specs.AskerArrivals.{told, verdict_on}
 use Rattle.coap_exchange.specs.AskerFollows.{message_told}
@@ -20,15 +20,11 @@ abbrev IsIn : T.Answer → Verdict → Type 0
 IsIn up v = IfSome (message_told (told v up)) (λ m. message_in up ≡ Some m)
 
 told_in : (s : Own) (from : Endpoint) (up : T.Answer) (v : Verdict) → Fits s from up v → IsIn up v
-told_in s from up Ignore f = tt
-told_in s from up Reject f = tt
-told_in s from up Acknowledge f = tt
-told_in s from up Await f = tt
-told_in s from up EndByReset f = tt
 told_in s from up AnswerCon f = subst (λ u. IsIn u AnswerCon) (sym f.is) refl
 told_in s from up Answer f = subst (λ u. IsIn u Answer) (sym f.is) refl
 told_in s from up NoticeCon f = subst (λ u. IsIn u NoticeCon) (sym f.is) refl
 told_in s from up Notice f = subst (λ u. IsIn u Notice) (sym f.is) refl
+told_in s from up _ f = tt
 
 each : (o : Option Message) (P Q : Message → Type 0) → IfSome o P → ((m : Message) → P m → Q m) → IfSome o Q
 each None P Q h f = tt

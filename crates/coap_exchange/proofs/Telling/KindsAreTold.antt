@@ -1,6 +1,6 @@
 -- A response with the token of the exchange that runs is told as its answer, one with a kept token alone as a
 -- notification.
-use Rattle.std.proofs.Common.{◌≡◌, ◌⊎◌, inl, inr, ℕ, Bool, true, false, Some, List, [], ◌∷◌, refl, ap, subst, sym, ◌∙◌}
+use Rattle.std.proofs.Common.{◌≡◌, ◌⊎◌, inl, inr, Bool, true, false, Some, List, [], ◌∷◌, refl, ap, subst, sym, ◌∙◌}
 use Rattle.std.proofs.Common.{◌&&◌}
 use Rattle.std.specs.Cmp.{unsigned_Decides}
 use Rattle.coap_types.specs.declared.endpoint.Endpoint.{Endpoint}
@@ -24,6 +24,7 @@ use Rattle.coap_exchange.specs.Matching.{judged}
 use Rattle.coap_exchange.specs.Tokens.{is_kept, same_token}
 use Rattle.coap_exchange.proofs.Facts.SameToken.{same_token_self}
 use Rattle.coap_exchange.proofs.Telling.FromServer.{server_is}
+use Rattle.coap_layer.specs.declared.setup.Setup.{Setup}
 
 abbrev known : (f o i p b c : Bool) → Known
 known f o i p b c = record { from_server = f; of_exchange = o; same_id = i; kept = p; bad_option = b; cancelled = c }
@@ -53,22 +54,20 @@ notices_non : (f o i p b c : Bool) (m : Message) → f ≡ true → o ≡ false 
 notices_non f o i p b c m hf ho hp hb hc = rw hf (rw ho (rw hp (rw hb (rw hc refl))))
 
 no_cancel : (a b c : Bool) → (b ≡ false) ⊎ (c ≡ false) → (a && (b && c)) ≡ false
-no_cancel false b c h = refl
-no_cancel true false c h = refl
-no_cancel true true false h = refl
 no_cancel true true true (inl h) = h
 no_cancel true true true (inr h) = h
+no_cancel _ _ _ h = refl
 
-module _ (server : Endpoint) (word : ℕ) (t : List Call) where
+module _ (server : Endpoint) (setup : Setup) (t : List Call) where
   abbrev s : Own
-  s = own_of server word t
+  s = own_of server setup t
 
-  module _ (from : Endpoint) (m : Message) (sound : IsSound server word from m) where
+  module _ (from : Endpoint) (m : Message) (sound : IsSound server setup from m) where
     abbrev k : Known
     k = known_of s from m
 
     there : same_endpoint from s.server ≡ true
-    there = subst (λ e. same_endpoint from e ≡ true) (sym (server_is server word t)) sound.there
+    there = subst (λ e. same_endpoint from e ≡ true) (sym (server_is server setup t)) sound.there
 
     answer_is : (x : Exchange) → s.running ≡ Some x → m.token ≡ x.token
         → ((m.kind ≡ Ack) × (m.id ≡ x.id.0)) ⊎ (((m.kind ≡ Con) ⊎ (m.kind ≡ Non))
@@ -117,7 +116,7 @@ module _ (server : Endpoint) (word : ℕ) (t : List Call) where
         sound.understood (ap (λ b. b && (is_cancel s.running && carries direction.Response observe m.options))
         other))
 
-  tells : (c : Call) → IsRight s c → TellsKind server word t c
+  tells : (c : Call) → IsRight s c → TellsKind server setup t c
   tells c right =
       record {
         answer = λ now from bytes settled answer m x is sound runs token how.
@@ -130,6 +129,6 @@ module _ (server : Endpoint) (word : ℕ) (t : List Call) where
             right_is ∙ notice_is from m sound other kept kind;
       }
 
-pub told_as : (server : Endpoint) (word : ℕ) (t : List Call) → AskerLaw server word t → AreToldAs server word t
-told_as server word [] law = tt
-told_as server word (c ∷ t) law = (tells server word t c law.0, told_as server word t law.1)
+pub told_as : (server : Endpoint) (setup : Setup) (t : List Call) → AskerLaw server setup t → AreToldAs server setup t
+told_as server setup [] law = tt
+told_as server setup (c ∷ t) law = (tells server setup t c law.0, told_as server setup t law.1)

@@ -21,8 +21,8 @@ use Rattle.coap_layer.specs.Words.{is_con}
 use Rattle.coap_exchange.specs.declared.asker.Event.{Event}
 use Rattle.coap_exchange.specs.declared.asker.Event.TheVariants as event
 use Rattle.coap_exchange.specs.declared.matching.Verdict.{Verdict}
-use Rattle.coap_exchange.specs.declared.matching.Verdict.TheVariants.{Ignore, Reject, Acknowledge, AnswerCon, Answer}
-use Rattle.coap_exchange.specs.declared.matching.Verdict.TheVariants.{NoticeCon, Notice, Await, EndByReset}
+use Rattle.coap_exchange.specs.declared.matching.Verdict.TheVariants.{AnswerCon, Answer}
+use Rattle.coap_exchange.specs.declared.matching.Verdict.TheVariants.{NoticeCon, Notice, EndByReset}
 use Rattle.coap_exchange.specs.AskerTrace.{Own, Call, Receive}
 use Rattle.coap_exchange.specs.AskerSteps.{lower}
 use Rattle.coap_exchange.specs.AskerRequests.{asked}
@@ -32,6 +32,7 @@ use Rattle.coap_exchange.specs.AskerTells.{Rejects, AreRejected}
 use Rattle.coap_exchange.proofs.Telling.FromServer.{server_is}
 use Rattle.coap_layer.proofs.Facts.StepsOfLayer.{steps_split}
 use Rattle.coap_exchange.proofs.Facts.Verdicts.{Fits, OfRequest, verdict_fits}
+use Rattle.coap_layer.specs.declared.setup.Setup.{Setup}
 
 -- what the layer takes as a Reset
 
@@ -50,9 +51,8 @@ OnlyReset kind c n (Some id) = (kind ≡ Rst) × ((c ≡ role.Empty) × (n.id �
 
 again_none : (kind : Kind) (c : Role) (n : Message) (a : T.Disposition) → reset_of a ≡ None → (r f : Bool)
     → OnlyReset kind c n (reset_of (again_or r f a))
-again_none kind c n a none true f = tt
-again_none kind c n a none false true = tt
 again_none kind c n a none false false = subst (OnlyReset kind c n) (sym none) tt
+again_none kind c n a none _ _ = tt
 
 up_resets : (kind : Kind) (c : Role) (n : Message) (o r f i : Bool)
     → OnlyReset kind c n (reset_of (up_of kind c n o r f i))
@@ -129,10 +129,6 @@ is_told _ = false
 
 of_reset : (s : Own) (from : Endpoint) (up : T.Answer) (v : Verdict) → Fits s from up v → told v up ≡ Some event.Reset
     → OfReset s from up
-of_reset s from up Ignore f h = absurd (cc h)
-of_reset s from up Reject f h = absurd (cc h)
-of_reset s from up Acknowledge f h = absurd (cc h)
-of_reset s from up Await f h = absurd (cc h)
 of_reset s from up EndByReset f h = record { id = f.0; is = f.1; of = f.2 }
 of_reset s from up AnswerCon f h = let k : is_told (told AnswerCon up)
     ≡ false = ap (λ u. is_told (told AnswerCon u)) f.is in absurd (cc (k, ap is_told h))
@@ -142,16 +138,17 @@ of_reset s from up NoticeCon f h = let k : is_told (told NoticeCon up)
     ≡ false = ap (λ u. is_told (told NoticeCon u)) f.is in absurd (cc (k, ap is_told h))
 of_reset s from up Notice f h = let k : is_told (told Notice up)
     ≡ false = ap (λ u. is_told (told Notice u)) f.is in absurd (cc (k, ap is_told h))
+of_reset s from up _ f h = absurd (cc h)
 
-module _ (server : Endpoint) (word : ℕ) where
+module _ (server : Endpoint) (setup : Setup) where
   rejects : (t : List Call) (now : ℕ) (from : Endpoint) (bytes : List ℕ) (up : T.Answer) (settled : Bool)
-      → AskerLaw server word (Receive now from bytes up settled (Some event.Reset) ∷ t)
-      → (h : L.State) → Steps (L.start (L.usual word)) (lower_of server word
-      (Receive now from bytes up settled (Some event.Reset) ∷ t)) h → Rejects server word t from bytes
+      → AskerLaw server setup (Receive now from bytes up settled (Some event.Reset) ∷ t)
+      → (h : L.State) → Steps (L.start setup) (lower_of server setup
+      (Receive now from bytes up settled (Some event.Reset) ∷ t)) h → Rejects server setup t from bytes
   rejects t now from bytes up settled law h steps =
-      let s : Own = own_of server word t in
-      let parts = steps_split (L.start (L.usual word)) h (lower s (Receive now from bytes up settled (Some event.Reset)))
-      (lower_of server word t) steps in
+      let s : Own = own_of server setup t in
+      let parts = steps_split (L.start setup) h (lower s (Receive now from bytes up settled (Some event.Reset)))
+      (lower_of server setup t) steps in
       let first = steps_split parts.0 h (acts s from up settled (verdict_on s from up))
       (asked now (T.Receive from bytes) up ∷ []) parts.2 in
       let r = of_reset s from up (verdict_on s from up) (verdict_fits s from up) (sym law.0) in
@@ -159,7 +156,7 @@ module _ (server : Endpoint) (word : ℕ) where
       record {
         exchange = r.of.exchange;
         runs = r.of.runs;
-        there = subst (λ e. same_endpoint from e ≡ true) (server_is server word t) r.of.there;
+        there = subst (λ e. same_endpoint from e ≡ true) (server_is server setup t) r.of.there;
         message = m.message;
         spelled = m.spelled;
         kind = m.kind;
@@ -167,13 +164,13 @@ module _ (server : Endpoint) (word : ℕ) where
         id = m.id_is ∙ r.of.id_is;
       }
 
-  pub rejected : (t : List Call) → AskerLaw server word t → (h : L.State)
-      → Steps (L.start (L.usual word)) (lower_of server word t) h → AreRejected server word t
+  pub rejected : (t : List Call) → AskerLaw server setup t → (h : L.State)
+      → Steps (L.start setup) (lower_of server setup t) h → AreRejected server setup t
   rejected [] law h steps = tt
   rejected (c ∷ t) law h steps =
-      let parts = steps_split (L.start (L.usual word)) h (lower (own_of server word t) c) (lower_of server word t) steps in (
+      let parts = steps_split (L.start setup) h (lower (own_of server setup t) c) (lower_of server setup t) steps in (
         (λ now from bytes up settled is.
-            rejects t now from bytes up settled (subst (λ d. AskerLaw server word (d ∷ t)) is law) h
-            (subst (λ d. Steps (L.start (L.usual word)) (lower_of server word (d ∷ t)) h) is steps)),
+            rejects t now from bytes up settled (subst (λ d. AskerLaw server setup (d ∷ t)) is law) h
+            (subst (λ d. Steps (L.start setup) (lower_of server setup (d ∷ t)) h) is steps)),
         rejected t law.1 parts.0 parts.1,
       )

@@ -14,9 +14,9 @@ use Rattle.coap_exchange.specs.declared.asker.Event.TheVariants as event
 use Rattle.coap_exchange.specs.declared.asker.Exchange.{Exchange}
 use Rattle.coap_exchange.specs.declared.matching.Known.{Known}
 use Rattle.coap_exchange.specs.declared.matching.Verdict.{Verdict}
-use Rattle.coap_exchange.specs.declared.matching.Verdict.TheVariants.{Ignore, Reject, Acknowledge, AnswerCon, Answer}
-use Rattle.coap_exchange.specs.declared.matching.Verdict.TheVariants.{NoticeCon, Notice, Await, EndByReset}
-use Rattle.coap_exchange.specs.AskerTrace.{Own, Call, Ask, Receive, Ticks, Keep, Release, Take}
+use Rattle.coap_exchange.specs.declared.matching.Verdict.TheVariants.{AnswerCon, Answer}
+use Rattle.coap_exchange.specs.declared.matching.Verdict.TheVariants.{NoticeCon, Notice, EndByReset}
+use Rattle.coap_exchange.specs.AskerTrace.{Own, Call, Receive}
 use Rattle.coap_exchange.specs.AskerSteps.{IsRight}
 use Rattle.coap_exchange.specs.AskerArrivals.{observe, has_id, has_token, is_cancel, known_of, told, verdict_on}
 use Rattle.coap_exchange.specs.AskerLaw.{own_of, AskerLaw}
@@ -27,6 +27,7 @@ use Rattle.coap_exchange.proofs.Exchanges.OneAtATime as held
 use Rattle.coap_exchange.proofs.Facts.Moves.{token_in}
 use Rattle.coap_exchange.proofs.Facts.Verdicts.{Fits, verdict_fits}
 use Rattle.coap_exchange.proofs.Facts.SameToken.{same_token_is, same_token_self}
+use Rattle.coap_layer.specs.declared.setup.Setup.{Setup}
 
 -- what a response has that is told
 record Told (kind : Kind) (k : Known) : Type 0 where
@@ -106,10 +107,6 @@ module _ (s : Own) (now : ℕ) (from : Endpoint) (bytes : List ℕ) (up : T.Answ
 
   told_by : (v : Verdict) → verdict_on s from up ≡ v → Fits s from up v → answer ≡ told v up → told_in answer ≡ Some m
       → Told m.kind (known_of s from m)
-  told_by Ignore is f right h = none_told None right refl h
-  told_by Reject is f right h = none_told None right refl h
-  told_by Acknowledge is f right h = none_told None right refl h
-  told_by Await is f right h = none_told None right refl h
   told_by EndByReset is f right h = none_told (Some event.Reset) right refl h
   told_by AnswerCon is f right h = one_told (Some (event.Answer f.message)) f.message
       (right ∙ ap (told AnswerCon) f.is) refl (told_of AnswerCon is f.message f.is) h
@@ -119,6 +116,7 @@ module _ (s : Own) (now : ℕ) (from : Endpoint) (bytes : List ℕ) (up : T.Answ
       (right ∙ ap (told NoticeCon) f.is) refl (told_of NoticeCon is f.message f.is) h
   told_by Notice is f right h = one_told (Some (event.Notice f.message)) f.message (right ∙ ap (told Notice) f.is) refl
       (told_of Notice is f.message f.is) h
+  told_by _ is f right h = none_told None right refl h
 
 -- .. and where: from an endpoint
 record IsTold (s : Own) (m : Message) : Type 0 where
@@ -132,29 +130,17 @@ is_told s (Receive now from bytes up settled answer) m right h =
       has = told_by s now from bytes up settled answer m (verdict_on s from up) refl
           (verdict_fits s from up) right h;
     }
-is_told s (Ask now r word below answer) m right h = absurd (cc h)
-is_told s (Ticks now below answer) m right h = absurd (cc h)
-is_told s (Keep token answer) m right h = absurd (cc h)
-is_told s (Release token answer) m right h = absurd (cc h)
-is_told s (Take answer) m right h = absurd (cc h)
+is_told s _ m right h = absurd (cc h)
 
 answered_in : (now : ℕ) (from : Endpoint) (bytes : List ℕ) (up : T.Answer) (settled : Bool) (a : Option Event)
     (m : Message) → answered (Receive now from bytes up settled a) ≡ Some m
     → carried (Receive now from bytes up settled a) ≡ Some m
 answered_in now from bytes up settled (Some (event.Answer n)) m h = h
-answered_in now from bytes up settled (Some (event.Notice n)) m h = absurd (cc h)
-answered_in now from bytes up settled (Some event.Timeout) m h = absurd (cc h)
-answered_in now from bytes up settled (Some event.Reset) m h = absurd (cc h)
-answered_in now from bytes up settled (Some event.NoResponse) m h = absurd (cc h)
-answered_in now from bytes up settled None m h = absurd (cc h)
+answered_in now from bytes up settled _ m h = absurd (cc h)
 
 answered_carried : (c : Call) (m : Message) → answered c ≡ Some m → carried c ≡ Some m
 answered_carried (Receive now from bytes up settled a) m h = answered_in now from bytes up settled a m h
-answered_carried (Ask now r word below answer) m h = absurd (cc h)
-answered_carried (Ticks now below answer) m h = absurd (cc h)
-answered_carried (Keep token answer) m h = absurd (cc h)
-answered_carried (Release token answer) m h = absurd (cc h)
-answered_carried (Take answer) m h = absurd (cc h)
+answered_carried _ m h = absurd (cc h)
 
 -- of the exchange that runs
 record OfExchange (running : Option Exchange) (token : List ℕ) (id : ℕ) : Type 0 where
@@ -183,15 +169,15 @@ last_false true true c p q h = h
 last_false true false c p q h = absurd (cc q)
 last_false false b c p q h = absurd (cc p)
 
-module _ (server : Endpoint) (word : ℕ) where
-  module _ (c : Call) (t : List Call) (law : AskerLaw server word (c ∷ t)) (m : Message) where
+module _ (server : Endpoint) (setup : Setup) where
+  module _ (c : Call) (t : List Call) (law : AskerLaw server setup (c ∷ t)) (m : Message) where
     abbrev s : Own
-    s = own_of server word t
+    s = own_of server setup t
 
     understood : carried c ≡ Some m → lacks_critical Response m.options ≡ false
     understood h = (is_told s c m law.0 h).has.understood
 
-    piggybacked : carried c ≡ Some m → m.kind ≡ Ack → Answers server word t m
+    piggybacked : carried c ≡ Some m → m.kind ≡ Ack → Answers server setup t m
     piggybacked h ack =
         let matches = (is_told s c m law.0 h).has.matches ack in
         let of = of_exchange s.running m.token m.id matches.0 matches.1 in
@@ -201,12 +187,12 @@ module _ (server : Endpoint) (word : ℕ) where
         → carries Response observe m.options ≡ false
     cancelled x h runs cancel other =
         let current = (is_told s c m law.0 (answered_carried c m h)).has.current other in
-        let of_open = (held.known server word (c ∷ t) law).0.0.answer m h in
-        let has = has_it s.running m.token ((held.known server word t law.1).1.runs.runs_it m.token of_open) in
+        let of_open = (held.known server setup (c ∷ t) law).0.0.answer m h in
+        let has = has_it s.running m.token ((held.known server setup t law.1).1.runs.runs_it m.token of_open) in
         last_false (has_token s.running m.token) (is_cancel s.running) (carries Response observe m.options) has
         (ap is_cancel runs ∙ cancel) current
 
-  pub matched : (t : List Call) → AskerLaw server word t → AreMatched server word t
+  pub matched : (t : List Call) → AskerLaw server setup t → AreMatched server setup t
   matched [] law = tt
   matched (c ∷ t) law = (
     record {

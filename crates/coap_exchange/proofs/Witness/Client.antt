@@ -7,7 +7,7 @@ use Rattle.coap_exchange.specs.AskerLaw.{lower_of, ExchangeLaw}
 use Rattle.coap_exchange.specs.ClientExample.{server, run}
 
 abbrev below : List Asked
-below = lower_of server 0 run
+below = lower_of server (L.usual 0) run
 
 runs : Steps (L.start (L.usual 0)) below (left_after (L.start (L.usual 0)) below)
 runs = (
@@ -40,5 +40,5 @@ runs = (
   record { may = tt; right = refl; new_is = refl },
 )
 
-pub witness : ExchangeLaw server 0 run
+pub witness : ExchangeLaw server (L.usual 0) run
 witness = record { rows = (refl, (refl, (refl, (refl, tt)))); left = left_after (L.start (L.usual 0)) below; layer = runs }

@@ -111,7 +111,7 @@ runs = (
   record { may = notification_spelled; right = refl; new_is = refl },
 )
 
-pub witness : ResponseLaw 0 run
+pub witness : ResponseLaw (L.usual 0) run
 witness = record {
   rows = (
     record { code = refl; spelled = notification_spelled },

@@ -19,6 +19,7 @@ use Rattle.coap_exchange.specs.declared.separate.Separate.{Separate}
 use Rattle.coap_exchange.specs.AnswererTrace.{Response, Own, Call, Sending}
 use Rattle.coap_exchange.specs.AnswererSteps.{content_with, ready_at}
 use Rattle.coap_exchange.specs.AnswererLaw.{State, Led}
+use Rattle.coap_layer.specs.declared.setup.Setup.{Setup}
 
 -- its state, the state that `undo` would leave, whether the request that the last input handed up may be answered, and
 -- whether there is room for a separate response
@@ -30,7 +31,7 @@ pub record Shown : Type 0 where
 
 -- what led to the one leads by this call to the other
 abbrev pub Leads : Shown → Call → Shown → Type 0
-Leads old c new = (word : ℕ) (t : List Call) → Led word t old.state → Led word (c ∷ t) new.state
+Leads old c new = (setup : Setup) (t : List Call) → Led setup t old.state → Led setup (c ∷ t) new.state
 
 abbrev pub own_with : ℕ → Option Asked → List Deferred → List Separate → Option Ended → Option Sending → Own
 own_with clock pending deferred separate ended unmatched =

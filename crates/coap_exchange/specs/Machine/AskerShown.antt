@@ -5,6 +5,7 @@ use Rattle.coap_layer.specs.Sendable.{IsSendable}
 use Rattle.coap_layer.specs.Machine.State as L
 use Rattle.coap_layer.specs.declared.up.SendRefusal.{SendRefusal}
 use Rattle.coap_layer.specs.declared.up.SendRefusal.TheVariants as send
+use Rattle.coap_layer.specs.declared.setup.Setup.{Setup}
 use Rattle.coap_exchange.specs.declared.asker.AskRefusal.{AskRefusal}
 use Rattle.coap_exchange.specs.declared.asker.AskRefusal.TheVariants as refusal
 use Rattle.coap_exchange.specs.declared.held.Held.{Held}
@@ -21,7 +22,7 @@ pub record Shown : Type 0 where
 -- what led to the one leads by this call to the other
 abbrev pub Leads : Shown → Call → Shown → Type 0
 Leads old c new =
-    (server : Endpoint) (word : ℕ) (t : List Call) → Led server word t old.state → Led server word (c ∷ t) new.state
+    (server : Endpoint) (setup : Setup) (t : List Call) → Led server setup t old.state → Led server setup (c ∷ t) new.state
 
 abbrev pub own_with : ℕ → Endpoint → ℕ → Held → Own
 own_with clock server word held =

@@ -12,6 +12,7 @@ use Rattle.coap_exchange.specs.AnswererSteps.{goes_to}
 use Rattle.coap_exchange.specs.AskerTrace.{Call}
 use Rattle.coap_exchange.specs.AskerLaw.{own_of}
 use Rattle.coap_exchange.specs.AskerFollows.{Begun, last_begun}
+use Rattle.coap_layer.specs.declared.setup.Setup.{Setup}
 
 -- the request of the exchange was sent when that began, and is not acknowledged: its CON alone is outstanding
 pub record IsSent (server : Endpoint) (x : Exchange) (b : Option Begun) (cs : List Open) : Type 0 where
@@ -37,9 +38,9 @@ Lone server None b cs = cs ≡ []
 Lone server (Some x) b cs = IsSent server x b cs ⊎ IsHeard x cs
 
 -- the layer beneath has come as far as these calls: its clock is theirs, and what it has outstanding is their request
-pub record IsBeneath (server : Endpoint) (word : ℕ) (t : List Call) (h : L.State) : Type 0 where
-  pub clock : h.clock ≡ (own_of server word t).clock
-  pub lone : Lone (own_of server word t).server (own_of server word t).running (last_begun server word t) h.open_cons
+pub record IsBeneath (server : Endpoint) (setup : Setup) (t : List Call) (h : L.State) : Type 0 where
+  pub clock : h.clock ≡ (own_of server setup t).clock
+  pub lone : Lone (own_of server setup t).server (own_of server setup t).running (last_begun server setup t) h.open_cons
 
 -- the separate response to this endpoint with this id is off the list
 abbrev pub over : Endpoint → ℕ → Listed Separate → Listed Separate

@@ -6,6 +6,7 @@ use Rattle.coap_types.specs.declared.endpoint.Endpoint.{Endpoint}
 use Rattle.coap_layer.specs.declared.mark.Mark.{Mark}
 use Rattle.coap_layer.specs.declared.retransmission.Sending.{Sending}
 use Rattle.coap_layer.specs.Machine.Entries.{IsUpTo, Memory, arrivals_in}
+use Rattle.coap_layer.specs.Machine.IdState.{IdState}
 use Rattle.coap_layer.specs.Machine.Parts.{before_of, open_before}
 use Rattle.coap_layer.specs.Machine.Sound.{IsKept, IsUnknown, IsWithin}
 use Rattle.coap_layer.specs.Machine.State.{Arrived, is_of, is_remembered}
@@ -57,18 +58,19 @@ unknown_there now (Some w) x true es e f h =
     ap (λ (y : Awaited). is_remembered now y.from y.id es) (sym same) ∙ h
 
 -- what `undo` would leave asks only for what the last input found
-pub before_same : {Z : Type 0} (most : ℕ) (m : Option Mark) (es fs : List Arrived) (cs ds : List (Sending Z)) (q r d : List Packet)
+pub before_same : {Z : Type 0} (most : ℕ) (m : Option Mark) (ids jds : IdState) (es fs : List Arrived) (cs ds : List (Sending Z)) (q r d : List Packet)
     → IsWithin m es (length q)
-    → fs ≡ es → open_before ds ≡ open_before cs → r ≡ q ++ d → before_of most m fs ds r ≡ before_of most m es cs q
-before_same most None es fs cs ds q r d w a b e = refl
-before_same most (Some m) es fs cs ds q r d w a b e =
+    → fs ≡ es → open_before ds ≡ open_before cs → r ≡ q ++ d → jds ≡ ids
+    → before_of most m jds fs ds r ≡ before_of most m ids es cs q
+before_same most None ids jds es fs cs ds q r d w a b e i = refl
+before_same most (Some m) ids jds es fs cs ds q r d w a b e i =
     let queue : take m.queued r ≡ take m.queued q = ap (take m.queued) e ∙ take-append-le m.queued q d w.0 in
-    cc (a, b, queue)
+    cc (a, b, queue, i)
 
-pub before_ended : {Z : Type 0} (most : ℕ) (m : Option Mark) (es : List Arrived) (cs ds : List (Sending Z)) (q : List Packet)
-    → open_before ds ≡ open_before cs → before_of most m es ds q ≡ before_of most m es cs q
-before_ended most None es cs ds q e = refl
-before_ended most (Some m) es cs ds q e = cc e
+pub before_ended : {Z : Type 0} (most : ℕ) (m : Option Mark) (ids : IdState) (es : List Arrived) (cs ds : List (Sending Z)) (q : List Packet)
+    → open_before ds ≡ open_before cs → before_of most m ids es ds q ≡ before_of most m ids es cs q
+before_ended most None ids es cs ds q e = refl
+before_ended most (Some m) ids es cs ds q e = cc e
 
 -- a list of what waits that is as long as before, or longer
 pub within_more : (m : Option Mark) (es fs : List Arrived) (queued waiting : ℕ) → IsWithin m es queued → fs ≡ es

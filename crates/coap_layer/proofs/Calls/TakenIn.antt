@@ -30,15 +30,15 @@ same_found most clock w ids es fs cs ds q r a b d = cc (a, b, d)
 module _ (clock : ℕ) (es fs : List Arrived) (settled : fs ≡ filter (is_live clock) es) where
   pub before_grown : {Z : Type 0} (most : ℕ) (mark : Mark) (awaits : Option Awaiting) (ids : IdState) (old : List Open)
       (ds : List (Sending Z)) (q r d : List Packet)
-      → open_before ds ≡ old → r ≡ q ++ d → mark.clock.0 ≡ clock → mark.awaits ≡ awaits → mark.ids ≡ ids
+      → open_before ds ≡ old → r ≡ q ++ d → mark.clock.0 ≡ clock → mark.awaits ≡ awaits
       → mark.queued ≡ length q
-      → before_of most (Some mark) fs ds r ≡ Some (forgotten (state_of_parts most clock (awaited awaits) ids es old q))
-  before_grown most mark awaits ids old ds q r d opened sent c w i k =
+      → before_of most (Some mark) ids fs ds r ≡ Some (forgotten (state_of_parts most clock (awaited awaits) ids es old q))
+  before_grown most mark awaits ids old ds q r d opened sent c w k =
       let queue : take mark.queued r ≡ q = rw (k, sent) (take-append_seam q d) in
       let here : filter (is_live clock) fs ≡ filter (is_live clock) es =
       ap (filter (is_live clock)) settled ∙ filter_implied (is_live clock) (is_live clock) (λ x y. y) es in
       let awaiting : awaited mark.awaits ≡ awaited awaits = ap awaited w in
-      cc (c, here, opened, queue, awaiting, i)
+      cc (c, here, opened, queue, awaiting)
 
   pub within_grown : (mark : Mark) (q r d : List Packet) → r ≡ q ++ d → mark.queued ≡ length q → mark.clock.0 ≡ clock
       → IsUpTo clock es → IsWithin (Some mark) fs (length r)
@@ -85,12 +85,12 @@ kept_none at replies m old none = (
 )
 
 -- room stays room
-pub room_kept : {Z X Y : Type 0} (r : Option (Room Z)) (old new : Lists Z X Y) → HasRoom r old
+pub room_kept : {Z X Y : Type 0} (r : Room Z) (old new : Lists Z X Y) → HasRoom r old
     → vec_len new.sendings ≤ vec_len old.sendings → vec_capacity new.sendings ≡ vec_capacity old.sendings
     → (deque_len old.waiting < deque_capacity old.waiting → deque_len new.waiting < deque_capacity new.waiting)
     → HasRoom r new
-room_kept None old new room len capacity waiting = tt
-room_kept (Some r) old new room len capacity waiting = (room.0, omega (arith, room.1, len, capacity), waiting room.2)
+room_kept r old new room len capacity waiting made =
+    let ready = room made in (ready.0, omega (arith, ready.1, len, capacity), waiting ready.2)
 
 pub none_of : {A : Type 0} (d : Option A) → option_to_list d ≡ [] → is_some d ≡ false
 none_of None h = refl

@@ -1,8 +1,9 @@
 -- What the parts of a layer stand for.
-use Rattle.std.specs.Prelude.{ℕ, Option, Some, None, List, take, map, filter, is_some}
+use Rattle.std.specs.Prelude.{ℕ, Option, Some, None, List, take, map, filter, is_some, cond}
 use Rattle.std.specs.List.{filter_map}
 use Rattle.coap_layer.specs.declared.lists.Lists.{Lists}
 use Rattle.coap_layer.specs.declared.mark.Awaiting.{Awaiting}
+use Rattle.coap_layer.specs.declared.mark.FoundIds.{FoundIds}
 use Rattle.coap_layer.specs.declared.mark.Mark.{Mark}
 use Rattle.coap_layer.specs.declared.retransmission.Sending.{Sending}
 use Rattle.coap_layer.specs.Machine.Entries.{arrivals_in}
@@ -51,8 +52,13 @@ held most clock awaits ids lists =
     state_of_parts most clock (awaited awaits) ids (arrivals_in lists.entries) (open_now lists.sendings.items)
     lists.waiting.items
 
+-- the source of Message IDs as the last input found it: it is noted once a number is given
+abbrev pub found_ids : FoundIds → IdState → IdState
+found_ids f ids = cond f.is_noted f.ids ids
+
 -- what `undo` would leave, where these are settled
-abbrev pub before_of : {Z : Type 0} → ℕ → Option Mark → List Arrived → List (Sending Z) → List Packet → Option State
-before_of most None es cs q = None
-before_of most (Some m) es cs q =
-    Some (forgotten (state_of_parts most m.clock.0 (awaited m.awaits) m.ids es (open_before cs) (take m.queued q)))
+abbrev pub before_of : {Z : Type 0} → ℕ → Option Mark → IdState → List Arrived → List (Sending Z) → List Packet
+    → Option State
+before_of most None ids es cs q = None
+before_of most (Some m) ids es cs q =
+    Some (forgotten (state_of_parts most m.clock.0 (awaited m.awaits) ids es (open_before cs) (take m.queued q)))

@@ -19,11 +19,14 @@ abbrev pub HasBuffers : {Z : Type 0} → Room Z → Type 0
 HasBuffers r = (max_message_len ≤ vec_capacity r.sent) × (max_message_len ≤ vec_capacity r.kept)
 
 -- .. and there is a place for it among what is outstanding, and among what waits
-abbrev pub HasRoom : {Z X Y : Type 0} → Option (Room Z) → Lists Z X Y → Type 0
-HasRoom None lists = Unit {0}
-HasRoom (Some r) lists =
+abbrev pub IsReady : {Z X Y : Type 0} → Room Z → Lists Z X Y → Type 0
+IsReady r lists =
     HasBuffers r × (vec_len lists.sendings < vec_capacity lists.sendings)
     × (deque_len lists.waiting < deque_capacity lists.waiting)
+
+-- where room is made, it is there
+abbrev pub HasRoom : {Z X Y : Type 0} → Room Z → Lists Z X Y → Type 0
+HasRoom r lists = r.is_made ≡ true → IsReady r lists
 
 -- no settled message is the one that a reply may be given to
 abbrev pub IsUnknown : ℕ → Option Awaited → (replies : Bool) → List Arrived → Type 0

@@ -17,6 +17,7 @@ use Rattle.coap_types.specs.declared.request.Method.{Method}
 use Rattle.coap_types.specs.declared.request.Method.TheVariants.{Get, Post, Put, Delete}
 use Rattle.coap_codec.specs.Message.{Message}
 use Rattle.coap_layer.specs.Trace as L
+use Rattle.coap_layer.specs.declared.setup.Setup.{Setup}
 use Rattle.coap_block.specs.declared.block_verdict.BlockVerdict.{BlockVerdict}
 use Rattle.coap_block.specs.declared.block_verdict.BlockVerdict.TheVariants.{Refuse, Join, Done}
 use Rattle.coap_resource.specs.Content.{Content}
@@ -26,8 +27,7 @@ use Rattle.coap_resource.specs.Limits.{Limits}
 use Rattle.coap_exchange.specs.declared.answerer.Asked.{Asked}
 use Rattle.coap_exchange.specs.AnswererSteps.{may_defer}
 use Rattle.coap_server.specs.Trace.{Own, Handling, Silent, Replies, Serves, Waits, Notifies, Call}
-use Rattle.coap_server.specs.Trace.{Sets}
-use Rattle.coap_server.specs.Trace.{Removes, Delays, Plains, Feeds, Ticks, NextOut, Gets, TellsApplied}
+use Rattle.coap_server.specs.Trace.{Feeds}
 use Rattle.coap_server.specs.Checks.{Verdict, Ignored, Refused, Asks, Uploads, verdict_on, bad_by}
 use Rattle.coap_server.specs.Checks.{asked_by, uploading, question, asks, is_reserved, bad_request}
 use Rattle.coap_server.specs.Checks.{proxying_not_supported}
@@ -110,13 +110,13 @@ by_verdict (Uploads q b) s a h k = by_block (Uploads q b) (ruling_of s.uploads s
 one_came : {X : Type 0} (x y : X) → Some x ≡ Some y → x ≡ y
 one_came x y h = cc h
 
-module _ (limits : Limits) (szx word : ℕ) where
+module _ (limits : Limits) (szx : ℕ) (setup : Setup) where
   abbrev Attended : List Call → Call → Asked × Message → Type 0
   Attended t c p = AnswersIt limits szx t c p.0 ⊎ (WaitsToAsk limits szx t c p ⊎ IsIgnored p.1)
 
   fed : (t : List Call) (now : ℕ) (from : Endpoint) (bytes : List ℕ) (w : ℕ) (up : L.Answer) (p : Asked × Message)
       (h : Handling) (below : L.Answer)
-      → ServerLaw limits szx word (Feeds now from bytes w up (Some p) h below ∷ t)
+      → ServerLaw limits szx setup (Feeds now from bytes w up (Some p) h below ∷ t)
       → Attended t (Feeds now from bytes w up (Some p) h below) p
   fed t now from bytes w up p Silent below law =
       let s : Own = heard (own_of limits szx t) now (incoming (own_of limits szx t) now from bytes up (Some p)) in
@@ -127,7 +127,7 @@ module _ (limits : Limits) (szx word : ℕ) where
       let s : Own = heard (own_of limits szx t) now (incoming (own_of limits szx t) now from bytes up (Some p)) in
       let v : Verdict = verdict_on s.szx p.1 in
       let k = waits_so s p.0 (Waits q d) v law.rows.0 in
-      let asks = asks_by limits szx word t now from bytes w up p (Waits q d) below v q refl law.rows.0 refl in
+      let asks = asks_by limits szx setup t now from bytes w up p (Waits q d) below v q refl law.rows.0 refl in
       let waits : WaitsToAsk limits szx t (Feeds now from bytes w up (Some p) (Waits q d) below) p = record {
         question = q;
         asks = subst (λ n. AsksBy limits szx t (Feeds now from bytes w up (Some p) (Waits q d) below) p.0 q
@@ -140,21 +140,13 @@ module _ (limits : Limits) (szx word : ℕ) where
       (incoming (own_of limits szx t) now from bytes up (Some p)))
       p o reply law.rows.0)
 
-  here : (t : List Call) (c : Call) → ServerLaw limits szx word (c ∷ t) → (p : Asked × Message) → came_in c ≡ Some p
+  here : (t : List Call) (c : Call) → ServerLaw limits szx setup (c ∷ t) → (p : Asked × Message) → came_in c ≡ Some p
       → Attended t c p
   here t (Feeds now from bytes w up (Some q) h below) law p is =
       subst (Attended t (Feeds now from bytes w up (Some q) h below)) (one_came q p is)
       (fed t now from bytes w up q h below law)
-  here t (Feeds now from bytes w up None h below) law p is = absurd (cc is)
-  here t (Ticks now w below room d passed h id answer) law p is = absurd (cc is)
-  here t (Sets now path format body answer left) law p is = absurd (cc is)
-  here t (Removes now path answer left) law p is = absurd (cc is)
-  here t (Delays path ms answer) law p is = absurd (cc is)
-  here t (Plains path answer) law p is = absurd (cc is)
-  here t (NextOut answer) law p is = absurd (cc is)
-  here t (Gets path answer) law p is = absurd (cc is)
-  here t (TellsApplied answer) law p is = absurd (cc is)
+  here t _ law p is = absurd (cc is)
 
-  pub all_attended : (t : List Call) → ServerLaw limits szx word t → AllAttended limits szx t
+  pub all_attended : (t : List Call) → ServerLaw limits szx setup t → AllAttended limits szx t
   all_attended [] law = tt
-  all_attended (c ∷ t) law = (here t c law, all_attended t (server_back limits szx word c t law))
+  all_attended (c ∷ t) law = (here t c law, all_attended t (server_back limits szx setup c t law))

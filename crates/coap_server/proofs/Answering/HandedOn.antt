@@ -2,10 +2,10 @@
 use Rattle.std.proofs.Common.{◌≡◌, inl, inr, ℕ, max, Bool, true, false, Option, List, [], ◌∷◌, refl, ap, sym, subst}
 use Rattle.std.proofs.Common.{◌∙◌}
 use Rattle.coap_types.specs.declared.endpoint.Endpoint.{Endpoint}
-use Rattle.coap_types.specs.declared.message.Kind.TheVariants.{Con, Non, Ack, Rst}
+use Rattle.coap_types.specs.declared.message.Kind.TheVariants.{Con, Non}
 use Rattle.coap_codec.specs.Message.{Message}
 use Rattle.coap_layer.specs.declared.setup.Setup.{Setup}
-use Rattle.coap_layer.specs.Arrivals.{Arrival, Unreadable, Faulted, Whole}
+use Rattle.coap_layer.specs.Arrivals.{Arrival, Faulted, Whole}
 use Rattle.coap_layer.specs.Machine.State as S
 use Rattle.coap_layer.specs.Rows.{Arrives, Sorts, rejects, drops, takes_ack, takes_reset, passes_reset, takes_answer}
 use Rattle.coap_layer.specs.Rows.{replays, hands_over, Withholds}
@@ -72,18 +72,15 @@ module _ (setup : Setup) (past : List L.Entry) (e : L.Entry) (m : Message)
       ]
 
   arrived : (from : Endpoint) (what : Arrival) → Arrives setup past e from what → Held
-  arrived from Unreadable k = not_let_go e.answer m L.Dropped refl is k.0
   arrived from (Faulted Con id) k = not_let_go e.answer m L.Rejected refl is k.0
-  arrived from (Faulted Non id) k = not_let_go e.answer m L.Dropped refl is k.0
-  arrived from (Faulted Ack id) k = not_let_go e.answer m L.Dropped refl is k.0
-  arrived from (Faulted Rst id) k = not_let_go e.answer m L.Dropped refl is k.0
   arrived from (Whole n) k = sorted (record { from = from; message = n }) k
+  arrived from _ k = not_let_go e.answer m L.Dropped refl is k.0
 
-module _ (limits : Limits) (szx word : ℕ) where
+module _ (limits : Limits) (szx : ℕ) (setup : Setup) where
   fed : (t : List Call) (now : ℕ) (from : Endpoint) (bytes : List ℕ) (w : ℕ) (m : Message) (kept : Bool)
       (came : Option (Asked × Message)) (h : Handling) (below : L.Answer)
-      → ServerLaw limits szx word (Feeds now from bytes w (L.Becomes (L.Request m kept)) came h below ∷ t)
-      → HandedOn limits szx word t now from m kept came
+      → ServerLaw limits szx setup (Feeds now from bytes w (L.Becomes (L.Request m kept)) came h below ∷ t)
+      → HandedOn limits szx setup t now from m kept came
   fed t now from bytes w m kept came h below law = by kept law
     where
       s : Own
@@ -98,38 +95,38 @@ module _ (limits : Limits) (szx word : ℕ) where
       first : Bool → E.Call
       first b = E.Incoming at from bytes (L.Becomes (L.Request m b)) came
 
-      first_law : (b : Bool) → ServerLaw limits szx word
-          (Feeds now from bytes w (L.Becomes (L.Request m b)) came h below ∷ t) → ResponseLaw word (first b ∷ calls)
+      first_law : (b : Bool) → ServerLaw limits szx setup
+          (Feeds now from bytes w (L.Becomes (L.Request m b)) came h below ∷ t) → ResponseLaw setup (first b ∷ calls)
       first_law b law =
           let asks : List E.Call = answering (heard s now (first b)) came h below in
-          back word asks (first b ∷ calls) (subst (ResponseLaw word) (joined asks (first b) calls) law.exchanges)
+          back setup asks (first b ∷ calls) (subst (ResponseLaw setup) (joined asks (first b) calls) law.exchanges)
 
-      by : (b : Bool) → ServerLaw limits szx word (Feeds now from bytes w (L.Becomes (L.Request m b)) came h below ∷ t)
-          → HandedOn limits szx word t now from m b came
+      by : (b : Bool) → ServerLaw limits szx setup (Feeds now from bytes w (L.Becomes (L.Request m b)) came h below ∷ t)
+          → HandedOn limits szx setup t now from m b came
       by true law = (first_law true law).rows.0
       by false law =
           let one = first_law false law in
-          let stands = (layer_stands word (first false ∷ calls) one).0 in
-          let step = last_step (S.start (S.usual word)) one.left
+          let stands = (layer_stands setup (first false ∷ calls) one).0 in
+          let step = last_step (S.start setup) one.left
           (asked at (L.Receive from bytes) (L.Becomes (L.Request m false)))
           (W.lower_of calls) one.layer in
-          let before = back word (first false ∷ []) calls one in
-          let clocks : (left_after (S.start (S.usual word)) (W.lower_of calls)).clock ≡ clock (W.below_of word calls) =
+          let before = back setup (first false ∷ []) calls one in
+          let clocks : (left_after (S.start setup) (W.lower_of calls)).clock ≡ clock (W.below_of setup calls) =
           ap (λ (z : S.State). z.clock) (sym
-          (left_is (S.start (S.usual word)) before.left (W.lower_of calls) before.layer)
-          ∙ (layer_led word calls before).kept) in
-          let held = arrived (S.usual word) (W.below_of word calls) _ m
+          (left_is (S.start setup) before.left (W.lower_of calls) before.layer)
+          ∙ (layer_led setup calls before).kept) in
+          let held = arrived setup (W.below_of setup calls) _ m
           (sym step.right) from stands.row.1.0 stands.row.1.2 in
-          (held.0, subst (λ n. Withholds (S.usual word) (W.below_of word calls) (max n at)) clocks held.1)
+          (held.0, subst (λ n. Withholds setup (W.below_of setup calls) (max n at)) clocks held.1)
 
-  here : (t : List Call) (c : Call) → ServerLaw limits szx word (c ∷ t)
+  here : (t : List Call) (c : Call) → ServerLaw limits szx setup (c ∷ t)
       → (now : ℕ) (from : Endpoint) (bytes : List ℕ) (w : ℕ) (m : Message) (kept : Bool)
       (came : Option (Asked × Message)) (h : Handling) (below : L.Answer)
       → c ≡ Feeds now from bytes w (L.Becomes (L.Request m kept)) came h below
-      → HandedOn limits szx word t now from m kept came
+      → HandedOn limits szx setup t now from m kept came
   here t c law now from bytes w m kept came h below is =
-      fed t now from bytes w m kept came h below (subst (λ z. ServerLaw limits szx word (z ∷ t)) is law)
+      fed t now from bytes w m kept came h below (subst (λ z. ServerLaw limits szx setup (z ∷ t)) is law)
 
-  pub all_handed_on : (t : List Call) → ServerLaw limits szx word t → AllHandedOn limits szx word t
+  pub all_handed_on : (t : List Call) → ServerLaw limits szx setup t → AllHandedOn limits szx setup t
   all_handed_on [] law = tt
-  all_handed_on (c ∷ t) law = (here t c law, all_handed_on t (server_back limits szx word c t law))
+  all_handed_on (c ∷ t) law = (here t c law, all_handed_on t (server_back limits szx setup c t law))

@@ -4,6 +4,7 @@ use Rattle.std.proofs.Common.{◌∷◌, ◌++◌, refl, sym, subst, ◌∙◌}
 use Rattle.coap_types.specs.Past.{Ever}
 use Rattle.coap_types.proofs.Facts.Traces.{Ever_append}
 use Rattle.coap_layer.specs.Trace as L
+use Rattle.coap_layer.specs.declared.setup.Setup.{Setup}
 use Rattle.coap_observe.specs.Observers.{Observer}
 use Rattle.coap_resource.specs.Limits.{Limits}
 use Rattle.coap_exchange.specs.declared.answerer.Asked.{Asked}
@@ -48,7 +49,7 @@ not_again None room = ((λ z. cc z), (λ z. cc z))
 not_again (Some d) true = ((λ z. cc z), (λ z. cc z))
 not_again (Some d) false = ((λ z. cc z), (λ z. cc z))
 
-module _ (limits : Limits) (szx word : ℕ) (t : List Call) (now w : ℕ) where
+module _ (limits : Limits) (szx : ℕ) (setup : Setup) (t : List Call) (now w : ℕ) where
   abbrev own : Own
   own = own_of limits szx t
 
@@ -57,21 +58,15 @@ module _ (limits : Limits) (szx word : ℕ) (t : List Call) (now w : ℕ) where
 
   -- a tick that does nothing
   abbrev Left : Type 0
-  Left = NoId limits szx word t now ⊎ (NoneToAnswer limits szx word t now × NoneToNotify limits szx word t)
+  Left = NoId limits szx setup t now ⊎ (NoneToAnswer limits szx setup t now × NoneToNotify limits szx setup t)
 
   none_here : (below : L.Answer) (room : Bool) (d : Due) (passed : ℕ) (h : Handling) (id : ℕ)
-      → ServerLaw limits szx word (call below room d passed h id false ∷ t) → Left
-  none_here below room (due.Ready a) passed h id law = let e = law.rows.0.1 in absurd (cc e)
-  none_here below room due.Copied passed h id law = let e = law.rows.0.1 in absurd (cc e)
-  none_here below room due.Expired passed h id law = let e = law.rows.0.1 in absurd (cc e)
-  none_here below room due.Idle passed (Replies r) id law = let e = law.rows.0.1 in absurd (cc e)
-  none_here below room due.Idle passed (Serves q reply left) id law = let e = law.rows.0.1 in absurd (cc e)
-  none_here below room due.Idle passed (Waits q delay) id law = let e = law.rows.0.1 in absurd (cc e)
-  none_here below room due.Idle passed (Notifies o reply) id law = let e = law.rows.0.1 in absurd (cc e)
+      → ServerLaw limits szx setup (call below room d passed h id false ∷ t) → Left
   none_here below room due.Idle passed Silent id law =
-      let idle = was_idle limits szx word t now w below room due.Idle passed Silent id false law refl in
-      nothing_left limits szx word t now w room passed id false
-      (subst (λ u. ServerLaw limits szx word (call u room due.Idle passed Silent id false ∷ t)) idle law)
+      let idle = was_idle limits szx setup t now w below room due.Idle passed Silent id false law refl in
+      nothing_left limits szx setup t now w room passed id false
+      (subst (λ u. ServerLaw limits szx setup (call u room due.Idle passed Silent id false ∷ t)) idle law)
+  none_here below room _ passed _ id law = let e = law.rows.0.1 in absurd (cc e)
 
   -- a response
   no_other : (a : Asked) (c : E.Call) (xs : List E.Call) → responds c ≡ None
@@ -90,21 +85,15 @@ module _ (limits : Limits) (szx word : ℕ) (t : List Call) (now w : ℕ) where
 
   responds_next : (below : L.Answer) (room : Bool) (d : Due) (passed : ℕ) (h : Handling) (id : ℕ) (answer : Bool)
       (a : Asked)
-      → ServerLaw limits szx word (call below room d passed h id answer ∷ t)
+      → ServerLaw limits szx setup (call below room d passed h id answer ∷ t)
       → Ever (λ b. responds b ≡ Some a) (responding (heard own now (ticking own now below room d)) d passed h w id)
-      → IsNextResponse limits szx word t (call below room d passed h id answer) now a
+      → IsNextResponse limits szx setup t (call below room d passed h id answer) now a
   responds_next below room (due.Ready b) passed (Serves q reply left) id answer a law (inl e) =
       let same : b ≡ a = cc e in
-      subst (λ x. IsNextResponse limits szx word t
+      subst (λ x. IsNextResponse limits szx setup t
       (call below room (due.Ready b) passed (Serves q reply left) id answer)
-      now x) same (response_next limits szx word t now w room b passed q reply left id answer below law)
+      now x) same (response_next limits szx setup t now w room b passed q reply left id answer below law)
   responds_next below room (due.Ready b) passed (Serves q reply left) id answer a law (inr e) = absurd e
-  responds_next below room (due.Ready b) passed Silent id answer a law k = absurd k
-  responds_next below room (due.Ready b) passed (Replies r) id answer a law k = absurd k
-  responds_next below room (due.Ready b) passed (Waits q delay) id answer a law k = absurd k
-  responds_next below room (due.Ready b) passed (Notifies o reply) id answer a law k = absurd k
-  responds_next below room due.Copied passed h id answer a law k = absurd k
-  responds_next below room due.Expired passed h id answer a law k = absurd k
   responds_next below room due.Idle passed (Notifies o reply) id answer a law (inl e) =
       let s : Own = heard own now (ticking own now below room due.Idle) in
       let none = in_either (λ c. responds c ≡ None) (by_plain s o) s.clock o (notification s.store o reply) w id refl refl
@@ -117,16 +106,17 @@ module _ (limits : Limits) (szx word : ℕ) (t : List Call) (now w : ℕ) where
       absurd (idle_responds below room passed a k)
   responds_next below room due.Idle passed (Waits q delay) id answer a law k =
       absurd (idle_responds below room passed a k)
+  responds_next below room _ passed _ id answer a law k = absurd k
 
   -- a notification
   notifies_next : (below : L.Answer) (room : Bool) (d : Due) (passed : ℕ) (o : Observer) (reply : _) (id : ℕ)
       (answer : Bool)
-      → ServerLaw limits szx word (call below room d passed (Notifies o reply) id answer ∷ t)
-      → IsNextNotice limits szx word t now o
+      → ServerLaw limits szx setup (call below room d passed (Notifies o reply) id answer ∷ t)
+      → IsNextNotice limits szx setup t now o
   notifies_next below room due.Idle passed o reply id answer law =
-      let idle = was_idle limits szx word t now w below room due.Idle passed (Notifies o reply) id answer law refl in
-      notice_next limits szx word t now w room passed o reply id answer
-      (subst (λ u. ServerLaw limits szx word (call u room due.Idle passed (Notifies o reply) id answer ∷ t)) idle law)
+      let idle = was_idle limits szx setup t now w below room due.Idle passed (Notifies o reply) id answer law refl in
+      notice_next limits szx setup t now w room passed o reply id answer
+      (subst (λ u. ServerLaw limits szx setup (call u room due.Idle passed (Notifies o reply) id answer ∷ t)) idle law)
   notifies_next below room due.Copied passed o reply id answer law = let k = law.rows.0.0 in absurd (cc k)
   notifies_next below room due.Expired passed o reply id answer law = let k = law.rows.0.0 in absurd (cc k)
   notifies_next below room (due.Ready a) passed o reply id answer law =
@@ -134,8 +124,8 @@ module _ (limits : Limits) (szx word : ℕ) (t : List Call) (now w : ℕ) where
       absurd (never_notifies_ready (question_of s.clock a s.waiting) s.store s.clock o reply law.rows.0.0)
 
   begins_here : (below : L.Answer) (room : Bool) (d : Due) (passed : ℕ) (h : Handling) (id : ℕ) (answer : Bool)
-      → ServerLaw limits szx word (call below room d passed h id answer ∷ t)
-      → BeginsNext limits szx word t (call below room d passed h id answer) now
+      → ServerLaw limits szx setup (call below room d passed h id answer ∷ t)
+      → BeginsNext limits szx setup t (call below room d passed h id answer) now
   begins_here below room d passed h id answer law =
       record {
         responds = λ a k. responds_next below room d passed h id answer a law
@@ -144,11 +134,11 @@ module _ (limits : Limits) (szx word : ℕ) (t : List Call) (now w : ℕ) where
         notifies = by h law;
       }
     where
-      by : (h : Handling) → ServerLaw limits szx word (call below room d passed h id answer ∷ t) → (x : Notice)
-          → notice (call below room d passed h id answer) ≡ Some x → IsNextNotice limits szx word t now x.observer
+      by : (h : Handling) → ServerLaw limits szx setup (call below room d passed h id answer ∷ t) → (x : Notice)
+          → notice (call below room d passed h id answer) ≡ Some x → IsNextNotice limits szx setup t now x.observer
       by (Notifies o reply) law x e =
           let same : ◌≡◌ {A = Notice} (record { observer = o; reply = reply }) x = cc e in
-          subst (λ (y : Notice). IsNextNotice limits szx word t now y.observer) same
+          subst (λ (y : Notice). IsNextNotice limits szx setup t now y.observer) same
           (notifies_next below room d passed o reply id answer law)
       by Silent law x e = absurd (cc e)
       by (Replies r) law x e = absurd (cc e)
@@ -156,36 +146,36 @@ module _ (limits : Limits) (szx word : ℕ) (t : List Call) (now w : ℕ) where
       by (Waits q delay) law x e = absurd (cc e)
 
   -- the first that can be notified
-  module _ (o : Observer) (none : NoneToAnswer limits szx word t now)
-      (first : IsFirst (CanNotify limits szx word t) o own.observers) where
+  module _ (o : Observer) (none : NoneToAnswer limits szx setup t now)
+      (first : IsFirst (CanNotify limits szx setup t) o own.observers) where
     abbrev Goal : Call → Type 0
-    Goal c = ((x : Notice) × (notice c ≡ Some x) × (x.observer ≡ o)) ⊎ NoId limits szx word t now
+    Goal c = ((x : Notice) × (notice c ≡ Some x) × (x.observer ≡ o)) ⊎ NoId limits szx setup t now
 
     served_no : (room : Bool) (a : Asked) (passed : ℕ) (h : Handling) (id : ℕ) (answer : Bool)
-        → ServerLaw limits szx word (call L.Idle room (due.Ready a) passed h id answer ∷ t) → ⊥
+        → ServerLaw limits szx setup (call L.Idle room (due.Ready a) passed h id answer ∷ t) → ⊥
     served_no room a passed h id answer law =
-        first_never (CanAnswer limits szx word t now) _ own.waiting
-        (ready_first limits szx word t now w room a passed h id answer law).first none
+        first_never (CanAnswer limits szx setup t now) _ own.waiting
+        (ready_first limits szx setup t now w room a passed h id answer law).first none
 
     notified : (room : Bool) (d : Due) (passed : ℕ) (h : Handling) (id : ℕ) (answer : Bool)
-        → ServerLaw limits szx word (call L.Idle room d passed h id answer ∷ t)
+        → ServerLaw limits szx setup (call L.Idle room d passed h id answer ∷ t)
         → Goal (call L.Idle room d passed h id answer)
     notified room (due.Ready a) passed h id answer law = absurd (served_no room a passed h id answer law)
     notified room due.Copied passed h id answer law =
-        absurd ((not_again _ room).0 (due_is limits szx word t now w L.Idle room due.Copied passed h id answer law))
+        absurd ((not_again _ room).0 (due_is limits szx setup t now w L.Idle room due.Copied passed h id answer law))
     notified room due.Expired passed h id answer law =
-        absurd ((not_again _ room).1 (due_is limits szx word t now w L.Idle room due.Expired passed h id answer law))
+        absurd ((not_again _ room).1 (due_is limits szx setup t now w L.Idle room due.Expired passed h id answer law))
     notified room due.Idle passed Silent id answer law =
-        elim (nothing_left limits szx word t now w room passed id answer law) [
+        elim (nothing_left limits szx setup t now w room passed id answer law) [
           | inl held ↦ inr held
-          | inr none ↦ absurd (first_never (CanNotify limits szx word t) o own.observers first none.1)
+          | inr none ↦ absurd (first_never (CanNotify limits szx setup t) o own.observers first none.1)
         ]
     notified room due.Idle passed (Notifies x reply) id answer law =
-        let k = notice_next limits szx word t now w room passed x reply id answer law in
+        let k = notice_next limits szx setup t now w room passed x reply id answer law in
         inl (
           record { observer = x; reply = reply },
           refl,
-          first_one (CanNotify limits szx word t) x o own.observers k.first first,
+          first_one (CanNotify limits szx setup t) x o own.observers k.first first,
         )
     notified room due.Idle passed (Replies r) id answer law =
         let no = next_is (behind passed (marked own.observers)) own.store (Replies r) law.rows.0.0 in absurd (cc no)
@@ -195,30 +185,30 @@ module _ (limits : Limits) (szx word : ℕ) (t : List Call) (now w : ℕ) where
     notified room due.Idle passed (Waits q delay) id answer law =
         let no = next_is (behind passed (marked own.observers)) own.store (Waits q delay) law.rows.0.0 in absurd (cc no)
 
-module _ (limits : Limits) (szx word : ℕ) where
-  pub none_left : (t : List Call) → ServerLaw limits szx word t → NoneLeft limits szx word t
+module _ (limits : Limits) (szx : ℕ) (setup : Setup) where
+  pub none_left : (t : List Call) → ServerLaw limits szx setup t → NoneLeft limits szx setup t
   none_left [] law = tt
   none_left (c ∷ t) law = (
-    (λ now k. none_here limits szx word t now k.0 k.1 k.2 k.3 k.4 k.5 k.6
-        (subst (λ b. ServerLaw limits szx word (b ∷ t)) k.7 law)),
-    none_left t (server_back limits szx word c t law),
+    (λ now k. none_here limits szx setup t now k.0 k.1 k.2 k.3 k.4 k.5 k.6
+        (subst (λ b. ServerLaw limits szx setup (b ∷ t)) k.7 law)),
+    none_left t (server_back limits szx setup c t law),
   )
 
-  pub all_begin_next : (t : List Call) → ServerLaw limits szx word t → AllBeginNext limits szx word t
+  pub all_begin_next : (t : List Call) → ServerLaw limits szx setup t → AllBeginNext limits szx setup t
   all_begin_next [] law = tt
   all_begin_next (c ∷ t) law = (
-    (λ now answer k. subst (λ b. BeginsNext limits szx word t b now) (sym k.7)
-        (begins_here limits szx word t now k.0 k.1 k.2 k.3 k.4 k.5 k.6 answer
-        (subst (λ b. ServerLaw limits szx word (b ∷ t)) k.7 law))),
-    all_begin_next t (server_back limits szx word c t law),
+    (λ now answer k. subst (λ b. BeginsNext limits szx setup t b now) (sym k.7)
+        (begins_here limits szx setup t now k.0 k.1 k.2 k.3 k.4 k.5 k.6 answer
+        (subst (λ b. ServerLaw limits szx setup (b ∷ t)) k.7 law))),
+    all_begin_next t (server_back limits szx setup c t law),
   )
 
-  pub first_is_notified : (t : List Call) → ServerLaw limits szx word t → FirstIsNotified limits szx word t
+  pub first_is_notified : (t : List Call) → ServerLaw limits szx setup t → FirstIsNotified limits szx setup t
   first_is_notified [] law = tt
   first_is_notified (c ∷ t) law = (
     (λ now w room d passed h id answer o is none first.
-        subst (λ b. ((x : Notice) × (notice b ≡ Some x) × (x.observer ≡ o)) ⊎ NoId limits szx word t now) (sym is)
-        (notified limits szx word t now w o none first room d passed h id answer
-        (subst (λ b. ServerLaw limits szx word (b ∷ t)) is law))),
-    first_is_notified t (server_back limits szx word c t law),
+        subst (λ b. ((x : Notice) × (notice b ≡ Some x) × (x.observer ≡ o)) ⊎ NoId limits szx setup t now) (sym is)
+        (notified limits szx setup t now w o none first room d passed h id answer
+        (subst (λ b. ServerLaw limits szx setup (b ∷ t)) is law))),
+    first_is_notified t (server_back limits szx setup c t law),
   )

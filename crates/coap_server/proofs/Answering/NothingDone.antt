@@ -5,6 +5,7 @@ use Rattle.coap_types.specs.SameEndpoint.{same_endpoint}
 use Rattle.coap_layer.specs.Machine.Steps.{Asked as Below}
 use Rattle.coap_layer.specs.Trace as L
 use Rattle.coap_layer.specs.Words.{Open}
+use Rattle.coap_layer.specs.declared.setup.Setup.{Setup}
 use Rattle.coap_block.specs.Whole.{Each}
 use Rattle.coap_observe.specs.Observers.{Observer}
 use Rattle.coap_resource.specs.Limits.{Limits}
@@ -12,7 +13,7 @@ use Rattle.coap_exchange.specs.declared.answerer.Due.{Due}
 use Rattle.coap_exchange.specs.declared.answerer.Due.TheVariants as due
 use Rattle.coap_exchange.specs.AnswererLaw as W
 use Rattle.coap_exchange.specs.AnswererTrace as E
-use Rattle.coap_server.specs.Trace.{Own, Handling, Silent, Replies, Serves, Waits, Notifies, Call, Ticks}
+use Rattle.coap_server.specs.Trace.{Own, Handling, Silent, Call, Ticks}
 use Rattle.coap_server.specs.Notifying.{marked, readies}
 use Rattle.coap_server.specs.Law.{ServerLaw, own_of, lower_of}
 use Rattle.coap_server.specs.Follows.Begins.{CanNotify}
@@ -21,22 +22,19 @@ use Rattle.coap_server.proofs.Answering.RoomAsked.{Quiet, quiet_room}
 use Rattle.coap_server.proofs.Answering.TickTurns.{nothing_left, quiet_first, was_idle}
 use Rattle.coap_server.proofs.Exact.Asked.{joined}
 use Rattle.coap_server.proofs.Serving.Brought.{server_back}
+use Rattle.coap_server.proofs.Answering.FirstAnswered.{each_map as each_so}
 
 -- asking of whom may be notified sends and hears nothing
-quiet_walk : (word : ℕ) (base : List Below) (at : ℕ) (more : List E.Call) → Quiet word base at (W.lower_of more)
-    → (n : ℕ) (os : List Observer) → Quiet word base at (W.lower_of (readies at n os ++ more))
-quiet_walk word base at more q n [] = q
-quiet_walk word base at more q zero (o ∷ os) = quiet_room word base at (W.lower_of more) q o.to true
-quiet_walk word base at more q (suc n) (o ∷ os) =
+quiet_walk : (setup : Setup) (base : List Below) (at : ℕ) (more : List E.Call) → Quiet setup base at (W.lower_of more)
+    → (n : ℕ) (os : List Observer) → Quiet setup base at (W.lower_of (readies at n os ++ more))
+quiet_walk setup base at more q n [] = q
+quiet_walk setup base at more q zero (o ∷ os) = quiet_room setup base at (W.lower_of more) q o.to true
+quiet_walk setup base at more q (suc n) (o ∷ os) =
     let next : List E.Call = E.Ready at o.to false ∷ more in
-    subst (λ cs. Quiet word base at (W.lower_of cs)) (sym (joined (readies at n os) (E.Ready at o.to false) more))
-    (quiet_walk word base at next (quiet_room word base at (W.lower_of more) q o.to false) n os)
+    subst (λ cs. Quiet setup base at (W.lower_of cs)) (sym (joined (readies at n os) (E.Ready at o.to false) more))
+    (quiet_walk setup base at next (quiet_room setup base at (W.lower_of more) q o.to false) n os)
 
-each_so : {X : Type 0} (P Q : X → Type 0) → ((x : X) → P x → Q x) → (xs : List X) → Each P xs → Each Q xs
-each_so P Q f [] h = tt
-each_so P Q f (x ∷ xs) h = (f x h.0, each_so P Q f xs h.1)
-
-module _ (limits : Limits) (szx word : ℕ) (t : List Call) (now w : ℕ) where
+module _ (limits : Limits) (szx : ℕ) (setup : Setup) (t : List Call) (now w : ℕ) where
   abbrev own : Own
   own = own_of limits szx t
 
@@ -50,25 +48,25 @@ module _ (limits : Limits) (szx word : ℕ) (t : List Call) (now w : ℕ) where
   call below room d passed h id = Ticks now w below room d passed h id false
 
   -- behind an idle layer
-  silent : (room : Bool) (passed id : ℕ) → ServerLaw limits szx word (call L.Idle room due.Idle passed Silent id ∷ t)
-      → LeavesAll limits szx word t (call L.Idle room due.Idle passed Silent id) now
+  silent : (room : Bool) (passed id : ℕ) → ServerLaw limits szx setup (call L.Idle room due.Idle passed Silent id ∷ t)
+      → LeavesAll limits szx setup t (call L.Idle room due.Idle passed Silent id) now
   silent room passed id law =
       let c : Call = call L.Idle room due.Idle passed Silent id in
       let first : E.Call = E.Ticks at L.Idle room due.Idle in
-      let quiet : Quiet word (W.lower_of calls) at (W.lower_of (lower_of limits szx (c ∷ t))) =
-      subst (λ cs. Quiet word (W.lower_of calls) at (W.lower_of cs))
+      let quiet : Quiet setup (W.lower_of calls) at (W.lower_of (lower_of limits szx (c ∷ t))) =
+      subst (λ cs. Quiet setup (W.lower_of calls) at (W.lower_of cs))
       (sym (joined (readies at passed (marked own.observers)) first calls))
-      (quiet_walk word (W.lower_of calls) at (first ∷ calls)
-      (quiet_first limits szx word t now w room due.Idle passed Silent id false law) passed (marked own.observers)) in
+      (quiet_walk setup (W.lower_of calls) at (first ∷ calls)
+      (quiet_first limits szx setup t now w room due.Idle passed Silent id false law) passed (marked own.observers)) in
       record {
         observers = refl;
         waiting = refl;
         store = refl;
         cons = quiet.opens;
-        nobody = elim (nothing_left limits szx word t now w room passed id false law) [
+        nobody = elim (nothing_left limits szx setup t now w room passed id false law) [
           | inl held ↦ inl held
-          | inr none ↦ inr (each_so (λ o. CanNotify limits szx word t o → ⊥)
-              (λ o. CanNotify limits szx word (c ∷ t) o → ⊥)
+          | inr none ↦ inr (each_so (λ o. CanNotify limits szx setup t o → ⊥)
+              (λ o. CanNotify limits szx setup (c ∷ t) o → ⊥)
               (λ o never can. never (record {
                 due = can.due;
                 alone = λ busy. can.alone (subst (λ cs. Ever (λ (x : Open). same_endpoint x.to o.to ≡ true) cs)
@@ -78,27 +76,21 @@ module _ (limits : Limits) (szx word : ℕ) (t : List Call) (now w : ℕ) where
       }
 
   here : (below : L.Answer) (room : Bool) (d : Due) (passed : ℕ) (h : Handling) (id : ℕ)
-      → ServerLaw limits szx word (call below room d passed h id ∷ t)
-      → LeavesAll limits szx word t (call below room d passed h id) now
-  here below room (due.Ready a) passed h id law = let e = law.rows.0.1 in absurd (cc e)
-  here below room due.Copied passed h id law = let e = law.rows.0.1 in absurd (cc e)
-  here below room due.Expired passed h id law = let e = law.rows.0.1 in absurd (cc e)
-  here below room due.Idle passed (Replies r) id law = let e = law.rows.0.1 in absurd (cc e)
-  here below room due.Idle passed (Serves q reply left) id law = let e = law.rows.0.1 in absurd (cc e)
-  here below room due.Idle passed (Waits q delay) id law = let e = law.rows.0.1 in absurd (cc e)
-  here below room due.Idle passed (Notifies o reply) id law = let e = law.rows.0.1 in absurd (cc e)
+      → ServerLaw limits szx setup (call below room d passed h id ∷ t)
+      → LeavesAll limits szx setup t (call below room d passed h id) now
   here below room due.Idle passed Silent id law =
-      let idle = was_idle limits szx word t now w below room due.Idle passed Silent id false law refl in
-      subst (λ u. LeavesAll limits szx word t (call u room due.Idle passed Silent id) now) (sym idle)
-      (silent room passed id (subst (λ u. ServerLaw limits szx word (call u room due.Idle passed Silent id ∷ t)) idle
+      let idle = was_idle limits szx setup t now w below room due.Idle passed Silent id false law refl in
+      subst (λ u. LeavesAll limits szx setup t (call u room due.Idle passed Silent id) now) (sym idle)
+      (silent room passed id (subst (λ u. ServerLaw limits szx setup (call u room due.Idle passed Silent id ∷ t)) idle
       law))
+  here below room _ passed _ id law = let e = law.rows.0.1 in absurd (cc e)
 
-pub all_leave : (limits : Limits) (szx word : ℕ) (t : List Call) → ServerLaw limits szx word t
-    → AllLeave limits szx word t
-all_leave limits szx word [] law = tt
-all_leave limits szx word (c ∷ t) law = (
-  (λ now k. subst (λ b. LeavesAll limits szx word t b now) (sym k.7)
-      (here limits szx word t now k.0 k.1 k.2 k.3 k.4 k.5 k.6
-      (subst (λ b. ServerLaw limits szx word (b ∷ t)) k.7 law))),
-  all_leave limits szx word t (server_back limits szx word c t law),
+pub all_leave : (limits : Limits) (szx : ℕ) (setup : Setup) (t : List Call) → ServerLaw limits szx setup t
+    → AllLeave limits szx setup t
+all_leave limits szx setup [] law = tt
+all_leave limits szx setup (c ∷ t) law = (
+  (λ now k. subst (λ b. LeavesAll limits szx setup t b now) (sym k.7)
+      (here limits szx setup t now k.0 k.1 k.2 k.3 k.4 k.5 k.6
+      (subst (λ b. ServerLaw limits szx setup (b ∷ t)) k.7 law))),
+  all_leave limits szx setup t (server_back limits szx setup c t law),
 )

@@ -22,6 +22,7 @@ use Rattle.coap_exchange.specs.AnswererSteps as P
 use Rattle.coap_exchange.specs.AskerRequests.{asked}
 use Rattle.coap_exchange.proofs.Facts.ServerSide.{layer_stands}
 use Rattle.coap_layer.proofs.Facts.StepsOfLayer.{steps_split}
+use Rattle.coap_layer.specs.declared.setup.Setup.{Setup}
 use Rattle.coap_server.specs.Trace.{Own, Handling, Silent, Serves, Notifies, Call, Ticks}
 use Rattle.coap_server.specs.Asks.{responding}
 use Rattle.coap_server.specs.Deferring.{AnswersWaiting, question_of}
@@ -87,7 +88,7 @@ served_asks (Some x) q store at p reply left h k =
     same ∙ one
 served_asks None q store at p reply left h k = absurd (cc h)
 
-module _ (limits : Limits) (szx word : ℕ) (t : List Call) (now w : ℕ) where
+module _ (limits : Limits) (szx : ℕ) (setup : Setup) (t : List Call) (now w : ℕ) where
   abbrev own : Own
   own = own_of limits szx t
 
@@ -108,21 +109,21 @@ module _ (limits : Limits) (szx word : ℕ) (t : List Call) (now w : ℕ) where
 
   -- the call of the exchanges, and what is asked of them behind it
   module _ (below : L.Answer) (room : Bool) (d : Due) (passed : ℕ) (h : Handling) (id : ℕ) (answer : Bool)
-      (law : ServerLaw limits szx word (Ticks now w below room d passed h id answer ∷ t)) where
+      (law : ServerLaw limits szx setup (Ticks now w below room d passed h id answer ∷ t)) where
     abbrev first : E.Call
     first = E.Ticks at below room d
 
     abbrev asks : List E.Call
     asks = responding (heard own now first) d passed h w id
 
-    all_law : ResponseLaw word (asks ++ first ∷ calls)
-    all_law = subst (ResponseLaw word) (joined asks first calls) law.exchanges
+    all_law : ResponseLaw setup (asks ++ first ∷ calls)
+    all_law = subst (ResponseLaw setup) (joined asks first calls) law.exchanges
 
-    one_law : ResponseLaw word (first ∷ calls)
-    one_law = back word asks (first ∷ calls) all_law
+    one_law : ResponseLaw setup (first ∷ calls)
+    one_law = back setup asks (first ∷ calls) all_law
 
-    pub earlier : ServerLaw limits szx word t
-    earlier = server_back limits szx word (Ticks now w below room d passed h id answer) t law
+    pub earlier : ServerLaw limits szx setup t
+    earlier = server_back limits szx setup (Ticks now w below room d passed h id answer) t law
 
     pub due_is : d ≡ P.due_of below (P.ready_at (W.own_of calls) at) room
     due_is = one_law.rows.0
@@ -131,7 +132,7 @@ module _ (limits : Limits) (szx word : ℕ) (t : List Call) (now w : ℕ) where
     pub was_idle : d ≡ due.Idle → below ≡ L.Idle
     was_idle is =
         let ready : Option Deferred = P.ready_if below (P.ready_at (W.own_of calls) at) in
-        let c = steps_split (S.start (S.usual word)) one_law.left
+        let c = steps_split (S.start setup) one_law.left
         (P.asking_room at ready room ++ asked at L.Ticks below ∷ [])
         base one_law.layer in
         let e = steps_split c.0 one_law.left (P.asking_room at ready room) (asked at L.Ticks below ∷ []) c.2 in
@@ -145,51 +146,51 @@ module _ (limits : Limits) (szx word : ℕ) (t : List Call) (now w : ℕ) where
 
   -- an idle layer
   module _ (room : Bool) (d : Due) (passed : ℕ) (h : Handling) (id : ℕ) (answer : Bool)
-      (law : ServerLaw limits szx word (Ticks now w L.Idle room d passed h id answer ∷ t)) where
-    abbrev one : ResponseLaw word (E.Ticks at L.Idle room d ∷ calls)
+      (law : ServerLaw limits szx setup (Ticks now w L.Idle room d passed h id answer ∷ t)) where
+    abbrev one : ResponseLaw setup (E.Ticks at L.Idle room d ∷ calls)
     one = one_law L.Idle room d passed h id answer law
 
-    abbrev before : ServerLaw limits szx word t
+    abbrev before : ServerLaw limits szx setup t
     before = earlier L.Idle room d passed h id answer law
 
-    clocks : (left_after (S.start (S.usual word)) base).clock ≡ clock (layer_of limits szx word t)
+    clocks : (left_after (S.start setup) base).clock ≡ clock (layer_of limits szx setup t)
     clocks = ap (λ (z : S.State). z.clock)
-        (sym (left_is (S.start (S.usual word)) before.exchanges.left base before.exchanges.layer)
-        ∙ (layer_led word calls before.exchanges).kept)
+        (sym (left_is (S.start setup) before.exchanges.left base before.exchanges.layer)
+        ∙ (layer_led setup calls before.exchanges).kept)
 
     steps_by : (o : Option Deferred) → P.ready_at (W.own_of calls) at ≡ o
-        → Steps (S.start (S.usual word)) (asking o room) one.left
-    steps_by o is = subst (λ z. Steps (S.start (S.usual word)) (asking z room) one.left) is one.layer
+        → Steps (S.start setup) (asking o room) one.left
+    steps_by o is = subst (λ z. Steps (S.start setup) (asking z room) one.left) is one.layer
 
     stands_by : (o : Option Deferred) → P.ready_at (W.own_of calls) at ≡ o
-        → LayerLaw (S.usual word) (entries (S.start (S.usual word)) (asking o room))
-    stands_by o is = subst (λ z. LayerLaw (S.usual word) (entries (S.start (S.usual word)) (asking z room))) is
-        (layer_stands word (E.Ticks at L.Idle room d ∷ calls) one)
+        → LayerLaw setup (entries (S.start setup) (asking o room))
+    stands_by o is = subst (λ z. LayerLaw setup (entries (S.start setup) (asking z room))) is
+        (layer_stands setup (E.Ticks at L.Idle room d ∷ calls) one)
 
-    quiet_by : (o : Option Deferred) → Steps (S.start (S.usual word)) (asking o room) one.left
-        → Quiet word base at (asking o room)
-    quiet_by None steps = quiet_tick word base at one.left steps clocks
-    quiet_by (Some x) steps = quiet_room word base at (asked at L.Ticks L.Idle ∷ base)
-        (quiet_tick word base at steps.0 steps.1 clocks) x.asked.from room
+    quiet_by : (o : Option Deferred) → Steps (S.start setup) (asking o room) one.left
+        → Quiet setup base at (asking o room)
+    quiet_by None steps = quiet_tick setup base at one.left steps clocks
+    quiet_by (Some x) steps = quiet_room setup base at (asked at L.Ticks L.Idle ∷ base)
+        (quiet_tick setup base at steps.0 steps.1 clocks) x.asked.from room
 
-    pub quiet_first : Quiet word base at (W.lower_of (E.Ticks at L.Idle room d ∷ calls))
+    pub quiet_first : Quiet setup base at (W.lower_of (E.Ticks at L.Idle room d ∷ calls))
     quiet_first = quiet_by (P.ready_at (W.own_of calls) at) one.layer
 
-    room_there : (x : Deferred) → P.ready_at (W.own_of calls) at ≡ Some x → Says word base at x.asked.from room
+    room_there : (x : Deferred) → P.ready_at (W.own_of calls) at ≡ Some x → Says setup base at x.asked.from room
     room_there x is =
         let steps = steps_by (Some x) is in
-        room_says word base at (asked at L.Ticks L.Idle ∷ base) (quiet_tick word base at steps.0 steps.1 clocks)
+        room_says setup base at (asked at L.Ticks L.Idle ∷ base) (quiet_tick setup base at steps.0 steps.1 clocks)
         x.asked.from room one.left steps (stands_by (Some x) is)
 
     found_at : (x : Deferred) → P.ready_at (W.own_of calls) at ≡ Some x
-        → Found limits szx word t now before own.waiting x
-    found_at x is = first_found limits szx word t now before own.waiting x
-        (sym (ready_is limits szx word t now before) ∙ is)
+        → Found limits szx setup t now before own.waiting x
+    found_at x is = first_found limits szx setup t now before own.waiting x
+        (sym (ready_is limits szx setup t now before) ∙ is)
 
   -- the first that can be answered, where a request is ready
   pub ready_first : (room : Bool) (a : Asked) (passed : ℕ) (h : Handling) (id : ℕ) (answer : Bool)
-      → (law : ServerLaw limits szx word (Ticks now w L.Idle room (due.Ready a) passed h id answer ∷ t))
-      → Found limits szx word t now (before room (due.Ready a) passed h id answer law) own.waiting
+      → (law : ServerLaw limits szx setup (Ticks now w L.Idle room (due.Ready a) passed h id answer ∷ t))
+      → Found limits szx setup t now (before room (due.Ready a) passed h id answer law) own.waiting
       (found_ready L.Idle (P.ready_at (W.own_of calls) at) room a
       (due_is L.Idle room (due.Ready a) passed h id answer law)).deferred
   ready_first room a passed h id answer law =
@@ -203,9 +204,9 @@ module _ (limits : Limits) (szx word : ℕ) (t : List Call) (now w : ℕ) where
     abbrev responding_call : L.Answer → Call
     responding_call u = Ticks now w u room (due.Ready a) passed (Serves q reply left) id answer
 
-    ready_next : (r : Bool) → ServerLaw limits szx word
+    ready_next : (r : Bool) → ServerLaw limits szx setup
         (Ticks now w L.Idle r (due.Ready a) passed (Serves q reply left) id answer ∷ t)
-        → IsNextResponse limits szx word t (Ticks now w L.Idle r (due.Ready a) passed (Serves q reply left) id answer)
+        → IsNextResponse limits szx setup t (Ticks now w L.Idle r (due.Ready a) passed (Serves q reply left) id answer)
         now a
     ready_next false law =
         let h : Handling = Serves q reply left in
@@ -231,78 +232,78 @@ module _ (limits : Limits) (szx word : ℕ) (t : List Call) (now w : ℕ) where
           asks = (
             refl,
             served_asks (question_of at a own.waiting) g.request.question own.store at q reply left
-                (asks_first limits szx word t now a g.request own.waiting whose g.first) law.rows.0.0,
+                (asks_first limits szx setup t now a g.request own.waiting whose g.first) law.rows.0.0,
           );
         }
 
-    pub response_next : (below : L.Answer) → ServerLaw limits szx word (responding_call below ∷ t)
-        → IsNextResponse limits szx word t (responding_call below) now a
+    pub response_next : (below : L.Answer) → ServerLaw limits szx setup (responding_call below ∷ t)
+        → IsNextResponse limits szx setup t (responding_call below) now a
     response_next below law =
         let f = found_ready below (P.ready_at (W.own_of calls) at) room a
         (due_is below room (due.Ready a) passed (Serves q reply left) id answer law) in
-        subst (λ u. IsNextResponse limits szx word t (responding_call u) now a) (sym f.idle)
-        (ready_next room (subst (λ u. ServerLaw limits szx word (responding_call u ∷ t)) f.idle law))
+        subst (λ u. IsNextResponse limits szx setup t (responding_call u) now a) (sym f.idle)
+        (ready_next room (subst (λ u. ServerLaw limits szx setup (responding_call u ∷ t)) f.idle law))
 
   -- nothing is ready, or no Message ID is free
   module _ (room : Bool) (passed : ℕ) (h : Handling) (id : ℕ) (answer : Bool)
-      (law : ServerLaw limits szx word (Ticks now w L.Idle room due.Idle passed h id answer ∷ t)) where
-    pub none_ready : NoId limits szx word t now ⊎ NoneToAnswer limits szx word t now
+      (law : ServerLaw limits szx setup (Ticks now w L.Idle room due.Idle passed h id answer ∷ t)) where
+    pub none_ready : NoId limits szx setup t now ⊎ NoneToAnswer limits szx setup t now
     none_ready = by (P.ready_at (W.own_of calls) at) refl
       where
         busy_no : (x : Deferred) → P.ready_at (W.own_of calls) at ≡ Some x → (r : Bool)
-            → Says word base at x.asked.from r
+            → Says setup base at x.asked.from r
             → due.Idle ≡ P.due_if (Some x) r
-            → NoId limits szx word t now ⊎ NoneToAnswer limits szx word t now
+            → NoId limits szx setup t now ⊎ NoneToAnswer limits szx setup t now
         busy_no x is true says e = absurd (cc e)
         busy_no x is false (inr held) e = inl held
         busy_no x is false (inl busy) e =
             let g = found_at room due.Idle passed h id answer law x is in
-            let can = first_holds (λ y. CanAnswer limits szx word t now y) g.request own.waiting g.first in
-            absurd (can.alone (subst (λ (y : Deferred). Busy (layer_of limits szx word t) y.asked.from)
+            let can = first_holds (λ y. CanAnswer limits szx setup t now y) g.request own.waiting g.first in
+            absurd (can.alone (subst (λ (y : Deferred). Busy (layer_of limits szx setup t) y.asked.from)
             (sym g.is) busy))
 
         by : (o : Option Deferred) → P.ready_at (W.own_of calls) at ≡ o
-            → NoId limits szx word t now ⊎ NoneToAnswer limits szx word t now
-        by None is = inr (none_found limits szx word t now (before room due.Idle passed h id answer law) own.waiting
-            (sym (ready_is limits szx word t now (before room due.Idle passed h id answer law)) ∙ is))
+            → NoId limits szx setup t now ⊎ NoneToAnswer limits szx setup t now
+        by None is = inr (none_found limits szx setup t now (before room due.Idle passed h id answer law) own.waiting
+            (sym (ready_is limits szx setup t now (before room due.Idle passed h id answer law)) ∙ is))
         by (Some x) is = busy_no x is room (room_there room due.Idle passed h id answer law x is)
             (due_is L.Idle room due.Idle passed h id answer law ∙ ap (λ o. P.due_of L.Idle o room) is)
 
     -- those of whom it was asked whether they can be notified
-    pub walked : ResponseLaw word (readies at passed (marked own.observers) ++ E.Ticks at L.Idle room due.Idle ∷ calls)
-        → Walked word calls at passed (marked own.observers)
-    walked asked = walk word calls at (E.Ticks at L.Idle room due.Idle ∷ calls)
+    pub walked : ResponseLaw setup (readies at passed (marked own.observers) ++ E.Ticks at L.Idle room due.Idle ∷ calls)
+        → Walked setup calls at passed (marked own.observers)
+    walked asked = walk setup calls at (E.Ticks at L.Idle room due.Idle ∷ calls)
         (quiet_first room due.Idle passed h id answer law) passed (marked own.observers) asked
 
   -- a notification
   pub notice_next : (room : Bool) (passed : ℕ) (o : Observer) (reply : Reply) (id : ℕ) (answer : Bool)
-      → ServerLaw limits szx word (Ticks now w L.Idle room due.Idle passed (Notifies o reply) id answer ∷ t)
-      → IsNextNotice limits szx word t now o
+      → ServerLaw limits szx setup (Ticks now w L.Idle room due.Idle passed (Notifies o reply) id answer ∷ t)
+      → IsNextNotice limits szx setup t now o
   notice_next room passed o reply id answer law =
       let h : Handling = Notifies o reply in
       let all = all_law L.Idle room due.Idle passed h id answer law in
-      let v = walked room passed h id answer law (one_back word _ _ all) in
+      let v = walked room passed h id answer law (one_back setup _ _ all) in
       let found = next_notifies (behind passed (marked own.observers)) own.store o reply law.rows.0.0 in
-      let may = gives limits szx word t now passed (marked own.observers) o found v in
+      let may = gives limits szx setup t now passed (marked own.observers) o found v in
       record {
         none = elim (none_ready room passed h id answer law) [
-          | inl held ↦ absurd (never_both (S.usual word) (layer_of limits szx word t) _ may held)
+          | inl held ↦ absurd (never_both setup (layer_of limits szx setup t) _ may held)
           | inr none ↦ none
         ];
-        first = first_notified limits szx word t now may passed own.observers o found v;
+        first = first_notified limits szx setup t now may passed own.observers o found v;
         id = may;
       }
 
   -- nothing
   pub nothing_left : (room : Bool) (passed : ℕ) (id : ℕ) (answer : Bool)
-      → ServerLaw limits szx word (Ticks now w L.Idle room due.Idle passed Silent id answer ∷ t)
-      → NoId limits szx word t now ⊎ (NoneToAnswer limits szx word t now × NoneToNotify limits szx word t)
+      → ServerLaw limits szx setup (Ticks now w L.Idle room due.Idle passed Silent id answer ∷ t)
+      → NoId limits szx setup t now ⊎ (NoneToAnswer limits szx setup t now × NoneToNotify limits szx setup t)
   nothing_left room passed id answer law =
       let v = walked room passed Silent id answer law (all_law L.Idle room due.Idle passed Silent id answer law) in
       let found = next_silent (behind passed (marked own.observers)) own.store law.rows.0.0 in
       elim (none_ready room passed Silent id answer law) [
         | inl held ↦ inl held
-        | inr none ↦ elim (none_notified limits szx word t now passed own.observers found v) [
+        | inr none ↦ elim (none_notified limits szx setup t now passed own.observers found v) [
           | inl held ↦ inl held
           | inr rest ↦ inr (none, rest)
         ]

@@ -1,10 +1,11 @@
 -- What waits goes on waiting until a tick sends its response.
 use Rattle.std.proofs.Common.{◌≡◌, ◌⊎◌, inl, inr, ⊎_elim, ℕ, max, Bool, true, false, ◌&&◌, Option, Some}
-use Rattle.std.proofs.Common.{None, List, [], ◌∷◌, refl, ap, ◌∙◌, cond}
+use Rattle.std.proofs.Common.{List, [], ◌∷◌, refl, ap, ◌∙◌, cond}
 use Rattle.coap_types.specs.Past.{Ever}
 use Rattle.coap_types.proofs.Facts.Traces.{Ever_front}
 use Rattle.coap_codec.specs.Message.{Message}
 use Rattle.coap_layer.specs.Trace as L
+use Rattle.coap_layer.specs.declared.setup.Setup.{Setup}
 use Rattle.coap_resource.specs.Limits.{Limits}
 use Rattle.coap_exchange.specs.declared.answerer.Asked.{Asked}
 use Rattle.coap_exchange.specs.declared.answerer.Due.TheVariants as due
@@ -12,7 +13,7 @@ use Rattle.coap_server.specs.Deferring.{is_of, without_waiting}
 use Rattle.coap_server.specs.Law.{ServerLaw, own_of}
 use Rattle.coap_server.specs.Steps.{waiting_came}
 use Rattle.coap_server.specs.Trace.{Waiting, Handling, Silent, Replies, Serves, Waits, Notifies, Call}
-use Rattle.coap_server.specs.Trace.{Sets, Removes, Delays, Plains, Feeds, Ticks, NextOut, Gets, TellsApplied}
+use Rattle.coap_server.specs.Trace.{Feeds, Ticks}
 use Rattle.coap_server.specs.Follows.Attended.{AnswersIt}
 use Rattle.coap_server.specs.Follows.Waits.{WaitsStill, WaitOn}
 use Rattle.coap_server.proofs.Serving.ServedWasHandedUp.{same_asked_is}
@@ -41,51 +42,38 @@ taken_out at a x (w ∷ ws) h = by (is_of at a w) refl (taken_out at a x ws) h
 -- what comes goes behind
 pub behind : (at : ℕ) (came : Option (Asked × Message)) (h : Handling) (x : Waiting) (ws : List Waiting)
     → Ever (λ y. y ≡ x) ws → Ever (λ y. y ≡ x) (waiting_came at came h ws)
-behind at None h x ws k = k
-behind at (Some p) Silent x ws k = k
-behind at (Some p) (Replies r) x ws k = k
-behind at (Some p) (Serves q reply left) x ws k = k
 behind at (Some p) (Waits q delay) x ws k = Ever_front (λ y. y ≡ x) ws _ k
-behind at (Some p) (Notifies o reply) x ws k = k
+behind at _ _ x ws k = k
 
-module _ (limits : Limits) (szx word : ℕ) where
+module _ (limits : Limits) (szx : ℕ) (setup : Setup) where
   -- the one that is ready is answered
   ready_sends : (t : List Call) (now w : ℕ) (below : L.Answer) (room : Bool) (a : Asked) (passed : ℕ) (h : Handling)
       (id : ℕ) (answer : Bool)
-      → ServerLaw limits szx word (Ticks now w below room (due.Ready a) passed h id answer ∷ t) → (b : Asked) → a ≡ b
+      → ServerLaw limits szx setup (Ticks now w below room (due.Ready a) passed h id answer ∷ t) → (b : Asked) → a ≡ b
       → AnswersIt limits szx t (Ticks now w below room (due.Ready a) passed h id answer) b
   ready_sends t now w below room a passed (Serves q reply left) id answer law b same = inl (ap (λ x. Some x) same)
   ready_sends t now w below room a passed Silent id answer law b same = let k =
-      (ready_are_served limits szx word (Ticks now w below room (due.Ready a) passed Silent id answer ∷ t) law).0 a refl
+      (ready_are_served limits szx setup (Ticks now w below room (due.Ready a) passed Silent id answer ∷ t) law).0 a refl
       in let no = k.1 in absurd (cc no)
   ready_sends t now w below room a passed (Replies r) id answer law b same = let k =
-      (ready_are_served limits szx word (Ticks now w below room (due.Ready a) passed (Replies r) id answer ∷ t) law).0 a
+      (ready_are_served limits szx setup (Ticks now w below room (due.Ready a) passed (Replies r) id answer ∷ t) law).0 a
       refl in let no = k.1 in absurd (cc no)
   ready_sends t now w below room a passed (Waits q e) id answer law b same = let k =
-      (ready_are_served limits szx word (Ticks now w below room (due.Ready a) passed (Waits q e) id answer ∷ t) law).0 a
+      (ready_are_served limits szx setup (Ticks now w below room (due.Ready a) passed (Waits q e) id answer ∷ t) law).0 a
       refl in let no = k.1 in absurd (cc no)
   ready_sends t now w below room a passed (Notifies o reply) id answer law b same = let k =
-      (ready_are_served limits szx word (Ticks now w below room (due.Ready a) passed (Notifies o reply) id answer ∷ t)
+      (ready_are_served limits szx setup (Ticks now w below room (due.Ready a) passed (Notifies o reply) id answer ∷ t)
       law).0 a refl in let no = k.1 in absurd (cc no)
 
-  here : (t : List Call) (c : Call) → ServerLaw limits szx word (c ∷ t) → (x : Waiting) → WaitsStill limits szx x t
+  here : (t : List Call) (c : Call) → ServerLaw limits szx setup (c ∷ t) → (x : Waiting) → WaitsStill limits szx x t
       → WaitsStill limits szx x (c ∷ t) ⊎ AnswersIt limits szx t c x.asked
-  here t (Sets now path format body answer left) law x k = inl k
-  here t (Removes now path answer left) law x k = inl k
-  here t (Delays path ms answer) law x k = inl k
-  here t (Plains path answer) law x k = inl k
-  here t (NextOut answer) law x k = inl k
-  here t (Gets path answer) law x k = inl k
-  here t (TellsApplied answer) law x k = inl k
   here t (Feeds now from bytes w up came h below) law x k =
       inl (behind (max (own_of limits szx t).clock now) came h x (own_of limits szx t).waiting k)
-  here t (Ticks now w below room due.Idle passed h id answer) law x k = inl k
-  here t (Ticks now w below room due.Copied passed h id answer) law x k = inl k
-  here t (Ticks now w below room due.Expired passed h id answer) law x k = inl k
   here t (Ticks now w below room (due.Ready a) passed h id answer) law x k =
       ⊎_elim (λ e. inl e) (λ e. inr (ready_sends t now w below room a passed h id answer law x.asked e))
       (taken_out (max (own_of limits szx t).clock now) a x (own_of limits szx t).waiting k)
+  here t _ law x k = inl k
 
-  pub wait_on : (t : List Call) → ServerLaw limits szx word t → WaitOn limits szx t
+  pub wait_on : (t : List Call) → ServerLaw limits szx setup t → WaitOn limits szx t
   wait_on [] law = tt
-  wait_on (c ∷ t) law = (here t c law, wait_on t (server_back limits szx word c t law))
+  wait_on (c ∷ t) law = (here t c law, wait_on t (server_back limits szx setup c t law))

@@ -7,6 +7,7 @@ use Rattle.coap_layer.specs.Machine.State as S
 use Rattle.coap_layer.specs.Machine.State.{is_busy}
 use Rattle.coap_layer.specs.Rows.{Busy, MayGive, Withholds}
 use Rattle.coap_layer.specs.Words.{outstanding}
+use Rattle.coap_layer.specs.declared.setup.Setup.{Setup}
 use Rattle.coap_block.specs.Whole.{Each}
 use Rattle.coap_observe.specs.Observers.{Observer}
 use Rattle.coap_resource.specs.Limits.{Limits}
@@ -58,31 +59,31 @@ never_false : {b : Bool} → b ≡ false → b ≡ true → ⊥
 never_false h k = let z : false ≡ true = sym h ∙ k in cc z
 
 -- which observers were passed over, as they were asked about
-module _ (word : ℕ) (calls : List E.Call) (at : ℕ) where
+module _ (setup : Setup) (calls : List E.Call) (at : ℕ) where
   abbrev said : Endpoint → Bool → Type 0
-  said to b = Says word (W.lower_of calls) at to b
+  said to b = Says setup (W.lower_of calls) at to b
 
   abbrev pub Walked : ℕ → List Observer → Type 0
   Walked n [] = Unit {0}
   Walked zero (o ∷ os) = said o.to true
   Walked (suc n) (o ∷ os) = said o.to false × Walked n os
 
-  pub walk : (more : List E.Call) → Quiet word (W.lower_of calls) at (W.lower_of more) → (n : ℕ) (os : List Observer)
-      → ResponseLaw word (readies at n os ++ more) → Walked n os
+  pub walk : (more : List E.Call) → Quiet setup (W.lower_of calls) at (W.lower_of more) → (n : ℕ) (os : List Observer)
+      → ResponseLaw setup (readies at n os ++ more) → Walked n os
   walk more q n [] law = tt
-  walk more q zero (o ∷ os) law = room_says word (W.lower_of calls) at (W.lower_of more) q o.to true law.left law.layer
-      (layer_stands word (E.Ready at o.to true ∷ more) law)
+  walk more q zero (o ∷ os) law = room_says setup (W.lower_of calls) at (W.lower_of more) q o.to true law.left law.layer
+      (layer_stands setup (E.Ready at o.to true ∷ more) law)
   walk more q (suc n) (o ∷ os) law =
       let next : List E.Call = E.Ready at o.to false ∷ more in
-      let all : ResponseLaw word (readies at n os ++ next) =
-      subst (ResponseLaw word) (joined (readies at n os) (E.Ready at o.to false) more) law in
-      let here = back word (readies at n os) next all in (
-        room_says word (W.lower_of calls) at (W.lower_of more) q o.to false here.left here.layer
-            (layer_stands word next here),
-        walk next (quiet_room word (W.lower_of calls) at (W.lower_of more) q o.to false) n os all,
+      let all : ResponseLaw setup (readies at n os ++ next) =
+      subst (ResponseLaw setup) (joined (readies at n os) (E.Ready at o.to false) more) law in
+      let here = back setup (readies at n os) next all in (
+        room_says setup (W.lower_of calls) at (W.lower_of more) q o.to false here.left here.layer
+            (layer_stands setup next here),
+        walk next (quiet_room setup (W.lower_of calls) at (W.lower_of more) q o.to false) n os all,
       )
 
-module _ (limits : Limits) (szx word : ℕ) (t : List Call) (now : ℕ) where
+module _ (limits : Limits) (szx : ℕ) (setup : Setup) (t : List Call) (now : ℕ) where
   abbrev own : Own
   own = own_of limits szx t
 
@@ -93,56 +94,56 @@ module _ (limits : Limits) (szx word : ℕ) (t : List Call) (now : ℕ) where
   calls = lower_of limits szx t
 
   abbrev Can : Waiting → Type 0
-  Can x = CanAnswer limits szx word t now x
+  Can x = CanAnswer limits szx setup t now x
 
   abbrev May : Type 0
-  May = MayGive (S.usual word) (layer_of limits szx word t) (then word (W.lower_of calls) at)
+  May = MayGive setup (layer_of limits szx setup t) (then setup (W.lower_of calls) at)
 
   abbrev Held : Type 0
-  Held = Withholds (S.usual word) (layer_of limits szx word t) (then word (W.lower_of calls) at)
+  Held = Withholds setup (layer_of limits szx setup t) (then setup (W.lower_of calls) at)
 
   -- who is notified, and who is left
 
-  pub gives : (n : ℕ) (os : List Observer) (o : Observer) → behind n os ≡ Some o → Walked word calls at n os → May
+  pub gives : (n : ℕ) (os : List Observer) (o : Observer) → behind n os ≡ Some o → Walked setup calls at n os → May
   gives n [] o h w = absurd (cc h)
   gives zero (x ∷ os) o h w = w.1
   gives (suc n) (x ∷ os) o h w = gives n os o h w.1
 
   abbrev Notified : Observer → List Observer → Type 0
-  Notified o os = IsFirst (CanNotify limits szx word t) o os
+  Notified o os = IsFirst (CanNotify limits szx setup t) o os
 
   abbrev Found_from : Observer → List Observer → Type 0
-  Found_from o os = (n : ℕ) → behind n (marked os) ≡ Some o → Walked word calls at n (marked os) → Notified o os
+  Found_from o os = (n : ℕ) → behind n (marked os) ≡ Some o → Walked setup calls at n (marked os) → Notified o os
 
   marked_first : May → (n : ℕ) (x : Observer) (os : List Observer) (o : Observer) → x.marked ≡ true → Found_from o os
-      → behind n (x ∷ marked os) ≡ Some o → Walked word calls at n (x ∷ marked os) → Notified o (x ∷ os)
+      → behind n (x ∷ marked os) ≡ Some o → Walked setup calls at n (x ∷ marked os) → Notified o (x ∷ os)
   marked_first may zero x os o is f h w = let same : x ≡ o = cc h in inl (same, record { due = is; alone = w.0 })
   marked_first may (suc n) x os o is f h w = inr (
     (λ can. elim w.0 [
       | inl busy ↦ can.alone busy
-      | inr held ↦ never_both (S.usual word) (layer_of limits szx word t) (then word (W.lower_of calls) at) may held
+      | inr held ↦ never_both setup (layer_of limits szx setup t) (then setup (W.lower_of calls) at) may held
     ]),
     f n h w.1,
   )
 
   pub first_notified : May → (n : ℕ) (os : List Observer) (o : Observer) → behind n (marked os) ≡ Some o
-      → Walked word calls at n (marked os) → Notified o os
+      → Walked setup calls at n (marked os) → Notified o os
   first_notified may n [] o h w = absurd (cc h)
   first_notified may n (x ∷ os) o h w = by x.marked refl h w (λ m. first_notified may m os o)
     where
       by : (b : Bool) → x.marked ≡ b → behind n (cond b (x ∷ marked os) (marked os)) ≡ Some o
-          → Walked word calls at n (cond b (x ∷ marked os) (marked os)) → Found_from o os → Notified o (x ∷ os)
+          → Walked setup calls at n (cond b (x ∷ marked os) (marked os)) → Found_from o os → Notified o (x ∷ os)
       by false is k v f = inr ((λ can. never_false is can.due), f n k v)
       by true is k v f = marked_first may n x os o is f k v
 
   abbrev Nobody : List Observer → Type 0
-  Nobody os = Held ⊎ Each (λ o. CanNotify limits szx word t o → ⊥) os
+  Nobody os = Held ⊎ Each (λ o. CanNotify limits szx setup t o → ⊥) os
 
   abbrev Nobody_from : List Observer → Type 0
-  Nobody_from os = (n : ℕ) → behind n (marked os) ≡ None → Walked word calls at n (marked os) → Nobody os
+  Nobody_from os = (n : ℕ) → behind n (marked os) ≡ None → Walked setup calls at n (marked os) → Nobody os
 
   marked_none : (n : ℕ) (x : Observer) (os : List Observer) → Nobody_from os → behind n (x ∷ marked os) ≡ None
-      → Walked word calls at n (x ∷ marked os) → Nobody (x ∷ os)
+      → Walked setup calls at n (x ∷ marked os) → Nobody (x ∷ os)
   marked_none zero x os f h w = absurd (cc h)
   marked_none (suc n) x os f h w = elim w.0 [
     | inl busy ↦ elim (f n h w.1) [ inl held ↦ inl held | inr rest ↦ inr ((λ can. can.alone busy), rest) ]
@@ -150,12 +151,12 @@ module _ (limits : Limits) (szx word : ℕ) (t : List Call) (now : ℕ) where
   ]
 
   pub none_notified : (n : ℕ) (os : List Observer) → behind n (marked os) ≡ None
-      → Walked word calls at n (marked os) → Nobody os
+      → Walked setup calls at n (marked os) → Nobody os
   none_notified n [] h w = inr tt
   none_notified n (x ∷ os) h w = by x.marked refl h w (λ m. none_notified m os)
     where
       by : (b : Bool) → x.marked ≡ b → behind n (cond b (x ∷ marked os) (marked os)) ≡ None
-          → Walked word calls at n (cond b (x ∷ marked os) (marked os)) → Nobody_from os → Nobody (x ∷ os)
+          → Walked setup calls at n (cond b (x ∷ marked os) (marked os)) → Nobody_from os → Nobody (x ∷ os)
       by false is k v f = elim (f n k v) [
         | inl held ↦ inl held
         | inr rest ↦ inr ((λ can. never_false is can.due), rest)
@@ -163,20 +164,20 @@ module _ (limits : Limits) (szx word : ℕ) (t : List Call) (now : ℕ) where
       by true is k v f = marked_none n x os f k v
 
   -- what is answered, and what is left
-  module _ (law : ServerLaw limits szx word t) where
-    opens : law.exchanges.left.open_cons ≡ outstanding (layer_of limits szx word t)
-    opens = ap (λ (z : S.State). z.open_cons) (layer_led word calls law.exchanges).kept
+  module _ (law : ServerLaw limits szx setup t) where
+    opens : law.exchanges.left.open_cons ≡ outstanding (layer_of limits szx setup t)
+    opens = ap (λ (z : S.State). z.open_cons) (layer_led setup calls law.exchanges).kept
 
     same_busy : (to : Endpoint) → is_waited_for to own.exchanges.separate
-        ≡ is_busy to (outstanding (layer_of limits szx word t))
+        ≡ is_busy to (outstanding (layer_of limits szx setup t))
     same_busy to = ap (λ (z : E.Own). is_waited_for to z.separate) (exchanges_kept limits szx t)
-        ∙ (waits word calls law.exchanges to ∙ ap (is_busy to) opens)
+        ∙ (waits setup calls law.exchanges to ∙ ap (is_busy to) opens)
 
-    waited : (to : Endpoint) → Busy (layer_of limits szx word t) to → is_waited_for to own.exchanges.separate ≡ true
-    waited to b = same_busy to ∙ ever_busy to (outstanding (layer_of limits szx word t)) b
+    waited : (to : Endpoint) → Busy (layer_of limits szx setup t) to → is_waited_for to own.exchanges.separate ≡ true
+    waited to b = same_busy to ∙ ever_busy to (outstanding (layer_of limits szx setup t)) b
 
-    unwaited : (to : Endpoint) → is_waited_for to own.exchanges.separate ≡ true → Busy (layer_of limits szx word t) to
-    unwaited to k = busy_ever to (outstanding (layer_of limits szx word t)) (sym (same_busy to) ∙ k)
+    unwaited : (to : Endpoint) → is_waited_for to own.exchanges.separate ≡ true → Busy (layer_of limits szx setup t) to
+    unwaited to k = busy_ever to (outstanding (layer_of limits szx setup t)) (sym (same_busy to) ∙ k)
 
     abbrev ready : Waiting → Bool
     ready y = is_ready at own.exchanges.separate (deferred_as y)
@@ -204,7 +205,7 @@ module _ (limits : Limits) (szx word : ℕ) (t : List Call) (now : ℕ) where
     pub ready_is : P.ready_at (W.own_of calls) at
         ≡ first_ready at own.exchanges.separate (map deferred_as own.waiting)
     ready_is =
-        let m = mirrors limits szx word t law in
+        let m = mirrors limits szx setup t law in
         let kept : own.exchanges ≡ W.own_of calls = exchanges_kept limits szx t in
         let c = m.clock in
         let same : max own.exchanges.clock at ≡ at = omega (arith, c) in
@@ -267,5 +268,5 @@ module _ (limits : Limits) (szx word : ℕ) (t : List Call) (now : ℕ) where
           let can = first_holds Can w ws h in
           absurd (other (record {
             passed = leb-true x.delay (at - x.at) parts.1;
-            alone = λ b. can.alone (subst (λ (y : Asked). Busy (layer_of limits szx word t) y.from) (sym one) b);
+            alone = λ b. can.alone (subst (λ (y : Asked). Busy (layer_of limits szx setup t) y.from) (sym one) b);
           }))

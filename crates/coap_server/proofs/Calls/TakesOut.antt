@@ -21,10 +21,10 @@ module _ (old new : State) where
   takes_first p step = layer_some old.layer new.layer p (layer_step (Some p) step)
 
   pub takes_none : WasLed old → Step old (NextOut None) new → (old.layer.queue ≡ []) × (new ≡ old)
-  takes_none (limits, szx, word, t, led) step =
+  takes_none (limits, szx, setup, t, led) step =
       let one = layer_step None step in
       let layer : new.layer ≡ old.layer = layer_none old.layer new.layer
-      (only_live (S.usual word) _ old.layer led.exchanges.layer) one in
+      (only_live setup _ old.layer led.exchanges.layer) one in
       let own : new.own ≡ old.own = step.own_is in (
         layer_empty old.layer new.layer one,
         ap (λ (o : Own). record new { own = o }) own ∙ ap (λ (l : S.State). record old { layer = l }) layer,

@@ -15,6 +15,7 @@ use Rattle.coap_resource.specs.Limits.{Limits}
 use Rattle.coap_exchange.specs.AnswererLaw as X
 use Rattle.coap_exchange.specs.Machine.WhatIsDue.{takes_con}
 use Rattle.coap_layer.specs.Trace as L
+use Rattle.coap_layer.specs.declared.setup.Setup.{Setup}
 use Rattle.coap_exchange.specs.declared.answerer.Due.{Due}
 use Rattle.coap_exchange.specs.declared.answerer.Due.TheVariants as due
 use Rattle.coap_exchange.specs.AnswererSteps.{failed_by}
@@ -258,7 +259,7 @@ or_right false c h = h
 or_right true c h = absurd (cc h)
 
 -- what calls led to
-module _ (limits : Limits) (szx word : ℕ) (t : List Call) (s : State) (led : Led limits szx word t s)
+module _ (limits : Limits) (szx : ℕ) (setup : Setup) (t : List Call) (s : State) (led : Led limits szx setup t s)
     (clocks : s.layer.clock ≡ s.own.exchanges.clock) where
   pub rests : (now : ℕ) → has_work s (max (latest s) now) ≡ false → TicksDo false s now
   rests now none w below room d passed h id did new st =
@@ -276,7 +277,7 @@ module _ (limits : Limits) (szx word : ℕ) (t : List Call) (s : State) (led : L
       (λ o. ap (λ n. not (is_busy o.to s.layer.open_cons) && is_free n s.layer.upcoming s.layer.last_used)
       (at ∙ sym again)) in
       rests_here s new now w below room d passed h id did st clocks
-      (rests_led word (lower_of limits szx t) (exchanges_of s) led.exchanges clocks m quiet) (same ∙ told)
+      (rests_led setup (lower_of limits szx t) (exchanges_of s) led.exchanges clocks m quiet) (same ∙ told)
 
   pub does : (now : ℕ) → latest s ≤ now → has_work s now ≡ true → TicksDo true s now
   does now late some w below room d passed h id did new st =
@@ -288,7 +289,7 @@ module _ (limits : Limits) (szx word : ℕ) (t : List Call) (s : State) (led : L
           → (b || takes_notice (exchanges_of s) now s.own.observers) ≡ true → now ≡ max s.own.clock now
           → now ≡ max s.own.exchanges.clock (max s.own.clock now) → did ≡ true
       go true is k own under = does_due s new now w below room d passed h id did st clocks
-          (turns_led word (lower_of limits szx t) (exchanges_of s) led.exchanges clocks (max s.own.clock now)
+          (turns_led setup (lower_of limits szx t) (exchanges_of s) led.exchanges clocks (max s.own.clock now)
           (subst (λ n. has_due (exchanges_of s) n ≡ true) under is))
       go false is k own under = does_notice s new now w below room d passed h id did st clocks
           (subst (λ n. takes_notice (exchanges_of s) n s.own.observers ≡ true) own k)

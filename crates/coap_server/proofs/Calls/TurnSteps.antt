@@ -193,7 +193,7 @@ notifies_as : (plain : Bool) (at : ℕ) (o : Observer) (r : E.Response) (word id
 notifies_as true at o r word id = refl
 notifies_as false at o r word id = refl
 
-module _ (s new : State) (word passed : ℕ) where
+module _ (s new : State) (word : ℕ) (passed : ℕ) where
   abbrev asked : List E.Call
   asked = readies s.own.clock passed (marked s.own.observers)
 

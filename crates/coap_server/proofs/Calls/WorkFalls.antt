@@ -2,6 +2,7 @@
 use Rattle.std.proofs.Common.{◌≡◌, ◌<◌, ℕ, ◌≢◌, Bool, true, false, List, ◌∷◌, refl, ap, sym, subst, ◌∙◌}
 use Rattle.std.proofs.Common.{Result, Ok, Err, IfOk, OnOk, OnErr}
 use Rattle.coap_layer.specs.Trace as L
+use Rattle.coap_layer.specs.declared.setup.Setup.{Setup}
 use Rattle.coap_resource.specs.Content.{Content}
 use Rattle.coap_resource.specs.declared.refusal.StoreRefusal.{StoreRefusal}
 use Rattle.coap_resource.specs.declared.refusal.StoreRefusal.TheVariants as store_refusals
@@ -17,29 +18,26 @@ use Rattle.coap_server.specs.declared.server.plain.PlainRefusal.{PlainRefusal}
 use Rattle.coap_server.specs.declared.server.plain.PlainRefusal.TheVariants as plain_refusals
 use Rattle.coap_server.specs.Object.Shown.{IsTimed, Kept, state_of}
 use Rattle.coap_server.specs.Turns.Work.{work, WasLed}
+pub use Rattle.coap_server.proofs.Calls.TurnSteps.{if_ok}
 
-module _ (limits : Limits) (szx word : ℕ) where
-  work_is : (now : ℕ) (t : List Call) (s : State) → Led limits szx word t s → work s now ≡ size limits szx word now t
-  work_is now t s led = ap (λ z. work z now) (led_state limits szx word t s led) ∙ sym (size_is limits szx word now t)
+module _ (limits : Limits) (szx : ℕ) (setup : Setup) where
+  work_is : (now : ℕ) (t : List Call) (s : State) → Led limits szx setup t s → work s now ≡ size limits szx setup now t
+  work_is now t s led = ap (λ z. work z now) (led_state limits szx setup t s led) ∙ sym (size_is limits szx setup now t)
 
 module _ (old new : State) (now w : ℕ) (below : L.Answer) (room : Bool) (d : Due) (passed : ℕ) (h : Handling)
     (id : ℕ) where
   pub work_falls : WasLed old → Step old (Ticks now w below room d passed h id true) new → work new now < work old now
-  work_falls (limits, szx, word, t, led) step =
+  work_falls (limits, szx, setup, t, led) step =
       let c : Call = Ticks now w below room d passed h id true in
-      let on = led_further limits szx word t c old new led step in
-      let falls = less limits szx word now w t below room d passed h id (led_lawful limits szx word (c ∷ t) new on) in
-      subst (λ n. n < work old now) (sym (work_is limits szx word now (c ∷ t) new on))
-      (subst (λ n. size limits szx word now (c ∷ t) < n) (sym (work_is limits szx word now t old led)) falls)
+      let on = led_further limits szx setup t c old new led step in
+      let falls = less limits szx setup now w t below room d passed h id (led_lawful limits szx setup (c ∷ t) new on) in
+      subst (λ n. n < work old now) (sym (work_is limits szx setup now (c ∷ t) new on))
+      (subst (λ n. size limits szx setup now (c ∷ t) < n) (sym (work_is limits szx setup now t old led)) falls)
 
 -- .. and what was led is led on by each call
 pub led_on : (c : Call) (old new : State) → WasLed old → Step old c new → WasLed new
-led_on c old new (limits, szx, word, t, led) step =
-    (limits, szx, word, c ∷ t, led_further limits szx word t c old new led step)
-
-pub if_ok : {X Y : Type 0} {P Q : X → Type 0} (r : Result X Y) → ((x : X) → P x → Q x) → IfOk r P → IfOk r Q
-if_ok (Ok x) f p = f x p
-if_ok (Err e) f p = tt
+led_on c old new (limits, szx, setup, t, led) step =
+    (limits, szx, setup, c ∷ t, led_further limits szx setup t c old new led step)
 
 -- by the answer of a call
 pub closes : {X Y W : Type 0} (r : Result X Y) → OnOk r W → OnErr r W → W
@@ -56,12 +54,8 @@ on_err (Err e) f p = f p
 
 pub closes_set : {X W : Type 0} (r : Result X StoreRefusal) → (r ≢ Err store_refusals.Memory → W)
     → (r ≡ Err store_refusals.Memory → W) → W
-closes_set (Ok x) other memory = other (λ e. cc e)
 closes_set (Err store_refusals.Memory) other memory = memory refl
-closes_set (Err store_refusals.TooLarge) other memory = other (λ e. cc e)
-closes_set (Err store_refusals.TooManyPaths) other memory = other (λ e. cc e)
-closes_set (Err store_refusals.RateExceeded) other memory = other (λ e. cc e)
-closes_set (Err store_refusals.VersionsSpent) other memory = other (λ e. cc e)
+closes_set _ other memory = other (λ e. cc e)
 
 pub closes_delay : {X W : Type 0} (r : Result X DelayRefusal) → (r ≢ Err delay_refusals.Memory → W)
     → (r ≡ Err delay_refusals.Memory → W) → W

@@ -4,6 +4,7 @@ use Rattle.std.proofs.Common.{◌∙◌}
 use Rattle.coap_types.specs.declared.endpoint.Endpoint.{Endpoint}
 use Rattle.coap_codec.specs.Message.{Message}
 use Rattle.coap_layer.specs.Trace as L
+use Rattle.coap_layer.specs.declared.setup.Setup.{Setup}
 use Rattle.coap_resource.specs.Content.{put_refusal}
 use Rattle.coap_resource.specs.Rate.{rate_refusal}
 use Rattle.coap_resource.specs.Limits.{Limits}
@@ -14,7 +15,7 @@ use Rattle.coap_exchange.specs.AnswererTrace as E
 use Rattle.coap_exchange.specs.AnswererLaw as W
 use Rattle.coap_exchange.specs.AnswererLaw.{ResponseLaw}
 use Rattle.coap_exchange.proofs.Facts.ServerSide.{exact}
-use Rattle.coap_server.specs.Trace.{Own, Handling, Silent, Replies, Serves, Waits, Notifies, Call}
+use Rattle.coap_server.specs.Trace.{Own, Handling, Replies, Serves, Notifies, Call}
 use Rattle.coap_server.specs.Trace.{Feeds}
 use Rattle.coap_server.specs.Trace.{Ticks}
 use Rattle.coap_server.specs.Serving.{response_to}
@@ -34,25 +35,22 @@ use Rattle.coap_server.proofs.Exact.Asked.{joined, one_back, back, found, ticked
 use Rattle.coap_server.proofs.Exact.OneHandling.{came_alike, waited_alike, next_alike}
 use Rattle.coap_server.proofs.Exact.StoreExactly.{set_alike, removed_alike}
 
-module _ (word : ℕ) (s : Own) where
+module _ (setup : Setup) (s : Own) where
   -- a response
   module _ (first : E.Call) (calls : List E.Call) where
     abbrev LawOf : List E.Call → Type 0
-    LawOf xs = ResponseLaw word ((xs ++ first ∷ []) ++ calls)
+    LawOf xs = ResponseLaw setup ((xs ++ first ∷ []) ++ calls)
 
     answering_alike : (came : Option (Asked × Message)) (h : Handling) (below beyond : L.Answer)
         → LawOf (answering s came h below) → LawOf (answering s came h beyond)
         → answering s came h below ≡ answering s came h beyond
-    answering_alike None h below beyond p q = refl
-    answering_alike (Some a) Silent below beyond p q = refl
     answering_alike (Some a) (Replies r) below beyond p q =
-        ap (λ z. E.Answers a.0 r z ∷ []) ((exact word (first ∷ calls)).answers a.0 r below beyond p q)
+        ap (λ z. E.Answers a.0 r z ∷ []) ((exact setup (first ∷ calls)).answers a.0 r below beyond p q)
     answering_alike (Some a) (Serves u reply left) below beyond p q =
         ap (λ z. E.Answers a.0 (response_to s.store s.observers a.0 u reply) z ∷ deferral s a.0 u)
-        ((exact word ((deferral s a.0 u ++ first ∷ []) ++ calls)).answers a.0
+        ((exact setup ((deferral s a.0 u ++ first ∷ []) ++ calls)).answers a.0
         (response_to s.store s.observers a.0 u reply) below beyond p q)
-    answering_alike (Some a) (Waits u delay) below beyond p q = refl
-    answering_alike (Some a) (Notifies o reply) below beyond p q = refl
+    answering_alike _ _ below beyond p q = refl
 
   -- a turn
   module _ (w : ℕ) (below : L.Answer) (calls : List E.Call) where
@@ -61,52 +59,43 @@ module _ (word : ℕ) (s : Own) where
 
     -- what is asked before a notification
     asked_first : (passed : ℕ) (h : Handling) (id : ℕ) (room : Bool)
-        → ResponseLaw word (responding s due.Idle passed h w id ++ Base due.Idle room)
-        → ResponseLaw word (readies s.clock passed (marked s.observers) ++ Base due.Idle room)
-    asked_first passed Silent id room p = p
-    asked_first passed (Replies r) id room p = p
-    asked_first passed (Serves u reply left) id room p = p
-    asked_first passed (Waits u delay) id room p = p
+        → ResponseLaw setup (responding s due.Idle passed h w id ++ Base due.Idle room)
+        → ResponseLaw setup (readies s.clock passed (marked s.observers) ++ Base due.Idle room)
     asked_first passed (Notifies o reply) id room p =
-        one_back word (notifies_by (by_plain s o) s.clock o (notification s.store o reply) w id)
+        one_back setup (notifies_by (by_plain s o) s.clock o (notification s.store o reply) w id)
         (readies s.clock passed (marked s.observers) ++ Base due.Idle room) p
+    asked_first passed _ id room p = p
 
     one_number : (plain : Bool) (o : Observer) (r : E.Response) (id number : ℕ) (past : List E.Call)
-        → ResponseLaw word (notifies_by plain s.clock o r w id ∷ past)
-        → ResponseLaw word (notifies_by plain s.clock o r w number ∷ past) → id ≡ number
-    one_number true o r id number past p q = (exact word past).notifies_plain s.clock o.to o.token r id number p q
-    one_number false o r id number past p q = (exact word past).notifies s.clock o.to o.token r w id number p q
+        → ResponseLaw setup (notifies_by plain s.clock o r w id ∷ past)
+        → ResponseLaw setup (notifies_by plain s.clock o r w number ∷ past) → id ≡ number
+    one_number true o r id number past p q = (exact setup past).notifies_plain s.clock o.to o.token r id number p q
+    one_number false o r id number past p q = (exact setup past).notifies s.clock o.to o.token r w id number p q
 
     notifying_alike : (passed skipped : ℕ) (h : Handling) (id number : ℕ) (room : Bool)
         → readies s.clock passed (marked s.observers) ≡ readies s.clock skipped (marked s.observers)
-        → ResponseLaw word (responding s due.Idle passed h w id ++ Base due.Idle room)
-        → ResponseLaw word (responding s due.Idle skipped h w number ++ Base due.Idle room)
+        → ResponseLaw setup (responding s due.Idle passed h w id ++ Base due.Idle room)
+        → ResponseLaw setup (responding s due.Idle skipped h w number ++ Base due.Idle room)
         → responding s due.Idle passed h w id ≡ responding s due.Idle skipped h w number
-    notifying_alike passed skipped Silent id number room e p q = e
-    notifying_alike passed skipped (Replies r) id number room e p q = e
-    notifying_alike passed skipped (Serves u reply left) id number room e p q = e
-    notifying_alike passed skipped (Waits u delay) id number room e p q = e
     notifying_alike passed skipped (Notifies o reply) id number room e p q =
         let r : E.Response = notification s.store o reply in
         let same : id ≡ number = one_number (by_plain s o) o r id number
         (readies s.clock passed (marked s.observers) ++ Base due.Idle room) p
-        (subst (λ z. ResponseLaw word (notifies_by (by_plain s o) s.clock o r w number ∷ z ++ Base due.Idle room))
+        (subst (λ z. ResponseLaw setup (notifies_by (by_plain s o) s.clock o r w number ∷ z ++ Base due.Idle room))
         (sym e) q) in
         ap (λ z. notifies_by (by_plain s o) s.clock o r w z ∷ readies s.clock passed (marked s.observers)) same
         ∙ ap (λ z. notifies_by (by_plain s o) s.clock o r w number ∷ z) e
+    notifying_alike passed skipped _ id number room e p q = e
 
     responding_alike : (a : Asked) (passed skipped : ℕ) (h : Handling) (id number : ℕ) (room : Bool)
-        → ResponseLaw word (responding s (due.Ready a) passed h w id ++ Base (due.Ready a) room)
-        → ResponseLaw word (responding s (due.Ready a) skipped h w number ++ Base (due.Ready a) room)
+        → ResponseLaw setup (responding s (due.Ready a) passed h w id ++ Base (due.Ready a) room)
+        → ResponseLaw setup (responding s (due.Ready a) skipped h w number ++ Base (due.Ready a) room)
         → responding s (due.Ready a) passed h w id ≡ responding s (due.Ready a) skipped h w number
-    responding_alike a passed skipped Silent id number room p q = refl
-    responding_alike a passed skipped (Replies r) id number room p q = refl
     responding_alike a passed skipped (Serves u reply left) id number room p q =
         let r : E.Response = response_to s.store s.observers a u reply in
-        ap (λ z. E.Responds s.clock a r w z ∷ []) ((exact word (Base (due.Ready a) room)).responds s.clock a r w id
+        ap (λ z. E.Responds s.clock a r w z ∷ []) ((exact setup (Base (due.Ready a) room)).responds s.clock a r w id
         number p q)
-    responding_alike a passed skipped (Waits u delay) id number room p q = refl
-    responding_alike a passed skipped (Notifies o reply) id number room p q = refl
+    responding_alike a passed skipped _ id number room p q = refl
 
     -- equal turns: what is done, and what is asked
     abbrev TurnAlike : Due → ℕ → ℕ → Handling → Handling → ℕ → ℕ → Type 0
@@ -114,21 +103,21 @@ module _ (word : ℕ) (s : Own) where
         × (responding s d passed h w id ≡ responding s d skipped k w number)
 
     turn_alike : (d : Due) (passed skipped : ℕ) (h k : Handling) (id number : ℕ) (room : Bool) → HandlesDue s d passed h
-        → HandlesDue s d skipped k → ResponseLaw word (responding s d passed h w id ++ Base d room)
-        → ResponseLaw word (responding s d skipped k w number ++ Base d room) → TurnAlike d passed skipped h k id number
+        → HandlesDue s d skipped k → ResponseLaw setup (responding s d passed h w id ++ Base d room)
+        → ResponseLaw setup (responding s d skipped k w number ++ Base d room) → TurnAlike d passed skipped h k id number
     turn_alike due.Idle passed skipped h k id number room a b p q =
-        let e = found word s.clock (marked s.observers) passed skipped (Base due.Idle room)
+        let e = found setup s.clock (marked s.observers) passed skipped (Base due.Idle room)
         (asked_first passed h id room p) (asked_first skipped k number room q) in
         let same = next_alike (behind passed (marked s.observers)) s.store h k a
         (subst (λ z. NotifiesNext z s.store k) (sym e.0) b) in
         let r = notifying_alike passed skipped h id number room e.1 p
-        (subst (λ z. ResponseLaw word (responding s due.Idle skipped z w number ++ Base due.Idle room))
+        (subst (λ z. ResponseLaw setup (responding s due.Idle skipped z w number ++ Base due.Idle room))
         (sym same) q) in
         (same, r ∙ ap (λ z. responding s due.Idle skipped z w number) same)
     turn_alike (due.Ready x) passed skipped h k id number room a b p q =
         let same = waited_alike (question_of s.clock x s.waiting) s.store s.clock h k a b in
         let r = responding_alike x passed skipped h id number room p
-        (subst (λ z. ResponseLaw word (responding s (due.Ready x) skipped z w number ++ Base (due.Ready x) room))
+        (subst (λ z. ResponseLaw setup (responding s (due.Ready x) skipped z w number ++ Base (due.Ready x) room))
         (sym same) q) in
         (same, r ∙ ap (λ z. responding s (due.Ready x) skipped z w number) same)
     turn_alike due.Copied passed skipped h k id number room a b p q = (a ∙ sym b, refl)
@@ -154,10 +143,7 @@ module _ (s : Own) (w : ℕ) where
   observers_alike due.Expired passed skipped (Notifies o reply) id number right e = absurd (cc right)
   observers_alike (due.Ready a) passed skipped (Notifies o reply) id number right e =
       absurd (never_notifies_ready (question_of s.clock a s.waiting) s.store s.clock o reply right)
-  observers_alike d passed skipped Silent id number right e = refl
-  observers_alike d passed skipped (Replies r) id number right e = refl
-  observers_alike d passed skipped (Serves q reply left) id number right e = refl
-  observers_alike d passed skipped (Waits q delay) id number right e = refl
+  observers_alike d passed skipped _ id number right e = refl
 
   left_alike : (d : Due) (passed skipped : ℕ) (h k : Handling) (id number : ℕ) → HandlesDue s d passed h → h ≡ k
       → responding s d passed h w id ≡ responding s d skipped k w number
@@ -183,7 +169,7 @@ module _ (s : Own) (w : ℕ) where
         waiting = waiting_due s.clock (ready_in d) s.waiting;
       }) told)
 
-module _ (limits : Limits) (szx word : ℕ) (past : List Call) where
+module _ (limits : Limits) (szx : ℕ) (setup : Setup) (past : List Call) where
   abbrev own : Own
   own = own_of limits szx past
 
@@ -191,7 +177,7 @@ module _ (limits : Limits) (szx word : ℕ) (past : List Call) where
   calls = lower_of limits szx past
 
   abbrev Law : Call → Type 0
-  Law c = ServerLaw limits szx word (c ∷ past)
+  Law c = ServerLaw limits szx setup (c ∷ past)
 
   abbrev Alike : Call → Call → Type 0
   Alike c d = LeaveAlike limits szx past c d
@@ -209,7 +195,7 @@ module _ (limits : Limits) (szx word : ℕ) (past : List Call) where
     fed_alike p q =
         let s : Own = fed limits szx past now from bytes up came in
         let first : E.Call = E.Incoming s.clock from bytes up came in
-        let asks = answering_alike word s first calls came h below beyond p.exchanges q.exchanges in (
+        let asks = answering_alike setup s first calls came h below beyond p.exchanges q.exchanges in (
           asks,
           record {
             own = ap (λ z. came_after s came h z) asks;
@@ -229,11 +215,11 @@ module _ (limits : Limits) (szx word : ℕ) (past : List Call) where
       let t : Own = fed limits szx past now from bytes other come in
       let first : E.Call = E.Incoming s.clock from bytes up came in
       let second : E.Call = E.Incoming t.clock from bytes other come in
-      let a = back word (answering s came h below) (first ∷ calls)
-      (subst (ResponseLaw word) (joined (answering s came h below) first calls) p.exchanges) in
-      let b = back word (answering t come k beyond) (second ∷ calls)
-      (subst (ResponseLaw word) (joined (answering t come k beyond) second calls) q.exchanges) in
-      let e = (exact word calls).incoming s.clock from bytes up other came come a b in
+      let a = back setup (answering s came h below) (first ∷ calls)
+      (subst (ResponseLaw setup) (joined (answering s came h below) first calls) p.exchanges) in
+      let b = back setup (answering t come k beyond) (second ∷ calls)
+      (subst (ResponseLaw setup) (joined (answering t come k beyond) second calls) q.exchanges) in
+      let e = (exact setup calls).incoming s.clock from bytes up other came come a b in
       let heard_so = subst (λ z. Law (Feeds now from bytes w z came k beyond)) (sym e.0)
       (subst (λ z. Law (Feeds now from bytes w other z k beyond)) (sym e.1) q) in
       let handled = came_alike s came h k p.rows.0 heard_so.rows.0 in
@@ -259,14 +245,14 @@ module _ (limits : Limits) (szx word : ℕ) (past : List Call) where
         let s : Own = turned limits szx past now below room d in
         let xs : List E.Call = responding s d passed h w id in
         let ys : List E.Call = responding s d skipped k w number in
-        let a : ResponseLaw word (xs ++ ticked word s.clock below d calls room) =
-        subst (ResponseLaw word) (joined xs (E.Ticks s.clock below room d) calls) p.exchanges in
-        let b : ResponseLaw word (ys ++ ticked word s.clock below d calls space) =
-        subst (ResponseLaw word) (joined ys (E.Ticks s.clock below space d) calls) q.exchanges in
-        let first = back word xs (ticked word s.clock below d calls room) a in
-        let second = back word ys (ticked word s.clock below d calls space) b in
-        let turn = turn_alike word s w below calls d passed skipped h k id number room p.rows.0.0 q.rows.0.0 a
-        (moved word s.clock below d calls ys room space first b) in
+        let a : ResponseLaw setup (xs ++ ticked setup s.clock below d calls room) =
+        subst (ResponseLaw setup) (joined xs (E.Ticks s.clock below room d) calls) p.exchanges in
+        let b : ResponseLaw setup (ys ++ ticked setup s.clock below d calls space) =
+        subst (ResponseLaw setup) (joined ys (E.Ticks s.clock below space d) calls) q.exchanges in
+        let first = back setup xs (ticked setup s.clock below d calls room) a in
+        let second = back setup ys (ticked setup s.clock below d calls space) b in
+        let turn = turn_alike setup s w below calls d passed skipped h k id number room p.rows.0.0 q.rows.0.0 a
+        (moved setup s.clock below d calls ys room space first b) in
         let handled = turn.0 in (
           handled,
           turn.1,
@@ -274,8 +260,8 @@ module _ (limits : Limits) (szx word : ℕ) (past : List Call) where
           record {
             own = left_alike s w d passed skipped h k id number p.rows.0.0 handled turn.1;
             beneath = ap W.lower_of (joined xs (E.Ticks s.clock below room d) calls)
-                ∙ (ap (λ z. W.lower_of (z ++ ticked word s.clock below d calls room)) turn.1
-                ∙ (lower_same word s.clock below d calls ys room space first second
+                ∙ (ap (λ z. W.lower_of (z ++ ticked setup s.clock below d calls room)) turn.1
+                ∙ (lower_same setup s.clock below d calls ys room space first second
                 ∙ sym (ap W.lower_of (joined ys (E.Ticks s.clock below space d) calls))));
           },
         )
@@ -291,11 +277,11 @@ module _ (limits : Limits) (szx word : ℕ) (past : List Call) where
       let y : Own = turned limits szx past now other space t in
       let xs : List E.Call = responding x d passed h w id in
       let ys : List E.Call = responding y t skipped k w number in
-      let a = back word xs (E.Ticks x.clock below room d ∷ calls)
-      (subst (ResponseLaw word) (joined xs (E.Ticks x.clock below room d) calls) p.exchanges) in
-      let b = back word ys (E.Ticks y.clock other space t ∷ calls)
-      (subst (ResponseLaw word) (joined ys (E.Ticks y.clock other space t) calls) q.exchanges) in
-      let e = (exact word calls).ticks x.clock below other room space d t a b in
+      let a = back setup xs (E.Ticks x.clock below room d ∷ calls)
+      (subst (ResponseLaw setup) (joined xs (E.Ticks x.clock below room d) calls) p.exchanges) in
+      let b = back setup ys (E.Ticks y.clock other space t ∷ calls)
+      (subst (ResponseLaw setup) (joined ys (E.Ticks y.clock other space t) calls) q.exchanges) in
+      let e = (exact setup calls).ticks x.clock below other room space d t a b in
       let passed_so = subst (λ z. Law (Ticks now w z space d skipped k number another)) (sym e.0)
       (subst (λ z. Law (Ticks now w other space z skipped k number another)) (sym e.1) q) in
       let r = tick_alike now w below room space d passed skipped h k id number answer another p passed_so in
@@ -303,7 +289,7 @@ module _ (limits : Limits) (szx word : ℕ) (past : List Call) where
       (subst (λ z. TickAlike now w below room space d passed skipped h k id number answer another below z) e.1 r) in
       (e.0, e.1, f.0, f.1, f.2, f.3)
 
-  pub is_exact : IsExact limits szx word past
+  pub is_exact : IsExact limits szx setup past
   is_exact = record {
     sets = λ now path format body answer another left other p q.
         set_alike (put_refusal own.store (max own.clock now) path (length body)) own.store
@@ -315,7 +301,7 @@ module _ (limits : Limits) (szx word : ℕ) (past : List Call) where
     plains = λ path answer another p q. p.rows.0 ∙ sym q.rows.0;
     feeds = heard_alike;
     ticks = turns_alike;
-    next_out = λ answer another p q. (exact word calls).take answer another p.exchanges q.exchanges;
+    next_out = λ answer another p q. (exact setup calls).take answer another p.exchanges q.exchanges;
     gets = λ path answer another p q. p.rows.0 ∙ sym q.rows.0;
     tells_applied = λ answer another p q. p.rows.0 ∙ sym q.rows.0;
   }

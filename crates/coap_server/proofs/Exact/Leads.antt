@@ -4,6 +4,7 @@ use Rattle.coap_layer.specs.Machine.State as S
 use Rattle.coap_layer.specs.Machine.Steps as G
 use Rattle.coap_layer.specs.Machine.Steps.{Steps}
 use Rattle.coap_layer.proofs.Facts.Calls.{steps_left}
+use Rattle.coap_layer.specs.declared.setup.Setup.{Setup}
 use Rattle.coap_resource.specs.Limits.{Limits}
 use Rattle.coap_exchange.specs.AnswererTrace as E
 use Rattle.coap_exchange.specs.AnswererLaw as X
@@ -49,25 +50,25 @@ exchanges_kept limits szx (Ticks now word below room d passed h id answer ∷ t)
     (exchanges_kept limits szx t)
 exchanges_kept limits szx (NextOut answer ∷ t) = ap (λ s. P.after s (E.Take answer)) (exchanges_kept limits szx t)
 
-module _ (limits : Limits) (szx word : ℕ) where
-  pub led_empty : Led limits szx word [] (fresh_state limits szx word)
-  led_empty = record { rows = tt; own_is = refl; exchanges = led_start word }
+module _ (limits : Limits) (szx : ℕ) (setup : Setup) where
+  pub led_empty : Led limits szx setup [] (fresh_state limits szx setup)
+  led_empty = record { rows = tt; own_is = refl; exchanges = led_start setup }
 
-  pub led_further : (t : List Call) (c : Call) (old new : State) → Led limits szx word t old → Step old c new
-      → Led limits szx word (c ∷ t) new
+  pub led_further : (t : List Call) (c : Call) (old new : State) → Led limits szx setup t old → Step old c new
+      → Led limits szx setup (c ∷ t) new
   led_further t c old new led step =
       record {
         rows = (subst (λ s. IsRight s c) led.own_is step.right, led.rows);
         own_is = step.own_is ∙ ap (λ s. after s c) led.own_is;
-        exchanges = led_exchanged word (lower_of limits szx t) (lower (own_of limits szx t) c) (exchanges_of old)
+        exchanges = led_exchanged setup (lower_of limits szx t) (lower (own_of limits szx t) c) (exchanges_of old)
             (exchanges_of new) led.exchanges
             (subst (λ s. X.Exchanged (exchanges_of old) (lower s c) (exchanges_of new)) led.own_is step.under);
       }
 
-  pub led_lawful : (t : List Call) (s : State) → Led limits szx word t s → ServerLaw limits szx word t
+  pub led_lawful : (t : List Call) (s : State) → Led limits szx setup t s → ServerLaw limits szx setup t
   led_lawful t s led = record {
     rows = led.rows;
-    exchanges = led_law word (lower_of limits szx t) (exchanges_of s) led.exchanges;
+    exchanges = led_law setup (lower_of limits szx t) (exchanges_of s) led.exchanges;
   }
 
   -- the calls lead to this state, and to no other
@@ -75,26 +76,26 @@ module _ (limits : Limits) (szx word : ℕ) where
   abbrev asks : List Call → List G.Asked
   asks t = X.lower_of (lower_of limits szx t)
 
-  pub led_state : (t : List Call) (s : State) → Led limits szx word t s → s ≡ state_left limits szx word t
+  pub led_state : (t : List Call) (s : State) → Led limits szx setup t s → s ≡ state_left limits szx setup t
   led_state t s led = ap (λ (o : Own). record { own = o; layer = s.layer }) led.own_is
       ∙ ap (λ (l : S.State). record { own = own_of limits szx t; layer = l })
-      (steps_left (S.start (S.usual word)) (asks t) s.layer led.exchanges.layer)
+      (steps_left (S.start setup) (asks t) s.layer led.exchanges.layer)
 
-  leads_there : (t : List Call) → ServerLaw limits szx word t → Led limits szx word t (state_left limits szx word t)
+  leads_there : (t : List Call) → ServerLaw limits szx setup t → Led limits szx setup t (state_left limits szx setup t)
   leads_there t law = record {
     rows = law.rows;
     own_is = refl;
     exchanges = record {
       rows = law.exchanges.rows;
       own_is = exchanges_kept limits szx t;
-      layer = subst (Steps (S.start (S.usual word)) (asks t))
-          (steps_left (S.start (S.usual word)) (asks t) law.exchanges.left law.exchanges.layer) law.exchanges.layer;
+      layer = subst (Steps (S.start setup) (asks t))
+          (steps_left (S.start setup) (asks t) law.exchanges.left law.exchanges.layer) law.exchanges.layer;
     };
   }
 
-  pub one_state : (t : List Call) → ServerLaw limits szx word t → (s : State)
-      → Led limits szx word t s ↔ (s ≡ state_left limits szx word t)
+  pub one_state : (t : List Call) → ServerLaw limits szx setup t → (s : State)
+      → Led limits szx setup t s ↔ (s ≡ state_left limits szx setup t)
   one_state t law s = (
     led_state t s,
-    λ same. subst (Led limits szx word t) (sym same) (leads_there t law),
+    λ same. subst (Led limits szx setup t) (sym same) (leads_there t law),
   )

@@ -4,7 +4,7 @@ use Rattle.std.proofs.Common.{◌≡◌, ℕ, List, ◌++◌}
 use Rattle.coap_types.specs.Past.{Always}
 use Rattle.coap_layer.specs.Channel.{RepliesSo}
 use Rattle.coap_layer.specs.Rows.{LayerLaw}
-use Rattle.coap_layer.specs.Machine.State.{usual}
+use Rattle.coap_layer.specs.declared.setup.Setup.{Setup}
 use Rattle.coap_resource.specs.Limits.{Limits}
 use Rattle.coap_exchange.specs.declared.answerer.Asked.{Asked}
 use Rattle.coap_exchange.specs.AnswererFollows as A
@@ -81,52 +81,52 @@ pub handed_as_often : (limits : Limits) (szx : ℕ) (a : Asked) (t : List Call)
     → A.times_handed a (lower_of limits szx t) ≡ times_handed limits szx a t
 handed_as_often limits szx a t = handed_is limits szx a t
 
-module _ (limits : Limits) (szx word : ℕ) where
-  pub back : (calls t : List Call) → ServerLaw limits szx word (calls ++ t) → ServerLaw limits szx word t
-  back calls t law = servers_back limits szx word calls t law
+module _ (limits : Limits) (szx : ℕ) (setup : Setup) where
+  pub back : (calls t : List Call) → ServerLaw limits szx setup (calls ++ t) → ServerLaw limits szx setup t
+  back calls t law = servers_back limits szx setup calls t law
 
-  module _ (t : List Call) (law : ServerLaw limits szx word t) where
-    pub layer : LayerLaw (usual word) (layer_of limits szx word t)
-    layer = E.layer_stands word (lower_of limits szx t) law.exchanges
+  module _ (t : List Call) (law : ServerLaw limits szx setup t) where
+    pub layer : LayerLaw setup (layer_of limits szx setup t)
+    layer = E.layer_stands setup (lower_of limits szx t) law.exchanges
 
-    pub goes : GoesOn limits szx word t
-    goes = goes_on limits szx word t law
+    pub goes : GoesOn limits szx setup t
+    goes = goes_on limits szx setup t law
 
-    pub rests : ComesToRest limits szx word t
-    rests = comes_to_rest limits szx word t law
+    pub rests : ComesToRest limits szx setup t
+    rests = comes_to_rest limits szx setup t law
 
-    pub replies : Always RepliesSo (layer_of limits szx word t)
-    replies = R.replies_at_once limits szx word t law
+    pub replies : Always RepliesSo (layer_of limits szx setup t)
+    replies = R.replies_at_once limits szx setup t law
 
-    pub rejects_responses : Always RejectsSo (layer_of limits szx word t)
-    rejects_responses = R.rejects_responses limits szx word t law
+    pub rejects_responses : Always RejectsSo (layer_of limits szx setup t)
+    rejects_responses = R.rejects_responses limits szx setup t law
 
     pub continues_fits : AllContinuesFit limits szx t
-    continues_fits = all_continues_fit limits szx word t law
+    continues_fits = all_continues_fit limits szx setup t law
 
     pub short : BodiesShort limits szx t
     short = bodies_short limits szx t law.rows
 
     pub recognised : AllRecognised limits szx t
-    recognised = all_recognised limits szx word t law
+    recognised = all_recognised limits szx setup t law
 
-    pub handed : AreHandedUp limits szx word t
-    handed = handed_up limits szx word t law
+    pub handed : AreHandedUp limits szx setup t
+    handed = handed_up limits szx setup t law
 
-    pub blocks : BlocksCome limits szx word t
-    blocks = blocks_come limits szx word t law
+    pub blocks : BlocksCome limits szx setup t
+    blocks = blocks_come limits szx setup t law
 
     pub attended : AllAttended limits szx t
-    attended = all_attended limits szx word t law
+    attended = all_attended limits szx setup t law
 
-    pub answered : FirstIsAnswered limits szx word t
-    answered = first_answered limits szx word t law
+    pub answered : FirstIsAnswered limits szx setup t
+    answered = first_answered limits szx setup t law
 
     pub ready : ReadyAreServed limits szx t
-    ready = ready_are_served limits szx word t law
+    ready = ready_are_served limits szx setup t law
 
-    pub counts : Counted limits szx word t
-    counts = counted limits szx word t law
+    pub counts : Counted limits szx setup t
+    counts = counted limits szx setup t law
 
     pub served : ServedOnce limits szx t
     served = served_once limits szx t (E.are_responses (lower_of limits szx t) law.exchanges.rows)
@@ -140,14 +140,14 @@ module _ (limits : Limits) (szx word : ℕ) where
     pub tags : OneTag limits szx t
     tags = one_tag limits szx t law.rows
 
-    pub gives : SentResponses limits szx word t
-    gives = sent_responses limits szx word t law
+    pub gives : SentResponses limits szx setup t
+    gives = sent_responses limits szx setup t law
 
     pub continues : NoneContinues limits szx t
-    continues = none_continues limits szx word t law
+    continues = none_continues limits szx setup t law
 
     pub follows : Follows limits szx t
-    follows = O.follows limits szx word t law
+    follows = O.follows limits szx setup t law
 
     pub methods : AllMethods limits szx t
     methods = all_methods limits szx t law.rows
@@ -156,34 +156,34 @@ module _ (limits : Limits) (szx word : ℕ) where
     uploads = all_uploads limits szx t law.rows
 
     pub registers : AllRegister limits szx t
-    registers = all_register limits szx word t law
+    registers = all_register limits szx setup t law
 
     pub marks : AllMark limits szx t
-    marks = all_mark limits szx word t law
+    marks = all_mark limits szx setup t law
 
     pub stays_due : StayDue limits szx t
     stays_due = stay_due limits szx t law.rows
 
     pub current : AreCurrent limits szx t
-    current = are_current limits szx word t law
+    current = are_current limits szx setup t law
 
     pub waits_on : WaitOn limits szx t
-    waits_on = wait_on limits szx word t law
+    waits_on = wait_on limits szx setup t law
 
-    pub goes_out : AllGoOut limits szx word t
-    goes_out = all_go_out limits szx word t law
+    pub goes_out : AllGoOut limits szx setup t
+    goes_out = all_go_out limits szx setup t law
 
-    pub sent_as : AllSentSo limits szx word t
-    sent_as = all_sent_so limits szx word t law
+    pub sent_as : AllSentSo limits szx setup t
+    sent_as = all_sent_so limits szx setup t law
 
-    pub none_left : NoneLeft limits szx word t
-    none_left = N.none_left limits szx word t law
+    pub none_left : NoneLeft limits szx setup t
+    none_left = N.none_left limits szx setup t law
 
-    pub leaves : AllLeave limits szx word t
-    leaves = all_leave limits szx word t law
+    pub leaves : AllLeave limits szx setup t
+    leaves = all_leave limits szx setup t law
 
-    pub notified : FirstIsNotified limits szx word t
-    notified = N.first_is_notified limits szx word t law
+    pub notified : FirstIsNotified limits szx setup t
+    notified = N.first_is_notified limits szx setup t law
 
-    pub begins : AllBeginNext limits szx word t
-    begins = N.all_begin_next limits szx word t law
+    pub begins : AllBeginNext limits szx setup t
+    begins = N.all_begin_next limits szx setup t law

@@ -19,7 +19,7 @@ use Rattle.coap_resource.specs.Serves as R
 use Rattle.coap_server.specs.Local.{SetsBy, RemovesBy}
 use Rattle.coap_server.specs.Law.{own_of, ServerRows}
 use Rattle.coap_server.specs.Steps.{IsRight}
-use Rattle.coap_server.specs.Trace.{Own, Call, Sets, Removes, Delays, Plains, Feeds, Ticks, NextOut, Gets, TellsApplied}
+use Rattle.coap_server.specs.Trace.{Own, Call, Sets, Removes, Feeds, Ticks}
 use Rattle.coap_server.specs.Follows.Holds.{Change, change_of, changed_by, change, held_then}
 use Rattle.coap_server.specs.Follows.Recognised.{BodiesShort}
 use Rattle.coap_server.specs.Follows.Serves.{Serving, serving}
@@ -157,15 +157,11 @@ module _ (limits : Limits) (s : Own) (is_limits : s.store.tally.limits ≡ limit
       subst (IsShort limits.body) (change_held path s.store left x h)
       (removes_short (s.store.holds path) (rate_refusal s.store.tally (max s.clock now))
       (max s.clock now) path answer left right)
-  change_short (Delays path ms answer) right x h = absurd (cc h)
-  change_short (Plains path answer) right x h = absurd (cc h)
   change_short (Feeds now from bytes word up came w below) right x h =
       serving_short (Feeds now from bytes word up came w below) right x _ refl h
   change_short (Ticks now word below room d passed w id answer) right x h =
       serving_short (Ticks now word below room d passed w id answer) right x _ refl h
-  change_short (NextOut answer) right x h = absurd (cc h)
-  change_short (Gets path answer) right x h = absurd (cc h)
-  change_short (TellsApplied answer) right x h = absurd (cc h)
+  change_short _ right x h = absurd (cc h)
 
   then_short : (c : Call) → IsRight s c → (path : List (List ℕ))
       → IsShort limits.body (held_then path (change s c) (s.store.holds path))

@@ -11,8 +11,8 @@ use Rattle.coap_resource.specs.Serves.{Question}
 use Rattle.coap_resource.specs.Serves as R
 use Rattle.coap_resource.specs.Limits.{Limits}
 use Rattle.coap_exchange.specs.declared.answerer.Due.TheVariants as due
-use Rattle.coap_server.specs.Trace.{Own, Silent, Replies, Serves, Waits, Notifies, Call, Sets, Removes}
-use Rattle.coap_server.specs.Trace.{Delays, Plains, Feeds, Ticks, NextOut, Gets, TellsApplied}
+use Rattle.coap_server.specs.Trace.{Own, Serves, Call, Sets, Removes}
+use Rattle.coap_server.specs.Trace.{Feeds, Ticks}
 use Rattle.coap_server.specs.Serving.{is_applied}
 use Rattle.coap_server.specs.Deferring.{question_of}
 use Rattle.coap_server.specs.Notifying.{marked, behind}
@@ -47,25 +47,7 @@ serves_right s (Ticks now word below room (due.Ready a) passed (Serves q reply l
       subst (λ (y : Serving). R.Serves y.old w.clock y.question y.reply y.left) same
           (serves_waited (question_of w.clock a w.waiting) w.store w.clock q reply left right.0),
     )
-serves_right s (Feeds now from bytes word up None h below) right x e = absurd (cc e)
-serves_right s (Feeds now from bytes word up (Some p) Silent below) right x e = absurd (cc e)
-serves_right s (Feeds now from bytes word up (Some p) (Replies r) below) right x e = absurd (cc e)
-serves_right s (Feeds now from bytes word up (Some p) (Waits q d) below) right x e = absurd (cc e)
-serves_right s (Feeds now from bytes word up (Some p) (Notifies o reply) below) right x e = absurd (cc e)
-serves_right s (Ticks now word below room due.Idle passed h id answer) right x e = absurd (cc e)
-serves_right s (Ticks now word below room due.Copied passed h id answer) right x e = absurd (cc e)
-serves_right s (Ticks now word below room due.Expired passed h id answer) right x e = absurd (cc e)
-serves_right s (Ticks now word below room (due.Ready a) passed Silent id answer) right x e = absurd (cc e)
-serves_right s (Ticks now word below room (due.Ready a) passed (Replies r) id answer) right x e = absurd (cc e)
-serves_right s (Ticks now word below room (due.Ready a) passed (Waits q d) id answer) right x e = absurd (cc e)
-serves_right s (Ticks now word below room (due.Ready a) passed (Notifies o reply) id answer) right x e = absurd (cc e)
-serves_right s (Sets now path format body answer left) right x e = absurd (cc e)
-serves_right s (Removes now path answer left) right x e = absurd (cc e)
-serves_right s (Delays path ms answer) right x e = absurd (cc e)
-serves_right s (Plains path answer) right x e = absurd (cc e)
-serves_right s (Gets path answer) right x e = absurd (cc e)
-serves_right s (TellsApplied answer) right x e = absurd (cc e)
-serves_right s (NextOut answer) right x e = absurd (cc e)
+serves_right s _ right x e = absurd (cc e)
 
 -- what a change leaves
 
@@ -136,24 +118,11 @@ moves_by s (Sets now path format body answer left) right =
 moves_by s (Removes now path answer left) right =
     moves path (max s.clock now) s.store left (removes_effect (s.store.holds path) (rate_refusal s.store.tally (max s.clock now)) s.store
     (max s.clock now) path answer left refl right)
-moves_by s (Delays path ms answer) right = stays s
-moves_by s (Plains path answer) right = stays s
-moves_by s (Gets path answer) right = stays s
-moves_by s (TellsApplied answer) right = stays s
-moves_by s (NextOut answer) right = stays s
 moves_by s (Feeds now from bytes word up (Some p) (Serves q reply left) below) right =
     serving_moves s (Feeds now from bytes word up (Some p) (Serves q reply left) below) right _ refl
 moves_by s (Ticks now word below room (due.Ready a) passed (Serves q reply left) id answer) right =
     serving_moves s (Ticks now word below room (due.Ready a) passed (Serves q reply left) id answer) right _ refl
 moves_by s (Feeds now from bytes word up None (Serves q reply left) below) right = absurd (cc right)
-moves_by s (Feeds now from bytes word up None Silent below) right = stays s
-moves_by s (Feeds now from bytes word up None (Replies r) below) right = stays s
-moves_by s (Feeds now from bytes word up None (Waits q d) below) right = stays s
-moves_by s (Feeds now from bytes word up None (Notifies o reply) below) right = stays s
-moves_by s (Feeds now from bytes word up (Some p) Silent below) right = stays s
-moves_by s (Feeds now from bytes word up (Some p) (Replies r) below) right = stays s
-moves_by s (Feeds now from bytes word up (Some p) (Waits q d) below) right = stays s
-moves_by s (Feeds now from bytes word up (Some p) (Notifies o reply) below) right = stays s
 moves_by s (Ticks now word below room due.Idle passed (Serves q reply left) id answer) right =
     let w : Own = heard s now (ticking s now below room due.Idle) in absurd
     (next_serves (behind passed (marked w.observers)) w.store q reply left right.0)
@@ -161,22 +130,7 @@ moves_by s (Ticks now word below room due.Copied passed (Serves q reply left) id
     right.0 in absurd (cc e)
 moves_by s (Ticks now word below room due.Expired passed (Serves q reply left) id answer) right = let e =
     right.0 in absurd (cc e)
-moves_by s (Ticks now word below room due.Idle passed Silent id answer) right = stays s
-moves_by s (Ticks now word below room due.Idle passed (Replies r) id answer) right = stays s
-moves_by s (Ticks now word below room due.Idle passed (Waits q e) id answer) right = stays s
-moves_by s (Ticks now word below room due.Idle passed (Notifies o reply) id answer) right = stays s
-moves_by s (Ticks now word below room due.Copied passed Silent id answer) right = stays s
-moves_by s (Ticks now word below room due.Copied passed (Replies r) id answer) right = stays s
-moves_by s (Ticks now word below room due.Copied passed (Waits q e) id answer) right = stays s
-moves_by s (Ticks now word below room due.Copied passed (Notifies o reply) id answer) right = stays s
-moves_by s (Ticks now word below room due.Expired passed Silent id answer) right = stays s
-moves_by s (Ticks now word below room due.Expired passed (Replies r) id answer) right = stays s
-moves_by s (Ticks now word below room due.Expired passed (Waits q e) id answer) right = stays s
-moves_by s (Ticks now word below room due.Expired passed (Notifies o reply) id answer) right = stays s
-moves_by s (Ticks now word below room (due.Ready a) passed Silent id answer) right = stays s
-moves_by s (Ticks now word below room (due.Ready a) passed (Replies r) id answer) right = stays s
-moves_by s (Ticks now word below room (due.Ready a) passed (Waits q e) id answer) right = stays s
-moves_by s (Ticks now word below room (due.Ready a) passed (Notifies o reply) id answer) right = stays s
+moves_by s _ right = stays s
 
 module _ (limits : Limits) (szx : ℕ) where
   pub version_is : (t : List Call) → ServerRows limits szx t
@@ -209,15 +163,9 @@ module _ (limits : Limits) (szx : ℕ) where
 
 served_changes : (s : Own) (c : Call) (x : Serving) (y : Change) → serving s c ≡ Some x → change s c ≡ Some y
     → change_of x.question.path x.old x.left ≡ Some y
-served_changes s (Sets now path format body answer left) x y h k = absurd (cc h)
-served_changes s (Removes now path answer left) x y h k = absurd (cc h)
-served_changes s (Delays path ms answer) x y h k = absurd (cc h)
-served_changes s (Plains path answer) x y h k = absurd (cc h)
-served_changes s (Gets path answer) x y h k = absurd (cc h)
-served_changes s (TellsApplied answer) x y h k = absurd (cc h)
-served_changes s (NextOut answer) x y h k = absurd (cc h)
 served_changes s (Feeds now from bytes word up came w below) x y h k = sym (ap changed_by h) ∙ k
 served_changes s (Ticks now word below room d passed w id answer) x y h k = sym (ap changed_by h) ∙ k
+served_changes s _ x y h k = absurd (cc h)
 
 applied_by : (s : Own) (c : Call) → IsRight s c → (x : Serving) (y : Change) → serving s c ≡ Some x
     → change s c ≡ Some y → is_applied x.reply.code ≡ true

@@ -11,8 +11,8 @@ use Rattle.coap_resource.proofs.Facts.Served.{part_law}
 use Rattle.coap_resource.specs.Limits.{Limits}
 use Rattle.coap_exchange.specs.declared.answerer.Due.TheVariants as due
 use Rattle.coap_common.specs.SuccessCodes.{content}
-use Rattle.coap_server.specs.Trace.{Own, Silent, Replies, Serves, Waits, Notifies, Call, Sets, Removes}
-use Rattle.coap_server.specs.Trace.{Delays, Plains, Feeds, Ticks, NextOut, Gets, TellsApplied}
+use Rattle.coap_server.specs.Trace.{Own, Serves, Notifies, Call}
+use Rattle.coap_server.specs.Trace.{Feeds, Ticks}
 use Rattle.coap_server.specs.Deferring.{question_of}
 use Rattle.coap_server.specs.Notifying.{marked, behind, told, asks_for}
 use Rattle.coap_server.specs.Handling.{incoming, ticking, heard}
@@ -58,25 +58,7 @@ left_is s (Feeds now from bytes word up (Some p) (Serves q reply left) below) x 
 left_is s (Ticks now word below room (due.Ready a) passed (Serves q reply left) id answer) x h =
     ap (λ (y : Serving). y.left) (let same : ◌≡◌ {A = Serving}
     (serving_of (heard s now (ticking s now below room (due.Ready a))) a q reply left) x = cc h in same)
-left_is s (Feeds now from bytes word up None h below) x e = absurd (cc e)
-left_is s (Feeds now from bytes word up (Some p) Silent below) x e = absurd (cc e)
-left_is s (Feeds now from bytes word up (Some p) (Replies r) below) x e = absurd (cc e)
-left_is s (Feeds now from bytes word up (Some p) (Waits q d) below) x e = absurd (cc e)
-left_is s (Feeds now from bytes word up (Some p) (Notifies o reply) below) x e = absurd (cc e)
-left_is s (Ticks now word below room due.Idle passed h id answer) x e = absurd (cc e)
-left_is s (Ticks now word below room due.Copied passed h id answer) x e = absurd (cc e)
-left_is s (Ticks now word below room due.Expired passed h id answer) x e = absurd (cc e)
-left_is s (Ticks now word below room (due.Ready a) passed Silent id answer) x e = absurd (cc e)
-left_is s (Ticks now word below room (due.Ready a) passed (Replies r) id answer) x e = absurd (cc e)
-left_is s (Ticks now word below room (due.Ready a) passed (Waits q d) id answer) x e = absurd (cc e)
-left_is s (Ticks now word below room (due.Ready a) passed (Notifies o reply) id answer) x e = absurd (cc e)
-left_is s (Sets now path format body answer left) x e = absurd (cc e)
-left_is s (Removes now path answer left) x e = absurd (cc e)
-left_is s (Delays path ms answer) x e = absurd (cc e)
-left_is s (Plains path answer) x e = absurd (cc e)
-left_is s (NextOut answer) x e = absurd (cc e)
-left_is s (Gets path answer) x e = absurd (cc e)
-left_is s (TellsApplied answer) x e = absurd (cc e)
+left_is s _ x e = absurd (cc e)
 
 -- a notification
 abbrev Notice : Content → Observer → Reply → Type 0
@@ -155,18 +137,7 @@ module _ (limits : Limits) (szx : ℕ) where
   notice_here t (Ticks now word below room (due.Ready a) passed (Notifies o reply) id answer) rows p is =
       let s : Own = heard (own_of limits szx t) now (ticking (own_of limits szx t) now below room (due.Ready a)) in
       absurd (never_notifies_ready (question_of s.clock a s.waiting) s.store s.clock o reply rows.0.0)
-  notice_here t (Ticks now word below room d passed Silent id answer) rows p is = absurd (cc is)
-  notice_here t (Ticks now word below room d passed (Replies r) id answer) rows p is = absurd (cc is)
-  notice_here t (Ticks now word below room d passed (Serves q reply left) id answer) rows p is = absurd (cc is)
-  notice_here t (Ticks now word below room d passed (Waits q e) id answer) rows p is = absurd (cc is)
-  notice_here t (Feeds now from bytes word up came h below) rows p is = absurd (cc is)
-  notice_here t (Sets now path format body answer left) rows p is = absurd (cc is)
-  notice_here t (Removes now path answer left) rows p is = absurd (cc is)
-  notice_here t (Delays path ms answer) rows p is = absurd (cc is)
-  notice_here t (Plains path answer) rows p is = absurd (cc is)
-  notice_here t (NextOut answer) rows p is = absurd (cc is)
-  notice_here t (Gets path answer) rows p is = absurd (cc is)
-  notice_here t (TellsApplied answer) rows p is = absurd (cc is)
+  notice_here t _ rows p is = absurd (cc is)
 
   pub notices_show : (t : List Call) → ServerRows limits szx t → NoticesShow limits szx t
   notices_show [] rows = tt

@@ -15,8 +15,7 @@ use Rattle.coap_resource.specs.Serves.{Question, Reply, PutBy, JoinBy, PostBy, R
 use Rattle.coap_resource.specs.Serves.{ServesUnless}
 use Rattle.coap_resource.specs.Serves as R
 use Rattle.coap_resource.specs.Limits.{Limits}
-use Rattle.coap_server.specs.Trace.{Own, Call, Sets, Removes, Delays, Plains, Feeds, Ticks, NextOut, Gets}
-use Rattle.coap_server.specs.Trace.{TellsApplied}
+use Rattle.coap_server.specs.Trace.{Own, Call, Sets, Removes, Feeds, Ticks}
 use Rattle.coap_server.specs.Local.{SetsBy, RemovesBy}
 use Rattle.coap_server.specs.Steps.{IsRight}
 use Rattle.coap_server.specs.Law.{own_of, ServerRows}
@@ -202,17 +201,13 @@ stamps s (Sets now path format body answer left) x right h =
 stamps s (Removes now path answer left) x right h =
     stamp_of s path (max s.clock now) s.store left x refl (removes_stamps (s.store.holds path)
     (rate_refusal s.store.tally (max s.clock now)) s.store (max s.clock now) path answer left refl right) h
-stamps s (Delays path ms answer) x right h = absurd (cc h)
-stamps s (Plains path answer) x right h = absurd (cc h)
-stamps s (Gets path answer) x right h = absurd (cc h)
-stamps s (TellsApplied answer) x right h = absurd (cc h)
-stamps s (NextOut answer) x right h = absurd (cc h)
 stamps s (Feeds now from bytes word up came w below) x right h =
     served_stamp s (Feeds now from bytes word up came w below) x
     (serving s (Feeds now from bytes word up came w below)) right refl h
 stamps s (Ticks now word below room d passed w id answer) x right h =
     served_stamp s (Ticks now word below room d passed w id answer) x
     (serving s (Ticks now word below room d passed w id answer)) right refl h
+stamps s _ x right h = absurd (cc h)
 
 module _ (limits : Limits) (szx : ℕ) where
   next_fits : (s : Own) (c : Call) (o : Option Change) → change s c ≡ o → IsRight s c → s.store.tally.version < 2 ^ 64

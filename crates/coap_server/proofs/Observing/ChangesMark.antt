@@ -4,6 +4,7 @@ use Rattle.std.proofs.Common.{◌∙◌, cond, length, max, nat_lt}
 use Rattle.std.specs.Cmp.{unsigned_Decides}
 use Rattle.coap_types.specs.OptionValues.{uint_at}
 use Rattle.coap_types.specs.declared.option_number.TheConstants.{OBSERVE as observe}
+use Rattle.coap_layer.specs.declared.setup.Setup.{Setup}
 use Rattle.coap_observe.specs.Observers.{Observer, changed_at, registered, removed}
 use Rattle.coap_observe.specs.declared.observers.TheConstants.{MAX_OBSERVERS as max_observers}
 use Rattle.coap_resource.specs.Content.{Content}
@@ -12,7 +13,7 @@ use Rattle.coap_resource.specs.Serves.{Question, Reply}
 use Rattle.coap_resource.specs.Limits.{Limits}
 use Rattle.coap_exchange.specs.declared.answerer.Asked.{Asked}
 use Rattle.coap_common.specs.SuccessCodes.{content}
-use Rattle.coap_server.specs.Trace.{Own, Call, Sets, Removes, Delays, Plains, Feeds, Ticks, NextOut, Gets, TellsApplied}
+use Rattle.coap_server.specs.Trace.{Own, Call, Sets, Removes, Feeds, Ticks}
 use Rattle.coap_server.specs.Observers.{is_get, is_number, observes, registers, observers_with, marked_if}
 use Rattle.coap_server.specs.Law.{ServerLaw, own_of}
 use Rattle.coap_server.specs.Follows.Holds.{Change, change, change_of, changed_by}
@@ -57,7 +58,7 @@ registers_none at a q reply os h =
     (cond (observes 1 q) (removed a.from a.token os) os)) (not_registering a q reply os h)
     ∙ ap (λ b. cond b (removed a.from a.token os) os) (not_a_get q 1 h)
 
-module _ (limits : Limits) (szx word : ℕ) where
+module _ (limits : Limits) (szx : ℕ) (setup : Setup) where
   abbrev own : List Call → Own
   own t = own_of limits szx t
 
@@ -65,13 +66,13 @@ module _ (limits : Limits) (szx word : ℕ) where
   Marked t c x = (own (c ∷ t)).observers ≡ changed_at (own (c ∷ t)).clock x.path (own t).observers
 
   -- by a request that is served
-  served : (t : List Call) (c : Call) → ServerLaw limits szx word (c ∷ t) → (x : Change) → (o : Option Serving)
+  served : (t : List Call) (c : Call) → ServerLaw limits szx setup (c ∷ t) → (x : Change) → (o : Option Serving)
       → serving (own t) c ≡ o → changed_by o ≡ Some x → Marked t c x
   served t c law x None is h = absurd (cc h)
   served t c law x (Some y) is h = by (is_get y.question.method) refl
     where
-      s : ServesAt limits szx word t c y
-      s = served_at limits szx word t c law y is
+      s : ServesAt limits szx setup t c y
+      s = served_at limits szx setup t c law y is
 
       by : (b : Bool) → is_get y.question.method ≡ b → Marked t c x
       by true e =
@@ -86,7 +87,7 @@ module _ (limits : Limits) (szx word : ℕ) where
           ∙ marks at y.question.path (own t).store y.left (own t).observers x
           (ap (λ z. change_of y.question.path z y.left) (sym s.old) ∙ h))
 
-  here : (t : List Call) (c : Call) → ServerLaw limits szx word (c ∷ t) → (x : Change) → change (own t) c ≡ Some x
+  here : (t : List Call) (c : Call) → ServerLaw limits szx setup (c ∷ t) → (x : Change) → change (own t) c ≡ Some x
       → Marked t c x
   here t (Sets now path format body answer left) law x h =
       marks (max (own t).clock now) path (own t).store left (own t).observers x h
@@ -96,12 +97,8 @@ module _ (limits : Limits) (szx word : ℕ) where
       served t (Feeds now from bytes w up came k below) law x _ refl h
   here t (Ticks now w below room d passed k id answer) law x h =
       served t (Ticks now w below room d passed k id answer) law x _ refl h
-  here t (Delays path ms answer) law x h = absurd (cc h)
-  here t (Plains path answer) law x h = absurd (cc h)
-  here t (Gets path answer) law x h = absurd (cc h)
-  here t (TellsApplied answer) law x h = absurd (cc h)
-  here t (NextOut answer) law x h = absurd (cc h)
+  here t _ law x h = absurd (cc h)
 
-  pub all_mark : (t : List Call) → ServerLaw limits szx word t → AllMark limits szx t
+  pub all_mark : (t : List Call) → ServerLaw limits szx setup t → AllMark limits szx t
   all_mark [] law = tt
-  all_mark (c ∷ t) law = (λ x h. here t c law x h, all_mark t (server_back limits szx word c t law))
+  all_mark (c ∷ t) law = (λ x h. here t c law x h, all_mark t (server_back limits szx setup c t law))

@@ -19,6 +19,7 @@ use Rattle.coap_exchange.specs.AnswererLaw as W
 use Rattle.coap_exchange.specs.AnswererLaw.{ResponseLaw}
 use Rattle.coap_exchange.proofs.Facts.ServerSide.{waits}
 use Rattle.std.proofs.lemmas.Bool.{and_parts}
+use Rattle.coap_layer.specs.declared.setup.Setup.{Setup}
 use Rattle.coap_server.specs.Steps.{exchanges_after}
 
 -- a CON begins where none to its endpoint is outstanding
@@ -31,18 +32,18 @@ room_alone : (busy free : Bool) → L.Is true ≡ L.Is (not busy && free) → bu
 room_alone true free h = absurd (cc h)
 room_alone false free h = refl
 
-pub ready_alone : (word : ℕ) (now : ℕ) (to : Endpoint) (calls : List E.Call)
-    → ResponseLaw word (E.Ready now to true ∷ calls) → is_waited_for to (W.own_of calls).separate ≡ false
-ready_alone word now to calls law =
+pub ready_alone : (setup : Setup) (now : ℕ) (to : Endpoint) (calls : List E.Call)
+    → ResponseLaw setup (E.Ready now to true ∷ calls) → is_waited_for to (W.own_of calls).separate ≡ false
+ready_alone setup now to calls law =
     let steps = law.layer in
-    waits word calls (record { rows = law.rows.1; left = steps.0; layer = steps.1 }) to
+    waits setup calls (record { rows = law.rows.1; left = steps.0; layer = steps.1 }) to
     ∙ room_alone (is_busy to steps.0.open_cons) _ steps.2.right
 
-pub alone_later : (word : ℕ) (now : ℕ) (a : Asked) (r : E.Response) (w id : ℕ) (calls : List E.Call)
-    → ResponseLaw word (E.Responds now a r w id ∷ calls) → is_waited_for a.from (W.own_of calls).separate ≡ false
-alone_later word now a r w id calls law =
+pub alone_later : (setup : Setup) (now : ℕ) (a : Asked) (r : E.Response) (w id : ℕ) (calls : List E.Call)
+    → ResponseLaw setup (E.Responds now a r w id ∷ calls) → is_waited_for a.from (W.own_of calls).separate ≡ false
+alone_later setup now a r w id calls law =
     let steps = law.layer in
-    waits word calls (record { rows = law.rows.1; left = steps.0; layer = steps.1 }) a.from
+    waits setup calls (record { rows = law.rows.1; left = steps.0; layer = steps.1 }) a.from
     ∙ sent_alone (is_busy a.from steps.0.open_cons) _ _ id steps.2.right
 
 module _ (to : Endpoint) (id : ℕ) (token : List ℕ) where
@@ -106,30 +107,13 @@ module _ (to : Endpoint) (id : ℕ) (token : List ℕ) where
       [ inl e ↦ inr (inl (e.0, ap (λ m. L.Becomes (L.Acked m)) e.1)) | inr o ↦ inl (left_flying from n o xs f) ]
   arrival from (L.Becomes (L.Reset n)) xs f = elim (this_or from n)
       [ inl e ↦ inr (inr (ended_here from n e xs f)) | inr o ↦ inl (left_flying from n o xs f) ]
-  arrival from (L.Becomes u) xs f = inl f
-  arrival from L.Nothing xs f = inl f
-  arrival from (L.Is holds) xs f = inl f
-  arrival from (L.Sent n) xs f = inl f
-  arrival from L.Busied xs f = inl f
-  arrival from L.NoIds xs f = inl f
-  arrival from L.Idle xs f = inl f
-  arrival from (L.Copied there n) xs f = inl f
-  arrival from (L.Expired there n) xs f = inl f
-  arrival from (L.Gives packet) xs f = inl f
+  arrival from _ xs f = inl f
 
   pub turn : (below : L.Answer) (xs : List Separate) → Flying xs
       → Flying (separate_unless below xs) ⊎ (failed_by below xs ≡ Some is_this)
   turn (L.Expired there n) xs f = elim (this_or there n)
       [ inl e ↦ inr (ended_here there n e xs f) | inr o ↦ inl (left_flying there n o xs f) ]
-  turn (L.Becomes u) xs f = inl f
-  turn L.Nothing xs f = inl f
-  turn (L.Is holds) xs f = inl f
-  turn (L.Sent n) xs f = inl f
-  turn L.Busied xs f = inl f
-  turn L.NoIds xs f = inl f
-  turn L.Idle xs f = inl f
-  turn (L.Copied there n) xs f = inl f
-  turn (L.Gives packet) xs f = inl f
+  turn _ xs f = inl f
 
   -- what is asked beside that adds to them alone
   found_before : (xs ys : List Separate) (z : Separate) → found to id xs ≡ Some z → found to id (xs ++ ys) ≡ Some z
@@ -150,19 +134,15 @@ module _ (to : Endpoint) (id : ℕ) (token : List ℕ) where
   one_later : (s : E.Own) (c : E.Call) → IsLater c → Flying s.separate → Flying (P.after s c).separate
   one_later s (E.Incoming at from bytes up answer) l f = absurd l
   one_later s (E.Ticks at below room d) l f = absurd l
-  one_later s (E.Answers a r below) l f = f
-  one_later s (E.Defers at a delay answer) l f = f
   one_later s (E.Responds at a r w n) l f = record
       { one = f.one; is = found_before s.separate (P.separate_of a.from n a.token r ∷ []) f.one f.is; ends = f.ends }
-  one_later s (E.Ready at there answer) l f = f
   one_later s (E.Notifies at there bytes r w n) l f =
       record {
         one = f.one;
         is = found_before s.separate (P.separate_of there n bytes r ∷ []) f.one f.is;
         ends = f.ends;
       }
-  one_later s (E.NotifiesPlain at there bytes r n) l f = f
-  one_later s (E.Take answer) l f = f
+  one_later s _ l f = f
 
   pub later : (s : E.Own) (cs : List E.Call) → Each IsLater cs → Flying s.separate
       → Flying (exchanges_after s cs).separate

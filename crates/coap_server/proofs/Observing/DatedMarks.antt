@@ -5,6 +5,7 @@ use Rattle.std.proofs.lemmas.Bool.{and_parts}
 use Rattle.std.specs.Cmp.{unsigned_Decides}
 use Rattle.coap_types.specs.Path.{same_path}
 use Rattle.coap_types.proofs.Facts.Paths.{same_path-decides}
+use Rattle.coap_layer.specs.declared.setup.Setup.{Setup}
 use Rattle.coap_block.specs.Whole.{Each}
 use Rattle.coap_observe.specs.Observers.{Observer, changed_at, is_of, marked_by, noted_by, removed, unmarked_by}
 use Rattle.coap_resource.specs.Content.{Content, Held}
@@ -91,9 +92,9 @@ ended_dated s (Some x) os d = by x.observe
     by true = each_kept (IsDated s) (λ o. not (is_of x.to x.token o)) os d
     by false = d
 
-pub are_dated : (limits : Limits) (szx word : ℕ) (t : List Call) → ServerLaw limits szx word t
+pub are_dated : (limits : Limits) (szx : ℕ) (setup : Setup) (t : List Call) → ServerLaw limits szx setup t
     → AreDated (own_of limits szx t).store (own_of limits szx t).observers
-are_dated limits szx word [] law = tt
-are_dated limits szx word (c ∷ t) law =
-    call_kept limits szx word t AreDated c law (each_dated (own_of limits szx (c ∷ t)).clock)
-    (are_dated limits szx word t (server_back limits szx word c t law))
+are_dated limits szx setup [] law = tt
+are_dated limits szx setup (c ∷ t) law =
+    call_kept limits szx setup t AreDated c law (each_dated (own_of limits szx (c ∷ t)).clock)
+    (are_dated limits szx setup t (server_back limits szx setup c t law))

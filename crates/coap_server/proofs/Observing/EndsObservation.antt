@@ -3,6 +3,7 @@ use Rattle.std.proofs.Common.{◌≡◌, ℕ, max, Bool, true, Option, Some, Non
 use Rattle.coap_types.specs.declared.endpoint.Endpoint.{Endpoint}
 use Rattle.coap_codec.specs.Message.{Message}
 use Rattle.coap_layer.specs.Trace as L
+use Rattle.coap_layer.specs.declared.setup.Setup.{Setup}
 use Rattle.coap_observe.specs.Observers.{Observer, registration, removed}
 use Rattle.coap_observe.proofs.Facts.Registrations.{registration-removed}
 use Rattle.coap_resource.specs.Serves.{Question, Reply}
@@ -18,9 +19,8 @@ use Rattle.coap_exchange.specs.AnswererTrace as E
 use Rattle.coap_exchange.specs.AnswererSteps as P
 use Rattle.coap_exchange.specs.AnswererSteps.{reset_by, failed_by, unmatched_by}
 use Rattle.coap_exchange.specs.AnswererLaw as W
-use Rattle.coap_server.specs.Trace.{Own, Handling, Silent, Replies, Serves, Waits, Notifies, Call}
-use Rattle.coap_server.specs.Trace.{Sets}
-use Rattle.coap_server.specs.Trace.{Removes, Delays, Plains, Feeds, Ticks, NextOut, Gets, TellsApplied}
+use Rattle.coap_server.specs.Trace.{Own, Handling, Silent, Serves, Call}
+use Rattle.coap_server.specs.Trace.{Feeds, Ticks}
 use Rattle.coap_server.specs.Checks.{asks}
 use Rattle.coap_server.specs.Observers.{unless_ended}
 use Rattle.coap_server.specs.Deferring.{question_of}
@@ -37,38 +37,21 @@ use Rattle.coap_server.proofs.Observing.RejectedNons.{gone_stays}
 use Rattle.coap_server.proofs.Replying.NoneContinues.{never_continues}
 
 -- the row of the first call that a call makes of the exchanges
-pub first_row : (word : ℕ) (asks : List E.Call) (first : E.Call) (older : List E.Call)
-    → W.ResponseLaw word ((asks ++ first ∷ []) ++ older) → P.IsRight (W.own_of older) first
-first_row word asks first older law = (back word asks (first ∷ older)
-    (subst (W.ResponseLaw word) (joined asks first older) law)).rows.0
+pub first_row : (setup : Setup) (asks : List E.Call) (first : E.Call) (older : List E.Call)
+    → W.ResponseLaw setup ((asks ++ first ∷ []) ++ older) → P.IsRight (W.own_of older) first
+first_row setup asks first older law = (back setup asks (first ∷ older)
+    (subst (W.ResponseLaw setup) (joined asks first older) law)).rows.0
 
 -- a Reset hands up no request
 reset_came : (from : Endpoint) (up : L.Answer) (came : Option (Asked × Message)) (xs : List Separate) (x : Ended)
     → came ≡ P.handed_up from up → reset_by from up xs ≡ Some x → came ≡ None
 reset_came from (L.Becomes (L.Reset id)) came xs x e h = e
-reset_came from (L.Becomes u) came xs x e h = absurd (cc h)
-reset_came from L.Nothing came xs x e h = absurd (cc h)
-reset_came from (L.Is holds) came xs x e h = absurd (cc h)
-reset_came from (L.Sent id) came xs x e h = absurd (cc h)
-reset_came from L.Busied came xs x e h = absurd (cc h)
-reset_came from L.NoIds came xs x e h = absurd (cc h)
-reset_came from L.Idle came xs x e h = absurd (cc h)
-reset_came from (L.Copied to id) came xs x e h = absurd (cc h)
-reset_came from (L.Expired to id) came xs x e h = absurd (cc h)
-reset_came from (L.Gives packet) came xs x e h = absurd (cc h)
+reset_came from _ came xs x e h = absurd (cc h)
 
 failed_due : (below : L.Answer) (d : Due) (o : Option Deferred) (room : Bool) (xs : List Separate) (x : Ended)
     → d ≡ P.due_of below o room → failed_by below xs ≡ Some x → d ≡ due.Expired
 failed_due (L.Expired to id) d o room xs x e h = e
-failed_due (L.Becomes u) d o room xs x e h = absurd (cc h)
-failed_due L.Nothing d o room xs x e h = absurd (cc h)
-failed_due (L.Is holds) d o room xs x e h = absurd (cc h)
-failed_due (L.Sent id) d o room xs x e h = absurd (cc h)
-failed_due L.Busied d o room xs x e h = absurd (cc h)
-failed_due L.NoIds d o room xs x e h = absurd (cc h)
-failed_due L.Idle d o room xs x e h = absurd (cc h)
-failed_due (L.Copied to id) d o room xs x e h = absurd (cc h)
-failed_due (L.Gives packet) d o room xs x e h = absurd (cc h)
+failed_due _ d o room xs x e h = absurd (cc h)
 
 removes_it : (e : Option Ended) (x : Ended) (os : List Observer) → e ≡ Some x → x.observe ≡ true
     → registration x.to x.token (unless_ended e os) ≡ None
@@ -77,7 +60,7 @@ removes_it e x os is o =
     ∙ (ap (λ b. registration x.to x.token (cond b (removed x.to x.token os) os)) o
     ∙ registration-removed x.to x.token os)
 
-module _ (limits : Limits) (szx word : ℕ) where
+module _ (limits : Limits) (szx : ℕ) (setup : Setup) where
   abbrev own : List Call → Own
   own t = own_of limits szx t
 
@@ -90,65 +73,49 @@ module _ (limits : Limits) (szx word : ℕ) where
       gone_stays x.to x.token (max (own t).clock now) (unmatched_by from up)
       (unless_ended (reset_by from up (own t).exchanges.separate) (own t).observers)
       (removes_it (reset_by from up (own t).exchanges.separate) x (own t).observers is o)
-  silent_fed t now from bytes w up None (Replies r) below e right x is o = absurd (cc right)
-  silent_fed t now from bytes w up None (Serves q reply left) below e right x is o = absurd (cc right)
-  silent_fed t now from bytes w up None (Waits q d) below e right x is o = absurd (cc right)
-  silent_fed t now from bytes w up None (Notifies n reply) below e right x is o = absurd (cc right)
   silent_fed t now from bytes w up (Some p) h below e right x is o = absurd (cc e)
+  silent_fed t now from bytes w up None _ below e right x is o = absurd (cc right)
 
   silent_ticked : (t : List Call) (now w : ℕ) (below : L.Answer) (room : Bool) (d : Due) (passed : ℕ) (h : Handling)
-      (id : ℕ) (answer : Bool) → d ≡ due.Expired → ServerLaw limits szx word
+      (id : ℕ) (answer : Bool) → d ≡ due.Expired → ServerLaw limits szx setup
       (Ticks now w below room d passed h id answer ∷ t)
       → (x : Ended) → failed_by below (own t).exchanges.separate ≡ Some x → x.observe ≡ true
       → registration x.to x.token (own (Ticks now w below room d passed h id answer ∷ t)).observers ≡ None
   silent_ticked t now w below room due.Expired passed Silent id answer e law x is o =
       removes_it (failed_by below (own t).exchanges.separate) x (own t).observers is o
-  silent_ticked t now w below room due.Expired passed (Replies r) id answer e law x is o = let k =
-      law.rows.0.0 in absurd (cc k)
-  silent_ticked t now w below room due.Expired passed (Serves q reply left) id answer e law x is o = let k =
-      law.rows.0.0 in absurd (cc k)
-  silent_ticked t now w below room due.Expired passed (Waits q d) id answer e law x is o = let k =
-      law.rows.0.0 in absurd (cc k)
-  silent_ticked t now w below room due.Expired passed (Notifies n reply) id answer e law x is o = let k =
-      law.rows.0.0 in absurd (cc k)
   silent_ticked t now w below room due.Idle passed h id answer e law x is o = absurd (cc e)
   silent_ticked t now w below room due.Copied passed h id answer e law x is o = absurd (cc e)
   silent_ticked t now w below room (due.Ready a) passed h id answer e law x is o = absurd (cc e)
+  silent_ticked t now w below room due.Expired passed _ id answer e law x is o = let k = law.rows.0.0 in absurd (cc k)
 
-  ends_here : (t : List Call) (c : Call) → ServerLaw limits szx word (c ∷ t) → (x : Ended) → ends_in (own t) c ≡ Some x
+  ends_here : (t : List Call) (c : Call) → ServerLaw limits szx setup (c ∷ t) → (x : Ended) → ends_in (own t) c ≡ Some x
       → x.observe ≡ true → registration x.to x.token (own (c ∷ t)).observers ≡ None
   ends_here t (Feeds now from bytes w up came h below) law x is o =
       let s : Own = own t in
       let first : E.Call = incoming s now from bytes up came in
-      let row = first_row word (answering (heard s now first) came h below) first
+      let row = first_row setup (answering (heard s now first) came h below) first
       (lower_of limits szx t) law.exchanges in
       silent_fed t now from bytes w up came h below
       (reset_came from up came s.exchanges.separate x row is) law.rows.0 x is o
   ends_here t (Ticks now w below room d passed h id answer) law x is o =
       let s : Own = own t in
       let first : E.Call = ticking s now below room d in
-      let row = first_row word (responding (heard s now first) d passed h w id) first
+      let row = first_row setup (responding (heard s now first) d passed h w id) first
       (lower_of limits szx t) law.exchanges in
       silent_ticked t now w below room d passed h id answer
       (failed_due below d (P.ready_at (W.own_of (lower_of limits szx t)) (max s.clock now)) room s.exchanges.separate
       x row is) law x is o
-  ends_here t (Sets now path format body answer left) law x is o = absurd (cc is)
-  ends_here t (Removes now path answer left) law x is o = absurd (cc is)
-  ends_here t (Delays path ms answer) law x is o = absurd (cc is)
-  ends_here t (Plains path answer) law x is o = absurd (cc is)
-  ends_here t (Gets path answer) law x is o = absurd (cc is)
-  ends_here t (TellsApplied answer) law x is o = absurd (cc is)
-  ends_here t (NextOut answer) law x is o = absurd (cc is)
+  ends_here t _ law x is o = absurd (cc is)
 
-  pub ends_observation : (t : List Call) → ServerLaw limits szx word t → EndsObservation limits szx t
+  pub ends_observation : (t : List Call) → ServerLaw limits szx setup t → EndsObservation limits szx t
   ends_observation [] law = tt
   ends_observation (c ∷ t) law = (
     λ x is o. ends_here t c law x is o,
-    ends_observation t (server_back limits szx word c t law),
+    ends_observation t (server_back limits szx setup c t law),
   )
 
   -- what is served, the store served
-  pub serves_right : (t : List Call) (c : Call) → ServerLaw limits szx word (c ∷ t) → (x : Serving)
+  pub serves_right : (t : List Call) (c : Call) → ServerLaw limits szx setup (c ∷ t) → (x : Serving)
       → serving (own t) c ≡ Some x → R.Serves x.old (own (c ∷ t)).clock x.question x.reply x.left
   serves_right t (Feeds now from bytes w up (Some p) (Serves q reply left) below) law x h =
       let s : Own = heard (own t) now (incoming (own t) now from bytes up (Some p)) in
@@ -160,29 +127,11 @@ module _ (limits : Limits) (szx word : ℕ) where
       let same : ◌≡◌ {A = Serving} (serving_of s a q reply left) x = cc h in
       subst (λ (y : Serving). R.Serves y.old s.clock y.question y.reply y.left) same
       (serves_waited (question_of s.clock a s.waiting) s.store s.clock q reply left law.rows.0.0)
-  serves_right t (Feeds now from bytes w up None h below) law x e = absurd (cc e)
-  serves_right t (Feeds now from bytes w up (Some p) Silent below) law x e = absurd (cc e)
-  serves_right t (Feeds now from bytes w up (Some p) (Replies r) below) law x e = absurd (cc e)
-  serves_right t (Feeds now from bytes w up (Some p) (Waits q d) below) law x e = absurd (cc e)
-  serves_right t (Feeds now from bytes w up (Some p) (Notifies o reply) below) law x e = absurd (cc e)
-  serves_right t (Ticks now w below room due.Copied passed h id answer) law x e = absurd (cc e)
-  serves_right t (Ticks now w below room due.Expired passed h id answer) law x e = absurd (cc e)
-  serves_right t (Ticks now w below room due.Idle passed h id answer) law x e = absurd (cc e)
-  serves_right t (Ticks now w below room (due.Ready a) passed Silent id answer) law x e = absurd (cc e)
-  serves_right t (Ticks now w below room (due.Ready a) passed (Replies r) id answer) law x e = absurd (cc e)
-  serves_right t (Ticks now w below room (due.Ready a) passed (Waits q d) id answer) law x e = absurd (cc e)
-  serves_right t (Ticks now w below room (due.Ready a) passed (Notifies o reply) id answer) law x e = absurd (cc e)
-  serves_right t (Sets now path format body answer left) law x e = absurd (cc e)
-  serves_right t (Removes now path answer left) law x e = absurd (cc e)
-  serves_right t (Delays path ms answer) law x e = absurd (cc e)
-  serves_right t (Plains path answer) law x e = absurd (cc e)
-  serves_right t (Gets path answer) law x e = absurd (cc e)
-  serves_right t (TellsApplied answer) law x e = absurd (cc e)
-  serves_right t (NextOut answer) law x e = absurd (cc e)
+  serves_right t _ law x e = absurd (cc e)
 
-  pub none_continues : (t : List Call) → ServerLaw limits szx word t → NoneContinues limits szx t
+  pub none_continues : (t : List Call) → ServerLaw limits szx setup t → NoneContinues limits szx t
   none_continues [] law = tt
   none_continues (c ∷ t) law = (
     λ x is. never_continues x.old (own (c ∷ t)).clock x.question x.reply x.left (serves_right t c law x is),
-    none_continues t (server_back limits szx word c t law),
+    none_continues t (server_back limits szx setup c t law),
   )

@@ -5,6 +5,7 @@ use Rattle.std.proofs.lemmas.Bool.{and_parts, lt-ltb}
 use Rattle.std.specs.Cmp.{unsigned_Decides}
 use Rattle.coap_types.specs.OptionValues.{uint_at}
 use Rattle.coap_types.specs.declared.option_number.TheConstants.{OBSERVE as observe}
+use Rattle.coap_layer.specs.declared.setup.Setup.{Setup}
 use Rattle.coap_observe.specs.Observers.{Observer, removed, registered, changed_at}
 use Rattle.coap_observe.specs.declared.observers.TheConstants.{MAX_OBSERVERS as max_observers}
 use Rattle.coap_resource.specs.Content.{Content}
@@ -35,7 +36,7 @@ unmarked at path old left os h =
     (ap (λ (s : Content). s.tally.version == old.tally.version) h
     ∙ (unsigned_Decides old.tally.version old.tally.version).1 refl)
 
-module _ (limits : Limits) (szx word : ℕ) where
+module _ (limits : Limits) (szx : ℕ) (setup : Setup) where
   abbrev own : List Call → Own
   own t = own_of limits szx t
 
@@ -46,10 +47,10 @@ module _ (limits : Limits) (szx word : ℕ) where
       ((unsigned_Decides x.reply.offset 0).1 can.offset)
       (lt-ltb (length (removed x.asked.from x.asked.token (own t).observers)) max_observers can.place)
 
-  here : (t : List Call) (c : Call) → ServerLaw limits szx word (c ∷ t) → (x : Serving) → serving (own t) c ≡ Some x
+  here : (t : List Call) (c : Call) → ServerLaw limits szx setup (c ∷ t) → (x : Serving) → serving (own t) c ≡ Some x
       → CanObserve limits szx t x → IsRegistered limits szx t c x
   here t c law x is can =
-      let s : ServesAt limits szx word t c x = served_at limits szx word t c law x is in
+      let s : ServesAt limits szx setup t c x = served_at limits szx setup t c law x is in
       let so = registers_here t x can in
       let same = get_same x.old (own (c ∷ t)).clock x.question x.reply x.left (a_get 0 x.question can.observe) s.serves in
       record {
@@ -66,9 +67,9 @@ module _ (limits : Limits) (szx word : ℕ) where
         says = s.says ∙ ap (λ b. sequence_if b ((own t).store.holds x.question.path)) so;
       }
 
-  pub all_register : (t : List Call) → ServerLaw limits szx word t → AllRegister limits szx t
+  pub all_register : (t : List Call) → ServerLaw limits szx setup t → AllRegister limits szx t
   all_register [] law = tt
   all_register (c ∷ t) law = (
     λ x is can. here t c law x is can,
-    all_register t (server_back limits szx word c t law),
+    all_register t (server_back limits szx setup c t law),
   )

@@ -20,7 +20,7 @@ use Rattle.coap_exchange.specs.declared.answerer.Due.TheVariants as due
 use Rattle.coap_exchange.specs.declared.answerer.Ended.{Ended}
 use Rattle.coap_exchange.specs.AnswererSteps as P
 use Rattle.coap_common.specs.SuccessCodes.{content}
-use Rattle.coap_server.specs.Trace.{Own, Handling, Silent, Replies, Serves, Waits, Notifies, Call}
+use Rattle.coap_server.specs.Trace.{Own, Handling, Serves, Notifies, Call}
 use Rattle.coap_server.specs.Trace.{Sets}
 use Rattle.coap_server.specs.Trace.{Removes, Delays, Plains, Feeds, Ticks, NextOut, Gets, TellsApplied}
 use Rattle.coap_server.specs.Observers.{observes, registers, observers_with, marked_if, unless_ended}
@@ -186,20 +186,12 @@ module _ (limits : Limits) (szx : ℕ) where
     fed : (now : ℕ) (from : Endpoint) (bytes : List ℕ) (w : ℕ) (up below : L.Answer) (came : Option (Asked × Message))
         (h : Handling) → Before (heard (own t) now (incoming (own t) now from bytes up came)).observers
         → Now (Feeds now from bytes w up came h below) (own (Feeds now from bytes w up came h below ∷ t)).observers
-    fed now from bytes w up below None Silent g = later _ refl _ g
-    fed now from bytes w up below None (Replies r) g = later _ refl _ g
-    fed now from bytes w up below None (Serves q reply left) g = later _ refl _ g
-    fed now from bytes w up below None (Waits q d) g = later _ refl _ g
-    fed now from bytes w up below None (Notifies o reply) g = later _ refl _ g
-    fed now from bytes w up below (Some p) Silent g = later _ refl _ g
-    fed now from bytes w up below (Some p) (Replies r) g = later _ refl _ g
-    fed now from bytes w up below (Some p) (Waits q d) g = later _ refl _ g
-    fed now from bytes w up below (Some p) (Notifies o reply) g = later _ refl _ g
     fed now from bytes w up below (Some p) (Serves q reply left) g =
         let s : Own = heard (own t) now (incoming (own t) now from bytes up (Some p)) in
         let c : Call = Feeds now from bytes w up (Some p) (Serves q reply left) below in
         marked_now c s.clock q.path s.store left (observers_with s.clock p.0 q reply s.observers)
         (served c s p.0 q reply left refl refl g)
+    fed now from bytes w up below _ _ g = later _ refl _ g
 
     module _ (now w : ℕ) (below : L.Answer) (room : Bool) (passed id : ℕ) (answer : Bool) where
       abbrev tick : Due → Handling → Call
@@ -221,26 +213,12 @@ module _ (limits : Limits) (szx : ℕ) where
       ticked (due.Ready a) (Notifies o reply) g =
           let s : Own = stage (due.Ready a) in notified_now _ (by_plain s o) s.clock id
           (s.store.holds o.path) o s.observers (later _ refl s.observers g)
-      ticked due.Idle Silent g = later _ refl _ g
-      ticked due.Idle (Replies r) g = later _ refl _ g
-      ticked due.Idle (Serves q reply left) g = later _ refl _ g
-      ticked due.Idle (Waits q e) g = later _ refl _ g
-      ticked due.Copied Silent g = later _ refl _ g
-      ticked due.Copied (Replies r) g = later _ refl _ g
-      ticked due.Copied (Serves q reply left) g = later _ refl _ g
-      ticked due.Copied (Waits q e) g = later _ refl _ g
-      ticked due.Expired Silent g = later _ refl _ g
-      ticked due.Expired (Replies r) g = later _ refl _ g
-      ticked due.Expired (Serves q reply left) g = later _ refl _ g
-      ticked due.Expired (Waits q e) g = later _ refl _ g
-      ticked (due.Ready a) Silent g = later _ refl _ g
-      ticked (due.Ready a) (Replies r) g = later _ refl _ g
-      ticked (due.Ready a) (Waits q d) g = later _ refl _ g
       ticked (due.Ready a) (Serves q reply left) g =
           let s : Own = stage (due.Ready a) in
           let c : Call = tick (due.Ready a) (Serves q reply left) in
           marked_now c s.clock q.path s.store left (observers_with s.clock a q reply s.observers)
           (served c s a q reply left refl refl g)
+      ticked _ _ g = later _ refl _ g
 
   pub are_latest : (t : List Call) → AreLatest limits szx t
   are_latest [] = tt

@@ -18,8 +18,8 @@ use Rattle.coap_exchange.specs.declared.answerer.Due.TheVariants as due
 use Rattle.coap_exchange.specs.declared.answerer.Ended.{Ended}
 use Rattle.coap_exchange.specs.AnswererSteps.{unmatched_by}
 use Rattle.coap_exchange.specs.AnswererTrace.{Sending}
-use Rattle.coap_server.specs.Trace.{Own, Handling, Silent, Replies, Serves, Waits, Notifies, Call, Sets, Removes}
-use Rattle.coap_server.specs.Trace.{Delays, Plains, Feeds, Ticks, NextOut, Gets, TellsApplied}
+use Rattle.coap_server.specs.Trace.{Own, Handling, Serves, Notifies, Call, Sets, Removes}
+use Rattle.coap_server.specs.Trace.{Feeds, Ticks}
 use Rattle.coap_server.specs.Observers.{observes, registers, observers_with, marked_if, unless_ended, unless_rejected}
 use Rattle.coap_server.specs.Notifying.{notified}
 use Rattle.coap_server.specs.Handling.{incoming, ticking, heard}
@@ -190,18 +190,12 @@ module _ (to : Endpoint) (token : List ℕ) where
         → ServerRows limits szx (Feeds now from bytes w up came h below ∷ t)
         → Due_in (heard (own t) now (incoming (own t) now from bytes up came)).observers
         → On t (Feeds now from bytes w up came h below) (own (Feeds now from bytes w up came h below ∷ t)).observers
-    fed t now from bytes w up None Silent below rows d = inl d
-    fed t now from bytes w up None (Replies r) below rows d = inl d
-    fed t now from bytes w up None (Serves q reply left) below rows d = inl d
-    fed t now from bytes w up None (Waits q e) below rows d = inl d
     fed t now from bytes w up None (Notifies o reply) below rows d = let k = rows.0 in absurd (cc k)
-    fed t now from bytes w up (Some p) Silent below rows d = inl d
-    fed t now from bytes w up (Some p) (Replies r) below rows d = inl d
-    fed t now from bytes w up (Some p) (Waits q e) below rows d = inl d
     fed t now from bytes w up (Some p) (Serves q reply left) below rows d =
         came_on t now from bytes w up p q reply left below d
     fed t now from bytes w up (Some p) (Notifies o reply) below rows d = absurd
         (never_notifies (heard (own t) now (incoming (own t) now from bytes up (Some p))) p o reply rows.0)
+    fed t now from bytes w up _ _ below rows d = inl d
 
     ticked : (t : List Call) (now w : ℕ) (below : L.Answer) (room : Bool) (d : Due) (passed : ℕ) (h : Handling)
         (id : ℕ) (answer : Bool)
@@ -222,21 +216,7 @@ module _ (to : Endpoint) (token : List ℕ) where
         (heard (own t) now (ticking (own t) now below room (due.Ready a))).observers k
     ticked t now w below room (due.Ready a) passed (Serves q reply left) id answer k =
         ready_on t now w below room a passed q reply left id answer k
-    ticked t now w below room (due.Ready a) passed Silent id answer k = inl k
-    ticked t now w below room (due.Ready a) passed (Replies r) id answer k = inl k
-    ticked t now w below room (due.Ready a) passed (Waits q e) id answer k = inl k
-    ticked t now w below room due.Idle passed Silent id answer k = inl k
-    ticked t now w below room due.Idle passed (Replies r) id answer k = inl k
-    ticked t now w below room due.Idle passed (Serves q reply left) id answer k = inl k
-    ticked t now w below room due.Idle passed (Waits q e) id answer k = inl k
-    ticked t now w below room due.Copied passed Silent id answer k = inl k
-    ticked t now w below room due.Copied passed (Replies r) id answer k = inl k
-    ticked t now w below room due.Copied passed (Serves q reply left) id answer k = inl k
-    ticked t now w below room due.Copied passed (Waits q e) id answer k = inl k
-    ticked t now w below room due.Expired passed Silent id answer k = inl k
-    ticked t now w below room due.Expired passed (Replies r) id answer k = inl k
-    ticked t now w below room due.Expired passed (Serves q reply left) id answer k = inl k
-    ticked t now w below room due.Expired passed (Waits q e) id answer k = inl k
+    ticked t now w below room _ passed _ id answer k = inl k
 
     on : (t : List Call) (c : Call) → ServerRows limits szx (c ∷ t) → Due_in (own t).observers
         → On t c (own (c ∷ t)).observers
@@ -255,11 +235,7 @@ module _ (to : Endpoint) (token : List ℕ) where
         ]
     on t (Sets now path format body answer left) rows d = inl (marked_on (max (own t).clock now) path (own t).store left (own t).observers d)
     on t (Removes now path answer left) rows d = inl (marked_on (max (own t).clock now) path (own t).store left (own t).observers d)
-    on t (Delays path ms answer) rows d = inl d
-    on t (Plains path answer) rows d = inl d
-    on t (Gets path answer) rows d = inl d
-    on t (TellsApplied answer) rows d = inl d
-    on t (NextOut answer) rows d = inl d
+    on t _ rows d = inl d
 
 module _ (limits : Limits) (szx : ℕ) where
   here : (t : List Call) (c : Call) → ServerRows limits szx (c ∷ t) → (to : Endpoint) (token : List ℕ)

@@ -12,6 +12,7 @@ use Rattle.coap_layer.specs.Trace as L
 use Rattle.coap_layer.specs.Words.{issued, issued_by, numbers}
 use Rattle.coap_layer.proofs.Facts.Calls.{steps_left}
 use Rattle.coap_layer.proofs.Facts.IdsApart.{ids_apart}
+use Rattle.coap_layer.specs.declared.setup.Setup.{Setup}
 use Rattle.coap_observe.specs.Observers.{Noted, Observer}
 use Rattle.coap_observe.specs.Registrations.{IsOther}
 use Rattle.coap_resource.specs.Content.{Content, Held}
@@ -25,8 +26,8 @@ use Rattle.coap_exchange.specs.AnswererLaw as W
 use Rattle.coap_exchange.specs.AnswererLaw.{ResponseLaw}
 use Rattle.coap_common.specs.Adds.{asked_by_server}
 use Rattle.coap_common.proofs.Facts.Adds.{answerer_append, entries_append, left_append}
-use Rattle.coap_server.specs.Trace.{Own, Silent, Replies, Serves, Waits, Notifies, Call, Sets}
-use Rattle.coap_server.specs.Trace.{Removes, Delays, Plains, Feeds, Ticks, NextOut, Gets, TellsApplied}
+use Rattle.coap_server.specs.Trace.{Own, Serves, Notifies, Call}
+use Rattle.coap_server.specs.Trace.{Feeds, Ticks}
 use Rattle.coap_server.specs.Asks.{notifies_by}
 use Rattle.coap_server.specs.Handling.{incoming, ticking, heard}
 use Rattle.coap_server.specs.Law.{ServerLaw, own_of, lower_of, layer_of}
@@ -67,13 +68,13 @@ answer_kept to token id true at store a q way last e =
 answer_kept to token id false at store a q way last e = refl
 
 -- a NON that is begun, behind these calls of the exchanges
-module _ (word : ℕ) (now : ℕ) (to : Endpoint) (token : List ℕ) (r : E.Response) (id : ℕ) (calls : List E.Call)
-    (law : ResponseLaw word (E.NotifiesPlain now to token r id ∷ calls)) where
+module _ (setup : Setup) (now : ℕ) (to : Endpoint) (token : List ℕ) (r : E.Response) (id : ℕ) (calls : List E.Call)
+    (law : ResponseLaw setup (E.NotifiesPlain now to token r id ∷ calls)) where
   begin : S.State
-  begin = S.start (S.usual word)
+  begin = S.start setup
 
   abbrev before : S.State
-  before = left_after (S.start (S.usual word)) (W.lower_of calls)
+  before = left_after (S.start setup) (W.lower_of calls)
 
   abbrev call : L.Call
   call = L.Plain to (P.content_with token r)
@@ -81,16 +82,16 @@ module _ (word : ℕ) (now : ℕ) (to : Endpoint) (token : List ℕ) (r : E.Resp
   abbrev one : Issued
   one = record { at = S.moment before now call; id = id }
 
-  numbers_are : numbers (W.below_of word (E.NotifiesPlain now to token r id ∷ calls))
-      ≡ one ∷ numbers (W.below_of word calls)
+  numbers_are : numbers (W.below_of setup (E.NotifiesPlain now to token r id ∷ calls))
+      ≡ one ∷ numbers (W.below_of setup calls)
   numbers_are =
       let steps = law.layer in
-      let same : steps.0 ≡ before = steps_left (S.start (S.usual word)) (W.lower_of calls) steps.0 steps.1 in
+      let same : steps.0 ≡ before = steps_left (S.start setup) (W.lower_of calls) steps.0 steps.1 in
       let right : L.Sent id ≡ S.answer_of before (S.moment before now call) call =
       subst (λ s. L.Sent id ≡ S.answer_of s (S.moment s now call) call) same steps.2.right in
-      ap (λ a. issued_by (S.moment before now call) a ++ numbers (W.below_of word calls)) (sym right)
+      ap (λ a. issued_by (S.moment before now call) a ++ numbers (W.below_of setup calls)) (sym right)
 
-module _ (limits : Limits) (szx word : ℕ) where
+module _ (limits : Limits) (szx : ℕ) (setup : Setup) where
   abbrev own : List Call → Own
   own t = own_of limits szx t
 
@@ -98,7 +99,7 @@ module _ (limits : Limits) (szx word : ℕ) where
   non to token t = last_non limits szx to token t
 
   abbrev Numbers : List Call → List Issued
-  Numbers t = numbers (layer_of limits szx word t)
+  Numbers t = numbers (layer_of limits szx setup t)
 
   abbrev IsIt : ℕ → ℕ → Issued → Type 0
   IsIt id at h = (h.id ≡ id) × (h.at ≡ at)
@@ -131,7 +132,7 @@ module _ (limits : Limits) (szx word : ℕ) where
   -- a notification
   module _ (t : List Call) (now w : ℕ) (below : L.Answer) (room : Bool) (passed id : ℕ) (answer : Bool) (o : Observer)
       (reply : Reply)
-      (law : ServerLaw limits szx word (Ticks now w below room due.Idle passed (Notifies o reply) id answer ∷ t)) where
+      (law : ServerLaw limits szx setup (Ticks now w below room due.Idle passed (Notifies o reply) id answer ∷ t)) where
     abbrev c : Call
     c = Ticks now w below room due.Idle passed (Notifies o reply) id answer
 
@@ -147,47 +148,47 @@ module _ (limits : Limits) (szx word : ℕ) where
     abbrev calls : List E.Call
     calls = rest ++ lower_of limits szx t
 
-    past_law : ServerLaw limits szx word t
-    past_law = server_back limits szx word c t law
+    past_law : ServerLaw limits szx setup t
+    past_law = server_back limits szx setup c t law
 
     -- the layer's clock when it is begun
-    clock_till : (left_after (S.start (S.usual word)) (W.lower_of calls)).clock ≤ s.clock
+    clock_till : (left_after (S.start setup) (W.lower_of calls)).clock ≤ s.clock
     clock_till =
         subst (λ (z : S.State). z.clock ≤ s.clock)
-        (sym (ap (left_after (S.start (S.usual word))) (answerer_append rest (lower_of limits szx t))
-        ∙ left_append (S.start (S.usual word)) (asked_by_server (lower_of limits szx t) rest) (all_asked limits szx t)))
-        (calls_till limits szx word t c (asked_by_server (lower_of limits szx t) rest) past_law
+        (sym (ap (left_after (S.start setup)) (answerer_append rest (lower_of limits szx t))
+        ∙ left_append (S.start setup) (asked_by_server (lower_of limits szx t) rest) (all_asked limits szx t)))
+        (calls_till limits szx setup t c (asked_by_server (lower_of limits szx t) rest) past_law
         (wishes s.clock (lower_of limits szx t) rest (omega (arith, between))
         (each_join _ (readies s.clock passed (marked s.observers)) (ticking (own t) now below room due.Idle ∷ [])
         (readies_asks s.clock s.clock passed (marked s.observers) (omega arith)) (omega arith, tt))))
       where
         between : (W.own_of (lower_of limits szx t)).clock ≤ (own t).clock
-        between = exchanges_till limits szx word t past_law
+        between = exchanges_till limits szx setup t past_law
 
-    numbers_more : (Q : Issued → Type 0) → Ever Q (Numbers t) → Ever Q (numbers (W.below_of word calls))
+    numbers_more : (Q : Issued → Type 0) → Ever Q (Numbers t) → Ever Q (numbers (W.below_of setup calls))
     numbers_more Q h =
-        let begin : S.State = S.start (S.usual word) in
+        let begin : S.State = S.start setup in
         subst (λ z. Ever Q (numbers (entries begin z))) (sym (answerer_append rest (lower_of limits szx t)))
         (subst (λ z. Ever Q (numbers z))
         (sym (entries_append begin (asked_by_server (lower_of limits szx t) rest) (all_asked limits szx t)))
         (numbers_back Q (entries (left_after begin (all_asked limits szx t))
-        (asked_by_server (lower_of limits szx t) rest)) (layer_of limits szx word t) h))
+        (asked_by_server (lower_of limits szx t) rest)) (layer_of limits szx setup t) h))
 
     begun_non : (plain : Bool) → plain ≡ true
-        → ResponseLaw word (notifies_by plain s.clock o r w id ∷ calls)
-        → AreApart (numbers (W.below_of word (notifies_by plain s.clock o r w id ∷ calls)))
-        → Ever (IsIt id s.clock) (numbers (W.below_of word (notifies_by plain s.clock o r w id ∷ calls)))
+        → ResponseLaw setup (notifies_by plain s.clock o r w id ∷ calls)
+        → AreApart (numbers (W.below_of setup (notifies_by plain s.clock o r w id ∷ calls)))
+        → Ever (IsIt id s.clock) (numbers (W.below_of setup (notifies_by plain s.clock o r w id ∷ calls)))
         × (Ever (IsNear id s.clock) (Numbers t) → ⊥)
     begun_non false e claw apart = absurd (cc e)
     begun_non true e claw apart =
-        let are = numbers_are word s.clock o.to o.token r id calls claw in
+        let are = numbers_are setup s.clock o.to o.token r id calls claw in
         let till = clock_till in
-        let at : S.moment (left_after (S.start (S.usual word)) (W.lower_of calls)) s.clock
+        let at : S.moment (left_after (S.start setup) (W.lower_of calls)) s.clock
         (L.Plain o.to (P.content_with o.token r)) ≡ s.clock = omega (arith, till) in
         let far = (subst AreApart are apart).0 in (
           subst (Ever (IsIt id s.clock)) (sym are) (inl (refl, at)),
           λ h. far (Ever_map (IsNear id s.clock) _ (λ i k. (k.0, (let near = k.1 in omega (arith, at, near))))
-              (numbers (W.below_of word calls)) (numbers_more (IsNear id s.clock) h)),
+              (numbers (W.below_of setup calls)) (numbers_more (IsNear id s.clock) h)),
         )
 
     by_way : (plain : Bool) → by_plain s o ≡ plain → (held : Option Held) → s.store.holds o.path ≡ held → NonStep t c
@@ -199,7 +200,7 @@ module _ (limits : Limits) (szx word : ℕ) where
         kept t c (λ to token. ap (λ h. non_then to token id
         (tells o.to o.token o.path (way_of (by_plain s o) id) s.clock false h) (non to token t)) is)
     by_way true goes (Some held) is =
-        let apart = ids_apart (S.usual word) (layer_of limits szx word (c ∷ t)) (facts.layer limits szx word (c ∷ t) law) in
+        let apart = ids_apart setup (layer_of limits szx setup (c ∷ t)) (facts.layer limits szx setup (c ∷ t) law) in
         let k = begun_non (by_plain s o) goes law.exchanges apart in
         begins o.to o.token id
         (λ to token. ap (λ b. non_then to token id
@@ -210,7 +211,7 @@ module _ (limits : Limits) (szx word : ℕ) where
     notice_step : NonStep t c
     notice_step = by_way (by_plain s o) refl (s.store.holds o.path) refl
 
-  step : (t : List Call) (c : Call) → ServerLaw limits szx word (c ∷ t) → NonStep t c
+  step : (t : List Call) (c : Call) → ServerLaw limits szx setup (c ∷ t) → NonStep t c
   step t (Ticks now w below room due.Idle passed (Notifies o reply) id answer) law =
       notice_step t now w below room passed id answer o reply law
   step t (Feeds now from bytes w up (Some p) (Serves q reply left) below) law =
@@ -221,28 +222,7 @@ module _ (limits : Limits) (szx word : ℕ) where
       let s : Own = heard (own t) now (ticking (own t) now below room (due.Ready a)) in
       kept t _ (λ to token. answer_kept to token id (registers a q reply s.observers) s.clock s.store a q (InCon id)
       (non to token t) refl)
-  step t (Feeds now from bytes w up None h below) law = kept t _ (λ to token. refl)
-  step t (Feeds now from bytes w up (Some p) Silent below) law = kept t _ (λ to token. refl)
-  step t (Feeds now from bytes w up (Some p) (Replies r) below) law = kept t _ (λ to token. refl)
-  step t (Feeds now from bytes w up (Some p) (Waits q d) below) law = kept t _ (λ to token. refl)
-  step t (Feeds now from bytes w up (Some p) (Notifies o reply) below) law = kept t _ (λ to token. refl)
-  step t (Ticks now w below room due.Copied passed h id answer) law = kept t _ (λ to token. refl)
-  step t (Ticks now w below room due.Expired passed h id answer) law = kept t _ (λ to token. refl)
-  step t (Ticks now w below room due.Idle passed Silent id answer) law = kept t _ (λ to token. refl)
-  step t (Ticks now w below room due.Idle passed (Replies r) id answer) law = kept t _ (λ to token. refl)
-  step t (Ticks now w below room due.Idle passed (Waits q d) id answer) law = kept t _ (λ to token. refl)
-  step t (Ticks now w below room due.Idle passed (Serves q reply left) id answer) law = kept t _ (λ to token. refl)
-  step t (Ticks now w below room (due.Ready a) passed Silent id answer) law = kept t _ (λ to token. refl)
-  step t (Ticks now w below room (due.Ready a) passed (Replies r) id answer) law = kept t _ (λ to token. refl)
-  step t (Ticks now w below room (due.Ready a) passed (Waits q d) id answer) law = kept t _ (λ to token. refl)
-  step t (Ticks now w below room (due.Ready a) passed (Notifies o reply) id answer) law = kept t _ (λ to token. refl)
-  step t (Sets now path format body answer left) law = kept t _ (λ to token. refl)
-  step t (Removes now path answer left) law = kept t _ (λ to token. refl)
-  step t (Delays path ms answer) law = kept t _ (λ to token. refl)
-  step t (Plains path answer) law = kept t _ (λ to token. refl)
-  step t (Gets path answer) law = kept t _ (λ to token. refl)
-  step t (TellsApplied answer) law = kept t _ (λ to token. refl)
-  step t (NextOut answer) law = kept t _ (λ to token. refl)
+  step t _ law = kept t _ (λ to token. refl)
 
   -- what is kept of a NON was issued, and not later
 
@@ -252,16 +232,16 @@ module _ (limits : Limits) (szx word : ℕ) where
 
   later : (t : List Call) (c : Call) (n : Noted) → WasIssued t n → WasIssued (c ∷ t) n
   later t c n k = record {
-    there = subst (λ z. Ever (IsIt n.id n.at) (numbers z)) (sym (layer_next limits szx word t c))
-        (numbers_back (IsIt n.id n.at) (call_adds limits szx word t c) (layer_of limits szx word t) k.there);
+    there = subst (λ z. Ever (IsIt n.id n.at) (numbers z)) (sym (layer_next limits szx setup t c))
+        (numbers_back (IsIt n.id n.at) (call_adds limits szx setup t c) (layer_of limits szx setup t) k.there);
     till = (let a = k.till in let b = clock_rises limits szx t c in omega (arith, a, b));
   }
 
-  pub was_issued : (t : List Call) → ServerLaw limits szx word t → (to : Endpoint) (token : List ℕ) (n : Noted)
+  pub was_issued : (t : List Call) → ServerLaw limits szx setup t → (to : Endpoint) (token : List ℕ) (n : Noted)
       → non to token t ≡ Some n → WasIssued t n
   was_issued [] law to token n h = absurd (cc h)
   was_issued (c ∷ t) law to token n h =
-      by (step t c law) (λ k. later t c n (was_issued t (server_back limits szx word c t law) to token n k))
+      by (step t c law) (λ k. later t c n (was_issued t (server_back limits szx setup c t law) to token n k))
     where
       by : NonStep t c → (non to token t ≡ Some n → WasIssued (c ∷ t) n) → WasIssued (c ∷ t) n
       by (quiet f) old = elim (f to token) [
@@ -281,7 +261,7 @@ module _ (limits : Limits) (szx word : ℕ) where
   abbrev pub Apart : Noted → Noted → Type 0
   Apart m n = m.id ≡ n.id → (m.at + id_reuse_after < n.at) ⊎ (n.at + id_reuse_after < m.at)
 
-  apart_by : (t : List Call) (c : Call) → ServerLaw limits szx word (c ∷ t) → NonStep t c → (to : Endpoint)
+  apart_by : (t : List Call) (c : Call) → ServerLaw limits szx setup (c ∷ t) → NonStep t c → (to : Endpoint)
       (p q : List ℕ) → IsOther to p to q
       → ((m n : Noted) → non to p t ≡ Some m → non to q t ≡ Some n → Apart m n) → (m n : Noted)
       → non to p (c ∷ t) ≡ Some m → non to q (c ∷ t) ≡ Some n → Apart m n
@@ -298,8 +278,8 @@ module _ (limits : Limits) (szx word : ℕ) where
       new : Noted
       new = record { id = id; at = (own (c ∷ t)).clock }
 
-      past_law : ServerLaw limits szx word t
-      past_law = server_back limits szx word c t law
+      past_law : ServerLaw limits szx setup t
+      past_law = server_back limits szx setup c t law
 
       -- one that was issued before has another number, or is long gone
       before : (token : List ℕ) (k : Noted) → non to token t ≡ Some k → k.id ≡ id
@@ -333,9 +313,9 @@ module _ (limits : Limits) (szx word : ℕ) where
           let less = before p m hm (e ∙ id_is) in
           inl (omega (arith, less, at_is))
 
-  pub nons_apart : (t : List Call) → ServerLaw limits szx word t → (to : Endpoint) (p q : List ℕ) → IsOther to p to q
+  pub nons_apart : (t : List Call) → ServerLaw limits szx setup t → (to : Endpoint) (p q : List ℕ) → IsOther to p to q
       → (m n : Noted) → non to p t ≡ Some m → non to q t ≡ Some n → Apart m n
   nons_apart [] law to p q other = λ m n hm hn. absurd (cc hm)
   nons_apart (c ∷ t) law to p q other =
       apart_by t c law (step t c law) to p q other
-      (λ m n. nons_apart t (server_back limits szx word c t law) to p q other m n)
+      (λ m n. nons_apart t (server_back limits szx setup c t law) to p q other m n)

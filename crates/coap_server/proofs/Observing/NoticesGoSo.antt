@@ -6,13 +6,14 @@ use Rattle.coap_types.specs.Past.{Ever}
 use Rattle.coap_types.specs.Path.{same_path}
 use Rattle.coap_types.proofs.Facts.Paths.{same_path-decides}
 use Rattle.coap_layer.specs.Trace as L
+use Rattle.coap_layer.specs.declared.setup.Setup.{Setup}
 use Rattle.coap_observe.specs.Observers.{Observer}
 use Rattle.coap_resource.specs.Content.{Content, Held}
 use Rattle.coap_resource.specs.Limits.{Limits}
 use Rattle.coap_resource.specs.Serves.{Question, Reply}
 use Rattle.coap_exchange.specs.declared.answerer.Asked.{Asked}
 use Rattle.coap_exchange.specs.declared.answerer.Due.TheVariants as due
-use Rattle.coap_server.specs.Trace.{Own, Silent, Replies, Serves, Waits, Notifies, Call, Sets, Removes}
+use Rattle.coap_server.specs.Trace.{Own, Serves, Notifies, Call, Sets, Removes}
 use Rattle.coap_server.specs.Trace.{Delays, Plains, Feeds, Ticks, NextOut, Gets, TellsApplied}
 use Rattle.coap_server.specs.Observers.{registers}
 use Rattle.coap_server.specs.Plain.{by_plain, goes_plain, is_plain, must_confirm, plains_with}
@@ -157,14 +158,14 @@ first_is true at store a q way x h = by (store.holds q.path) h
 not_first : (x : Telling) (X : Type 0) → x.registers ≡ true → x.registers ≡ false → X
 not_first x X h k = absurd (cc (h, k))
 
-module _ (limits : Limits) (szx word : ℕ) where
+module _ (limits : Limits) (szx : ℕ) (setup : Setup) where
   abbrev own_at : List Call → Own
   own_at t = own_of limits szx t
 
   -- a notification
   module _ (t : List Call) (now w : ℕ) (below : L.Answer) (room : Bool) (passed id : ℕ) (answer : Bool) (o : Observer)
       (reply : Reply)
-      (law : ServerLaw limits szx word (Ticks now w below room due.Idle passed (Notifies o reply) id answer ∷ t)) where
+      (law : ServerLaw limits szx setup (Ticks now w below room due.Idle passed (Notifies o reply) id answer ∷ t)) where
     abbrev s : Own
     s = heard (own_at t) now (ticking (own_at t) now below room due.Idle)
 
@@ -173,11 +174,11 @@ module _ (limits : Limits) (szx word : ℕ) where
 
     goes_so : (held : Held) → s.store.holds o.path ≡ Some held → GoesSo limits szx t (notice held)
     goes_so held is =
-        let told = told_here limits szx word t now w below room passed id answer o reply law in
-        let before = server_back limits szx word
+        let told = told_here limits szx setup t now w below room passed id answer o reply law in
+        let before = server_back limits szx setup
         (Ticks now w below room due.Idle passed (Notifies o reply) id answer) t law in
-        let f : FitsOf limits szx word o.to o.token t o = fits limits szx word o.to o.token t before o
-        (ticked_back limits szx word o.to o.token t now below room due.Idle o told.is) in
+        let f : FitsOf limits szx setup o.to o.token t o = fits limits szx setup o.to o.token t before o
+        (ticked_back limits szx setup o.to o.token t now below room due.Idle o told.is) in
         record {
           con = o.con;
           con_is = f.con;
@@ -207,7 +208,7 @@ module _ (limits : Limits) (szx word : ℕ) where
         by None is k = absurd (cc k)
         by (Some held) is k = let same : notice held ≡ x = cc k in subst (GoesSo limits szx t) same (goes_so held is)
 
-  here : (t : List Call) (c : Call) → ServerLaw limits szx word (c ∷ t) → (x : Telling) → telling (own_at t) c ≡ Some x
+  here : (t : List Call) (c : Call) → ServerLaw limits szx setup (c ∷ t) → (x : Telling) → telling (own_at t) c ≡ Some x
       → x.registers ≡ false → GoesSo limits szx t x
   here t (Ticks now w below room due.Idle passed (Notifies o reply) id answer) law x h first =
       notice_goes t now w below room passed id answer o reply law x h
@@ -217,32 +218,11 @@ module _ (limits : Limits) (szx word : ℕ) where
   here t (Ticks now w below room (due.Ready a) passed (Serves q reply left) id answer) law x h first =
       let s : Own = heard (own_at t) now (ticking (own_at t) now below room (due.Ready a)) in
       not_first x _ (first_is (registers a q reply s.observers) s.clock s.store a q (InCon id) x h) first
-  here t (Feeds now from bytes w up None h below) law x e first = absurd (cc e)
-  here t (Feeds now from bytes w up (Some p) Silent below) law x e first = absurd (cc e)
-  here t (Feeds now from bytes w up (Some p) (Replies r) below) law x e first = absurd (cc e)
-  here t (Feeds now from bytes w up (Some p) (Waits q d) below) law x e first = absurd (cc e)
-  here t (Feeds now from bytes w up (Some p) (Notifies o reply) below) law x e first = absurd (cc e)
-  here t (Ticks now w below room due.Copied passed h id answer) law x e first = absurd (cc e)
-  here t (Ticks now w below room due.Expired passed h id answer) law x e first = absurd (cc e)
-  here t (Ticks now w below room due.Idle passed Silent id answer) law x e first = absurd (cc e)
-  here t (Ticks now w below room due.Idle passed (Replies r) id answer) law x e first = absurd (cc e)
-  here t (Ticks now w below room due.Idle passed (Waits q d) id answer) law x e first = absurd (cc e)
-  here t (Ticks now w below room due.Idle passed (Serves q reply left) id answer) law x e first = absurd (cc e)
-  here t (Ticks now w below room (due.Ready a) passed Silent id answer) law x e first = absurd (cc e)
-  here t (Ticks now w below room (due.Ready a) passed (Replies r) id answer) law x e first = absurd (cc e)
-  here t (Ticks now w below room (due.Ready a) passed (Waits q d) id answer) law x e first = absurd (cc e)
-  here t (Ticks now w below room (due.Ready a) passed (Notifies o reply) id answer) law x e first = absurd (cc e)
-  here t (Sets now path format body answer left) law x e first = absurd (cc e)
-  here t (Removes now path answer left) law x e first = absurd (cc e)
-  here t (Delays path ms answer) law x e first = absurd (cc e)
-  here t (Plains path answer) law x e first = absurd (cc e)
-  here t (Gets path answer) law x e first = absurd (cc e)
-  here t (TellsApplied answer) law x e first = absurd (cc e)
-  here t (NextOut answer) law x e first = absurd (cc e)
+  here t _ law x e first = absurd (cc e)
 
-  pub ways_are : (t : List Call) → ServerLaw limits szx word t → WaysAre limits szx t
+  pub ways_are : (t : List Call) → ServerLaw limits szx setup t → WaysAre limits szx t
   ways_are [] law = tt
   ways_are (c ∷ t) law = (
     λ x h first. here t c law x h first,
-    ways_are t (server_back limits szx word c t law),
+    ways_are t (server_back limits szx setup c t law),
   )

@@ -17,8 +17,8 @@ use Rattle.coap_exchange.specs.declared.answerer.Asked.{Asked}
 use Rattle.coap_exchange.specs.declared.answerer.Due.{Due}
 use Rattle.coap_exchange.specs.declared.answerer.Due.TheVariants as due
 use Rattle.coap_common.specs.SuccessCodes.{content}
-use Rattle.coap_server.specs.Trace.{Own, Silent, Replies, Serves, Waits, Notifies, Call, Sets}
-use Rattle.coap_server.specs.Trace.{Removes, Delays, Plains, Feeds, Ticks, NextOut, Gets, TellsApplied}
+use Rattle.coap_server.specs.Trace.{Own, Serves, Notifies, Call}
+use Rattle.coap_server.specs.Trace.{Feeds, Ticks}
 use Rattle.coap_server.specs.Observers.{is_get, is_number, observes, registers, observers_with}
 use Rattle.coap_server.specs.Notifying.{marked, behind, asks_for, told, NotifiesNext, notified}
 use Rattle.coap_server.specs.Serving.{observers_served}
@@ -109,25 +109,7 @@ module _ (limits : Limits) (szx : ℕ) where
   ends_here t (Ticks now w below room (due.Ready a) passed (Serves q reply left) id answer) x e h =
       served_over t (Ticks now w below room (due.Ready a) passed (Serves q reply left) id answer)
       (heard (own t) now (ticking (own t) now below room (due.Ready a))) a q reply left x refl e h
-  ends_here t (Feeds now from bytes w up None h below) x e k = absurd (cc e)
-  ends_here t (Feeds now from bytes w up (Some p) Silent below) x e k = absurd (cc e)
-  ends_here t (Feeds now from bytes w up (Some p) (Replies r) below) x e k = absurd (cc e)
-  ends_here t (Feeds now from bytes w up (Some p) (Waits q d) below) x e k = absurd (cc e)
-  ends_here t (Feeds now from bytes w up (Some p) (Notifies o reply) below) x e k = absurd (cc e)
-  ends_here t (Ticks now w below room due.Copied passed h id answer) x e k = absurd (cc e)
-  ends_here t (Ticks now w below room due.Expired passed h id answer) x e k = absurd (cc e)
-  ends_here t (Ticks now w below room due.Idle passed h id answer) x e k = absurd (cc e)
-  ends_here t (Ticks now w below room (due.Ready a) passed Silent id answer) x e k = absurd (cc e)
-  ends_here t (Ticks now w below room (due.Ready a) passed (Replies r) id answer) x e k = absurd (cc e)
-  ends_here t (Ticks now w below room (due.Ready a) passed (Waits q d) id answer) x e k = absurd (cc e)
-  ends_here t (Ticks now w below room (due.Ready a) passed (Notifies o reply) id answer) x e k = absurd (cc e)
-  ends_here t (Sets now path format body answer left) x e k = absurd (cc e)
-  ends_here t (Removes now path answer left) x e k = absurd (cc e)
-  ends_here t (Delays path ms answer) x e k = absurd (cc e)
-  ends_here t (Plains path answer) x e k = absurd (cc e)
-  ends_here t (Gets path answer) x e k = absurd (cc e)
-  ends_here t (TellsApplied answer) x e k = absurd (cc e)
-  ends_here t (NextOut answer) x e k = absurd (cc e)
+  ends_here t _ x e k = absurd (cc e)
 
   pub ends_on_request : (t : List Call) → EndsOnRequest limits szx t
   ends_on_request [] = tt
@@ -158,18 +140,7 @@ module _ (limits : Limits) (szx : ℕ) where
       let same : ◌≡◌ {A = Notice} (record { observer = o; reply = reply }) x = cc e in
       subst (EndsWith limits szx t (Ticks now w below room d passed (Notifies o reply) id answer)) same
       (told_here t now w below room d passed o reply id answer rows)
-  notice_here t (Ticks now w below room d passed Silent id answer) rows x e = absurd (cc e)
-  notice_here t (Ticks now w below room d passed (Replies r) id answer) rows x e = absurd (cc e)
-  notice_here t (Ticks now w below room d passed (Serves q reply left) id answer) rows x e = absurd (cc e)
-  notice_here t (Ticks now w below room d passed (Waits q ms) id answer) rows x e = absurd (cc e)
-  notice_here t (Feeds now from bytes w up came h below) rows x e = absurd (cc e)
-  notice_here t (Sets now path format body answer left) rows x e = absurd (cc e)
-  notice_here t (Removes now path answer left) rows x e = absurd (cc e)
-  notice_here t (Delays path ms answer) rows x e = absurd (cc e)
-  notice_here t (Plains path answer) rows x e = absurd (cc e)
-  notice_here t (Gets path answer) rows x e = absurd (cc e)
-  notice_here t (TellsApplied answer) rows x e = absurd (cc e)
-  notice_here t (NextOut answer) rows x e = absurd (cc e)
+  notice_here t _ rows x e = absurd (cc e)
 
   pub ends_on_notice : (t : List Call) → ServerRows limits szx t → EndsOnNotice limits szx t
   ends_on_notice [] rows = tt

@@ -17,9 +17,9 @@ use Rattle.coap_exchange.specs.declared.answerer.Asked.{Asked}
 use Rattle.coap_exchange.specs.declared.answerer.Due.{Due}
 use Rattle.coap_exchange.specs.declared.answerer.Due.TheVariants as due
 use Rattle.coap_exchange.specs.declared.answerer.Ended.{Ended}
-use Rattle.coap_server.specs.Trace.{Own, Handling, Silent, Replies, Serves, Waits, Notifies, Call}
+use Rattle.coap_server.specs.Trace.{Own, Handling, Serves, Notifies, Call}
 use Rattle.coap_server.specs.Trace.{Sets}
-use Rattle.coap_server.specs.Trace.{Removes, Delays, Plains, Feeds, Ticks, NextOut, Gets, TellsApplied}
+use Rattle.coap_server.specs.Trace.{Removes, Feeds, Ticks}
 use Rattle.coap_server.specs.Observers.{observes, registers, observers_with, marked_if, unless_ended}
 use Rattle.coap_server.specs.Notifying.{notified}
 use Rattle.coap_server.specs.Serving.{observers_served}
@@ -216,55 +216,35 @@ module _ (to : Endpoint) (token : List ℕ) where
         → None_in (own (Feeds now from bytes w up came h below ∷ t)).observers
         → Back t (Feeds now from bytes w up came h below)
         (heard (own t) now (incoming (own t) now from bytes up came)).observers
-    fed t now from bytes w up None Silent below rows h = inl h
-    fed t now from bytes w up None (Replies r) below rows h = inl h
-    fed t now from bytes w up None (Waits q d) below rows h = inl h
-    fed t now from bytes w up (Some p) Silent below rows h = inl h
-    fed t now from bytes w up (Some p) (Replies r) below rows h = inl h
-    fed t now from bytes w up (Some p) (Waits q d) below rows h = inl h
-    fed t now from bytes w up None (Serves q reply left) below rows h = inl h
     fed t now from bytes w up None (Notifies o reply) below rows h = let k = rows.0 in absurd (cc k)
     fed t now from bytes w up (Some p) (Serves q reply left) below rows h =
         came_over t now from bytes w up p q reply left below
         (heard (own t) now (incoming (own t) now from bytes up (Some p))).observers h
     fed t now from bytes w up (Some p) (Notifies o reply) below rows h =
         absurd (never_notifies (heard (own t) now (incoming (own t) now from bytes up (Some p))) p o reply rows.0)
+    fed t now from bytes w up _ _ below rows h = inl h
 
     ticked : (t : List Call) (now w : ℕ) (below : L.Answer) (room : Bool) (d : Due) (passed : ℕ) (h : Handling) (id : ℕ)
         (answer : Bool) → ServerRows limits szx (Ticks now w below room d passed h id answer ∷ t)
         → None_in (own (Ticks now w below room d passed h id answer ∷ t)).observers
         → Back t (Ticks now w below room d passed h id answer)
         (heard (own t) now (ticking (own t) now below room d)).observers
-    ticked t now w below room due.Idle passed Silent id answer rows h = inl h
-    ticked t now w below room due.Idle passed (Replies r) id answer rows h = inl h
-    ticked t now w below room due.Idle passed (Waits q e) id answer rows h = inl h
     ticked t now w below room due.Idle passed (Notifies o reply) id answer rows h =
         notice_over t now w below room due.Idle passed o reply id answer
         (heard (own t) now (ticking (own t) now below room due.Idle)).observers rows h
-    ticked t now w below room due.Copied passed Silent id answer rows h = inl h
-    ticked t now w below room due.Copied passed (Replies r) id answer rows h = inl h
-    ticked t now w below room due.Copied passed (Waits q e) id answer rows h = inl h
     ticked t now w below room due.Copied passed (Notifies o reply) id answer rows h =
         notice_over t now w below room due.Copied passed o reply id answer
         (heard (own t) now (ticking (own t) now below room due.Copied)).observers rows h
-    ticked t now w below room due.Expired passed Silent id answer rows h = inl h
-    ticked t now w below room due.Expired passed (Replies r) id answer rows h = inl h
-    ticked t now w below room due.Expired passed (Waits q e) id answer rows h = inl h
     ticked t now w below room due.Expired passed (Notifies o reply) id answer rows h =
         notice_over t now w below room due.Expired passed o reply id answer
         (heard (own t) now (ticking (own t) now below room due.Expired)).observers rows h
-    ticked t now w below room (due.Ready a) passed Silent id answer rows h = inl h
-    ticked t now w below room (due.Ready a) passed (Replies r) id answer rows h = inl h
-    ticked t now w below room (due.Ready a) passed (Waits q e) id answer rows h = inl h
     ticked t now w below room (due.Ready a) passed (Notifies o reply) id answer rows h =
         notice_over t now w below room (due.Ready a) passed o reply id answer
         (heard (own t) now (ticking (own t) now below room (due.Ready a))).observers rows h
     ticked t now w below room (due.Ready a) passed (Serves q reply left) id answer rows h =
         ready_over t now w below room a passed q reply left id answer
         (heard (own t) now (ticking (own t) now below room (due.Ready a))).observers h
-    ticked t now w below room due.Idle passed (Serves q reply left) id answer rows h = inl h
-    ticked t now w below room due.Copied passed (Serves q reply left) id answer rows h = inl h
-    ticked t now w below room due.Expired passed (Serves q reply left) id answer rows h = inl h
+    ticked t now w below room _ passed _ id answer rows h = inl h
 
     back : (t : List Call) (c : Call) → ServerRows limits szx (c ∷ t) → None_in (own (c ∷ t)).observers
         → Back t c (own t).observers
@@ -284,11 +264,7 @@ module _ (to : Endpoint) (token : List ℕ) where
     back t (Sets now path format body answer left) rows none =
         inl (marked_back (max (own t).clock now) path (own t).store left (own t).observers none)
     back t (Removes now path answer left) rows none = inl (marked_back (max (own t).clock now) path (own t).store left (own t).observers none)
-    back t (Delays path ms answer) rows none = inl none
-    back t (Plains path answer) rows none = inl none
-    back t (Gets path answer) rows none = inl none
-    back t (TellsApplied answer) rows none = inl none
-    back t (NextOut answer) rows none = inl none
+    back t _ rows none = inl none
 
 module _ (limits : Limits) (szx : ℕ) where
   ends_so_here : (t : List Call) (c : Call) → ServerRows limits szx (c ∷ t)

@@ -3,6 +3,7 @@ use Rattle.std.proofs.Common.{◌≤◌, ℕ, max, Bool, true, false, Option, So
 use Rattle.coap_types.specs.declared.endpoint.Endpoint.{Endpoint}
 use Rattle.coap_codec.specs.Message.{Message}
 use Rattle.coap_layer.specs.Trace as L
+use Rattle.coap_layer.specs.declared.setup.Setup.{Setup}
 use Rattle.coap_observe.specs.Observers.{Observer, noted_to, removed, registered, sent_to}
 use Rattle.coap_resource.specs.Content.{Content, Held, put_refusal}
 use Rattle.coap_resource.specs.Limits.{Limits}
@@ -17,7 +18,7 @@ use Rattle.coap_exchange.specs.declared.answerer.Ended.{Ended}
 use Rattle.coap_exchange.specs.AnswererSteps as P
 use Rattle.coap_exchange.specs.AnswererSteps.{unmatched_by}
 use Rattle.coap_server.specs.Trace.{Own, Handling, Silent, Replies, Serves, Waits, Notifies, Call, Sets}
-use Rattle.coap_server.specs.Trace.{Removes, Delays, Plains, Feeds, Ticks, NextOut, Gets, TellsApplied}
+use Rattle.coap_server.specs.Trace.{Removes, Feeds, Ticks}
 use Rattle.coap_server.specs.Serving.{observers_served}
 use Rattle.coap_server.specs.Observers.{observes, registers, observers_with, marked_if, unless_ended}
 use Rattle.coap_server.specs.Deferring.{question_of}
@@ -79,7 +80,7 @@ module _ (at : ℕ) (Q : Fact) (k : EachKeeps at Q) (s : Content) where
       (k.sends s (noted_to at o.to o.token id os) o.to o.token false (k.notes s os o.to o.token id f))
       (k.sends s os o.to o.token true f)
 
-module _ (limits : Limits) (szx word : ℕ) (t : List Call) where
+module _ (limits : Limits) (szx : ℕ) (setup : Setup) (t : List Call) where
   abbrev own : Own
   own = own_of limits szx t
 
@@ -89,8 +90,8 @@ module _ (limits : Limits) (szx word : ℕ) (t : List Call) where
   abbrev Keeps : Fact → Call → Type 0
   Keeps Q c = EachKeeps (own_of limits szx (c ∷ t)).clock Q
 
-  timed_at : (c : Call) → ServerLaw limits szx word (c ∷ t) → own.store.tally.clock ≤ own.clock
-  timed_at c law = store_timed limits szx word t (server_back limits szx word c t law)
+  timed_at : (c : Call) → ServerLaw limits szx setup (c ∷ t) → own.store.tally.clock ≤ own.clock
+  timed_at c law = store_timed limits szx setup t (server_back limits szx setup c t law)
 
   -- an arrival
   module _ (Q : Fact) (now : ℕ) (from : Endpoint) (bytes : List ℕ) (w : ℕ) (up : L.Answer) (below : L.Answer) where
@@ -108,13 +109,9 @@ module _ (limits : Limits) (szx word : ℕ) (t : List Call) where
         rejected_left (Q own.store) (max own.clock now) (unmatched_by from up) ended f
         (λ to token. k.removes own.store ended to token f)
 
-    fed_kept : (came : Option (Asked × Message)) (h : Handling) → ServerLaw limits szx word (fed_call came h ∷ t)
+    fed_kept : (came : Option (Asked × Message)) (h : Handling) → ServerLaw limits szx setup (fed_call came h ∷ t)
         → EachKeeps (max own.clock now) Q → Q own.store own.observers → After Q (fed_call came h)
     fed_kept None Silent law k q = heard_fed None k q
-    fed_kept None (Replies r) law k q = let e = law.rows.0 in absurd (cc e)
-    fed_kept None (Serves u reply left) law k q = let e = law.rows.0 in absurd (cc e)
-    fed_kept None (Waits u d) law k q = let e = law.rows.0 in absurd (cc e)
-    fed_kept None (Notifies o reply) law k q = let e = law.rows.0 in absurd (cc e)
     fed_kept (Some p) Silent law k q = heard_fed (Some p) k q
     fed_kept (Some p) (Replies r) law k q = heard_fed (Some p) k q
     fed_kept (Some p) (Waits u d) law k q = heard_fed (Some p) k q
@@ -124,6 +121,7 @@ module _ (limits : Limits) (szx word : ℕ) (t : List Call) where
         let timed = timed_at (fed_call (Some p) (Serves u reply left)) law in
         served_kept s.clock Q k s.store p.0 u reply left s.observers (serves_came s p u reply left law.rows.0)
         (omega (arith, timed)) (heard_fed (Some p) k q)
+    fed_kept None _ law k q = let e = law.rows.0 in absurd (cc e)
 
   -- time passes
   module _ (Q : Fact) (now w : ℕ) (below : L.Answer) (room : Bool) (passed id : ℕ) (answer : Bool) where
@@ -144,7 +142,7 @@ module _ (limits : Limits) (szx word : ℕ) (t : List Call) where
         let s : Own = turn d in
         notified_kept s.clock Q k s.store (by_plain s o) id (s.store.holds o.path) o s.observers (heard_ticked d k q)
 
-    ticked_kept : (d : Due) (h : Handling) → ServerLaw limits szx word (tick_call d h ∷ t)
+    ticked_kept : (d : Due) (h : Handling) → ServerLaw limits szx setup (tick_call d h ∷ t)
         → EachKeeps (max own.clock now) Q → Q own.store own.observers → After Q (tick_call d h)
     ticked_kept (due.Ready a) (Serves u reply left) law k q =
         let s : Own = turn (due.Ready a) in
@@ -158,9 +156,6 @@ module _ (limits : Limits) (szx word : ℕ) (t : List Call) where
     ticked_kept due.Copied (Serves u reply left) law k q = let e = law.rows.0.0 in absurd (cc e)
     ticked_kept due.Expired (Serves u reply left) law k q = let e = law.rows.0.0 in absurd (cc e)
     ticked_kept d (Notifies o reply) law k q = notices_kept d o reply k q
-    ticked_kept due.Idle Silent law k q = heard_ticked due.Idle k q
-    ticked_kept due.Idle (Replies r) law k q = heard_ticked due.Idle k q
-    ticked_kept due.Idle (Waits u e) law k q = heard_ticked due.Idle k q
     ticked_kept due.Copied Silent law k q = heard_ticked due.Copied k q
     ticked_kept due.Copied (Replies r) law k q = heard_ticked due.Copied k q
     ticked_kept due.Copied (Waits u e) law k q = heard_ticked due.Copied k q
@@ -170,9 +165,10 @@ module _ (limits : Limits) (szx word : ℕ) (t : List Call) where
     ticked_kept (due.Ready a) Silent law k q = heard_ticked (due.Ready a) k q
     ticked_kept (due.Ready a) (Replies r) law k q = heard_ticked (due.Ready a) k q
     ticked_kept (due.Ready a) (Waits u e) law k q = heard_ticked (due.Ready a) k q
+    ticked_kept due.Idle _ law k q = heard_ticked due.Idle k q
 
   -- What each step keeps, each call keeps.
-  pub call_kept : (Q : Fact) (c : Call) → ServerLaw limits szx word (c ∷ t) → Keeps Q c → Q own.store own.observers
+  pub call_kept : (Q : Fact) (c : Call) → ServerLaw limits szx setup (c ∷ t) → Keeps Q c → Q own.store own.observers
       → After Q c
   call_kept Q (Sets now path format body answer left) law k q =
       let at : ℕ = max own.clock now in
@@ -186,11 +182,7 @@ module _ (limits : Limits) (szx word : ℕ) (t : List Call) where
       k.marks own.store left own.observers path
       (removes_effect (own.store.holds path) (rate_refusal own.store.tally at) own.store at path answer left refl
       law.rows.0) (omega (arith, timed)) q
-  call_kept Q (Delays path ms answer) law k q = q
-  call_kept Q (Plains path answer) law k q = q
-  call_kept Q (Gets path answer) law k q = q
-  call_kept Q (TellsApplied answer) law k q = q
-  call_kept Q (NextOut answer) law k q = q
   call_kept Q (Feeds now from bytes w up came h below) law k q = fed_kept Q now from bytes w up below came h law k q
   call_kept Q (Ticks now w below room d passed h id answer) law k q =
       ticked_kept Q now w below room passed id answer d h law k q
+  call_kept Q _ law k q = q

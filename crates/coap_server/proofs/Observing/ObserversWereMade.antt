@@ -180,15 +180,6 @@ module _ (limits : Limits) (szx : ℕ) where
         (heard (own t) now (incoming (own t) now from bytes up came)).observers
         → Good limits szx (Feeds now from bytes w up came h below ∷ t)
         (own (Feeds now from bytes w up came h below ∷ t)).observers
-    fed None Silent g = g
-    fed None (Replies r) g = g
-    fed None (Serves q reply left) g = g
-    fed None (Waits q d) g = g
-    fed None (Notifies o reply) g = g
-    fed (Some p) Silent g = g
-    fed (Some p) (Replies r) g = g
-    fed (Some p) (Waits q d) g = g
-    fed (Some p) (Notifies o reply) g = g
     fed (Some p) (Serves q reply left) g =
         let s : Own = heard (own t) now (incoming (own t) now from bytes up (Some p)) in
         good_served limits szx (Feeds now from bytes w up (Some p) (Serves q reply left) below ∷ t) s.clock s.store p.0 q reply
@@ -206,6 +197,7 @@ module _ (limits : Limits) (szx : ℕ) where
           };
           size_is = refl;
         })) g
+    fed _ _ g = g
 
   module _ (t : List Call) (now w : ℕ) (below : L.Answer) (room : Bool) (passed id : ℕ) (answer : Bool) where
     abbrev call : Due → Handling → Call

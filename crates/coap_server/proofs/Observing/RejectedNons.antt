@@ -22,30 +22,12 @@ use Rattle.coap_server.proofs.Observing.OneRegistration.{pair_of}
 pub none_reset : (from : Endpoint) (up : L.Answer) (xs : List Separate) (x : Sending) → unmatched_by from up ≡ Some x
     → reset_by from up xs ≡ None
 none_reset from (L.Becomes (L.Unmatched id)) xs x h = refl
-none_reset from (L.Becomes u) xs x h = absurd (cc h)
-none_reset from L.Nothing xs x h = absurd (cc h)
-none_reset from (L.Is holds) xs x h = absurd (cc h)
-none_reset from (L.Sent id) xs x h = absurd (cc h)
-none_reset from L.Busied xs x h = absurd (cc h)
-none_reset from L.NoIds xs x h = absurd (cc h)
-none_reset from L.Idle xs x h = absurd (cc h)
-none_reset from (L.Copied to id) xs x h = absurd (cc h)
-none_reset from (L.Expired to id) xs x h = absurd (cc h)
-none_reset from (L.Gives packet) xs x h = absurd (cc h)
+none_reset from _ xs x h = absurd (cc h)
 
 pub none_rejected : (from : Endpoint) (up : L.Answer) (p : Asked × Message) → Some p ≡ handed_up from up
     → unmatched_by from up ≡ None
 none_rejected from (L.Becomes (L.Unmatched id)) p h = absurd (cc h)
-none_rejected from (L.Becomes u) p h = refl
-none_rejected from L.Nothing p h = refl
-none_rejected from (L.Is holds) p h = refl
-none_rejected from (L.Sent id) p h = refl
-none_rejected from L.Busied p h = refl
-none_rejected from L.NoIds p h = refl
-none_rejected from L.Idle p h = refl
-none_rejected from (L.Copied to id) p h = refl
-none_rejected from (L.Expired to id) p h = refl
-none_rejected from (L.Gives packet) p h = refl
+none_rejected from _ p h = refl
 
 -- where a registration is gone, it stays so
 

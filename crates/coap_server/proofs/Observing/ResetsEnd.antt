@@ -9,14 +9,15 @@ use Rattle.coap_types.specs.declared.transmission.TheConstants.{EXCHANGE_LIFETIM
 use Rattle.coap_types.proofs.Facts.Endpoints.{same_endpoint-decides}
 use Rattle.coap_codec.specs.Message.{Message}
 use Rattle.coap_layer.specs.Trace as L
+use Rattle.coap_layer.specs.declared.setup.Setup.{Setup}
 use Rattle.coap_observe.specs.Observers.{Noted, Observer, is_noted, is_noted_at, is_of, registration, rejected, reset_at}
 use Rattle.coap_observe.proofs.Facts.Registrations.{is_of-decides, reset_takes}
 use Rattle.coap_resource.specs.Limits.{Limits}
 use Rattle.coap_exchange.specs.declared.answerer.Asked.{Asked}
 use Rattle.coap_exchange.specs.AnswererSteps.{handed_up, reset_by, unmatched_by}
 use Rattle.coap_exchange.specs.AnswererTrace.{Sending}
-use Rattle.coap_server.specs.Trace.{Own, Handling, Silent, Replies, Serves, Waits, Notifies, Call, Sets, Removes}
-use Rattle.coap_server.specs.Trace.{Delays, Plains, Feeds, Ticks, NextOut, Gets, TellsApplied}
+use Rattle.coap_server.specs.Trace.{Own, Handling, Silent, Replies, Serves, Waits, Notifies, Call}
+use Rattle.coap_server.specs.Trace.{Feeds}
 use Rattle.coap_server.specs.Asks.{answering}
 use Rattle.coap_server.specs.Observers.{unless_ended, unless_rejected}
 use Rattle.coap_server.specs.Handling.{incoming, heard, HandlesCame}
@@ -72,9 +73,9 @@ is_noted_by at id m e young =
     of_le : (a b : ℕ) → a ≤ b → nat_le a b ≡ true
     of_le a b h = search (arith, h)
 
-module _ (limits : Limits) (szx word : ℕ) (t : List Call) (now : ℕ) (from : Endpoint) (bytes : List ℕ) (w : ℕ)
+module _ (limits : Limits) (szx : ℕ) (setup : Setup) (t : List Call) (now : ℕ) (from : Endpoint) (bytes : List ℕ) (w : ℕ)
     (up : L.Answer) (came : Option (Asked × Message)) (h : Handling) (below : L.Answer)
-    (law : ServerLaw limits szx word (Feeds now from bytes w up came h below ∷ t)) (x : Sending)
+    (law : ServerLaw limits szx setup (Feeds now from bytes w up came h below ∷ t)) (x : Sending)
     (is : unmatched_by from up ≡ Some x) where
   abbrev mine : Own
   mine = own_of limits szx t
@@ -85,12 +86,12 @@ module _ (limits : Limits) (szx word : ℕ) (t : List Call) (now : ℕ) (from : 
   abbrev clk : ℕ
   clk = max mine.clock now
 
-  before : ServerLaw limits szx word t
-  before = server_back limits szx word call t law
+  before : ServerLaw limits szx setup t
+  before = server_back limits szx setup call t law
 
   -- what it leaves
   left_is : (own_of limits szx (call ∷ t)).observers ≡ reset_at clk x.to x.id mine.observers
-  left_is = by came h law.rows.0 (first_row word (answering (heard mine now (incoming mine now from bytes up came)) came h
+  left_is = by came h law.rows.0 (first_row setup (answering (heard mine now (incoming mine now from bytes up came)) came h
       below) (incoming mine now from bytes up came) (lower_of limits szx t) law.exchanges)
     where
       silent : unless_rejected clk (unmatched_by from up) (unless_ended (reset_by from up mine.exchanges.separate)
@@ -121,7 +122,7 @@ module _ (limits : Limits) (szx word : ℕ) (t : List Call) (now : ℕ) (from : 
       let there : registration x.to o.token mine.observers ≡ Some o =
       ap (λ z. registration z o.token mine.observers) (sym to)
       ∙ there_is mine.observers o (good limits szx t).registrations.distinct k.0 in
-      let f = fits limits szx word x.to o.token t before o there in (
+      let f = fits limits szx setup x.to o.token t before o there in (
         to,
         record {
           observer = o;
@@ -138,9 +139,9 @@ module _ (limits : Limits) (szx word : ℕ) (t : List Call) (now : ℕ) (from : 
   same_token p q k l = elim (pair_of x.to p x.to q) [
     | inl e ↦ e.1
     | inr other ↦ (
-        let apart = nons_apart limits szx word t before x.to p q other k.non l.non k.last l.last (k.id_is ∙ sym l.id_is) in
-        let m = (was_issued limits szx word t before x.to p k.non k.last).till in
-        let n = (was_issued limits szx word t before x.to q l.non l.last).till in
+        let apart = nons_apart limits szx setup t before x.to p q other k.non l.non k.last l.last (k.id_is ∙ sym l.id_is) in
+        let m = (was_issued limits szx setup t before x.to p k.non k.last).till in
+        let n = (was_issued limits szx setup t before x.to q l.non l.last).till in
         let a = k.young in
         let b = l.young in
         absurd (elim apart [ inl far ↦ omega (arith, far, m, n, a, b) | inr far ↦ omega (arith, far, m, n, a, b) ]))
@@ -149,7 +150,7 @@ module _ (limits : Limits) (szx word : ℕ) (t : List Call) (now : ℕ) (from : 
   ends_so : (token : List ℕ) → LastNon limits szx x.to token x.id clk t
       → registration x.to token (own_of limits szx (call ∷ t)).observers ≡ None
   ends_so token l =
-      let f = fits limits szx word x.to token t before l.observer l.there in
+      let f = fits limits szx setup x.to token t before l.observer l.there in
       let k = find_is (is_of x.to token) mine.observers l.observer l.there in
       let pair = (is_of-decides x.to token l.observer).0 k.1 in
       let noted : is_noted_at clk x.to x.id l.observer ≡ true =
@@ -166,23 +167,16 @@ module _ (limits : Limits) (szx word : ℕ) (t : List Call) (now : ℕ) (from : 
   reset_ends : ResetEnds limits szx t call x
   reset_ends = record { ends = ends_so; rejects = rejects_so }
 
-module _ (limits : Limits) (szx word : ℕ) where
-  ended : (t : List Call) (c : Call) → ServerLaw limits szx word (c ∷ t) → (x : Sending) → rejects_in c ≡ Some x
+module _ (limits : Limits) (szx : ℕ) (setup : Setup) where
+  ended : (t : List Call) (c : Call) → ServerLaw limits szx setup (c ∷ t) → (x : Sending) → rejects_in c ≡ Some x
       → ResetEnds limits szx t c x
   ended t (Feeds now from bytes w up came h below) law x is =
-      reset_ends limits szx word t now from bytes w up came h below law x is
-  ended t (Sets now path format body answer left) law x e = absurd (cc e)
-  ended t (Removes now path answer left) law x e = absurd (cc e)
-  ended t (Delays path ms answer) law x e = absurd (cc e)
-  ended t (Plains path answer) law x e = absurd (cc e)
-  ended t (Ticks now w below room d passed h id answer) law x e = absurd (cc e)
-  ended t (NextOut answer) law x e = absurd (cc e)
-  ended t (Gets path answer) law x e = absurd (cc e)
-  ended t (TellsApplied answer) law x e = absurd (cc e)
+      reset_ends limits szx setup t now from bytes w up came h below law x is
+  ended t _ law x e = absurd (cc e)
 
-  pub ends_on_reset : (t : List Call) → ServerLaw limits szx word t → EndsOnReset limits szx t
+  pub ends_on_reset : (t : List Call) → ServerLaw limits szx setup t → EndsOnReset limits szx t
   ends_on_reset [] law = tt
   ends_on_reset (c ∷ t) law = (
     λ x is. ended t c law x is,
-    ends_on_reset t (server_back limits szx word c t law),
+    ends_on_reset t (server_back limits szx setup c t law),
   )

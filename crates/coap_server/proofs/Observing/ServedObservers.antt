@@ -1,6 +1,7 @@
 -- What a request that is served leaves of the observers.
 use Rattle.std.proofs.Common.{◌≡◌, ℕ, max, Bool, Option, Some, None, List, ◌∷◌, refl, ap, subst, ◌∙◌}
 use Rattle.std.proofs.Common.{cond}
+use Rattle.coap_layer.specs.declared.setup.Setup.{Setup}
 use Rattle.coap_resource.specs.Content.{Content}
 use Rattle.coap_resource.specs.Serves.{Question, Reply}
 use Rattle.coap_resource.specs.Serves as R
@@ -11,8 +12,8 @@ use Rattle.coap_exchange.specs.AnswererTrace as E
 use Rattle.coap_exchange.specs.AnswererSteps as P
 use Rattle.coap_exchange.specs.AnswererLaw as W
 use Rattle.coap_exchange.proofs.Facts.ServerSide.{none_ended}
-use Rattle.coap_server.specs.Trace.{Own, Silent, Replies, Serves, Waits, Notifies, Call, Sets, Removes}
-use Rattle.coap_server.specs.Trace.{Delays, Plains, Feeds, Ticks, NextOut, Gets, TellsApplied}
+use Rattle.coap_server.specs.Trace.{Own, Serves, Call}
+use Rattle.coap_server.specs.Trace.{Feeds, Ticks}
 use Rattle.coap_server.specs.Asks.{answering, responding}
 use Rattle.coap_server.specs.Handling.{incoming, ticking, heard}
 use Rattle.coap_server.specs.Observers.{registers, sequence_if, unless_ended, unless_rejected}
@@ -29,7 +30,7 @@ use Rattle.coap_server.proofs.Serving.FoundReady.{found_ready}
 abbrev pub pair_if : Bool → Asked → Option Pair
 pair_if b a = cond b (Some (record { to = a.from; token = a.token })) None
 
-module _ (limits : Limits) (szx word : ℕ) where
+module _ (limits : Limits) (szx : ℕ) (setup : Setup) where
   abbrev own : List Call → Own
   own t = own_of limits szx t
 
@@ -75,12 +76,12 @@ module _ (limits : Limits) (szx word : ℕ) where
         serves = serves;
       }
 
-  pub served_at : (t : List Call) (c : Call) → ServerLaw limits szx word (c ∷ t) → (x : Serving)
+  pub served_at : (t : List Call) (c : Call) → ServerLaw limits szx setup (c ∷ t) → (x : Serving)
       → serving (own t) c ≡ Some x → ServesAt t c x
   served_at t (Feeds now from bytes w up (Some p) (Serves q reply left) below) law x h =
       let first : E.Call = incoming (own t) now from bytes up (Some p) in
       let s : Own = heard (own t) now first in
-      let row = first_row word (answering s (Some p) (Serves q reply left) below) first (lower_of limits szx t)
+      let row = first_row setup (answering s (Some p) (Serves q reply left) below) first (lower_of limits szx t)
       law.exchanges in
       let none = none_ended from up p (own t).exchanges.separate row in
       let same : ◌≡◌ {A = Serving} (serving_of s p.0 q reply left) x = cc h in
@@ -89,11 +90,11 @@ module _ (limits : Limits) (szx word : ℕ) where
       (staged t c s p.0 q reply left (ap (λ e. unless_rejected (max (own t).clock now) (unmatched_by from up) (unless_ended e (own t).observers)) none
       ∙ ap (λ r. unless_rejected (max (own t).clock now) r (own t).observers) (none_rejected from up p row)) refl refl refl
       (InReply, refl)
-      (serves_right limits szx word t c law (serving_of s p.0 q reply left) refl))
+      (serves_right limits szx setup t c law (serving_of s p.0 q reply left) refl))
   served_at t (Ticks now w below room (due.Ready a) passed (Serves q reply left) id answer) law x h =
       let first : E.Call = ticking (own t) now below room (due.Ready a) in
       let s : Own = heard (own t) now first in
-      let row = first_row word (responding s (due.Ready a) passed (Serves q reply left) w id) first
+      let row = first_row setup (responding s (due.Ready a) passed (Serves q reply left) w id) first
       (lower_of limits szx t) law.exchanges in
       let idle = (found_ready below (P.ready_at (W.own_of (lower_of limits szx t)) (max (own t).clock now)) room a
       row).idle in
@@ -103,23 +104,5 @@ module _ (limits : Limits) (szx word : ℕ) where
       (staged t c s a q reply left
       (ap (λ u. unless_ended (P.failed_by u (own t).exchanges.separate) (own t).observers) idle) refl refl refl
       (InCon id, refl)
-      (serves_right limits szx word t c law (serving_of s a q reply left) refl))
-  served_at t (Feeds now from bytes w up None h below) law x e = absurd (cc e)
-  served_at t (Feeds now from bytes w up (Some p) Silent below) law x e = absurd (cc e)
-  served_at t (Feeds now from bytes w up (Some p) (Replies r) below) law x e = absurd (cc e)
-  served_at t (Feeds now from bytes w up (Some p) (Waits q d) below) law x e = absurd (cc e)
-  served_at t (Feeds now from bytes w up (Some p) (Notifies o reply) below) law x e = absurd (cc e)
-  served_at t (Ticks now w below room due.Copied passed h id answer) law x e = absurd (cc e)
-  served_at t (Ticks now w below room due.Expired passed h id answer) law x e = absurd (cc e)
-  served_at t (Ticks now w below room due.Idle passed h id answer) law x e = absurd (cc e)
-  served_at t (Ticks now w below room (due.Ready a) passed Silent id answer) law x e = absurd (cc e)
-  served_at t (Ticks now w below room (due.Ready a) passed (Replies r) id answer) law x e = absurd (cc e)
-  served_at t (Ticks now w below room (due.Ready a) passed (Waits q d) id answer) law x e = absurd (cc e)
-  served_at t (Ticks now w below room (due.Ready a) passed (Notifies o reply) id answer) law x e = absurd (cc e)
-  served_at t (Sets now path format body answer left) law x e = absurd (cc e)
-  served_at t (Removes now path answer left) law x e = absurd (cc e)
-  served_at t (Delays path ms answer) law x e = absurd (cc e)
-  served_at t (Plains path answer) law x e = absurd (cc e)
-  served_at t (Gets path answer) law x e = absurd (cc e)
-  served_at t (TellsApplied answer) law x e = absurd (cc e)
-  served_at t (NextOut answer) law x e = absurd (cc e)
+      (serves_right limits szx setup t c law (serving_of s a q reply left) refl))
+  served_at t _ law x e = absurd (cc e)

@@ -166,9 +166,7 @@ removes_effect (Some held) None old at path answer left is h = inr (emptied_by p
 method_same : (m : Method) (old : Content) (at : ℕ) (q : Question) (reply : Reply) (left : Content) → is_get m ≡ true
     → ServesMethod m old at q reply left → left ≡ old
 method_same Get old at q reply left e h = h.1
-method_same Post old at q reply left e h = absurd (cc e)
-method_same Put old at q reply left e h = absurd (cc e)
-method_same Delete old at q reply left e h = absurd (cc e)
+method_same _ old at q reply left e h = absurd (cc e)
 
 pub get_same : (old : Content) (at : ℕ) (q : Question) (reply : Reply) (left : Content) → is_get q.method ≡ true
     → R.Serves old at q reply left → left ≡ old

@@ -3,13 +3,14 @@ use Rattle.std.proofs.Common.{◌≡◌, ◌≤◌, ◌⊎◌, inl, inr, ℕ, ma
 use Rattle.std.proofs.Common.{◌++◌, refl, ap, sym, subst, ◌∙◌, arith}
 use Rattle.coap_types.specs.Path.{same_path}
 use Rattle.coap_types.proofs.Facts.Paths.{same_path-decides}
+use Rattle.coap_layer.specs.declared.setup.Setup.{Setup}
 use Rattle.coap_observe.specs.Observers.{Observer}
 use Rattle.coap_resource.specs.Content.{Content, Held, put_refusal}
 use Rattle.coap_resource.specs.Limits.{Limits}
 use Rattle.coap_resource.specs.Rate.{Tally, rate_refusal}
 use Rattle.coap_resource.specs.Serves.{Question, Reply}
 use Rattle.coap_exchange.specs.declared.answerer.Due.TheVariants as due
-use Rattle.coap_server.specs.Trace.{Own, Silent, Replies, Serves, Waits, Notifies, Call, Sets, Removes}
+use Rattle.coap_server.specs.Trace.{Own, Serves, Call, Sets, Removes}
 use Rattle.coap_server.specs.Trace.{Delays, Plains, Feeds, Ticks, NextOut, Gets, TellsApplied}
 use Rattle.coap_server.specs.Deferring.{question_of}
 use Rattle.coap_server.specs.Notifying.{NotifiesNext, marked, behind}
@@ -67,15 +68,15 @@ module _ (limits : Limits) (szx : ℕ) where
   same_store t c e = record
       { path = []; effect = inl (kept_by (own (c ∷ t)).clock (own t).store (own (c ∷ t)).store e) }
 
-  pub is_stored : (word : ℕ) (t : List Call) (c : Call) → ServerLaw limits szx word (c ∷ t) → IsStored t c
-  is_stored word t (Sets now path format body answer left) law =
+  pub is_stored : (setup : Setup) (t : List Call) (c : Call) → ServerLaw limits szx setup (c ∷ t) → IsStored t c
+  is_stored setup t (Sets now path format body answer left) law =
       let s : Own = own t in
       let at : ℕ = max s.clock now in
       record {
         path = path;
         effect = sets_effect (put_refusal s.store at path _) s.store at path format body answer left refl law.rows.0;
       }
-  is_stored word t (Removes now path answer left) law =
+  is_stored setup t (Removes now path answer left) law =
       let s : Own = own t in
       let at : ℕ = max s.clock now in
       record {
@@ -83,48 +84,36 @@ module _ (limits : Limits) (szx : ℕ) where
         effect = removes_effect (s.store.holds path) (rate_refusal s.store.tally at) s.store at path answer left refl
             law.rows.0;
       }
-  is_stored word t (Delays path ms answer) law = same_store t _ refl
-  is_stored word t (Plains path answer) law = same_store t _ refl
-  is_stored word t (Gets path answer) law = same_store t _ refl
-  is_stored word t (TellsApplied answer) law = same_store t _ refl
-  is_stored word t (NextOut answer) law = same_store t _ refl
-  is_stored word t (Feeds now from bytes w up None (Serves q reply left) below) law =
+  is_stored setup t (Feeds now from bytes w up None (Serves q reply left) below) law =
       let e = law.rows.0 in absurd (cc e)
-  is_stored word t (Feeds now from bytes w up (Some p) (Serves q reply left) below) law =
+  is_stored setup t (Feeds now from bytes w up (Some p) (Serves q reply left) below) law =
       let s : Own = heard (own t) now (incoming (own t) now from bytes up (Some p)) in
       record {
         path = q.path;
         effect = served_effect s.store s.clock q reply left (serves_came s p q reply left law.rows.0);
       }
-  is_stored word t (Feeds now from bytes w up came Silent below) law = same_store t _ refl
-  is_stored word t (Feeds now from bytes w up came (Replies r) below) law = same_store t _ refl
-  is_stored word t (Feeds now from bytes w up came (Waits q d) below) law = same_store t _ refl
-  is_stored word t (Feeds now from bytes w up came (Notifies o reply) below) law = same_store t _ refl
-  is_stored word t (Ticks now w below room (due.Ready a) passed (Serves q reply left) id answer) law =
+  is_stored setup t (Ticks now w below room (due.Ready a) passed (Serves q reply left) id answer) law =
       let s : Own = heard (own t) now (ticking (own t) now below room (due.Ready a)) in
       record {
         path = q.path;
         effect = served_effect s.store s.clock q reply left
             (serves_waited (question_of s.clock a s.waiting) s.store s.clock q reply left law.rows.0.0);
       }
-  is_stored word t (Ticks now w below room due.Idle passed (Serves q reply left) id answer) law =
+  is_stored setup t (Ticks now w below room due.Idle passed (Serves q reply left) id answer) law =
       let s : Own = heard (own t) now (ticking (own t) now below room due.Idle) in absurd
       (next_serves (behind passed (marked s.observers)) s.store q reply left law.rows.0.0)
-  is_stored word t (Ticks now w below room due.Copied passed (Serves q reply left) id answer) law = let e =
+  is_stored setup t (Ticks now w below room due.Copied passed (Serves q reply left) id answer) law = let e =
       law.rows.0.0 in absurd (cc e)
-  is_stored word t (Ticks now w below room due.Expired passed (Serves q reply left) id answer) law = let e =
+  is_stored setup t (Ticks now w below room due.Expired passed (Serves q reply left) id answer) law = let e =
       law.rows.0.0 in absurd (cc e)
-  is_stored word t (Ticks now w below room d passed Silent id answer) law = same_store t _ refl
-  is_stored word t (Ticks now w below room d passed (Replies r) id answer) law = same_store t _ refl
-  is_stored word t (Ticks now w below room d passed (Waits q e) id answer) law = same_store t _ refl
-  is_stored word t (Ticks now w below room d passed (Notifies o reply) id answer) law = same_store t _ refl
+  is_stored setup t _ law = same_store t _ refl
 
-  pub are_low : (word : ℕ) (t : List Call) → ServerLaw limits szx word t → AreLow (own t).store
-  are_low word [] law = λ path held h. absurd (cc h)
-  are_low word (c ∷ t) law =
-      let k = is_stored word t c law in
+  pub are_low : (setup : Setup) (t : List Call) → ServerLaw limits szx setup t → AreLow (own t).store
+  are_low setup [] law = λ path held h. absurd (cc h)
+  are_low setup (c ∷ t) law =
+      let k = is_stored setup t c law in
       low_by k.path (own (c ∷ t)).clock (own t).store (own (c ∷ t)).store k.effect (path_or k.path)
-      (are_low word t (server_back limits szx word c t law))
+      (are_low setup t (server_back limits szx setup c t law))
 
   -- moments don't fall
 
@@ -144,11 +133,11 @@ module _ (limits : Limits) (szx : ℕ) where
   clocks_rise (c ∷ after) base =
       let k = clocks_rise after base in let more = clock_rises (after ++ base) c in omega (arith, k, more)
 
-  pub store_timed : (word : ℕ) (t : List Call) → ServerLaw limits szx word t
+  pub store_timed : (setup : Setup) (t : List Call) → ServerLaw limits szx setup t
       → (own t).store.tally.clock ≤ (own t).clock
-  store_timed word [] law = omega arith
-  store_timed word (c ∷ t) law =
-      let k = is_stored word t c law in
-      let old = store_timed word t (server_back limits szx word c t law) in
+  store_timed setup [] law = omega arith
+  store_timed setup (c ∷ t) law =
+      let k = is_stored setup t c law in
+      let old = store_timed setup t (server_back limits szx setup c t law) in
       let more = clock_rises t c in
       timed_by k.path (own (c ∷ t)).clock (own t).store (own (c ∷ t)).store k.effect (omega (arith, old, more))

@@ -23,9 +23,10 @@ use Rattle.coap_exchange.specs.AnswererTrace as E
 use Rattle.coap_exchange.specs.AnswererSteps as P
 use Rattle.coap_exchange.specs.AnswererSteps.{is_waited_for, ended_as, separate_of}
 use Rattle.std.proofs.lemmas.Bool.{and_parts}
+use Rattle.coap_layer.specs.declared.setup.Setup.{Setup}
 use Rattle.coap_common.specs.SuccessCodes.{content}
-use Rattle.coap_server.specs.Trace.{Own, Silent, Replies, Serves, Waits, Notifies, Call, Sets, Removes}
-use Rattle.coap_server.specs.Trace.{Delays, Plains, Feeds, Ticks, NextOut, Gets, TellsApplied}
+use Rattle.coap_server.specs.Trace.{Own, Serves, Notifies, Call}
+use Rattle.coap_server.specs.Trace.{Feeds, Ticks}
 use Rattle.coap_server.specs.Responses.{response_with}
 use Rattle.coap_server.specs.Serving.{response_to, observers_served}
 use Rattle.coap_server.specs.Uploads.{last_block}
@@ -118,7 +119,7 @@ ends_as : (to : Endpoint) (id : ℕ) (token : List ℕ) (r : E.Response) → has
     → ended_as (separate_of to id token r) ≡ record { to = to; token = token; observe = true }
 ends_as to id token r e = ap {B = Ended} (λ b. record { to = to; token = token; observe = b }) e
 
-module _ (limits : Limits) (szx word : ℕ) where
+module _ (limits : Limits) (szx : ℕ) (setup : Setup) where
   abbrev own : List Call → Own
   own t = own_of limits szx t
 
@@ -139,7 +140,7 @@ module _ (limits : Limits) (szx word : ℕ) where
     abbrev pub asks : List E.Call
     asks = readies stage.clock passed (marked stage.observers)
 
-    pub told_here : ServerLaw limits szx word (call ∷ t) → Told t stage o
+    pub told_here : ServerLaw limits szx setup (call ∷ t) → Told t stage o
     told_here law =
         let is = next_is (behind passed (marked stage.observers)) stage.store o reply law.rows.0.0 in
         let k = marked_there stage.observers o (behind_there passed (marked stage.observers) o is) in
@@ -158,15 +159,15 @@ module _ (limits : Limits) (szx word : ℕ) where
     response = notification stage.store o reply
 
     -- none to its endpoint is outstanding
-    pub free : ServerLaw limits szx word (call ∷ t) → is_waited_for o.to (exchanges_after stage.exchanges asks).separate
+    pub free : ServerLaw limits szx setup (call ∷ t) → is_waited_for o.to (exchanges_after stage.exchanges asks).separate
         ≡ false
     free law =
         ap (λ (z : E.Own). is_waited_for o.to z.separate)
         (kept_behind (own t).exchanges first asks older (exchanges_kept limits szx t))
         ∙ subst Idle (sym head.1)
-        (ready_alone word stage.clock o.to ((head.0 ++ first ∷ []) ++ older)
-        (subst (λ xs. ResponseLaw word ((xs ++ first ∷ []) ++ older)) head.1
-        (back word (notifies_by plain stage.clock o response w id ∷ []) ((asks ++ first ∷ []) ++ older)
+        (ready_alone setup stage.clock o.to ((head.0 ++ first ∷ []) ++ older)
+        (subst (λ xs. ResponseLaw setup ((xs ++ first ∷ []) ++ older)) head.1
+        (back setup (notifies_by plain stage.clock o response w id ∷ []) ((asks ++ first ∷ []) ++ older)
         law.exchanges)))
       where
         first : E.Call
@@ -184,12 +185,12 @@ module _ (limits : Limits) (szx word : ℕ) where
 
   module _ (older : List Call) (x : Telling) where
     abbrev pub Begins : Call → Type 0
-    Begins c = At x limits szx word (c ∷ older) []
+    Begins c = At x limits szx setup (c ∷ older) []
 
     -- the answer that registers
     answers_fed : (now : ℕ) (from : Endpoint) (bytes : List ℕ) (w : ℕ) (up : L.Answer) (p : Asked × Message)
         (q : Question) (reply : Reply) (left : Content) (below : L.Answer)
-        → ServerLaw limits szx word (Feeds now from bytes w up (Some p) (Serves q reply left) below ∷ older)
+        → ServerLaw limits szx setup (Feeds now from bytes w up (Some p) (Serves q reply left) below ∷ older)
         → telling (own older) (Feeds now from bytes w up (Some p) (Serves q reply left) below) ≡ Some x
         → Begins (Feeds now from bytes w up (Some p) (Serves q reply left) below)
     answers_fed now from bytes w up p q reply left below law h = by (registers p.0 q reply s.observers) refl h
@@ -197,8 +198,8 @@ module _ (limits : Limits) (szx word : ℕ) where
         s : Own
         s = heard (own older) now (incoming (own older) now from bytes up (Some p))
 
-        past_law : ServerLaw limits szx word older
-        past_law = server_back limits szx word (Feeds now from bytes w up (Some p) (Serves q reply left) below) older law
+        past_law : ServerLaw limits szx setup older
+        past_law = server_back limits szx setup (Feeds now from bytes w up (Some p) (Serves q reply left) below) older law
 
         held_by : registers p.0 q reply s.observers ≡ true → (o : Option Held) → s.store.holds q.path ≡ o
             → tells p.0.from p.0.token q.path InReply s.clock true o ≡ Some x
@@ -206,10 +207,10 @@ module _ (limits : Limits) (szx word : ℕ) where
         held_by e None is k = absurd (cc k)
         held_by e (Some held) is k =
             let same : answer_of s p.0 q held InReply ≡ x = one _ x k in
-            subst (λ (y : Telling). At y limits szx word
+            subst (λ (y : Telling). At y limits szx setup
             (Feeds now from bytes w up (Some p) (Serves q reply left) below ∷ older) []) same
             (registered_lives s p.0 q reply left held InReply (Unit {0}) e is (serves_came s p q reply left law.rows.0)
-            (are_low limits szx word older past_law) (λ w. cc w) tt)
+            (are_low limits szx setup older past_law) (λ w. cc w) tt)
 
         by : (b : Bool) → registers p.0 q reply s.observers ≡ b → tells_if b s.clock s.store p.0 q InReply ≡ Some x
             → Begins (Feeds now from bytes w up (Some p) (Serves q reply left) below)
@@ -218,7 +219,7 @@ module _ (limits : Limits) (szx word : ℕ) where
 
     answers_ready : (now w : ℕ) (below : L.Answer) (room : Bool) (a : Asked) (passed : ℕ) (q : Question) (reply : Reply)
         (left : Content) (id : ℕ) (answer : Bool)
-        → ServerLaw limits szx word (Ticks now w below room (due.Ready a) passed
+        → ServerLaw limits szx setup (Ticks now w below room (due.Ready a) passed
         (Serves q reply left) id answer ∷ older)
         → telling (own older) (Ticks now w below room (due.Ready a) passed (Serves q reply left) id answer) ≡ Some x
         → Begins (Ticks now w below room (due.Ready a) passed (Serves q reply left) id answer)
@@ -227,8 +228,8 @@ module _ (limits : Limits) (szx word : ℕ) where
         s : Own
         s = heard (own older) now (ticking (own older) now below room (due.Ready a))
 
-        past_law : ServerLaw limits szx word older
-        past_law = server_back limits szx word
+        past_law : ServerLaw limits szx setup older
+        past_law = server_back limits szx setup
             (Ticks now w below room (due.Ready a) passed (Serves q reply left) id answer) older law
 
         r : E.Response
@@ -238,7 +239,7 @@ module _ (limits : Limits) (szx word : ℕ) where
         idle =
             let first : E.Call = ticking (own older) now below room (due.Ready a) in
             ap (λ (z : E.Own). is_waited_for a.from (P.after z first).separate) (exchanges_kept limits szx older)
-            ∙ alone_later word s.clock a r w id (first ∷ lower_of limits szx older) law.exchanges
+            ∙ alone_later setup s.clock a r w id (first ∷ lower_of limits szx older) law.exchanges
 
         held_by : registers a q reply s.observers ≡ true → (o : Option Held) → s.store.holds q.path ≡ o
             → tells a.from a.token q.path (InCon id) s.clock true o ≡ Some x
@@ -246,11 +247,11 @@ module _ (limits : Limits) (szx word : ℕ) where
         held_by e None is k = absurd (cc k)
         held_by e (Some held) is k =
             let same : answer_of s a q held (InCon id) ≡ x = one _ x k in
-            subst (λ (y : Telling). At y limits szx word
+            subst (λ (y : Telling). At y limits szx setup
             (Ticks now w below room (due.Ready a) passed (Serves q reply left) id answer ∷ older) []) same
             (registered_lives s a q reply left held (InCon id) _ e is
             (serves_waited (question_of s.clock a s.waiting) s.store s.clock q reply left law.rows.0.0)
-            (are_low limits szx word older past_law) (λ w. cc w)
+            (are_low limits szx setup older past_law) (λ w. cc w)
             (inl (begins a.from id a.token s.exchanges.separate r idle
             (ends_as a.from id a.token r (response_observes s a q reply held e is)))))
 
@@ -261,7 +262,7 @@ module _ (limits : Limits) (szx word : ℕ) where
 
     -- a notification
     module _ (now w : ℕ) (below : L.Answer) (room : Bool) (passed id : ℕ) (answer : Bool) (o : Observer) (reply : Reply)
-        (law : ServerLaw limits szx word (Ticks now w below room due.Idle passed (Notifies o reply) id answer ∷ older))
+        (law : ServerLaw limits szx setup (Ticks now w below room due.Idle passed (Notifies o reply) id answer ∷ older))
       where
         abbrev s : Own
         s = stage older now w below room passed id answer o reply
@@ -269,8 +270,8 @@ module _ (limits : Limits) (szx word : ℕ) where
         abbrev r : E.Response
         r = notification s.store o reply
 
-        past_law : ServerLaw limits szx word older
-        past_law = server_back limits szx word
+        past_law : ServerLaw limits szx setup older
+        past_law = server_back limits szx setup
             (Ticks now w below room due.Idle passed (Notifies o reply) id answer) older law
 
         told : Told older s o
@@ -289,7 +290,7 @@ module _ (limits : Limits) (szx word : ℕ) where
         notice plain held = telling_of o.to o.token o.path (way_of plain id) s.clock false held
 
         low : (held : Held) → s.store.holds o.path ≡ Some held → held.version ≤ s.store.tally.version
-        low held is = are_low limits szx word older past_law o.path held is
+        low held is = are_low limits szx setup older past_law o.path held is
 
         in_con : (held : Held) → s.store.holds o.path ≡ Some held → Left false (notice false held)
         in_con held is =
@@ -317,7 +318,7 @@ module _ (limits : Limits) (szx word : ℕ) where
         dated held is =
             each_there (IsDated s.store) s.observers o
             (ended_dated s.store (P.failed_by below (own older).exchanges.separate) (own older).observers
-            (are_dated limits szx word older past_law)) told.there told.marked_is held is
+            (are_dated limits szx setup older past_law)) told.there told.marked_is held is
 
         in_non : by_plain s o ≡ true → (held : Held) → s.store.holds o.path ≡ Some held → Left true (notice true held)
         in_non goes held is =
@@ -353,32 +354,11 @@ module _ (limits : Limits) (szx word : ℕ) where
             → Begins (Ticks now w below room due.Idle passed (Notifies o reply) id answer)
         notifies h = by_way (by_plain s o) refl (s.store.holds o.path) refl h
 
-    pub begins_at : (c : Call) → ServerLaw limits szx word (c ∷ older) → telling (own older) c ≡ Some x → Begins c
+    pub begins_at : (c : Call) → ServerLaw limits szx setup (c ∷ older) → telling (own older) c ≡ Some x → Begins c
     begins_at (Feeds now from bytes w up (Some p) (Serves q reply left) below) law h =
         answers_fed now from bytes w up p q reply left below law h
     begins_at (Ticks now w below room (due.Ready a) passed (Serves q reply left) id answer) law h =
         answers_ready now w below room a passed q reply left id answer law h
     begins_at (Ticks now w below room due.Idle passed (Notifies o reply) id answer) law h =
         notifies now w below room passed id answer o reply law h
-    begins_at (Feeds now from bytes w up None h below) law e = absurd (cc e)
-    begins_at (Feeds now from bytes w up (Some p) Silent below) law e = absurd (cc e)
-    begins_at (Feeds now from bytes w up (Some p) (Replies r) below) law e = absurd (cc e)
-    begins_at (Feeds now from bytes w up (Some p) (Waits q d) below) law e = absurd (cc e)
-    begins_at (Feeds now from bytes w up (Some p) (Notifies o reply) below) law e = absurd (cc e)
-    begins_at (Ticks now w below room due.Copied passed h id answer) law e = absurd (cc e)
-    begins_at (Ticks now w below room due.Expired passed h id answer) law e = absurd (cc e)
-    begins_at (Ticks now w below room due.Idle passed Silent id answer) law e = absurd (cc e)
-    begins_at (Ticks now w below room due.Idle passed (Replies r) id answer) law e = absurd (cc e)
-    begins_at (Ticks now w below room due.Idle passed (Waits q d) id answer) law e = absurd (cc e)
-    begins_at (Ticks now w below room due.Idle passed (Serves q reply left) id answer) law e = absurd (cc e)
-    begins_at (Ticks now w below room (due.Ready a) passed Silent id answer) law e = absurd (cc e)
-    begins_at (Ticks now w below room (due.Ready a) passed (Replies r) id answer) law e = absurd (cc e)
-    begins_at (Ticks now w below room (due.Ready a) passed (Waits q d) id answer) law e = absurd (cc e)
-    begins_at (Ticks now w below room (due.Ready a) passed (Notifies o reply) id answer) law e = absurd (cc e)
-    begins_at (Sets now path format body answer left) law e = absurd (cc e)
-    begins_at (Removes now path answer left) law e = absurd (cc e)
-    begins_at (Delays path ms answer) law e = absurd (cc e)
-    begins_at (Plains path answer) law e = absurd (cc e)
-    begins_at (Gets path answer) law e = absurd (cc e)
-    begins_at (TellsApplied answer) law e = absurd (cc e)
-    begins_at (NextOut answer) law e = absurd (cc e)
+    begins_at _ law e = absurd (cc e)

@@ -6,8 +6,8 @@ use Rattle.coap_resource.specs.Limits.{Limits}
 use Rattle.coap_resource.specs.Serves.{Question}
 use Rattle.coap_exchange.specs.declared.answerer.Asked.{Asked}
 use Rattle.coap_exchange.specs.declared.answerer.Due.TheVariants as due
-use Rattle.coap_server.specs.Trace.{Own, Silent, Replies, Serves, Waits, Notifies, Call, Sets, Removes}
-use Rattle.coap_server.specs.Trace.{Delays, Plains, Feeds, Ticks, NextOut, Gets, TellsApplied}
+use Rattle.coap_server.specs.Trace.{Own, Serves, Notifies, Call}
+use Rattle.coap_server.specs.Trace.{Feeds, Ticks}
 use Rattle.coap_server.specs.Observers.{registers}
 use Rattle.coap_server.specs.Handling.{incoming, ticking, heard}
 use Rattle.coap_server.specs.Law.{own_of}
@@ -40,25 +40,4 @@ module _ (limits : Limits) (szx : ℕ) (older : List Call) where
   told_at (Ticks now w below room due.Idle passed (Notifies o reply) id answer) x h =
       let s : Own = heard own now (ticking own now below room due.Idle) in
       by_held o.to o.token o.path (way_of (by_plain s o) id) s.clock false (s.store.holds o.path) x h
-  told_at (Feeds now from bytes w up None h below) x e = absurd (cc e)
-  told_at (Feeds now from bytes w up (Some p) Silent below) x e = absurd (cc e)
-  told_at (Feeds now from bytes w up (Some p) (Replies r) below) x e = absurd (cc e)
-  told_at (Feeds now from bytes w up (Some p) (Waits q d) below) x e = absurd (cc e)
-  told_at (Feeds now from bytes w up (Some p) (Notifies o reply) below) x e = absurd (cc e)
-  told_at (Ticks now w below room due.Copied passed h id answer) x e = absurd (cc e)
-  told_at (Ticks now w below room due.Expired passed h id answer) x e = absurd (cc e)
-  told_at (Ticks now w below room due.Idle passed Silent id answer) x e = absurd (cc e)
-  told_at (Ticks now w below room due.Idle passed (Replies r) id answer) x e = absurd (cc e)
-  told_at (Ticks now w below room due.Idle passed (Waits q d) id answer) x e = absurd (cc e)
-  told_at (Ticks now w below room due.Idle passed (Serves q reply left) id answer) x e = absurd (cc e)
-  told_at (Ticks now w below room (due.Ready a) passed Silent id answer) x e = absurd (cc e)
-  told_at (Ticks now w below room (due.Ready a) passed (Replies r) id answer) x e = absurd (cc e)
-  told_at (Ticks now w below room (due.Ready a) passed (Waits q d) id answer) x e = absurd (cc e)
-  told_at (Ticks now w below room (due.Ready a) passed (Notifies o reply) id answer) x e = absurd (cc e)
-  told_at (Sets now path format body answer left) x e = absurd (cc e)
-  told_at (Removes now path answer left) x e = absurd (cc e)
-  told_at (Delays path ms answer) x e = absurd (cc e)
-  told_at (Plains path answer) x e = absurd (cc e)
-  told_at (Gets path answer) x e = absurd (cc e)
-  told_at (TellsApplied answer) x e = absurd (cc e)
-  told_at (NextOut answer) x e = absurd (cc e)
+  told_at _ x e = absurd (cc e)

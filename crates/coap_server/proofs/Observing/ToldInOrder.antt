@@ -11,8 +11,8 @@ use Rattle.coap_exchange.specs.declared.answerer.Asked.{Asked}
 use Rattle.coap_exchange.specs.declared.answerer.Due.TheVariants as due
 use Rattle.coap_exchange.specs.AnswererTrace as E
 use Rattle.coap_exchange.specs.AnswererSteps.{is_waited_for}
-use Rattle.coap_server.specs.Trace.{Own, Silent, Replies, Serves, Waits, Notifies, Call, Sets, Removes}
-use Rattle.coap_server.specs.Trace.{Delays, Plains, Feeds, Ticks, NextOut, Gets, TellsApplied}
+use Rattle.coap_server.specs.Trace.{Own, Serves, Notifies, Call}
+use Rattle.coap_server.specs.Trace.{Feeds, Ticks}
 use Rattle.coap_server.specs.Observers.{registers}
 use Rattle.coap_server.specs.Notifying.{marked}
 use Rattle.coap_server.specs.Handling.{incoming, ticking, heard}
@@ -27,6 +27,7 @@ use Rattle.coap_server.specs.Plain.{by_plain}
 use Rattle.coap_server.proofs.Holding.Holds.{limits_are}
 use Rattle.coap_resource.proofs.Facts.Since.{rises_little}
 use Rattle.coap_types.specs.declared.transmission.TheConstants.{MAX_LATENCY_MS as max_latency}
+use Rattle.coap_layer.specs.declared.setup.Setup.{Setup}
 use Rattle.coap_server.proofs.Observing.ConsAreAcknowledged.{later, not_flying}
 use Rattle.coap_server.proofs.Serving.Brought.{server_back}
 use Rattle.coap_server.proofs.Observing.VersionsRise.{FlightOf, At}
@@ -34,26 +35,26 @@ use Rattle.coap_server.proofs.Observing.VersionsRise.{next_is}
 use Rattle.coap_server.proofs.Observing.VersionsRise.{readies_later, heard_ticked, steps}
 use Rattle.coap_server.proofs.Observing.TellsBegin.{Told, asks, begins_at, free, one, stage, told_here}
 
-module _ (limits : Limits) (szx word : ℕ) where
+module _ (limits : Limits) (szx : ℕ) (setup : Setup) where
   abbrev own : List Call → Own
   own t = own_of limits szx t
 
   -- the later of the two
-  module _ (t after : List Call) (x y : Telling) (lives : At x limits szx word t after) (to : y.to ≡ x.to)
+  module _ (t after : List Call) (x y : Telling) (lives : At x limits szx setup t after) (to : y.to ≡ x.to)
       (token : y.token ≡ x.token) (before : x.at ≤ (own t).clock) where
     next : (now w : ℕ) (below : L.Answer) (room : Bool) (passed id : ℕ) (answer : Bool) (o : Observer) (reply : Reply)
-        → ServerLaw limits szx word (Ticks now w below room due.Idle passed (Notifies o reply) id answer ∷ t)
+        → ServerLaw limits szx setup (Ticks now w below room due.Idle passed (Notifies o reply) id answer ∷ t)
         → telling (own t) (Ticks now w below room due.Idle passed (Notifies o reply) id answer) ≡ Some y
         → FollowsOn limits.changes after x y
     next now w below room passed id answer o reply law h =
-        by (s.store.holds o.path) refl h (heard_ticked x limits szx word t after now w below room passed id answer
+        by (s.store.holds o.path) refl h (heard_ticked x limits szx setup t after now w below room passed id answer
         due.Idle lives)
       where
         s : Own
-        s = stage limits szx word t now w below room passed id answer o reply
+        s = stage limits szx setup t now w below room passed id answer o reply
 
-        told : Told limits szx word t s o
-        told = told_here limits szx word t now w below room passed id answer o reply law
+        told : Told limits szx setup t s o
+        told = told_here limits szx setup t now w below room passed id answer o reply law
 
         way : Way
         way = way_of (by_plain s o) id
@@ -65,14 +66,14 @@ module _ (limits : Limits) (szx word : ℕ) where
         grounded (InCon m) n e there (inr k) = let same : m
             ≡ n = cc e in subst (λ z. Ever (HearsAck x.to z) after) same k
         grounded (InCon m) n e there (inl f) =
-            let cs : List E.Call = asks limits szx word t now w below room passed id answer o reply in
+            let cs : List E.Call = asks limits szx setup t now w below room passed id answer o reply in
             let idle = ap (λ z. is_waited_for z (exchanges_after s.exchanges cs).separate) (sym there)
-            ∙ free limits szx word t now w below room passed id answer o reply law in
+            ∙ free limits szx setup t now w below room passed id answer o reply law in
             absurd (not_flying x.to m x.token (exchanges_after s.exchanges cs).separate idle
             (later x.to m x.token s.exchanges cs (readies_later x m s.clock passed (marked s.observers)) f))
 
-        past_law : ServerLaw limits szx word t
-        past_law = server_back limits szx word
+        past_law : ServerLaw limits szx setup t
+        past_law = server_back limits szx setup
             (Ticks now w below room due.Idle passed (Notifies o reply) id answer) t law
 
         -- within the window of its making and the next one the store made no more versions than two windows take
@@ -82,10 +83,10 @@ module _ (limits : Limits) (szx word : ℕ) where
         near_by a held is w soon =
             let f = a.young w in
             let young = f.young in
-            let timed = store_timed limits szx word t past_law in
+            let timed = store_timed limits szx setup t past_law in
             let most = rises_little x.version f.made s.store.tally f.since (omega (arith, timed, soon, young)) in
             let size = ap (λ (z : Limits). z.changes) (limits_are limits szx t past_law.rows) in
-            let low = are_low limits szx word t past_law o.path held is in
+            let low = are_low limits szx setup t past_law o.path held is in
             omega (arith, most, size, low)
 
         by : (held : Option Held) → s.store.holds o.path ≡ held
@@ -130,7 +131,7 @@ module _ (limits : Limits) (szx word : ℕ) where
     not_first first true s a q way e = not_held first a q way s.clock (s.store.holds q.path) e
     not_first first false s a q way e = cc e
 
-    follows_at : (d : Call) → ServerLaw limits szx word (d ∷ t) → telling (own t) d ≡ Some y → y.registers ≡ false
+    follows_at : (d : Call) → ServerLaw limits szx setup (d ∷ t) → telling (own t) d ≡ Some y → y.registers ≡ false
         → FollowsOn limits.changes after x y
     follows_at (Ticks now w below room due.Idle passed (Notifies o reply) id answer) law h first =
         next now w below room passed id answer o reply law h
@@ -140,39 +141,18 @@ module _ (limits : Limits) (szx word : ℕ) where
     follows_at (Ticks now w below room (due.Ready a) passed (Serves q reply left) id answer) law h first =
         let s : Own = heard (own t) now (ticking (own t) now below room (due.Ready a)) in absurd
         (not_first first (registers a q reply s.observers) s a q (InCon id) h)
-    follows_at (Feeds now from bytes w up None h below) law e first = absurd (cc e)
-    follows_at (Feeds now from bytes w up (Some p) Silent below) law e first = absurd (cc e)
-    follows_at (Feeds now from bytes w up (Some p) (Replies r) below) law e first = absurd (cc e)
-    follows_at (Feeds now from bytes w up (Some p) (Waits q d) below) law e first = absurd (cc e)
-    follows_at (Feeds now from bytes w up (Some p) (Notifies o reply) below) law e first = absurd (cc e)
-    follows_at (Ticks now w below room due.Copied passed h id answer) law e first = absurd (cc e)
-    follows_at (Ticks now w below room due.Expired passed h id answer) law e first = absurd (cc e)
-    follows_at (Ticks now w below room due.Idle passed Silent id answer) law e first = absurd (cc e)
-    follows_at (Ticks now w below room due.Idle passed (Replies r) id answer) law e first = absurd (cc e)
-    follows_at (Ticks now w below room due.Idle passed (Waits q d) id answer) law e first = absurd (cc e)
-    follows_at (Ticks now w below room due.Idle passed (Serves q reply left) id answer) law e first = absurd (cc e)
-    follows_at (Ticks now w below room (due.Ready a) passed Silent id answer) law e first = absurd (cc e)
-    follows_at (Ticks now w below room (due.Ready a) passed (Replies r) id answer) law e first = absurd (cc e)
-    follows_at (Ticks now w below room (due.Ready a) passed (Waits q d) id answer) law e first = absurd (cc e)
-    follows_at (Ticks now w below room (due.Ready a) passed (Notifies o reply) id answer) law e first = absurd (cc e)
-    follows_at (Sets now path format body answer left) law e first = absurd (cc e)
-    follows_at (Removes now path answer left) law e first = absurd (cc e)
-    follows_at (Delays path ms answer) law e first = absurd (cc e)
-    follows_at (Plains path answer) law e first = absurd (cc e)
-    follows_at (Gets path answer) law e first = absurd (cc e)
-    follows_at (TellsApplied answer) law e first = absurd (cc e)
-    follows_at (NextOut answer) law e first = absurd (cc e)
+    follows_at _ law e first = absurd (cc e)
 
-  behind_back : (after base : List Call) → ServerLaw limits szx word (after ++ base) → ServerLaw limits szx word base
+  behind_back : (after base : List Call) → ServerLaw limits szx setup (after ++ base) → ServerLaw limits szx setup base
   behind_back [] base law = law
-  behind_back (c ∷ after) base law = behind_back after base (server_back limits szx word c (after ++ base) law)
+  behind_back (c ∷ after) base law = behind_back after base (server_back limits szx setup c (after ++ base) law)
 
-  pub follows : (t : List Call) → ServerLaw limits szx word t → Follows limits szx t
+  pub follows : (t : List Call) → ServerLaw limits szx setup t → Follows limits szx t
   follows t law after older c d x y split is next_is later to token none =
-      let here : ServerLaw limits szx word (d ∷ (after ++ c ∷ older)) = subst (ServerLaw limits szx word) split law in
-      let past = server_back limits szx word d (after ++ c ∷ older) here in
-      let first = begins_at limits szx word older x c (behind_back after (c ∷ older) past) is in
+      let here : ServerLaw limits szx setup (d ∷ (after ++ c ∷ older)) = subst (ServerLaw limits szx setup) split law in
+      let past = server_back limits szx setup d (after ++ c ∷ older) here in
+      let first = begins_at limits szx setup older x c (behind_back after (c ∷ older) past) is in
       let at = told_at limits szx older c x is in
       let more = clocks_rise limits szx after (c ∷ older) in
-      follows_at (after ++ c ∷ older) after x y (steps x limits szx word after (c ∷ older) past none first) to token
+      follows_at (after ++ c ∷ older) after x y (steps x limits szx setup after (c ∷ older) past none first) to token
       (omega (arith, at, more)) d here next_is later

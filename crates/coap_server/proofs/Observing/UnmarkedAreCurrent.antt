@@ -6,6 +6,7 @@ use Rattle.std.specs.Cmp.{unsigned_Decides}
 use Rattle.coap_types.specs.declared.endpoint.Endpoint.{Endpoint}
 use Rattle.coap_codec.specs.Message.{Message}
 use Rattle.coap_layer.specs.Trace as L
+use Rattle.coap_layer.specs.declared.setup.Setup.{Setup}
 use Rattle.coap_observe.specs.Observers.{Observer, removed, registered}
 use Rattle.coap_observe.specs.declared.observers.TheConstants.{MAX_OBSERVERS as max_observers}
 use Rattle.coap_resource.specs.Content.{Content, put_refusal}
@@ -42,7 +43,7 @@ use Rattle.coap_server.proofs.Observing.CurrentLists.{registered_good, rejected_
 use Rattle.coap_server.specs.Plain.{by_plain}
 use Rattle.coap_exchange.specs.AnswererSteps.{unmatched_by}
 
-module _ (to : Endpoint) (token : List ℕ) (limits : Limits) (szx word : ℕ) where
+module _ (to : Endpoint) (token : List ℕ) (limits : Limits) (szx : ℕ) (setup : Setup) where
   abbrev own : List Call → Own
   own t = own_of limits szx t
 
@@ -58,7 +59,7 @@ module _ (to : Endpoint) (token : List ℕ) (limits : Limits) (szx word : ℕ) w
   abbrev size_of : Serving → ℕ
   size_of x = szx_by (block_of x.question.options) x.question.szx
 
-  served_good : (t : List Call) (c : Call) → ServerLaw limits szx word (c ∷ t) → (x : Serving)
+  served_good : (t : List Call) (c : Call) → ServerLaw limits szx setup (c ∷ t) → (x : Serving)
       → serving (own t) c ≡ Some x → (own (c ∷ t)).store ≡ x.left → Fine t → Fine (c ∷ t)
   served_good t c law x is left_is g =
       subst (λ os. Good to token (last_of (c ∷ t)) (own (c ∷ t)).store.holds os) (sym s.observers)
@@ -71,8 +72,8 @@ module _ (to : Endpoint) (token : List ℕ) (limits : Limits) (szx word : ℕ) w
       (observers_with (own (c ∷ t)).clock x.asked x.question x.reply (obs t))))
       (sym s.tells_so.1) (by (registers x.asked x.question x.reply (obs t)) refl (observes 1 x.question))))
     where
-      s : ServesAt limits szx word t c x
-      s = served_at limits szx word t c law x is
+      s : ServesAt limits szx setup t c x
+      s = served_at limits szx setup t c law x is
 
       at : ℕ
       at = (own (c ∷ t)).clock
@@ -111,32 +112,21 @@ module _ (to : Endpoint) (token : List ℕ) (limits : Limits) (szx word : ℕ) w
 
   fed : (t : List Call) (now : ℕ) (from : Endpoint) (bytes : List ℕ) (w : ℕ) (up : L.Answer)
       (came : Option (Asked × Message)) (h : Handling) (below : L.Answer)
-      → ServerLaw limits szx word (Feeds now from bytes w up came h below ∷ t) → Fine t
+      → ServerLaw limits szx setup (Feeds now from bytes w up came h below ∷ t) → Fine t
       → Fine (Feeds now from bytes w up came h below ∷ t)
-  fed t now from bytes w up None Silent below law g =
-      rejected_good to token (last_of t) (own t).store.holds (max (own t).clock now) (unmatched_by from up) _
-      (ended_good to token (last_of t) (own t).store.holds _ (own t).observers g)
   fed t now from bytes w up None (Replies r) below law g = let k = law.rows.0 in absurd (cc k)
   fed t now from bytes w up None (Serves q reply left) below law g = let k = law.rows.0 in absurd (cc k)
   fed t now from bytes w up None (Waits q d) below law g = let k = law.rows.0 in absurd (cc k)
   fed t now from bytes w up None (Notifies o reply) below law g = let k = law.rows.0 in absurd (cc k)
-  fed t now from bytes w up (Some p) Silent below law g =
-      rejected_good to token (last_of t) (own t).store.holds (max (own t).clock now) (unmatched_by from up) _
-      (ended_good to token (last_of t) (own t).store.holds _ (own t).observers g)
-  fed t now from bytes w up (Some p) (Replies r) below law g =
-      rejected_good to token (last_of t) (own t).store.holds (max (own t).clock now) (unmatched_by from up) _
-      (ended_good to token (last_of t) (own t).store.holds _ (own t).observers g)
-  fed t now from bytes w up (Some p) (Waits q d) below law g =
-      rejected_good to token (last_of t) (own t).store.holds (max (own t).clock now) (unmatched_by from up) _
-      (ended_good to token (last_of t) (own t).store.holds _ (own t).observers g)
   fed t now from bytes w up (Some p) (Serves q reply left) below law g =
       served_good t (Feeds now from bytes w up (Some p) (Serves q reply left) below) law
       (serving_of (heard (own t) now (incoming (own t) now from bytes up (Some p))) p.0 q reply left) refl refl g
   fed t now from bytes w up (Some p) (Notifies o reply) below law g =
       absurd (never_notifies (heard (own t) now (incoming (own t) now from bytes up (Some p))) p o reply law.rows.0)
+  fed t now from bytes w up _ _ below law g = rejected_good to token (last_of t) (own t).store.holds (max (own t).clock now) (unmatched_by from up) _ (ended_good to token (last_of t) (own t).store.holds _ (own t).observers g)
 
   idled : (t : List Call) (now w : ℕ) (below : L.Answer) (room : Bool) (passed : ℕ) (h : Handling) (id : ℕ)
-      (answer : Bool) → ServerLaw limits szx word (Ticks now w below room due.Idle passed h id answer ∷ t) → Fine t
+      (answer : Bool) → ServerLaw limits szx setup (Ticks now w below room due.Idle passed h id answer ∷ t) → Fine t
       → Fine (Ticks now w below room due.Idle passed h id answer ∷ t)
   idled t now w below room passed Silent id answer law g =
       ended_good to token (last_of t) (own t).store.holds _ (own t).observers g
@@ -161,25 +151,13 @@ module _ (to : Endpoint) (token : List ℕ) (limits : Limits) (szx word : ℕ) w
       (ended_good to token (last_of t) (own t).store.holds _ (own t).observers g) ((own t).store.holds o.path) refl
 
   ticked : (t : List Call) (now w : ℕ) (below : L.Answer) (room : Bool) (d : Due) (passed : ℕ) (h : Handling)
-      (id : ℕ) (answer : Bool) → ServerLaw limits szx word (Ticks now w below room d passed h id answer ∷ t)
+      (id : ℕ) (answer : Bool) → ServerLaw limits szx setup (Ticks now w below room d passed h id answer ∷ t)
       → Fine t → Fine (Ticks now w below room d passed h id answer ∷ t)
   ticked t now w below room due.Idle passed h id answer law g = idled t now w below room passed h id answer law g
   ticked t now w below room due.Copied passed Silent id answer law g =
       ended_good to token (last_of t) (own t).store.holds _ (own t).observers g
-  ticked t now w below room due.Copied passed (Replies r) id answer law g = let k = law.rows.0.0 in absurd (cc k)
-  ticked t now w below room due.Copied passed (Serves q reply left) id answer law g =
-      let k = law.rows.0.0 in absurd (cc k)
-  ticked t now w below room due.Copied passed (Waits q d) id answer law g = let k = law.rows.0.0 in absurd (cc k)
-  ticked t now w below room due.Copied passed (Notifies o reply) id answer law g =
-      let k = law.rows.0.0 in absurd (cc k)
   ticked t now w below room due.Expired passed Silent id answer law g =
       ended_good to token (last_of t) (own t).store.holds _ (own t).observers g
-  ticked t now w below room due.Expired passed (Replies r) id answer law g = let k = law.rows.0.0 in absurd (cc k)
-  ticked t now w below room due.Expired passed (Serves q reply left) id answer law g =
-      let k = law.rows.0.0 in absurd (cc k)
-  ticked t now w below room due.Expired passed (Waits q d) id answer law g = let k = law.rows.0.0 in absurd (cc k)
-  ticked t now w below room due.Expired passed (Notifies o reply) id answer law g =
-      let k = law.rows.0.0 in absurd (cc k)
   ticked t now w below room (due.Ready a) passed Silent id answer law g =
       ended_good to token (last_of t) (own t).store.holds _ (own t).observers g
   ticked t now w below room (due.Ready a) passed (Replies r) id answer law g =
@@ -192,12 +170,13 @@ module _ (to : Endpoint) (token : List ℕ) (limits : Limits) (szx word : ℕ) w
   ticked t now w below room (due.Ready a) passed (Notifies o reply) id answer law g =
       let s : Own = heard (own t) now (ticking (own t) now below room (due.Ready a)) in
       absurd (never_notifies_ready (question_of s.clock a s.waiting) s.store s.clock o reply law.rows.0.0)
+  ticked t now w below room _ passed _ id answer law g = let k = law.rows.0.0 in absurd (cc k)
 
-  fine : (t : List Call) → ServerLaw limits szx word t → Fine t
+  fine : (t : List Call) → ServerLaw limits szx setup t → Fine t
   fine [] law = λ o h m. none_or h
-  fine (c ∷ t) law = on c law (fine t (server_back limits szx word c t law))
+  fine (c ∷ t) law = on c law (fine t (server_back limits szx setup c t law))
     where
-      on : (c : Call) → ServerLaw limits szx word (c ∷ t) → Fine t → Fine (c ∷ t)
+      on : (c : Call) → ServerLaw limits szx setup (c ∷ t) → Fine t → Fine (c ∷ t)
       on (Feeds now from bytes w up came h below) law g = fed t now from bytes w up came h below law g
       on (Ticks now w below room d passed h id answer) law g = ticked t now w below room d passed h id answer law g
       on (Sets now path format body answer left) law g =
@@ -214,10 +193,10 @@ module _ (to : Endpoint) (token : List ℕ) (limits : Limits) (szx word : ℕ) w
       on (TellsApplied answer) law g = g
       on (NextOut answer) law g = g
 
-pub are_current : (limits : Limits) (szx word : ℕ) (t : List Call) → ServerLaw limits szx word t
+pub are_current : (limits : Limits) (szx : ℕ) (setup : Setup) (t : List Call) → ServerLaw limits szx setup t
     → AreCurrent limits szx t
-are_current limits szx word t law to token o is unmarked =
-    let c = fine to token limits szx word t law o is unmarked in
+are_current limits szx setup t law to token o is unmarked =
+    let c = fine to token limits szx setup t law o is unmarked in
     record {
       told = c.told;
       last = c.last_is;

@@ -6,6 +6,7 @@ use Rattle.coap_types.specs.Recognised.{has_number}
 use Rattle.coap_types.specs.declared.endpoint.Endpoint.{Endpoint}
 use Rattle.coap_codec.specs.Message.{Message}
 use Rattle.coap_layer.specs.Trace as L
+use Rattle.coap_layer.specs.declared.setup.Setup.{Setup}
 use Rattle.coap_block.specs.Whole.{Each}
 use Rattle.coap_observe.specs.Observers.{Observer, AreDistinct, is_of, noted_to, removed, registered, registration, sent_to}
 use Rattle.coap_observe.proofs.Facts.Registrations.{is_of-decides, registration-removed}
@@ -272,7 +273,7 @@ module _ (x : Telling) where
       (turned x F s s os noted (noted_turn x.to x.token s at o.to o.token id os) l))
       (turned x F s s os (sent_to at o.to o.token true os) (sent_turn x.to x.token s at true o.to o.token os) l)
 
-  module _ (limits : Limits) (szx word : ℕ) where
+  module _ (limits : Limits) (szx : ℕ) (setup : Setup) where
     abbrev pub At : List Call → List Call → Type 0
     At t after = Lives x (FlightOf x.way (own_of limits szx t).exchanges.separate after) (own_of limits szx t).store
         (own_of limits szx t).observers
@@ -322,10 +323,6 @@ module _ (x : Telling) where
           → NotNew t (fed_call came h) → At t after
           → At (fed_call came h ∷ t) (fed_call came h ∷ after)
       fed_step None Silent right none l = heard_fed None Silent l
-      fed_step None (Replies r) right none l = absurd (cc right)
-      fed_step None (Serves q reply left) right none l = absurd (cc right)
-      fed_step None (Waits q d) right none l = absurd (cc right)
-      fed_step None (Notifies o reply) right none l = absurd (cc right)
       fed_step (Some p) Silent right none l = heard_fed (Some p) Silent l
       fed_step (Some p) (Replies r) right none l = asked_lives p (Replies r) _ _ (heard_fed (Some p) (Replies r) l)
       fed_step (Some p) (Waits q d) right none l = asked_lives p (Waits q d) _ _ (heard_fed (Some p) (Waits q d) l)
@@ -334,6 +331,7 @@ module _ (x : Telling) where
           let s : Own = fed_stage (Some p) in
           served_lives s p.0 q reply left (serves_came s p q reply left right) none
           (asked_lives p (Serves q reply left) s.store s.observers (heard_fed (Some p) (Serves q reply left) l))
+      fed_step None _ right none l = absurd (cc right)
 
     -- time passes
     module _ (t after : List Call) (now w : ℕ) (below : L.Answer) (room : Bool) (passed id : ℕ) (answer : Bool) where
@@ -373,18 +371,10 @@ module _ (x : Telling) where
           (readies it.clock passed (marked it.observers)) s os
           (λ n. readies_later n it.clock passed (marked it.observers)) l
 
-      tick_step : (d : Due) (h : Handling) → ServerLaw limits szx word (tick_call d h ∷ t) → NotNew t (tick_call d h)
+      tick_step : (d : Due) (h : Handling) → ServerLaw limits szx setup (tick_call d h ∷ t) → NotNew t (tick_call d h)
           → At t after → At (tick_call d h ∷ t) (tick_call d h ∷ after)
       tick_step due.Copied Silent law none l = tock due.Copied Silent l
-      tick_step due.Copied (Replies r) law none l = let e = law.rows.0.0 in absurd (cc e)
-      tick_step due.Copied (Serves q reply left) law none l = let e = law.rows.0.0 in absurd (cc e)
-      tick_step due.Copied (Waits q d) law none l = let e = law.rows.0.0 in absurd (cc e)
-      tick_step due.Copied (Notifies o reply) law none l = let e = law.rows.0.0 in absurd (cc e)
       tick_step due.Expired Silent law none l = tock due.Expired Silent l
-      tick_step due.Expired (Replies r) law none l = let e = law.rows.0.0 in absurd (cc e)
-      tick_step due.Expired (Serves q reply left) law none l = let e = law.rows.0.0 in absurd (cc e)
-      tick_step due.Expired (Waits q d) law none l = let e = law.rows.0.0 in absurd (cc e)
-      tick_step due.Expired (Notifies o reply) law none l = let e = law.rows.0.0 in absurd (cc e)
       tick_step due.Idle Silent law none l = idle_asks Silent _ _ (tock due.Idle Silent l)
       tick_step due.Idle (Replies r) law none l = idle_asks (Replies r) _ _ (tock due.Idle (Replies r) l)
       tick_step due.Idle (Waits q d) law none l = idle_asks (Waits q d) _ _ (tock due.Idle (Waits q d) l)
@@ -413,8 +403,9 @@ module _ (x : Telling) where
           (question_of s.clock a s.waiting) s.store s.clock q reply left law.rows.0.0) none
           (with_asks (due.Ready a) (Serves q reply left) cs s.store s.observers (λ n. (tt, tt))
           (tock (due.Ready a) (Serves q reply left) l))
+      tick_step _ _ law none l = let e = law.rows.0.0 in absurd (cc e)
 
-    step : (t after : List Call) (c : Call) → ServerLaw limits szx word (c ∷ t) → NotNew t c → At t after
+    step : (t after : List Call) (c : Call) → ServerLaw limits szx setup (c ∷ t) → NotNew t c → At t after
         → At (c ∷ t) (c ∷ after)
     step t after (Sets now path format body answer left) law none l =
         let s : Own = own limits szx t in
@@ -447,8 +438,8 @@ module _ (x : Telling) where
     step t after (Ticks now w below room d passed h id answer) law none l =
         tick_step t after now w below room passed id answer d h law none l
 
-    pub steps : (after base : List Call) → ServerLaw limits szx word (after ++ base)
+    pub steps : (after base : List Call) → ServerLaw limits szx setup (after ++ base)
         → NoneMade limits szx x.to x.token after base → At base [] → At (after ++ base) after
     steps [] base law none l = l
     steps (c ∷ after) base law none l = step (after ++ base) after c law none.0
-        (steps after base (server_back limits szx word c (after ++ base) law) none.1 l)
+        (steps after base (server_back limits szx setup c (after ++ base) law) none.1 l)

@@ -4,6 +4,7 @@ use Rattle.std.proofs.Common.{[], ◌∷◌, refl, ap, sym, ◌∙◌}
 use Rattle.coap_types.specs.declared.endpoint.Endpoint.{Endpoint}
 use Rattle.coap_codec.specs.Message.{Message}
 use Rattle.coap_layer.specs.Trace as L
+use Rattle.coap_layer.specs.declared.setup.Setup.{Setup}
 use Rattle.coap_observe.specs.Observers.{Observer}
 use Rattle.coap_resource.specs.Content.{Held}
 use Rattle.coap_resource.specs.Limits.{Limits}
@@ -30,15 +31,15 @@ use Rattle.coap_server.proofs.Serving.Brought.{server_back}
 use Rattle.coap_server.proofs.Observing.WaysSteps as W
 use Rattle.coap_server.proofs.Observing.WaysSteps.{none_marked}
 
-module _ (limits : Limits) (szx word : ℕ) (to : Endpoint) (token : List ℕ) where
+module _ (limits : Limits) (szx : ℕ) (setup : Setup) (to : Endpoint) (token : List ℕ) where
   module _ (t : List Call) where
     abbrev own : Own
     own = own_of limits szx t
 
     -- a notification
     module _ (now w : ℕ) (below : L.Answer) (room : Bool) (passed id : ℕ) (answer : Bool) (o : Observer) (reply : Reply)
-        (law : ServerLaw limits szx word (Ticks now w below room due.Idle passed (Notifies o reply) id answer ∷ t))
-        (fits : W.Fits limits szx word to token t) where
+        (law : ServerLaw limits szx setup (Ticks now w below room due.Idle passed (Notifies o reply) id answer ∷ t))
+        (fits : W.Fits limits szx setup to token t) where
       abbrev notice : Call
       notice = Ticks now w below room due.Idle passed (Notifies o reply) id answer
 
@@ -48,8 +49,8 @@ module _ (limits : Limits) (szx word : ℕ) (to : Endpoint) (token : List ℕ) w
       abbrev left : Bool → Option Held → List Observer
       left plain held = notified plain s.clock id held o s.observers
 
-      back : W.Back limits szx word to token own.observers s.observers
-      back = W.ended_back limits szx word to token (P.failed_by below own.exchanges.separate) own.observers
+      back : W.Back limits szx setup to token own.observers s.observers
+      back = W.ended_back limits szx setup to token (P.failed_by below own.exchanges.separate) own.observers
 
       told_so : (plain : Bool) → by_plain s o ≡ plain → (held : Option Held) → s.store.holds o.path ≡ held
           → telling own notice ≡ tells o.to o.token o.path (way_of plain id) s.clock false held
@@ -62,109 +63,102 @@ module _ (limits : Limits) (szx word : ℕ) (to : Endpoint) (token : List ℕ) w
       left_so plain goes held is = ap (λ b. left b (s.store.holds o.path)) goes ∙ ap (left plain) is
 
       by_way : (plain : Bool) → by_plain s o ≡ plain → (held : Option Held) → s.store.holds o.path ≡ held
-          → W.Fits limits szx word to token (notice ∷ t)
+          → W.Fits limits szx setup to token (notice ∷ t)
       by_way plain goes None is =
-          W.quiet_step limits szx word to token t notice refl (told_so plain goes None is) refl
-          (λ y h. back y (W.removed_back limits szx word to token o.to o.token s.observers y (sym (ap (W.reg limits szx word to token) (left_so plain goes None is)) ∙ h))) fits
+          W.quiet_step limits szx setup to token t notice refl (told_so plain goes None is) refl
+          (λ y h. back y (W.removed_back limits szx setup to token o.to o.token s.observers y (sym (ap (W.reg limits szx setup to token) (left_so plain goes None is)) ∙ h))) fits
       by_way false goes (Some held) is =
-          let told = told_here limits szx word t now w below room passed id answer o reply law in
-          W.con_step limits szx word to token t notice o s.clock held id s.observers refl (told_so false goes (Some held) is) refl back told.is
+          let told = told_here limits szx setup t now w below room passed id answer o reply law in
+          W.con_step limits szx setup to token t notice o s.clock held id s.observers refl (told_so false goes (Some held) is) refl back told.is
           told.marked_is (left_so false goes (Some held) is) fits
       by_way true goes (Some held) is =
-          let told = told_here limits szx word t now w below room passed id answer o reply law in
-          W.non_step limits szx word to token t notice o held s.observers refl (told_so true goes (Some held) is) refl back told.is
+          let told = told_here limits szx setup t now w below room passed id answer o reply law in
+          W.non_step limits szx setup to token t notice o held s.observers refl (told_so true goes (Some held) is) refl back told.is
           (left_so true goes (Some held) is) fits
 
-      notice_step : W.Fits limits szx word to token (notice ∷ t)
+      notice_step : W.Fits limits szx setup to token (notice ∷ t)
       notice_step = by_way (by_plain s o) refl (s.store.holds o.path) refl
 
     -- what an arrival and a tick leave besides
     fed_back : (now : ℕ) (from : Endpoint) (bytes : List ℕ) (up : L.Answer) (came : Option (Asked × Message))
-        → W.Back limits szx word to token own.observers (heard own now (incoming own now from bytes up came)).observers
+        → W.Back limits szx setup to token own.observers (heard own now (incoming own now from bytes up came)).observers
     fed_back now from bytes up came o h =
         let e : Option Ended = P.reset_by from up own.exchanges.separate in
-        W.ended_back limits szx word to token e own.observers o
-        (W.rejected_back limits szx word to token (max own.clock now) (unmatched_by from up) (unless_ended e own.observers) o h)
+        W.ended_back limits szx setup to token e own.observers o
+        (W.rejected_back limits szx setup to token (max own.clock now) (unmatched_by from up) (unless_ended e own.observers) o h)
 
     pub ticked_back : (now : ℕ) (below : L.Answer) (room : Bool) (d : Due)
-        → W.Back limits szx word to token own.observers (heard own now (ticking own now below room d)).observers
-    ticked_back now below room d = W.ended_back limits szx word to token (P.failed_by below own.exchanges.separate) own.observers
+        → W.Back limits szx setup to token own.observers (heard own now (ticking own now below room d)).observers
+    ticked_back now below room d = W.ended_back limits szx setup to token (P.failed_by below own.exchanges.separate) own.observers
 
-    step : (c : Call) → ServerLaw limits szx word (c ∷ t) → W.Fits limits szx word to token t → W.Fits limits szx word to token (c ∷ t)
+    step : (c : Call) → ServerLaw limits szx setup (c ∷ t) → W.Fits limits szx setup to token t → W.Fits limits szx setup to token (c ∷ t)
     step (Sets now path format body answer left) law fits =
         let c : Call = Sets now path format body answer left in
-        W.either_step limits szx word to token t c law refl refl
-        (λ e o h. sym (ap (W.reg limits szx word to token) (none_marked (max own.clock now) path own.store left own.observers e)) ∙ h) fits
+        W.either_step limits szx setup to token t c law refl refl
+        (λ e o h. sym (ap (W.reg limits szx setup to token) (none_marked (max own.clock now) path own.store left own.observers e)) ∙ h) fits
     step (Removes now path answer left) law fits =
         let c : Call = Removes now path answer left in
-        W.either_step limits szx word to token t c law refl refl
-        (λ e o h. sym (ap (W.reg limits szx word to token) (none_marked (max own.clock now) path own.store left own.observers e)) ∙ h) fits
-    step (Delays path ms answer) law fits = W.quiet_step limits szx word to token t (Delays path ms answer) refl refl refl (λ o h. h) fits
-    step (Plains path answer) law fits = W.quiet_step limits szx word to token t (Plains path answer) refl refl refl (λ o h. h) fits
-    step (Gets path answer) law fits = W.quiet_step limits szx word to token t (Gets path answer) refl refl refl (λ o h. h) fits
-    step (TellsApplied answer) law fits = W.quiet_step limits szx word to token t (TellsApplied answer) refl refl refl (λ o h. h) fits
-    step (NextOut answer) law fits = W.quiet_step limits szx word to token t (NextOut answer) refl refl refl (λ o h. h) fits
+        W.either_step limits szx setup to token t c law refl refl
+        (λ e o h. sym (ap (W.reg limits szx setup to token) (none_marked (max own.clock now) path own.store left own.observers e)) ∙ h) fits
+    step (Delays path ms answer) law fits = W.quiet_step limits szx setup to token t (Delays path ms answer) refl refl refl (λ o h. h) fits
+    step (Plains path answer) law fits = W.quiet_step limits szx setup to token t (Plains path answer) refl refl refl (λ o h. h) fits
+    step (Gets path answer) law fits = W.quiet_step limits szx setup to token t (Gets path answer) refl refl refl (λ o h. h) fits
+    step (TellsApplied answer) law fits = W.quiet_step limits szx setup to token t (TellsApplied answer) refl refl refl (λ o h. h) fits
+    step (NextOut answer) law fits = W.quiet_step limits szx setup to token t (NextOut answer) refl refl refl (λ o h. h) fits
     step (Feeds now from bytes w up (Some p) (Serves q reply left) below) law fits =
-        W.served_step limits szx word to token t (Feeds now from bytes w up (Some p) (Serves q reply left) below) law _ refl refl fits
+        W.served_step limits szx setup to token t (Feeds now from bytes w up (Some p) (Serves q reply left) below) law _ refl refl fits
     step (Feeds now from bytes w up None (Serves q reply left) below) law fits = let e = law.rows.0 in absurd (cc e)
     step (Feeds now from bytes w up None Silent below) law fits =
-        W.quiet_step limits szx word to token t _ refl refl refl (fed_back now from bytes up None) fits
+        W.quiet_step limits szx setup to token t _ refl refl refl (fed_back now from bytes up None) fits
     step (Feeds now from bytes w up None (Replies r) below) law fits =
-        W.quiet_step limits szx word to token t _ refl refl refl (fed_back now from bytes up None) fits
+        W.quiet_step limits szx setup to token t _ refl refl refl (fed_back now from bytes up None) fits
     step (Feeds now from bytes w up None (Waits q d) below) law fits =
-        W.quiet_step limits szx word to token t _ refl refl refl (fed_back now from bytes up None) fits
+        W.quiet_step limits szx setup to token t _ refl refl refl (fed_back now from bytes up None) fits
     step (Feeds now from bytes w up None (Notifies o reply) below) law fits =
-        W.quiet_step limits szx word to token t _ refl refl refl (fed_back now from bytes up None) fits
+        W.quiet_step limits szx setup to token t _ refl refl refl (fed_back now from bytes up None) fits
     step (Feeds now from bytes w up (Some p) Silent below) law fits =
-        W.quiet_step limits szx word to token t _ refl refl refl (fed_back now from bytes up (Some p)) fits
+        W.quiet_step limits szx setup to token t _ refl refl refl (fed_back now from bytes up (Some p)) fits
     step (Feeds now from bytes w up (Some p) (Replies r) below) law fits =
-        W.quiet_step limits szx word to token t _ refl refl refl (fed_back now from bytes up (Some p)) fits
+        W.quiet_step limits szx setup to token t _ refl refl refl (fed_back now from bytes up (Some p)) fits
     step (Feeds now from bytes w up (Some p) (Waits q d) below) law fits =
-        W.quiet_step limits szx word to token t _ refl refl refl (fed_back now from bytes up (Some p)) fits
+        W.quiet_step limits szx setup to token t _ refl refl refl (fed_back now from bytes up (Some p)) fits
     step (Feeds now from bytes w up (Some p) (Notifies o reply) below) law fits =
-        W.quiet_step limits szx word to token t _ refl refl refl (fed_back now from bytes up (Some p)) fits
+        W.quiet_step limits szx setup to token t _ refl refl refl (fed_back now from bytes up (Some p)) fits
     step (Ticks now w below room due.Idle passed (Notifies o reply) id answer) law fits =
         notice_step now w below room passed id answer o reply law fits
-    step (Ticks now w below room due.Copied passed (Notifies o reply) id answer) law fits =
-        let e = law.rows.0.0 in absurd (cc e)
-    step (Ticks now w below room due.Expired passed (Notifies o reply) id answer) law fits =
-        let e = law.rows.0.0 in absurd (cc e)
     step (Ticks now w below room (due.Ready a) passed (Notifies o reply) id answer) law fits =
         let k : Own = heard own now (ticking own now below room (due.Ready a)) in
         absurd (never_notifies_ready (question_of k.clock a k.waiting) k.store k.clock o reply law.rows.0.0)
     step (Ticks now w below room (due.Ready a) passed (Serves q reply left) id answer) law fits =
-        W.served_step limits szx word to token t (Ticks now w below room (due.Ready a) passed (Serves q reply left) id answer) law _ refl refl fits
+        W.served_step limits szx setup to token t (Ticks now w below room (due.Ready a) passed (Serves q reply left) id answer) law _ refl refl fits
     step (Ticks now w below room due.Idle passed Silent id answer) law fits =
-        W.quiet_step limits szx word to token t _ refl refl refl (ticked_back now below room due.Idle) fits
+        W.quiet_step limits szx setup to token t _ refl refl refl (ticked_back now below room due.Idle) fits
     step (Ticks now w below room due.Idle passed (Replies r) id answer) law fits =
-        W.quiet_step limits szx word to token t _ refl refl refl (ticked_back now below room due.Idle) fits
+        W.quiet_step limits szx setup to token t _ refl refl refl (ticked_back now below room due.Idle) fits
     step (Ticks now w below room due.Idle passed (Serves q reply left) id answer) law fits =
-        W.quiet_step limits szx word to token t _ refl refl refl (ticked_back now below room due.Idle) fits
+        W.quiet_step limits szx setup to token t _ refl refl refl (ticked_back now below room due.Idle) fits
     step (Ticks now w below room due.Idle passed (Waits q d) id answer) law fits =
-        W.quiet_step limits szx word to token t _ refl refl refl (ticked_back now below room due.Idle) fits
+        W.quiet_step limits szx setup to token t _ refl refl refl (ticked_back now below room due.Idle) fits
     step (Ticks now w below room due.Copied passed Silent id answer) law fits =
-        W.quiet_step limits szx word to token t _ refl refl refl (ticked_back now below room due.Copied) fits
+        W.quiet_step limits szx setup to token t _ refl refl refl (ticked_back now below room due.Copied) fits
     step (Ticks now w below room due.Copied passed (Replies r) id answer) law fits =
-        W.quiet_step limits szx word to token t _ refl refl refl (ticked_back now below room due.Copied) fits
+        W.quiet_step limits szx setup to token t _ refl refl refl (ticked_back now below room due.Copied) fits
     step (Ticks now w below room due.Copied passed (Waits q d) id answer) law fits =
-        W.quiet_step limits szx word to token t _ refl refl refl (ticked_back now below room due.Copied) fits
-    step (Ticks now w below room due.Copied passed (Serves q reply left) id answer) law fits =
-        let e = law.rows.0.0 in absurd (cc e)
+        W.quiet_step limits szx setup to token t _ refl refl refl (ticked_back now below room due.Copied) fits
     step (Ticks now w below room due.Expired passed Silent id answer) law fits =
-        W.quiet_step limits szx word to token t _ refl refl refl (ticked_back now below room due.Expired) fits
+        W.quiet_step limits szx setup to token t _ refl refl refl (ticked_back now below room due.Expired) fits
     step (Ticks now w below room due.Expired passed (Replies r) id answer) law fits =
-        W.quiet_step limits szx word to token t _ refl refl refl (ticked_back now below room due.Expired) fits
+        W.quiet_step limits szx setup to token t _ refl refl refl (ticked_back now below room due.Expired) fits
     step (Ticks now w below room due.Expired passed (Waits q d) id answer) law fits =
-        W.quiet_step limits szx word to token t _ refl refl refl (ticked_back now below room due.Expired) fits
-    step (Ticks now w below room due.Expired passed (Serves q reply left) id answer) law fits =
-        let e = law.rows.0.0 in absurd (cc e)
+        W.quiet_step limits szx setup to token t _ refl refl refl (ticked_back now below room due.Expired) fits
     step (Ticks now w below room (due.Ready a) passed Silent id answer) law fits =
-        W.quiet_step limits szx word to token t _ refl refl refl (ticked_back now below room (due.Ready a)) fits
+        W.quiet_step limits szx setup to token t _ refl refl refl (ticked_back now below room (due.Ready a)) fits
     step (Ticks now w below room (due.Ready a) passed (Replies r) id answer) law fits =
-        W.quiet_step limits szx word to token t _ refl refl refl (ticked_back now below room (due.Ready a)) fits
+        W.quiet_step limits szx setup to token t _ refl refl refl (ticked_back now below room (due.Ready a)) fits
     step (Ticks now w below room (due.Ready a) passed (Waits q d) id answer) law fits =
-        W.quiet_step limits szx word to token t _ refl refl refl (ticked_back now below room (due.Ready a)) fits
+        W.quiet_step limits szx setup to token t _ refl refl refl (ticked_back now below room (due.Ready a)) fits
+    step _ law fits = let e = law.rows.0.0 in absurd (cc e)
 
-  pub fits : (t : List Call) → ServerLaw limits szx word t → W.Fits limits szx word to token t
+  pub fits : (t : List Call) → ServerLaw limits szx setup t → W.Fits limits szx setup to token t
   fits [] law = λ o h. absurd (cc h)
-  fits (c ∷ t) law = step t c law (fits t (server_back limits szx word c t law))
+  fits (c ∷ t) law = step t c law (fits t (server_back limits szx setup c t law))

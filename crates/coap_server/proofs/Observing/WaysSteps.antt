@@ -10,6 +10,7 @@ use Rattle.coap_types.specs.SameEndpoint.{same_endpoint}
 use Rattle.coap_types.specs.declared.endpoint.Endpoint.{Endpoint}
 use Rattle.coap_types.proofs.Facts.Endpoints.{same_endpoint-decides}
 use Rattle.coap_types.proofs.Facts.Paths.{same_path-decides}
+use Rattle.coap_layer.specs.declared.setup.Setup.{Setup}
 use Rattle.coap_observe.specs.Observers.{Noted, Observer, begun, changed_at, marked_by, noted_to, registered, registration}
 use Rattle.coap_observe.specs.Observers.{removed, sent_to}
 use Rattle.coap_observe.specs.Registrations.{IsOther, told_by}
@@ -75,7 +76,7 @@ none_marked at path old left os h = by (left.tally.version == old.tally.version)
     by true k = refl
     by false k = absurd (cc k)
 
-module _ (limits : Limits) (szx word : ℕ) (to : Endpoint) (token : List ℕ) where
+module _ (limits : Limits) (szx : ℕ) (setup : Setup) (to : Endpoint) (token : List ℕ) where
   abbrev pub reg : List Observer → Option Observer
   reg os = registration to token os
 
@@ -158,12 +159,12 @@ module _ (limits : Limits) (szx word : ℕ) (to : Endpoint) (token : List ℕ) w
           }
 
       -- a path is changed
-      changed_step : ServerLaw limits szx word (c ∷ t) → registering own c ≡ None → telling own c ≡ None
+      changed_step : ServerLaw limits szx setup (c ∷ t) → registering own c ≡ None → telling own c ≡ None
           → (x : Change) → change own c ≡ Some x → Fits t → Fits (c ∷ t)
       changed_step law r tell x e fits o h = by (reg own.observers) refl
         where
           marks : reg after ≡ option_map (marked_by clk x.path) (reg own.observers)
-          marks = ap reg ((all_mark limits szx word (c ∷ t) law).0 x e)
+          marks = ap reg ((all_mark limits szx setup (c ∷ t) law).0 x e)
               ∙ registration-changed_at clk x.path to token own.observers
 
           told : (was : Observer) → FitsOf t was → (n : Bool) → same_path was.path x.path ≡ n
@@ -211,7 +212,7 @@ module _ (limits : Limits) (szx word : ℕ) (to : Endpoint) (token : List ℕ) w
               one : (a b : Observer) → Some a ≡ Some b → a ≡ b
               one a b k = cc k
 
-      pub either_step : ServerLaw limits szx word (c ∷ t) → registering own c ≡ None → telling own c ≡ None
+      pub either_step : ServerLaw limits szx setup (c ∷ t) → registering own c ≡ None → telling own c ≡ None
           → (change own c ≡ None → Back own.observers after) → Fits t → Fits (c ∷ t)
       either_step law r tell back fits = by (change own c) refl
         where
@@ -283,12 +284,12 @@ module _ (limits : Limits) (szx word : ℕ) (to : Endpoint) (token : List ℕ) w
               (last_non limits szx to token t)) e
 
       -- a request is served
-      pub served_step : ServerLaw limits szx word (c ∷ t) → (x : Serving) → serving own c ≡ Some x
+      pub served_step : ServerLaw limits szx setup (c ∷ t) → (x : Serving) → serving own c ≡ Some x
           → change own c ≡ changed_by (Some x) → Fits t → Fits (c ∷ t)
       served_step law x is said fits = by (is_get x.question.method) refl
         where
-          s : ServesAt limits szx word t c x
-          s = served_at limits szx word t c law x is
+          s : ServesAt limits szx setup t c x
+          s = served_at limits szx setup t c law x is
 
           os : List Observer
           os = own.observers

@@ -6,10 +6,7 @@ use Rattle.coap_resource.specs.Content.{Held}
 use Rattle.coap_server.specs.Plain.{goes_plain, is_plain, must_confirm}
 use Rattle.coap_server.specs.declared.limits.TheConstants.{CON_NOTIFICATION_MS as con_notification}
 use Rattle.coap_server.specs.declared.limits.TheConstants.{MAX_PLAIN_AGE_MS as max_plain_age}
-
-not_true : (b : Bool) → not b ≡ true → b ≡ false
-not_true true h = absurd (cc h)
-not_true false h = refl
+use Rattle.std.proofs.lemmas.Bool.{not-true as not_true}
 
 or_none : (a b : Bool) → (a || b) ≡ false → (a ≡ false) × (b ≡ false)
 or_none true b h = absurd (cc h)

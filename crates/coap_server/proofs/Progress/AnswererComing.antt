@@ -21,11 +21,12 @@ use Rattle.coap_exchange.specs.AskerRequests.{asked}
 use Rattle.coap_exchange.specs.AskerArrivals.{id_in, replying}
 use Rattle.coap_exchange.specs.EmptyMessages.{reset_bytes}
 use Rattle.coap_layer.proofs.Facts.HandedUp.{spelled}
+use Rattle.coap_layer.specs.declared.setup.Setup.{Setup}
 use Rattle.coap_common.proofs.Facts.AskerGoing.{left_by, answer_by, one_step}
 use Rattle.coap_server.proofs.Progress.AnswererGoing.{Takes}
 use Rattle.coap_server.proofs.Progress.RequestsKept.{KeptIn, kept_to}
 
-module _ (word : ℕ) (calls : List E.Call) (law : ResponseLaw word calls) where
+module _ (setup : Setup) (calls : List E.Call) (law : ResponseLaw setup calls) where
   abbrev own : E.Own
   own = W.own_of calls
 
@@ -41,7 +42,7 @@ module _ (word : ℕ) (calls : List E.Call) (law : ResponseLaw word calls) where
     first = left_by left at arrives
 
     pub record Receives (up : L.Answer) (came : Option (Asked × Message)) : Type 0 where
-      pub law_of : ResponseLaw word (E.Incoming at from bytes up came ∷ calls)
+      pub law_of : ResponseLaw setup (E.Incoming at from bytes up came ∷ calls)
       pub takes_it : (p : Asked × Message) → came ≡ Some p → Takes law_of.left (max own.clock at) p.0
 
     received : (up : L.Answer) → up ≡ answer_by left at arrives → S.Step left at arrives up first
@@ -55,7 +56,7 @@ module _ (word : ℕ) (calls : List E.Call) (law : ResponseLaw word calls) where
       law_of = record {
         rows = (sym none, law.rows);
         left = first;
-        layer = subst (λ o. Steps (S.start (S.usual word)) ((replying from (id_in up) o ++ asked at arrives up ∷ [])
+        layer = subst (λ o. Steps (S.start setup) ((replying from (id_in up) o ++ asked at arrives up ∷ [])
             ++ W.lower_of calls) first) (sym quiet) (left, law.layer, received up right);
       };
       takes_it = λ p h. absurd (cc h);
@@ -78,7 +79,7 @@ module _ (word : ℕ) (calls : List E.Call) (law : ResponseLaw word calls) where
               law_of = record {
                 rows = (refl, law.rows);
                 left = left_by first 0 reply;
-                layer = subst (λ o. Steps (S.start (S.usual word))
+                layer = subst (λ o. Steps (S.start setup)
                     ((replying from m.id o ++ asked at arrives (L.Becomes (L.Response m)) ∷ []) ++ W.lower_of calls)
                     (left_by first 0 reply))
                     (sym (ap (λ b. cond b (Some (reset_bytes m.id)) None) kept)) (

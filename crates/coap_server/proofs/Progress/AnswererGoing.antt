@@ -9,6 +9,7 @@ use Rattle.coap_layer.specs.Machine.State.{is_busy, is_free, sending, next_after
 use Rattle.coap_layer.specs.Machine.Steps.{Steps}
 use Rattle.coap_layer.specs.Trace as L
 use Rattle.coap_layer.specs.Trace.{with_head}
+use Rattle.coap_layer.specs.declared.setup.Setup.{Setup}
 use Rattle.coap_exchange.specs.declared.answerer.Asked.{Asked}
 use Rattle.coap_exchange.specs.declared.separate.Deferred.{Deferred}
 use Rattle.coap_exchange.specs.AnswererTrace as E
@@ -30,14 +31,14 @@ pub record TakesCon (s : S.State) (at : ℕ) (to : Endpoint) : Type 0 where
   pub alone : is_busy to s.open_cons ≡ false
   pub free : is_free (max s.clock at) s.upcoming s.last_used ≡ true
 
-module _ (word : ℕ) (calls : List E.Call) (law : ResponseLaw word calls) where
+module _ (setup : Setup) (calls : List E.Call) (law : ResponseLaw setup calls) where
   abbrev own : E.Own
   own = W.own_of calls
 
   abbrev left : S.State
   left = law.left
 
-  pub takes : (answer : Option L.Packet) × ResponseLaw word (E.Take answer ∷ calls)
+  pub takes : (answer : Option L.Packet) × ResponseLaw setup (E.Take answer ∷ calls)
   takes = (
     slice_get left.queue 0,
     record {
@@ -49,7 +50,7 @@ module _ (word : ℕ) (calls : List E.Call) (law : ResponseLaw word calls) where
 
   -- the response to a request
   pub answers : (a : Asked) (r : E.Response) → own.pending ≡ Some a → P.IsResponse a r → Takes left own.clock a
-      → (below : L.Answer) × ResponseLaw word (E.Answers a r below ∷ calls)
+      → (below : L.Answer) × ResponseLaw setup (E.Answers a r below ∷ calls)
   unfolding left_by
   answers a r pending response may =
       let k = by a.kind may.kind in
@@ -75,7 +76,7 @@ module _ (word : ℕ) (calls : List E.Call) (law : ResponseLaw word calls) where
   -- its deferral
   pub defers : (at : ℕ) (a : Asked) (delay : ℕ) → own.pending ≡ Some a → a.kind ≡ Con → P.may_defer own.deferred ≡ true
       → left.awaits ≡ Some (record { from = a.from; id = a.id.0 })
-      → ResponseLaw word (E.Defers at a delay true ∷ calls)
+      → ResponseLaw setup (E.Defers at a delay true ∷ calls)
   unfolding left_by
   defers at a delay pending con may awaits =
       let first = left_by left at L.Pass in
@@ -83,7 +84,7 @@ module _ (word : ℕ) (calls : List E.Call) (law : ResponseLaw word calls) where
       record {
         rows = ((pending, con, sym may), law.rows);
         left = left_by first 0 reply;
-        layer = subst (λ b. Steps (S.start (S.usual word)) ((P.deferring b a ++ asked at L.Pass L.Nothing ∷ [])
+        layer = subst (λ b. Steps (S.start setup) ((P.deferring b a ++ asked at L.Pass L.Nothing ∷ [])
             ++ W.lower_of calls) (left_by first 0 reply)) (sym may)
             (first, (left, law.layer, one_step left at L.Pass tt), one_step first 0 reply awaits);
       }
@@ -91,7 +92,7 @@ module _ (word : ℕ) (calls : List E.Call) (law : ResponseLaw word calls) where
   -- the response to a request that was deferred
   pub responds : (at : ℕ) (a : Asked) (r : E.Response) (w : ℕ) (d : Deferred) → P.ready_at own at ≡ Some d → d.asked ≡ a
       → P.IsResponse a r → TakesCon left at a.from
-      → ResponseLaw word (E.Responds at a r w left.upcoming ∷ calls)
+      → ResponseLaw setup (E.Responds at a r w left.upcoming ∷ calls)
   unfolding left_by
   responds at a r w d ready is response can =
       let call : L.Call = L.Confirm a.from (P.content_of a r) w in

@@ -18,15 +18,13 @@ use Rattle.coap_exchange.specs.AskerRequests.{asked}
 use Rattle.coap_layer.proofs.Facts.StepsOfLayer.{steps_join}
 use Rattle.std.proofs.lemmas.Bool.{and_parts}
 use Rattle.coap_layer.proofs.Facts.CallsOfLayer.{left_same_nil}
+use Rattle.coap_layer.specs.declared.setup.Setup.{Setup}
 use Rattle.coap_common.proofs.Facts.AskerGoing.{left_by, answer_by, one_step}
 use Rattle.coap_server.proofs.Serving.FoundReady.{found_ready}
 use Rattle.coap_server.proofs.Progress.AnswererGoing.{TakesCon}
+use Rattle.std.proofs.lemmas.Bool.{not-true as not_true}
 
-not_true : (b : Bool) → not b ≡ true → b ≡ false
-not_true true h = absurd (cc h)
-not_true false h = refl
-
-module _ (word : ℕ) (calls : List E.Call) (law : ResponseLaw word calls) where
+module _ (setup : Setup) (calls : List E.Call) (law : ResponseLaw setup calls) where
   abbrev own : E.Own
   own = W.own_of calls
 
@@ -76,7 +74,7 @@ module _ (word : ℕ) (calls : List E.Call) (law : ResponseLaw word calls) where
             }
 
     pub record TimePasses (answer : L.Answer) (room : Bool) (d : Due) : Type 0 where
-      pub law_of : ResponseLaw word (E.Ticks at answer room d ∷ calls)
+      pub law_of : ResponseLaw setup (E.Ticks at answer room d ∷ calls)
       pub is_due : d ≡ P.due_of answer (P.ready_at own at) room
       pub can_respond : (a : Asked) → d ≡ due.Ready a → TakesCon law_of.left at a.from
 
@@ -93,7 +91,7 @@ module _ (word : ℕ) (calls : List E.Call) (law : ResponseLaw word calls) where
             law_of = record {
               rows = (refl, law.rows);
               left = k.new;
-              layer = steps_join (S.start (S.usual word)) left k.new (asks ++ asked at L.Ticks below ∷ [])
+              layer = steps_join (S.start setup) left k.new (asks ++ asked at L.Ticks below ∷ [])
                   (W.lower_of calls) law.layer inner;
             };
             is_due = refl;

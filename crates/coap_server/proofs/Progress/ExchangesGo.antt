@@ -16,16 +16,14 @@ use Rattle.coap_exchange.specs.AnswererLaw as W
 use Rattle.coap_exchange.specs.AnswererLaw.{ResponseLaw}
 use Rattle.coap_exchange.specs.AskerRequests.{asked}
 use Rattle.coap_layer.proofs.Facts.CallsOfLayer.{left_same_nil}
+use Rattle.coap_layer.specs.declared.setup.Setup.{Setup}
 use Rattle.coap_server.specs.Notifying.{behind, readies}
 use Rattle.coap_common.proofs.Facts.AskerGoing.{left_by, one_step}
 use Rattle.coap_server.proofs.Progress.AnswererGoing.{Takes, TakesCon}
 use Rattle.coap_server.proofs.Exact.Asked.{joined}
+use Rattle.std.proofs.lemmas.Bool.{not-true as not_true}
 
-not_true : (b : Bool) → not b ≡ true → b ≡ false
-not_true true h = absurd (cc h)
-not_true false h = refl
-
-module _ (word : ℕ) (calls : List E.Call) (law : ResponseLaw word calls) where
+module _ (setup : Setup) (calls : List E.Call) (law : ResponseLaw setup calls) where
   abbrev own : E.Own
   own = W.own_of calls
 
@@ -34,7 +32,7 @@ module _ (word : ℕ) (calls : List E.Call) (law : ResponseLaw word calls) where
 
   -- a deferral that finds no place: the request can be answered still
   pub record Refused (at : ℕ) (a : Asked) (delay : ℕ) : Type 0 where
-    pub law_of : ResponseLaw word (E.Defers at a delay false ∷ calls)
+    pub law_of : ResponseLaw setup (E.Defers at a delay false ∷ calls)
     pub can : Takes law_of.left (W.own_of (E.Defers at a delay false ∷ calls)).clock a
 
   pub defers_not : (at : ℕ) (a : Asked) (delay : ℕ) → own.pending ≡ Some a → a.kind ≡ Con
@@ -44,7 +42,7 @@ module _ (word : ℕ) (calls : List E.Call) (law : ResponseLaw word calls) where
     law_of = record {
       rows = ((pending, con, sym may), law.rows);
       left = left_by left at L.Pass;
-      layer = subst (λ b. Steps (S.start (S.usual word))
+      layer = subst (λ b. Steps (S.start setup)
           ((P.deferring b a ++ asked at L.Pass L.Nothing ∷ []) ++ W.lower_of calls)
           (left_by left at L.Pass)) (sym may) (left, law.layer, one_step left at L.Pass tt);
     };
@@ -54,7 +52,7 @@ module _ (word : ℕ) (calls : List E.Call) (law : ResponseLaw word calls) where
   -- whether an observer can be notified
   pub record IsAsked (at : ℕ) (to : Endpoint) : Type 0 where
     pub may : Bool
-    pub law_of : ResponseLaw word (E.Ready at to may ∷ calls)
+    pub law_of : ResponseLaw setup (E.Ready at to may ∷ calls)
     pub can : may ≡ true → TakesCon law_of.left at to
 
   pub asks : (at : ℕ) (to : Endpoint) → IsAsked at to
@@ -84,7 +82,7 @@ module _ (word : ℕ) (calls : List E.Call) (law : ResponseLaw word calls) where
 
   -- a notification
   pub notifies : (at : ℕ) (to : Endpoint) (token : List ℕ) (r : E.Response) (w : ℕ) → P.IsResponseWith token r
-      → TakesCon left at to → ResponseLaw word (E.Notifies at to token r w left.upcoming ∷ calls)
+      → TakesCon left at to → ResponseLaw setup (E.Notifies at to token r w left.upcoming ∷ calls)
   unfolding left_by
   notifies at to token r w response can =
       let call : L.Call = L.Confirm to (P.content_with token r) w in
@@ -105,7 +103,7 @@ module _ (word : ℕ) (calls : List E.Call) (law : ResponseLaw word calls) where
       }
 
   pub notifies_plain : (at : ℕ) (to : Endpoint) (token : List ℕ) (r : E.Response) → P.IsResponseWith token r
-      → TakesCon left at to → ResponseLaw word (E.NotifiesPlain at to token r left.upcoming ∷ calls)
+      → TakesCon left at to → ResponseLaw setup (E.NotifiesPlain at to token r left.upcoming ∷ calls)
   unfolding left_by
   notifies_plain at to token r response can =
       let call : L.Call = L.Plain to (P.content_with token r) in
@@ -124,17 +122,17 @@ module _ (word : ℕ) (calls : List E.Call) (law : ResponseLaw word calls) where
       }
 
 -- the first that can be notified
-module _ (word at : ℕ) where
+module _ (setup : Setup) (at : ℕ) where
   pub record Walked (os : List Observer) (calls : List E.Call) : Type 0 where
     pub passed : ℕ
-    pub law_of : ResponseLaw word (readies at passed os ++ calls)
+    pub law_of : ResponseLaw setup (readies at passed os ++ calls)
     pub can : (o : Observer) → behind passed os ≡ Some o → TakesCon law_of.left at o.to
 
-  abbrev moved : {xs ys : List E.Call} → ResponseLaw word xs → xs ≡ ys → ResponseLaw word ys
+  abbrev moved : {xs ys : List E.Call} → ResponseLaw setup xs → xs ≡ ys → ResponseLaw setup ys
   moved {xs} {ys} l e = record {
     rows = subst W.AnswererLaw e l.rows;
     left = l.left;
-    layer = subst (λ z. Steps (S.start (S.usual word)) (W.lower_of z) l.left) e l.layer;
+    layer = subst (λ z. Steps (S.start setup) (W.lower_of z) l.left) e l.layer;
   }
 
   passes : (o : Observer) (os : List Observer) (calls : List E.Call) → Walked os (E.Ready at o.to false ∷ calls)
@@ -145,15 +143,15 @@ module _ (word at : ℕ) where
     can = λ x h. r.can x h;
   }
 
-  pub walks : (os : List Observer) (calls : List E.Call) → ResponseLaw word calls → Walked os calls
+  pub walks : (os : List Observer) (calls : List E.Call) → ResponseLaw setup calls → Walked os calls
   walks [] calls law = record { passed = 0; law_of = law; can = λ o e. absurd (cc e) }
   walks (o ∷ os) calls law = by k.may k.law_of k.can (λ next. walks os (E.Ready at o.to false ∷ calls) next)
     where
-      k : IsAsked word calls law at o.to
-      k = asks word calls law at o.to
+      k : IsAsked setup calls law at o.to
+      k = asks setup calls law at o.to
 
-      by : (b : Bool) → (next : ResponseLaw word (E.Ready at o.to b ∷ calls)) → (b ≡ true → TakesCon next.left at o.to)
-          → (ResponseLaw word (E.Ready at o.to false ∷ calls) → Walked os (E.Ready at o.to false ∷ calls))
+      by : (b : Bool) → (next : ResponseLaw setup (E.Ready at o.to b ∷ calls)) → (b ≡ true → TakesCon next.left at o.to)
+          → (ResponseLaw setup (E.Ready at o.to false ∷ calls) → Walked os (E.Ready at o.to false ∷ calls))
           → Walked (o ∷ os) calls
       by true next can more = record {
         passed = 0;

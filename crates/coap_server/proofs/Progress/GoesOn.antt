@@ -12,7 +12,7 @@ use Rattle.coap_types.specs.declared.block.Block.{Block}
 use Rattle.coap_types.specs.declared.direction.Direction.TheVariants as direction
 use Rattle.coap_types.specs.declared.endpoint.Endpoint.{Endpoint}
 use Rattle.coap_types.specs.declared.message.Kind.{Kind}
-use Rattle.coap_types.specs.declared.message.Kind.TheVariants.{Con, Non, Ack, Rst}
+use Rattle.coap_types.specs.declared.message.Kind.TheVariants.{Con}
 use Rattle.coap_types.specs.declared.option_number.TheConstants.{BLOCK1 as block1, BLOCK2 as block2}
 use Rattle.coap_types.specs.declared.option_number.TheConstants.{PROXY_URI as proxy_uri, PROXY_SCHEME as proxy_scheme}
 use Rattle.coap_types.specs.declared.path.TheConstants.{MAX_SEGMENTS as max_segments}
@@ -21,6 +21,7 @@ use Rattle.coap_types.specs.declared.request.Method.TheVariants.{Get, Post, Put,
 use Rattle.coap_types.specs.declared.role.Role.TheVariants as role
 use Rattle.coap_codec.specs.Message.{Message}
 use Rattle.coap_layer.specs.Trace as L
+use Rattle.coap_layer.specs.declared.setup.Setup.{Setup}
 use Rattle.coap_block.specs.declared.assembly_step.AssemblyRefusal.{AssemblyRefusal}
 use Rattle.coap_block.specs.declared.assembly_step.AssemblyRefusal.TheVariants.{BadRequest, EntityIncomplete}
 use Rattle.coap_block.specs.declared.assembly_step.AssemblyRefusal.TheVariants.{EntityTooLarge, Unavailable}
@@ -81,6 +82,7 @@ use Rattle.coap_server.specs.Asks.{notifies_by}
 use Rattle.coap_server.specs.Plain.{by_plain, may_be_plain}
 use Rattle.coap_server.proofs.Progress.ExchangesGo.{notifies_plain}
 use Rattle.coap_server.proofs.Progress.AnswererGoing.{TakesCon}
+use Rattle.coap_server.proofs.Replying.ResponsesHaveRequests.{each_there}
 
 -- a refusal has a code of a response
 abbrev IsRefusal : Verdict → Type 0
@@ -89,9 +91,7 @@ IsRefusal _ = Unit {0}
 
 bad_refusal : (kind : Kind) → IsRefusal (bad_by kind)
 bad_refusal Con = (refl, omega arith, omega arith)
-bad_refusal Non = tt
-bad_refusal Ack = tt
-bad_refusal Rst = tt
+bad_refusal _ = tt
 
 uploading_refusal : (m : Method) (q : Question) (o : Option Block) → IsRefusal (uploading m q o)
 uploading_refusal m q None = tt
@@ -132,14 +132,7 @@ block_refusal token Unavailable few = bare_response token 163 few refl (omega ar
 delayed_con : (kind : Kind) (path : List (List ℕ)) (s : Own) (delay : ℕ) → delay_for kind path s.delays ≡ Some delay
     → kind ≡ Con
 delayed_con Con path s delay h = refl
-delayed_con Non path s delay h = absurd (cc h)
-delayed_con Ack path s delay h = absurd (cc h)
-delayed_con Rst path s delay h = absurd (cc h)
-
-each_there : (Q : Observer → Type 0) (os : List Observer) (o : Observer) → Each Q os → IsThere o os → Q o
-each_there Q [] o h k = absurd k
-each_there Q (y ∷ os) o h (inl e) = subst Q e h.0
-each_there Q (y ∷ os) o h (inr k) = each_there Q os o h.1 k
+delayed_con _ path s delay h = absurd (cc h)
 
 each_filter : (Q : Observer → Type 0) (p : Observer → Bool) (os : List Observer) → Each Q os → Each Q (filter p os)
 each_filter Q p [] h = tt
@@ -158,7 +151,7 @@ ended_short (Some x) os h = by x.observe
     by true = each_filter (λ (o : Observer). length o.token ≤ 8) (λ o. not (is_of x.to x.token o)) os h
     by false = h
 
-module _ (limits : Limits) (szx word : ℕ) (t : List Call) (law : ServerLaw limits szx word t) where
+module _ (limits : Limits) (szx : ℕ) (setup : Setup) (t : List Call) (law : ServerLaw limits szx setup t) where
   abbrev mine : Own
   mine = own_of limits szx t
 
@@ -168,8 +161,8 @@ module _ (limits : Limits) (szx word : ℕ) (t : List Call) (law : ServerLaw lim
   counted : AreCounted mine.store
   counted = store_counted limits szx t law.rows
 
-  mirrored : Mirrors limits szx word t
-  mirrored = mirrors limits szx word t law
+  mirrored : Mirrors limits szx setup t
+  mirrored = mirrors limits szx setup t law
 
   kept : mine.exchanges ≡ W.own_of under
   kept = exchanges_kept limits szx t
@@ -178,7 +171,7 @@ module _ (limits : Limits) (szx word : ℕ) (t : List Call) (law : ServerLaw lim
 
   sets_on : (now : ℕ) (path : List (List ℕ)) (format : Option ℕ) (body : List ℕ)
       → (answer : Result ℕ StoreRefusal) × (left : Content)
-      × ServerLaw limits szx word (Sets now path format body answer left ∷ t)
+      × ServerLaw limits szx setup (Sets now path format body answer left ∷ t)
   sets_on now path format body =
       let k = by (put_refusal mine.store at path (length body)) in
       (k.0, k.1, record { rows = (k.2, law.rows); exchanges = law.exchanges })
@@ -196,7 +189,7 @@ module _ (limits : Limits) (szx word : ℕ) (t : List Call) (law : ServerLaw lim
 
   removes_on : (now : ℕ) (path : List (List ℕ))
       → (answer : Result Bool StoreRefusal) × (left : Content)
-      × ServerLaw limits szx word (Removes now path answer left ∷ t)
+      × ServerLaw limits szx setup (Removes now path answer left ∷ t)
   removes_on now path =
       let k = by (mine.store.holds path) (rate_refusal mine.store.tally at) in
       (k.0, k.1, record { rows = (k.2, law.rows); exchanges = law.exchanges })
@@ -244,10 +237,10 @@ module _ (limits : Limits) (szx word : ℕ) (t : List Call) (law : ServerLaw lim
 
     abbrev Handled : L.Answer → Option (Asked × Message) → (Handling → Type 0) → Type 0
     Handled up came Is = (h : Handling) × (below : L.Answer) × Is h
-        × ResponseLaw word ((answering (stage up came) came h below ++ came_first up came ∷ []) ++ under)
+        × ResponseLaw setup ((answering (stage up came) came h below ++ came_first up came ∷ []) ++ under)
 
     module _ (up : L.Answer) (p : Asked × Message)
-        (r : Receives word under law.exchanges at from bytes are late up (Some p)) where
+        (r : Receives setup under law.exchanges at from bytes are late up (Some p)) where
       abbrev s : Own
       s = stage up (Some p)
 
@@ -275,20 +268,20 @@ module _ (limits : Limits) (szx word : ℕ) (t : List Call) (law : ServerLaw lim
               → AsIs (λ h. WaitsBy (delay_for p.0.kind q.path s.delays)
               (may_defer s.exchanges.deferred) s.store s.clock q h)
           by None place is room =
-              let a = answers word (first ∷ under) r.law_of p.0
+              let a = answers setup (first ∷ under) r.law_of p.0
               (response_to s.store s.observers p.0 q k.reply) refl k.may can in (
                 Serves q k.reply k.left,
                 a.0,
                 subst (λ o. WaitsBy o (may_defer s.exchanges.deferred) s.store s.clock q (Serves q k.reply k.left))
                     (sym is) k.is_served,
-                subst (λ o. ResponseLaw word ((E.Answers p.0
+                subst (λ o. ResponseLaw setup ((E.Answers p.0
                     (response_to s.store s.observers p.0 q k.reply) a.0 ∷ deferral_by o
                     (may_defer s.exchanges.deferred) s.clock p.0 ++ first ∷ []) ++ under)) (sym is) a.1,
               )
           by (Some delay) false is room =
-              let d = defers_not word (first ∷ under) r.law_of at p.0 delay refl
+              let d = defers_not setup (first ∷ under) r.law_of at p.0 delay refl
               (delayed_con p.0.kind q.path s delay is) (ap may_defer (sym same_deferred) ∙ room) can in
-              let a = answers word (E.Defers at p.0 delay false ∷ first ∷ under) d.law_of p.0
+              let a = answers setup (E.Defers at p.0 delay false ∷ first ∷ under) d.law_of p.0
               (response_to s.store s.observers p.0 q k.reply) refl k.may d.can in (
                 Serves q k.reply k.left,
                 a.0,
@@ -296,10 +289,10 @@ module _ (limits : Limits) (szx word : ℕ) (t : List Call) (law : ServerLaw lim
                     (sym is)
                     (subst (λ b. WaitsBy (Some delay) b s.store s.clock q (Serves q k.reply k.left))
                     (sym room) k.is_served),
-                subst (λ o. ResponseLaw word ((E.Answers p.0
+                subst (λ o. ResponseLaw setup ((E.Answers p.0
                     (response_to s.store s.observers p.0 q k.reply) a.0 ∷ deferral_by o
                     (may_defer s.exchanges.deferred) s.clock p.0 ++ first ∷ []) ++ under)) (sym is)
-                    (subst (λ b. ResponseLaw word ((E.Answers p.0
+                    (subst (λ b. ResponseLaw setup ((E.Answers p.0
                     (response_to s.store s.observers p.0 q k.reply) a.0 ∷ deferral_by (Some delay) b s.clock p.0
                     ++ first ∷ []) ++ under)) (sym room) a.1),
               )
@@ -308,18 +301,18 @@ module _ (limits : Limits) (szx word : ℕ) (t : List Call) (law : ServerLaw lim
             L.Nothing,
             subst (λ o. WaitsBy o (may_defer s.exchanges.deferred) s.store s.clock q (Waits q delay)) (sym is)
                 (subst (λ b. WaitsBy (Some delay) b s.store s.clock q (Waits q delay)) (sym room) refl),
-            subst (λ o. ResponseLaw word ((deferral_by o (may_defer s.exchanges.deferred) s.clock p.0 ++ first ∷ [])
+            subst (λ o. ResponseLaw setup ((deferral_by o (may_defer s.exchanges.deferred) s.clock p.0 ++ first ∷ [])
                 ++ under)) (sym is)
-                (subst (λ b. ResponseLaw word ((deferral_by (Some delay) b s.clock p.0 ++ first ∷ []) ++ under))
+                (subst (λ b. ResponseLaw setup ((deferral_by (Some delay) b s.clock p.0 ++ first ∷ []) ++ under))
                 (sym room)
-                (defers word (first ∷ under) r.law_of at p.0 delay refl (delayed_con p.0.kind q.path s delay is)
+                (defers setup (first ∷ under) r.law_of at p.0 delay refl (delayed_con p.0.kind q.path s delay is)
                 (ap may_defer (sym same_deferred) ∙ room) can.awaits)),
           )
 
       replied : (response : E.Response) → P.IsResponseWith p.0.token response → (Is : Handling → Type 0)
           → Is (Replies response) → AsIs Is
       replied response may Is is =
-          let a = answers word (first ∷ under) r.law_of p.0 response refl may can in
+          let a = answers setup (first ∷ under) r.law_of p.0 response refl may can in
           (Replies response, a.0, is, a.1)
 
       blocked : (q : Question) (b : Block) → AsIs (λ h. HandlesBlock (ruling_of s.uploads s.clock p.0 q b) s p.0 q b h)
@@ -340,15 +333,15 @@ module _ (limits : Limits) (szx word : ℕ) (t : List Call) (law : ServerLaw lim
       by_verdict (Uploads q b) good = blocked q b
 
     handled : (up : L.Answer) (came : Option (Asked × Message))
-        → Receives word under law.exchanges at from bytes are late up came
+        → Receives setup under law.exchanges at from bytes are late up came
         → Handled up came (λ h. HandlesCame (stage up came) came h)
     handled up None r = (Silent, L.Nothing, refl, r.law_of)
     handled up (Some p) r = by_verdict up p r (verdict_on mine.szx p.1) (is_refusal mine.szx p.1)
 
     feeds_on : (w : ℕ) → (up : L.Answer) × (came : Option (Asked × Message)) × (handling : Handling)
-        × (below : L.Answer) × ServerLaw limits szx word (Feeds now from bytes w up came handling below ∷ t)
+        × (below : L.Answer) × ServerLaw limits szx setup (Feeds now from bytes w up came handling below ∷ t)
     feeds_on w =
-        let r = receives word under law.exchanges at from bytes are late in
+        let r = receives setup under law.exchanges at from bytes are late in
         let h = handled r.0 r.1 r.2 in
         (r.0, r.1, h.0, h.1, record { rows = (h.2, law.rows); exchanges = h.3 })
 
@@ -363,7 +356,7 @@ module _ (limits : Limits) (szx word : ℕ) (t : List Call) (law : ServerLaw lim
     abbrev Dues : L.Answer → Bool → Due → Type 0
     Dues below room d =
         (passed : ℕ) × (h : Handling) × (id : ℕ) × HandlesDue (turn below room d) d passed h
-        × ResponseLaw word ((responding (turn below room d) d passed h w id ++ E.Ticks moment below room d ∷ [])
+        × ResponseLaw setup ((responding (turn below room d) d passed h w id ++ E.Ticks moment below room d ∷ [])
         ++ under)
 
     -- the observer that can be notified is one of those that there are
@@ -374,12 +367,12 @@ module _ (limits : Limits) (szx word : ℕ) (t : List Call) (law : ServerLaw lim
 
     -- in a NON, or in a CON
     noticed_by : (plain : Bool) (o : Observer) (r : E.Response) (w : ℕ) (calls : List E.Call)
-        → (law : ResponseLaw word calls) → P.IsResponseWith o.token r → TakesCon law.left moment o.to
-        → ResponseLaw word (notifies_by plain moment o r w law.left.upcoming ∷ calls)
-    noticed_by true o r w calls law is can = notifies_plain word calls law moment o.to o.token r is can
-    noticed_by false o r w calls law is can = notifies word calls law moment o.to o.token r w is can
+        → (law : ResponseLaw setup calls) → P.IsResponseWith o.token r → TakesCon law.left moment o.to
+        → ResponseLaw setup (notifies_by plain moment o r w law.left.upcoming ∷ calls)
+    noticed_by true o r w calls law is can = notifies_plain setup calls law moment o.to o.token r is can
+    noticed_by false o r w calls law is can = notifies setup calls law moment o.to o.token r w is can
 
-    idled : (below : L.Answer) (room : Bool) → TimePasses word under law.exchanges moment below room due.Idle
+    idled : (below : L.Answer) (room : Bool) → TimePasses setup under law.exchanges moment below room due.Idle
         → Dues below room due.Idle
     idled below room k = by (behind x.passed (marked os)) refl
       where
@@ -389,13 +382,13 @@ module _ (limits : Limits) (szx word : ℕ) (t : List Call) (law : ServerLaw lim
         os : List Observer
         os = (turn below room due.Idle).observers
 
-        x : Walked word moment (marked os) (first ∷ under)
-        x = walks word moment (marked os) (first ∷ under) k.law_of
+        x : Walked setup moment (marked os) (first ∷ under)
+        x = walks setup moment (marked os) (first ∷ under) k.law_of
 
         short : (o : Observer) → behind x.passed (marked os) ≡ Some o → length o.token ≤ 8
         short o is =
             each_there (λ (y : Observer). length y.token ≤ 8) os o
-            (ended_short (P.after mine.exchanges first).ended mine.observers (observers_short limits szx word t law))
+            (ended_short (P.after mine.exchanges first).ended mine.observers (observers_short limits szx setup t law))
             (marked_there os o (behind_there x.passed (marked os) o is)).0
 
         by : (o : Option Observer) → behind x.passed (marked os) ≡ o → Dues below room due.Idle
@@ -404,7 +397,7 @@ module _ (limits : Limits) (szx word : ℕ) (t : List Call) (law : ServerLaw lim
           Silent,
           0,
           subst (λ o. NotifiesNext o mine.store Silent) (sym is) refl,
-          subst (ResponseLaw word) (sym (joined (readies moment x.passed (marked os)) first under)) x.law_of,
+          subst (ResponseLaw setup) (sym (joined (readies moment x.passed (marked os)) first under)) x.law_of,
         )
         by (Some o) is =
             let calls : List E.Call = readies moment x.passed (marked os) ++ first ∷ under in
@@ -415,11 +408,11 @@ module _ (limits : Limits) (szx word : ℕ) (t : List Call) (law : ServerLaw lim
               Notifies o (told mine.store o),
               x.law_of.left.upcoming,
               subst (λ y. NotifiesNext y mine.store (Notifies o (told mine.store o))) (sym is) refl,
-              subst (λ z. ResponseLaw word (notifies_by (by_plain s o) moment o r w x.law_of.left.upcoming ∷ z))
+              subst (λ z. ResponseLaw setup (notifies_by (by_plain s o) moment o r w x.law_of.left.upcoming ∷ z))
                   (sym (joined (readies moment x.passed (marked os)) first under)) n,
             )
 
-    due_on : (below : L.Answer) (room : Bool) (d : Due) → TimePasses word under law.exchanges moment below room d
+    due_on : (below : L.Answer) (room : Bool) (d : Due) → TimePasses setup under law.exchanges moment below room d
         → Dues below room d
     due_on below room due.Idle k = idled below room k
     due_on below room due.Copied k = (0, Silent, 0, refl, k.law_of)
@@ -435,7 +428,7 @@ module _ (limits : Limits) (szx word : ℕ) (t : List Call) (law : ServerLaw lim
         let asks = taken moment (W.own_of under).separate a mine.waiting f.deferred first f.asked in
         let s : Own = turn below room (due.Ready a) in
         let v = served s a asks.question counted (asked_short moment a mine.waiting asks.question
-        (waiting_short limits szx word t law) asks.asks) in
+        (waiting_short limits szx setup t law) asks.asks) in
         let twice : max (max (W.own_of under).clock moment) moment ≡ max (W.own_of under).clock moment = omega arith in
         let ready : P.ready_at (W.own_of (E.Ticks moment below room (due.Ready a) ∷ under)) moment ≡ Some f.deferred =
         ap (λ u. P.first_ready (max (max (W.own_of under).clock moment) moment)
@@ -446,7 +439,7 @@ module _ (limits : Limits) (szx word : ℕ) (t : List Call) (law : ServerLaw lim
           k.law_of.left.upcoming,
           subst (λ o. AnswersWaiting o mine.store moment (Serves asks.question v.reply v.left)) {x = Some asks.question}
               (sym asks.asks) v.is_served,
-          responds word (E.Ticks moment below room (due.Ready a) ∷ under) k.law_of moment a
+          responds setup (E.Ticks moment below room (due.Ready a) ∷ under) k.law_of moment a
               (response_to s.store s.observers a asks.question v.reply) w f.deferred ready f.asked v.may
               (k.can_respond a refl),
         )
@@ -454,13 +447,13 @@ module _ (limits : Limits) (szx word : ℕ) (t : List Call) (law : ServerLaw lim
     ticks_on :
         (below : L.Answer) × (room : Bool) × (due : Due) × (passed : ℕ) × (handling : Handling) × (id : ℕ)
         × (answer : Bool)
-        × ServerLaw limits szx word (Ticks now w below room due passed handling id answer ∷ t)
+        × ServerLaw limits szx setup (Ticks now w below room due passed handling id answer ∷ t)
     ticks_on =
-        let k = passes_time word under law.exchanges moment in
+        let k = passes_time setup under law.exchanges moment in
         let h = due_on k.0 k.1 k.2 k.3 in
         (k.0, k.1, k.2, h.0, h.1, h.2, is_done k.2 h.1, record { rows = ((h.3, refl), law.rows); exchanges = h.4 })
 
-  pub goes_on : GoesOn limits szx word t
+  pub goes_on : GoesOn limits szx setup t
   goes_on = record {
     sets = sets_on;
     removes = removes_on;
@@ -468,7 +461,7 @@ module _ (limits : Limits) (szx word : ℕ) (t : List Call) (law : ServerLaw lim
     plains = λ path. (may_be_plain path mine.plains, record { rows = (refl, law.rows); exchanges = law.exchanges });
     feeds = λ now from bytes w are. feeds_on now from bytes are w;
     ticks = ticks_on;
-    next_out = let k = takes word under law.exchanges in (k.0, record { rows = (tt, law.rows); exchanges = k.1 });
+    next_out = let k = takes setup under law.exchanges in (k.0, record { rows = (tt, law.rows); exchanges = k.1 });
     gets = λ path. (mine.store.holds path, record { rows = (refl, law.rows); exchanges = law.exchanges });
     tells_applied = (mine.applied, record { rows = (refl, law.rows); exchanges = law.exchanges });
   }

@@ -5,8 +5,8 @@ use Rattle.coap_resource.specs.Content.{Content, Held, put_refusal}
 use Rattle.coap_resource.specs.Rate.{rate_refusal}
 use Rattle.coap_resource.specs.Limits.{Limits}
 use Rattle.coap_exchange.specs.declared.answerer.Due.TheVariants as due
-use Rattle.coap_server.specs.Trace.{Own, Silent, Replies, Serves, Waits, Notifies, Call, Sets, Removes}
-use Rattle.coap_server.specs.Trace.{Delays, Plains, Feeds, Ticks, NextOut, Gets, TellsApplied}
+use Rattle.coap_server.specs.Trace.{Own, Serves, Call, Sets, Removes}
+use Rattle.coap_server.specs.Trace.{Feeds, Ticks}
 use Rattle.coap_server.specs.Local.{SetsBy, RemovesBy}
 use Rattle.coap_server.specs.Deferring.{question_of}
 use Rattle.coap_server.specs.Notifying.{marked, behind}
@@ -40,11 +40,6 @@ moves_by s (Sets now path format body answer left) right =
 moves_by s (Removes now path answer left) right =
     removes_moves (s.store.holds path) (rate_refusal s.store.tally (max s.clock now)) s.store
     (max s.clock now) path answer left right
-moves_by s (Delays path ms answer) right = kept s
-moves_by s (Plains path answer) right = kept s
-moves_by s (NextOut answer) right = kept s
-moves_by s (Gets path answer) right = kept s
-moves_by s (TellsApplied answer) right = kept s
 moves_by s (Feeds now from bytes word up (Some p) (Serves q reply left) below) right =
     let w : Own = heard s now (incoming s now from bytes up (Some p)) in
     served_moves s.store w.clock q reply left (serves_came w p q reply left right)
@@ -53,14 +48,6 @@ moves_by s (Ticks now word below room (due.Ready a) passed (Serves q reply left)
     served_moves s.store w.clock q reply left
     (serves_waited (question_of w.clock a w.waiting) w.store w.clock q reply left right.0)
 moves_by s (Feeds now from bytes word up None (Serves q reply left) below) right = absurd (cc right)
-moves_by s (Feeds now from bytes word up None Silent below) right = kept s
-moves_by s (Feeds now from bytes word up None (Replies r) below) right = kept s
-moves_by s (Feeds now from bytes word up None (Waits q d) below) right = kept s
-moves_by s (Feeds now from bytes word up None (Notifies o reply) below) right = kept s
-moves_by s (Feeds now from bytes word up (Some p) Silent below) right = kept s
-moves_by s (Feeds now from bytes word up (Some p) (Replies r) below) right = kept s
-moves_by s (Feeds now from bytes word up (Some p) (Waits q d) below) right = kept s
-moves_by s (Feeds now from bytes word up (Some p) (Notifies o reply) below) right = kept s
 moves_by s (Ticks now word below room due.Idle passed (Serves q reply left) id answer) right =
     let w : Own = heard s now (ticking s now below room due.Idle) in absurd
     (next_serves (behind passed (marked w.observers)) w.store q reply left right.0)
@@ -68,22 +55,7 @@ moves_by s (Ticks now word below room due.Copied passed (Serves q reply left) id
     right.0 in absurd (cc e)
 moves_by s (Ticks now word below room due.Expired passed (Serves q reply left) id answer) right = let e =
     right.0 in absurd (cc e)
-moves_by s (Ticks now word below room due.Idle passed Silent id answer) right = kept s
-moves_by s (Ticks now word below room due.Idle passed (Replies r) id answer) right = kept s
-moves_by s (Ticks now word below room due.Idle passed (Waits q e) id answer) right = kept s
-moves_by s (Ticks now word below room due.Idle passed (Notifies o reply) id answer) right = kept s
-moves_by s (Ticks now word below room due.Copied passed Silent id answer) right = kept s
-moves_by s (Ticks now word below room due.Copied passed (Replies r) id answer) right = kept s
-moves_by s (Ticks now word below room due.Copied passed (Waits q e) id answer) right = kept s
-moves_by s (Ticks now word below room due.Copied passed (Notifies o reply) id answer) right = kept s
-moves_by s (Ticks now word below room due.Expired passed Silent id answer) right = kept s
-moves_by s (Ticks now word below room due.Expired passed (Replies r) id answer) right = kept s
-moves_by s (Ticks now word below room due.Expired passed (Waits q e) id answer) right = kept s
-moves_by s (Ticks now word below room due.Expired passed (Notifies o reply) id answer) right = kept s
-moves_by s (Ticks now word below room (due.Ready a) passed Silent id answer) right = kept s
-moves_by s (Ticks now word below room (due.Ready a) passed (Replies r) id answer) right = kept s
-moves_by s (Ticks now word below room (due.Ready a) passed (Waits q e) id answer) right = kept s
-moves_by s (Ticks now word below room (due.Ready a) passed (Notifies o reply) id answer) right = kept s
+moves_by s _ right = kept s
 
 pub store_counted : (limits : Limits) (szx : ℕ) (t : List Call) → ServerRows limits szx t
     → AreCounted (own_of limits szx t).store

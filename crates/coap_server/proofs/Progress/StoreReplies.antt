@@ -7,8 +7,7 @@ use Rattle.coap_types.specs.declared.request.Method.{Method}
 use Rattle.coap_types.specs.declared.request.Method.TheVariants.{Get, Post, Put, Delete}
 use Rattle.coap_types.specs.declared.role.Role.TheVariants as role
 use Rattle.coap_resource.specs.declared.refusal.StoreRefusal.{StoreRefusal}
-use Rattle.coap_resource.specs.declared.refusal.StoreRefusal.TheVariants.{Memory, TooLarge, TooManyPaths, RateExceeded}
-use Rattle.coap_resource.specs.declared.refusal.StoreRefusal.TheVariants.{VersionsSpent}
+use Rattle.coap_resource.specs.declared.refusal.StoreRefusal.TheVariants.{TooLarge}
 use Rattle.coap_resource.specs.Content.{Content, Held, later, append_refusal, put_refusal}
 use Rattle.coap_resource.specs.Rate.{rate_refusal}
 use Rattle.coap_resource.specs.RequestOptions.{precondition_fails, accepts, etag_names, block_of, offset_by, tag_of}
@@ -35,11 +34,8 @@ bare_good : (code offset : ℕ) → role_of code ≡ role.Response → 0 < code 
 bare_good code offset class some small = record { class = class; some = some; code = small; tag = tt }
 
 refusal_good : (why : StoreRefusal) → IsGood (bare (refusal_code why) 0)
-refusal_good Memory = bare_good 163 0 refl (omega arith) (omega arith)
 refusal_good TooLarge = bare_good 141 0 refl (omega arith) (omega arith)
-refusal_good TooManyPaths = bare_good 163 0 refl (omega arith) (omega arith)
-refusal_good RateExceeded = bare_good 163 0 refl (omega arith) (omega arith)
-refusal_good VersionsSpent = bare_good 163 0 refl (omega arith) (omega arith)
+refusal_good _ = bare_good 163 0 refl (omega arith) (omega arith)
 
 -- a GET
 pub got_good : (o : Option Held) (q : Question) → IsGood (got o q)

@@ -8,6 +8,7 @@ use Rattle.coap_codec.specs.Message.{Message}
 use Rattle.coap_block.specs.Whole.{Each}
 use Rattle.coap_observe.specs.Observers.{Observer}
 use Rattle.coap_layer.specs.Trace as L
+use Rattle.coap_layer.specs.declared.setup.Setup.{Setup}
 use Rattle.coap_resource.specs.Serves.{Question}
 use Rattle.coap_resource.specs.Limits.{Limits}
 use Rattle.coap_exchange.specs.declared.answerer.Asked.{Asked}
@@ -16,9 +17,8 @@ use Rattle.coap_exchange.specs.declared.answerer.Due.TheVariants as due
 use Rattle.coap_exchange.specs.AnswererTrace as E
 use Rattle.coap_exchange.specs.AnswererFollows.{AreRequests, same_asked}
 use Rattle.coap_exchange.proofs.Facts.ServerSide.{came_in}
-use Rattle.coap_server.specs.Trace.{Waiting, Own, Handling, Silent, Replies, Serves, Waits, Notifies}
-use Rattle.coap_server.specs.Trace.{Call, Sets, Removes, Delays, Plains, Feeds, Ticks, NextOut, Gets}
-use Rattle.coap_server.specs.Trace.{TellsApplied}
+use Rattle.coap_server.specs.Trace.{Waiting, Own, Handling, Serves, Waits}
+use Rattle.coap_server.specs.Trace.{Call, Feeds, Ticks}
 use Rattle.coap_server.specs.Deferring.{is_of, question_of, without_waiting, AnswersWaiting}
 use Rattle.coap_server.specs.Handling.{incoming, ticking, heard}
 use Rattle.coap_server.specs.Asks.{answering}
@@ -50,9 +50,7 @@ short_without at a (w ∷ ws) h = by (is_of at a w) (short_without at a ws h.1)
 
 short_due : (at : ℕ) (d : Due) (ws : List Waiting) → AreShort ws → AreShort (waiting_due at (ready_in d) ws)
 short_due at (due.Ready a) ws h = short_without at a ws h
-short_due at due.Idle ws h = h
-short_due at due.Copied ws h = h
-short_due at due.Expired ws h = h
+short_due at _ ws h = h
 
 -- what is asked for of them
 pub asked_short : (at : ℕ) (a : Asked) (ws : List Waiting) (q : Question) → AreShort ws → question_of at a ws ≡ Some q
@@ -70,19 +68,19 @@ requests_back : (xs ys : List E.Call) → AreRequests (xs ++ ys) → AreRequests
 requests_back [] ys h = h
 requests_back (x ∷ xs) ys h = requests_back xs ys h.1
 
-module _ (limits : Limits) (szx word : ℕ) where
+module _ (limits : Limits) (szx : ℕ) (setup : Setup) where
   abbrev own : List Call → Own
   own t = own_of limits szx t
 
   -- what comes with a datagram
   pub fed_short : (t : List Call) (now : ℕ) (from : Endpoint) (bytes : List ℕ) (w : ℕ) (up : L.Answer)
       (p : Asked × Message) (h : Handling) (below : L.Answer)
-      → ServerLaw limits szx word (Feeds now from bytes w up (Some p) h below ∷ t) → length p.0.token ≤ 8
+      → ServerLaw limits szx setup (Feeds now from bytes w up (Some p) h below ∷ t) → length p.0.token ≤ 8
   fed_short t now from bytes w up p h below law =
       let s : Own = own t in
       let first : E.Call = incoming s now from bytes up (Some p) in
       let asks : List E.Call = answering (heard s now first) (Some p) h below in
-      let all = came_in word (lower_of limits szx (Feeds now from bytes w up (Some p) h below ∷ t)) law.exchanges.rows
+      let all = came_in setup (lower_of limits szx (Feeds now from bytes w up (Some p) h below ∷ t)) law.exchanges.rows
       law.exchanges.left law.exchanges.layer in
       let one = requests_back asks (first ∷ lower_of limits szx t)
       (subst AreRequests (joined asks first (lower_of limits szx t)) all) in
@@ -90,30 +88,19 @@ module _ (limits : Limits) (szx word : ℕ) where
       subst (λ (x : Asked). length x.token ≤ 8) (sym came.0) came.1.token
 
   -- what waits
-  short_call : (t : List Call) (c : Call) → ServerLaw limits szx word (c ∷ t) → AreShort (own t).waiting
+  short_call : (t : List Call) (c : Call) → ServerLaw limits szx setup (c ∷ t) → AreShort (own t).waiting
       → AreShort (own (c ∷ t)).waiting
-  short_call t (Sets now path format body answer left) law h = h
-  short_call t (Removes now path answer left) law h = h
-  short_call t (Delays path ms answer) law h = h
-  short_call t (Plains path answer) law h = h
-  short_call t (NextOut answer) law h = h
-  short_call t (Gets path answer) law h = h
-  short_call t (TellsApplied answer) law h = h
   short_call t (Ticks now w below room d passed k id answer) law h = short_due _ d (own t).waiting h
-  short_call t (Feeds now from bytes w up None k below) law h = h
-  short_call t (Feeds now from bytes w up (Some p) Silent below) law h = h
-  short_call t (Feeds now from bytes w up (Some p) (Replies r) below) law h = h
-  short_call t (Feeds now from bytes w up (Some p) (Serves q reply left) below) law h = h
-  short_call t (Feeds now from bytes w up (Some p) (Notifies o reply) below) law h = h
   short_call t (Feeds now from bytes w up (Some p) (Waits q delay) below) law h =
       short_more (own t).waiting _ h (fed_short t now from bytes w up p (Waits q delay) below law)
+  short_call t _ law h = h
 
-  pub waiting_short : (t : List Call) → ServerLaw limits szx word t → AreShort (own t).waiting
+  pub waiting_short : (t : List Call) → ServerLaw limits szx setup t → AreShort (own t).waiting
   waiting_short [] law = tt
-  waiting_short (c ∷ t) law = short_call t c law (waiting_short t (server_back limits szx word c t law))
+  waiting_short (c ∷ t) law = short_call t c law (waiting_short t (server_back limits szx setup c t law))
 
   -- what is served
-  pub serving_short : (t : List Call) (c : Call) → ServerLaw limits szx word (c ∷ t) → (x : Serving)
+  pub serving_short : (t : List Call) (c : Call) → ServerLaw limits szx setup (c ∷ t) → (x : Serving)
       → serving (own t) c ≡ Some x → length x.asked.token ≤ 8
   serving_short t (Feeds now from bytes w up (Some p) (Serves q reply left) below) law x is =
       let s : Own = heard (own t) now (incoming (own t) now from bytes up (Some p)) in
@@ -129,42 +116,24 @@ module _ (limits : Limits) (szx word : ℕ) where
           → AnswersWaiting o (own t).store (max (own t).clock now) (Serves q reply left) → length a.token ≤ 8
       by None e h = absurd (cc h)
       by (Some y) e h = asked_short (max (own t).clock now) a (own t).waiting y
-          (waiting_short t (server_back limits szx word
+          (waiting_short t (server_back limits szx setup
           (Ticks now w below room (due.Ready a) passed (Serves q reply left) id answer) t law)) e
-  serving_short t (Feeds now from bytes w up None h below) law x e = absurd (cc e)
-  serving_short t (Feeds now from bytes w up (Some p) Silent below) law x e = absurd (cc e)
-  serving_short t (Feeds now from bytes w up (Some p) (Replies r) below) law x e = absurd (cc e)
-  serving_short t (Feeds now from bytes w up (Some p) (Waits q d) below) law x e = absurd (cc e)
-  serving_short t (Feeds now from bytes w up (Some p) (Notifies o reply) below) law x e = absurd (cc e)
-  serving_short t (Ticks now w below room due.Idle passed h id answer) law x e = absurd (cc e)
-  serving_short t (Ticks now w below room due.Copied passed h id answer) law x e = absurd (cc e)
-  serving_short t (Ticks now w below room due.Expired passed h id answer) law x e = absurd (cc e)
-  serving_short t (Ticks now w below room (due.Ready a) passed Silent id answer) law x e = absurd (cc e)
-  serving_short t (Ticks now w below room (due.Ready a) passed (Replies r) id answer) law x e = absurd (cc e)
-  serving_short t (Ticks now w below room (due.Ready a) passed (Waits q d) id answer) law x e = absurd (cc e)
-  serving_short t (Ticks now w below room (due.Ready a) passed (Notifies o reply) id answer) law x e = absurd (cc e)
-  serving_short t (Sets now path format body answer left) law x e = absurd (cc e)
-  serving_short t (Removes now path answer left) law x e = absurd (cc e)
-  serving_short t (Delays path ms answer) law x e = absurd (cc e)
-  serving_short t (Plains path answer) law x e = absurd (cc e)
-  serving_short t (NextOut answer) law x e = absurd (cc e)
-  serving_short t (Gets path answer) law x e = absurd (cc e)
-  serving_short t (TellsApplied answer) law x e = absurd (cc e)
+  serving_short t _ law x e = absurd (cc e)
 
   -- who observes
-  made_short : (t : List Call) (o : Observer) → ServerLaw limits szx word t → WasMade limits szx t o
+  made_short : (t : List Call) (o : Observer) → ServerLaw limits szx setup t → WasMade limits szx t o
       → length o.token ≤ 8
   made_short [] o law h = absurd h
   made_short (c ∷ t) o law (inl h) = subst (λ token. length token ≤ 8) h.made.token_is
       (serving_short t c law h.made.request h.made.here)
-  made_short (c ∷ t) o law (inr h) = made_short t o (server_back limits szx word c t law) h
+  made_short (c ∷ t) o law (inr h) = made_short t o (server_back limits szx setup c t law) h
 
-  each_short : (t : List Call) (os : List Observer) → ServerLaw limits szx word t → Each (WasMade limits szx t) os
+  each_short : (t : List Call) (os : List Observer) → ServerLaw limits szx setup t → Each (WasMade limits szx t) os
       → Each (λ o. length o.token ≤ 8) os
   each_short t [] law h = tt
   each_short t (o ∷ os) law h = (made_short t o law h.0, each_short t os law h.1)
 
-  pub observers_short : (t : List Call) → ServerLaw limits szx word t
+  pub observers_short : (t : List Call) → ServerLaw limits szx setup t
       → Each (λ (o : Observer). length o.token ≤ 8) (own t).observers
   observers_short t law = each_short t (own t).observers law (are_observers limits szx t).made
 
@@ -172,12 +141,12 @@ module _ (limits : Limits) (szx word : ℕ) where
   each_waiting [] h = tt
   each_waiting (w ∷ ws) h = (h.0, each_waiting ws h.1)
 
-  all_served_short : (t : List Call) → ServerLaw limits szx word t
+  all_served_short : (t : List Call) → ServerLaw limits szx setup t
       → Always (λ past c. (x : Serving) → serving (own past) c ≡ Some x → length x.asked.token ≤ 8) t
   all_served_short [] law = tt
-  all_served_short (c ∷ t) law = (serving_short t c law, all_served_short t (server_back limits szx word c t law))
+  all_served_short (c ∷ t) law = (serving_short t c law, all_served_short t (server_back limits szx setup c t law))
 
-  pub short_tokens : (t : List Call) → ServerLaw limits szx word t → ShortTokens limits szx t
+  pub short_tokens : (t : List Call) → ServerLaw limits szx setup t → ShortTokens limits szx t
   short_tokens t law = record {
     served = all_served_short t law;
     waiting = each_waiting (own t).waiting (waiting_short t law);

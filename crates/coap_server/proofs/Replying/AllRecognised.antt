@@ -6,6 +6,7 @@ use Rattle.coap_types.specs.Recognised.{lacks_critical}
 use Rattle.coap_types.specs.declared.block.Block.{Block}
 use Rattle.coap_types.specs.declared.direction.Direction.TheVariants.{Response}
 use Rattle.coap_types.proofs.Facts.Traces.{Ever_map, forget}
+use Rattle.coap_layer.specs.declared.setup.Setup.{Setup}
 use Rattle.coap_codec.specs.Message.{Message}
 use Rattle.coap_block.specs.AssemblyState.{AssemblyState}
 use Rattle.coap_block.specs.declared.block_verdict.BlockVerdict.{BlockVerdict}
@@ -19,8 +20,8 @@ use Rattle.coap_exchange.specs.declared.answerer.Asked.{Asked}
 use Rattle.coap_exchange.specs.declared.answerer.Due.TheVariants as due
 use Rattle.coap_exchange.specs.AnswererSteps as P
 use Rattle.coap_exchange.specs.AnswererTrace as E
-use Rattle.coap_server.specs.Trace.{Own, Silent, Replies, Serves, Waits, Notifies, Call, Sets, Removes, Delays, Plains, Feeds}
-use Rattle.coap_server.specs.Trace.{Ticks, NextOut, Gets, TellsApplied}
+use Rattle.coap_server.specs.Trace.{Own, Notifies, Call, Feeds}
+use Rattle.coap_server.specs.Trace.{Ticks}
 use Rattle.coap_server.specs.Checks.{Verdict, Ignored, Refused, Asks, Uploads, verdict_on}
 use Rattle.coap_server.specs.Deferring.{question_of}
 use Rattle.coap_server.specs.Handling.{heard, ticking}
@@ -54,9 +55,6 @@ use Rattle.coap_server.proofs.Telling.ResponsesMade.{made_here}
 
 took_small : (u : AssemblyState) (szx at : ℕ) (a : Asked) (m : Message) (v : Verdict) (x : Took) → ReadsOf szx m v
     → taken_by u at a v ≡ Some x → (x.part.num ≤ 1048575) × (x.part.szx ≤ 6)
-took_small u szx at a m Ignored x r h = absurd (cc h)
-took_small u szx at a m (Refused code) x r h = absurd (cc h)
-took_small u szx at a m (Asks q) x r h = absurd (cc h)
 took_small u szx at a m (Uploads q b) x r h = by (ruling_of u at a q b) h
   where
     read : took a q b ≡ x → (x.part.num ≤ 1048575) × (x.part.szx ≤ 6)
@@ -66,20 +64,13 @@ took_small u szx at a m (Uploads q b) x r h = by (ruling_of u at a q b) h
     by (Refuse why) t = absurd (cc t)
     by (Join n) t = read (cc t)
     by Done t = read (cc t)
+took_small u szx at a m _ x r h = absurd (cc h)
 
 block_small : (s : Own) (c : Call) (x : Took) → takes_block s c ≡ Some x
     → (x.part.num ≤ 1048575) × (x.part.szx ≤ 6)
 block_small s (Feeds now from bytes w up (Some p) h below) x e =
     took_small s.uploads s.szx _ p.0 p.1 (verdict_on s.szx p.1) x (verdicts_read s.szx p.1) e
-block_small s (Feeds now from bytes w up None h below) x e = absurd (cc e)
-block_small s (Sets now path format body answer left) x e = absurd (cc e)
-block_small s (Removes now path answer left) x e = absurd (cc e)
-block_small s (Delays path ms answer) x e = absurd (cc e)
-block_small s (Plains path answer) x e = absurd (cc e)
-block_small s (Ticks now w below room d passed h id answer) x e = absurd (cc e)
-block_small s (NextOut answer) x e = absurd (cc e)
-block_small s (Gets path answer) x e = absurd (cc e)
-block_small s (TellsApplied answer) x e = absurd (cc e)
+block_small s _ x e = absurd (cc e)
 
 size_small : (num szx size : ℕ) → szx ≤ 6 → KeepsSize num szx size → size ≤ 6
 size_small num szx size small (inl same) = omega (arith, small, same)
@@ -89,7 +80,7 @@ smaller : (o : Option Block) (szx : ℕ) → szx_by o szx ≤ szx
 smaller None szx = omega arith
 smaller (Some b) szx = omega arith
 
-module _ (limits : Limits) (szx word : ℕ) where
+module _ (limits : Limits) (szx : ℕ) (setup : Setup) where
   abbrev own : List Call → Own
   own t = own_of limits szx t
 
@@ -104,7 +95,7 @@ module _ (limits : Limits) (szx word : ℕ) where
       ap (λ (x : Question). x.szx) h.question ∙ ap (λ (x : Question). x.szx) r.0.is
 
   brought_size : (t : List Call) (a : Asked) (q : Question)
-      → Sometime (λ past c. Brings limits szx word past c a q) t → q.szx ≡ szx
+      → Sometime (λ past c. Brings limits szx setup past c a q) t → q.szx ≡ szx
   brought_size [] a q h = absurd h
   brought_size (c ∷ t) a q (inl h) = forget (q.szx ≡ szx) h.comes.news
       (Ever_map (HandsUp szx a h.verdict) (λ e. q.szx ≡ szx)
@@ -112,11 +103,11 @@ module _ (limits : Limits) (szx word : ℕ) where
       (subst (ReadsOf szx k.message) k.verdict (verdicts_read szx k.message)) h.asks) h.comes.news h.comes.here)
   brought_size (c ∷ t) a q (inr h) = brought_size t a q h
 
-  served_size : (t : List Call) (c : Call) → ServerLaw limits szx word (c ∷ t) → (x : Serving)
+  served_size : (t : List Call) (c : Call) → ServerLaw limits szx setup (c ∷ t) → (x : Serving)
       → serving (own t) c ≡ Some x → x.question.szx ≡ szx
-  served_size t c law x is = brought_size (c ∷ t) x.asked x.question ((handed_up limits szx word (c ∷ t) law).0 x is)
+  served_size t c law x is = brought_size (c ∷ t) x.asked x.question ((handed_up limits szx setup (c ∷ t) law).0 x is)
 
-  made_size : (t : List Call) (o : Observer) → ServerLaw limits szx word t → WasMade limits szx t o → o.szx ≤ szx
+  made_size : (t : List Call) (o : Observer) → ServerLaw limits szx setup t → WasMade limits szx t o → o.szx ≤ szx
   made_size [] o law h = absurd h
   made_size (c ∷ t) o law (inl h) =
       let q : Question = h.made.request.question in
@@ -124,10 +115,10 @@ module _ (limits : Limits) (szx word : ℕ) where
       let same = served_size t c law h.made.request h.made.here in
       let less = smaller (block_of q.options) q.szx in
       omega (arith, is, same, less)
-  made_size (c ∷ t) o law (inr h) = made_size t o (server_back limits szx word c t law) h
+  made_size (c ∷ t) o law (inr h) = made_size t o (server_back limits szx setup c t law) h
 
   module _ (small : szx ≤ 6) (limit : limits.body ≤ 1048576) where
-    module _ (t : List Call) (c : Call) (law : ServerLaw limits szx word (c ∷ t)) where
+    module _ (t : List Call) (c : Call) (law : ServerLaw limits szx setup (c ∷ t)) where
       held_short : (path : List (List ℕ)) (held : Held) → (own t).store.holds path ≡ Some held
           → length held.body ≤ 1048576
       held_short path held is = let k = bodies_short limits szx t law.rows.1 path held is in omega (arith, k, limit)
@@ -144,7 +135,7 @@ module _ (limits : Limits) (szx word : ℕ) where
           (last_small x.question)
 
       responses : (a : Asked) (r : E.Response) → Sends limits szx t c a r → lacks_critical Response r.options ≡ false
-      responses a r h = elim (made_here limits szx word t c law a r h) [
+      responses a r h = elim (made_here limits szx setup t c law a r h) [
         | inl k ↦ subst (λ (y : E.Response). lacks_critical Response y.options ≡ false) (sym k.is)
             (served k.request k.here)
         | inr z ↦ elim z [
@@ -154,7 +145,7 @@ module _ (limits : Limits) (szx word : ℕ) where
               (continue_understood k.size
               (record { num = k.block.part.num; more = true; szx = k.block.part.szx }) low.0
               (size_small k.block.part.num k.block.part.szx k.size low.1
-              (sizes limits szx word t c k.block k.size k.taken k.asks)))
+              (sizes limits szx setup t c k.block k.size k.taken k.asks)))
               )
           | inr k ↦ subst (λ (y : E.Response). lacks_critical Response y.options ≡ false) (sym k.is) refl
         ]
@@ -164,7 +155,7 @@ module _ (limits : Limits) (szx word : ℕ) where
       told_so : (o : Observer) (reply : Reply) → WasMade limits szx t o → reply ≡ told (own t).store o
           → lacks_critical Response (notification (own t).store o reply).options ≡ false
       told_so o reply made is =
-          let size = made_size t o (server_back limits szx word c t law) made in
+          let size = made_size t o (server_back limits szx setup c t law) made in
           subst (λ (z : Reply). lacks_critical Response (notification (own t).store o z).options ≡ false) (sym is)
           (response_understood (told (own t).store o) (sequence ((own t).store.holds o.path)) None
           (got_small ((own t).store.holds o.path) (asks_for o) (held_short o.path) (omega (arith, size, small))) tt)
@@ -172,8 +163,8 @@ module _ (limits : Limits) (szx word : ℕ) where
       notices : (x : Notice) (d : Call) → d ≡ c → notice d ≡ Some x
           → lacks_critical Response (notification (own t).store x.observer x.reply).options ≡ false
       notices x (Ticks now w below room due.Idle passed (Notifies o reply) id answer) is e =
-          let tick : ServerLaw limits szx word (Ticks now w below room due.Idle passed (Notifies o reply) id answer ∷ t) =
-          subst (λ z. ServerLaw limits szx word (z ∷ t)) (sym is) law in
+          let tick : ServerLaw limits szx setup (Ticks now w below room due.Idle passed (Notifies o reply) id answer ∷ t) =
+          subst (λ z. ServerLaw limits szx setup (z ∷ t)) (sym is) law in
           let s : Own = heard (own t) now (ticking (own t) now below room due.Idle) in
           let right = tick.rows.0.0 in
           let found = next_is (behind passed (marked s.observers)) s.store o reply right in
@@ -185,33 +176,22 @@ module _ (limits : Limits) (szx word : ℕ) where
           same (told_so o reply (each_there (WasMade limits szx t) s.observers o g.made there)
           (next_told (behind passed (marked s.observers)) s.store o reply right))
       notices x (Ticks now w below room due.Copied passed (Notifies o reply) id answer) is e =
-          let k = (subst (λ z. ServerLaw limits szx word (z ∷ t)) (sym is) law).rows.0.0 in absurd (cc k)
+          let k = (subst (λ z. ServerLaw limits szx setup (z ∷ t)) (sym is) law).rows.0.0 in absurd (cc k)
       notices x (Ticks now w below room due.Expired passed (Notifies o reply) id answer) is e =
-          let k = (subst (λ z. ServerLaw limits szx word (z ∷ t)) (sym is) law).rows.0.0 in absurd (cc k)
+          let k = (subst (λ z. ServerLaw limits szx setup (z ∷ t)) (sym is) law).rows.0.0 in absurd (cc k)
       notices x (Ticks now w below room (due.Ready a) passed (Notifies o reply) id answer) is e =
           let s : Own = heard (own t) now (ticking (own t) now below room (due.Ready a)) in
           absurd (never_notifies_ready (question_of s.clock a s.waiting) s.store s.clock o reply
-          (subst (λ z. ServerLaw limits szx word (z ∷ t)) (sym is) law).rows.0.0)
-      notices x (Ticks now w below room d passed Silent id answer) is e = absurd (cc e)
-      notices x (Ticks now w below room d passed (Replies r) id answer) is e = absurd (cc e)
-      notices x (Ticks now w below room d passed (Serves q reply left) id answer) is e = absurd (cc e)
-      notices x (Ticks now w below room d passed (Waits q ms) id answer) is e = absurd (cc e)
-      notices x (Feeds now from bytes w up came h below) is e = absurd (cc e)
-      notices x (Sets now path format body answer left) is e = absurd (cc e)
-      notices x (Removes now path answer left) is e = absurd (cc e)
-      notices x (Delays path ms answer) is e = absurd (cc e)
-      notices x (Plains path answer) is e = absurd (cc e)
-      notices x (Gets path answer) is e = absurd (cc e)
-      notices x (TellsApplied answer) is e = absurd (cc e)
-      notices x (NextOut answer) is e = absurd (cc e)
+          (subst (λ z. ServerLaw limits szx setup (z ∷ t)) (sym is) law).rows.0.0)
+      notices x _ is e = absurd (cc e)
 
       here : IsRecognised limits szx t c
       here = record { responses = responses; notices = λ x e. notices x c refl e }
 
-    each : (t : List Call) → ServerLaw limits szx word t → Always (IsRecognised limits szx) t
+    each : (t : List Call) → ServerLaw limits szx setup t → Always (IsRecognised limits szx) t
     each [] law = tt
-    each (c ∷ t) law = (here t c law, each t (server_back limits szx word c t law))
+    each (c ∷ t) law = (here t c law, each t (server_back limits szx setup c t law))
 
-pub all_recognised : (limits : Limits) (szx word : ℕ) (t : List Call) → ServerLaw limits szx word t
+pub all_recognised : (limits : Limits) (szx : ℕ) (setup : Setup) (t : List Call) → ServerLaw limits szx setup t
     → AllRecognised limits szx t
-all_recognised limits szx word t law small limit = each limits szx word small limit t law
+all_recognised limits szx setup t law small limit = each limits szx setup small limit t law

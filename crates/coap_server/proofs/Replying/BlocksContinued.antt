@@ -7,6 +7,7 @@ use Rattle.coap_types.specs.declared.block.Block.{Block}
 use Rattle.coap_types.specs.declared.endpoint.Endpoint.{Endpoint}
 use Rattle.coap_codec.specs.Message.{Message}
 use Rattle.coap_layer.specs.Trace as L
+use Rattle.coap_layer.specs.declared.setup.Setup.{Setup}
 use Rattle.coap_block.specs.AssemblyAnswer.{refusal_code}
 use Rattle.coap_block.specs.AssemblyState.{AssemblyState, reached, without_key}
 use Rattle.coap_block.specs.AssemblyStep.{answered_szx, fills, goes_on, ruling, there_at}
@@ -20,9 +21,8 @@ use Rattle.coap_resource.specs.Serves.{Question}
 use Rattle.coap_resource.specs.Limits.{Limits}
 use Rattle.coap_exchange.specs.declared.answerer.Asked.{Asked}
 use Rattle.coap_exchange.specs.AnswererTrace as E
-use Rattle.coap_server.specs.Trace.{Own, Handling, Replies, Call, Sets, Removes, Delays, Plains, Feeds, Ticks, NextOut, Gets}
-use Rattle.coap_server.specs.Trace.{TellsApplied}
-use Rattle.coap_server.specs.Checks.{Verdict, Ignored, Refused, Asks, Uploads, bad_request, verdict_on}
+use Rattle.coap_server.specs.Trace.{Own, Handling, Replies, Call, Feeds}
+use Rattle.coap_server.specs.Checks.{Verdict, Uploads, bad_request, verdict_on}
 use Rattle.coap_server.specs.Responses.{bare}
 use Rattle.coap_server.specs.Uploads.{key_of, ruling_of, continuing}
 use Rattle.coap_server.specs.Handling.{incoming, heard, HandlesBlock, Handles}
@@ -130,9 +130,6 @@ replied s a v q b h more is k =
 -- the size that is asked for
 size_keeps : (u : AssemblyState) (at : ℕ) (a : Asked) (v : Verdict) (x : Took) (size : ℕ) → taken_by u at a v ≡ Some x
     → size_of u at a v ≡ Some size → KeepsSize x.part.num x.part.szx size
-size_keeps u at a Ignored x size h k = absurd (cc h)
-size_keeps u at a (Refused code) x size h k = absurd (cc h)
-size_keeps u at a (Asks q) x size h k = absurd (cc h)
 size_keeps u at a (Uploads q b) x size h k = by (ruling_of u at a q b) refl h k
   where
     by : (r : BlockVerdict) → ruling_of u at a q b ≡ r → took_by r (took a q b) ≡ Some x → size_by r ≡ Some size
@@ -147,8 +144,9 @@ size_keeps u at a (Uploads q b) x size h k = by (ruling_of u at a q b) refl h k
         is in
         subst (λ (y : Took). KeepsSize y.part.num y.part.szx size) same
         (subst (KeepsSize b.num b.szx) (sym answered ∙ asked) (answered_keeps u.szx b))
+size_keeps u at a _ x size h k = absurd (cc h)
 
-module _ (limits : Limits) (szx word : ℕ) (t : List Call) where
+module _ (limits : Limits) (szx : ℕ) (setup : Setup) (t : List Call) where
   abbrev own : Own
   own = own_of limits szx t
 
@@ -174,7 +172,7 @@ module _ (limits : Limits) (szx word : ℕ) (t : List Call) where
         (sym k.is) (answers p b k.response k.fits)
 
     fed : (came : Option (Asked × Message)) (h : Handling)
-        → ServerLaw limits szx word (Feeds now from bytes w up came h below ∷ t)
+        → ServerLaw limits szx setup (Feeds now from bytes w up came h below ∷ t)
         → (p : Asked × Message) (q : Question) (b : Block) → came ≡ Some p → verdict_on szx p.1 ≡ Uploads q b
         → b.more ≡ true → AnswersBlock limits szx t (Feeds now from bytes w up came h below) p.0 b
     fed None h law p q b is v more = absurd (cc is)
@@ -187,38 +185,23 @@ module _ (limits : Limits) (szx word : ℕ) (t : List Call) where
         subst (λ (z : Asked × Message). AnswersBlock limits szx t (Feeds now from bytes w up (Some o) h below) z.0 b) same
         (answers_so o b h k)
 
-  blocks : (c : Call) → ServerLaw limits szx word (c ∷ t) → (p : Asked × Message) (q : Question) (b : Block)
+  blocks : (c : Call) → ServerLaw limits szx setup (c ∷ t) → (p : Asked × Message) (q : Question) (b : Block)
       → came_in c ≡ Some p → verdict_on szx p.1 ≡ Uploads q b → b.more ≡ true → AnswersBlock limits szx t c p.0 b
   blocks (Feeds now from bytes w up came h below) law p q b is v more =
       fed now from bytes w up below came h law p q b is v more
-  blocks (Sets now path format body answer left) law p q b is v more = absurd (cc is)
-  blocks (Removes now path answer left) law p q b is v more = absurd (cc is)
-  blocks (Delays path ms answer) law p q b is v more = absurd (cc is)
-  blocks (Plains path answer) law p q b is v more = absurd (cc is)
-  blocks (Ticks now w below room d passed h id answer) law p q b is v more = absurd (cc is)
-  blocks (NextOut answer) law p q b is v more = absurd (cc is)
-  blocks (Gets path answer) law p q b is v more = absurd (cc is)
-  blocks (TellsApplied answer) law p q b is v more = absurd (cc is)
+  blocks _ law p q b is v more = absurd (cc is)
 
   pub sizes : (c : Call) (x : Took) (size : ℕ) → takes_block own c ≡ Some x → size_in own c ≡ Some size
       → KeepsSize x.part.num x.part.szx size
   sizes (Feeds now from bytes w up (Some p) h below) x size e k =
       let s : Own = heard own now (incoming own now from bytes up (Some p)) in
       size_keeps own.uploads s.clock p.0 (verdict_on own.szx p.1) x size e k
-  sizes (Feeds now from bytes w up None h below) x size e k = absurd (cc e)
-  sizes (Sets now path format body answer left) x size e k = absurd (cc e)
-  sizes (Removes now path answer left) x size e k = absurd (cc e)
-  sizes (Delays path ms answer) x size e k = absurd (cc e)
-  sizes (Plains path answer) x size e k = absurd (cc e)
-  sizes (Ticks now w below room d passed h id answer) x size e k = absurd (cc e)
-  sizes (NextOut answer) x size e k = absurd (cc e)
-  sizes (Gets path answer) x size e k = absurd (cc e)
-  sizes (TellsApplied answer) x size e k = absurd (cc e)
+  sizes _ x size e k = absurd (cc e)
 
-pub all_continues_fit : (limits : Limits) (szx word : ℕ) (t : List Call) → ServerLaw limits szx word t
+pub all_continues_fit : (limits : Limits) (szx : ℕ) (setup : Setup) (t : List Call) → ServerLaw limits szx setup t
     → AllContinuesFit limits szx t
-all_continues_fit limits szx word [] law = tt
-all_continues_fit limits szx word (c ∷ t) law = (
-  record { blocks = blocks limits szx word t c law; sizes = sizes limits szx word t c },
-  all_continues_fit limits szx word t (server_back limits szx word c t law),
+all_continues_fit limits szx setup [] law = tt
+all_continues_fit limits szx setup (c ∷ t) law = (
+  record { blocks = blocks limits szx setup t c law; sizes = sizes limits szx setup t c },
+  all_continues_fit limits szx setup t (server_back limits szx setup c t law),
 )

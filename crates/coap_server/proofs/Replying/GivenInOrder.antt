@@ -3,6 +3,7 @@ use Rattle.std.proofs.Common.{◌≡◌, ℕ, Option, List, [], ◌∷◌, slice
 use Rattle.coap_layer.specs.Machine.State as S
 use Rattle.coap_layer.specs.Trace as L
 use Rattle.coap_layer.specs.Words.{waiting}
+use Rattle.coap_layer.specs.declared.setup.Setup.{Setup}
 use Rattle.coap_resource.specs.Limits.{Limits}
 use Rattle.coap_exchange.specs.AnswererTrace as E
 use Rattle.coap_exchange.specs.AnswererLaw as W
@@ -15,23 +16,23 @@ use Rattle.coap_server.proofs.Serving.Brought.{server_back, left_is}
 one_given : (a b : Option L.Packet) → L.Gives a ≡ L.Gives b → a ≡ b
 one_given a b h = cc h
 
-module _ (limits : Limits) (szx word : ℕ) where
-  given : (t : List Call) (answer : Option L.Packet) → ServerLaw limits szx word (NextOut answer ∷ t)
-      → answer ≡ slice_get (waiting (layer_of limits szx word t)) 0
+module _ (limits : Limits) (szx : ℕ) (setup : Setup) where
+  given : (t : List Call) (answer : Option L.Packet) → ServerLaw limits szx setup (NextOut answer ∷ t)
+      → answer ≡ slice_get (waiting (layer_of limits szx setup t)) 0
   given t answer law =
       let calls : List E.Call = lower_of limits szx t in
-      let before = server_back limits szx word (NextOut answer) t law in
+      let before = server_back limits szx setup (NextOut answer) t law in
       let steps = law.exchanges.layer in
-      let same = left_is (S.start (S.usual word)) steps.0 (W.lower_of calls) steps.1
-      ∙ sym (left_is (S.start (S.usual word)) before.exchanges.left (W.lower_of calls) before.exchanges.layer) in
+      let same = left_is (S.start setup) steps.0 (W.lower_of calls) steps.1
+      ∙ sym (left_is (S.start setup) before.exchanges.left (W.lower_of calls) before.exchanges.layer) in
       one_given answer (slice_get steps.0.queue 0) steps.2.right
-      ∙ ap (λ (s : S.State). slice_get s.queue 0) (same ∙ (layer_led word calls before.exchanges).kept)
+      ∙ ap (λ (s : S.State). slice_get s.queue 0) (same ∙ (layer_led setup calls before.exchanges).kept)
 
-  here : (t : List Call) (c : Call) → ServerLaw limits szx word (c ∷ t) → (answer : Option L.Packet)
+  here : (t : List Call) (c : Call) → ServerLaw limits szx setup (c ∷ t) → (answer : Option L.Packet)
       → c ≡ NextOut answer
-      → answer ≡ slice_get (waiting (layer_of limits szx word t)) 0
-  here t c law answer is = given t answer (subst (λ z. ServerLaw limits szx word (z ∷ t)) is law)
+      → answer ≡ slice_get (waiting (layer_of limits szx setup t)) 0
+  here t c law answer is = given t answer (subst (λ z. ServerLaw limits szx setup (z ∷ t)) is law)
 
-  pub gives_in_order : (t : List Call) → ServerLaw limits szx word t → GivesInOrder limits szx word t
+  pub gives_in_order : (t : List Call) → ServerLaw limits szx setup t → GivesInOrder limits szx setup t
   gives_in_order [] law = tt
-  gives_in_order (c ∷ t) law = (here t c law, gives_in_order t (server_back limits szx word c t law))
+  gives_in_order (c ∷ t) law = (here t c law, gives_in_order t (server_back limits szx setup c t law))

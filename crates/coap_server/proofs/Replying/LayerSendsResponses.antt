@@ -5,7 +5,7 @@ use Rattle.coap_types.specs.Past.{Ever}
 use Rattle.coap_types.proofs.Facts.Traces.{Ever_append}
 use Rattle.coap_types.specs.declared.endpoint.Endpoint.{Endpoint}
 use Rattle.coap_types.specs.declared.message.Kind.{Kind}
-use Rattle.coap_types.specs.declared.message.Kind.TheVariants.{Con, Non, Ack, Rst}
+use Rattle.coap_types.specs.declared.message.Kind.TheVariants.{Con, Ack, Rst}
 use Rattle.coap_codec.specs.Message.{Message, Spells}
 use Rattle.coap_codec.specs.Spelling.{message_bytes}
 use Rattle.coap_layer.specs.Machine.State as S
@@ -25,14 +25,9 @@ use Rattle.coap_exchange.specs.AskerArrivals.{id_in, replying}
 use Rattle.coap_server.specs.Follows.Gives.{Carries, IsEmpty}
 use Rattle.coap_common.proofs.Facts.AskerReplies.{empty_of, ack_spells, reset_spells}
 use Rattle.coap_server.specs.Follows.Sources.{GivesMessage, Source}
+pub use Rattle.coap_server.proofs.Replying.AskedInEntries.{called}
 
 -- from the entries of the layer to what was asked of it
-pub called : (K : L.Call → Type 0) (old : S.State) (calls : List G.Asked)
-    → Ever (λ (e : L.Entry). K e.call) (entries old calls) → Ever (λ (b : G.Asked). K b.call) calls
-called K old [] h = h
-called K old (a ∷ earlier) (inl h) = inl h
-called K old (a ∷ earlier) (inr h) = inr (called K old earlier h)
-
 module _ (p : L.Packet) where
   -- the exchanges' call that makes a response
   abbrev pub CarriesIn : E.Call → Type 0
@@ -105,9 +100,7 @@ module _ (p : L.Packet) where
   answer_of : (s : E.Own) (a : Asked) (r : E.Response) → P.IsResponse a r → (kind : Kind)
       → Source p (P.answering s kind a r) → Carries p a.from a.token r
   answer_of s a r is Con h = in_ack a r is h
-  answer_of s a r is Non h = in_non a.from a.token r h
-  answer_of s a r is Ack h = in_non a.from a.token r h
-  answer_of s a r is Rst h = in_non a.from a.token r h
+  answer_of s a r is _ h = in_non a.from a.token r h
 
   -- Empty messages
 
@@ -126,16 +119,7 @@ module _ (p : L.Packet) where
       by true (inl g) = in_reset from m.id g
       by true (inr g) = absurd g
       by false g = absurd g
-  rejected from (L.Becomes u) h = absurd h
-  rejected from L.Nothing h = absurd h
-  rejected from (L.Is holds) h = absurd h
-  rejected from (L.Sent id) h = absurd h
-  rejected from L.Busied h = absurd h
-  rejected from L.NoIds h = absurd h
-  rejected from L.Idle h = absurd h
-  rejected from (L.Copied to id) h = absurd h
-  rejected from (L.Expired to id) h = absurd h
-  rejected from (L.Gives packet) h = absurd h
+  rejected from _ h = absurd h
 
   -- what sends nothing
   abbrev Quiet : L.Call → Type 0

@@ -23,8 +23,7 @@ use Rattle.coap_block.specs.declared.block_verdict.BlockVerdict.TheVariants.{Ref
 use Rattle.coap_resource.specs.RequestOptions.{block_said}
 use Rattle.coap_resource.specs.Serves.{Question}
 use Rattle.coap_exchange.specs.declared.answerer.Asked.{Asked}
-use Rattle.coap_server.specs.Trace.{Own, Call, Sets, Removes, Delays, Plains, Feeds, Ticks, NextOut, Gets}
-use Rattle.coap_server.specs.Trace.{TellsApplied}
+use Rattle.coap_server.specs.Trace.{Own, Call, Feeds}
 use Rattle.coap_server.specs.Checks.{Verdict, Ignored, Refused, Asks, Uploads, verdict_on, bad_by}
 use Rattle.coap_server.specs.Checks.{asked_by, uploading, question, asks, is_reserved, bad_request}
 use Rattle.coap_server.specs.Checks.{proxying_not_supported}
@@ -105,15 +104,7 @@ refused_with szx m uploads at a code is = at_least (refusal_of uploads at a (ver
 in_call : (s : Own) (c : Call) → is_below (refusal_in s c) ≡ false
 in_call s (Feeds now from bytes word up (Some p) h below) =
     refusal_not s.uploads _ p.0 (verdict_on s.szx p.1) (verdict_not s.szx p.1)
-in_call s (Feeds now from bytes word up None h below) = refl
-in_call s (Ticks now word below room d passed h id answer) = refl
-in_call s (Sets now path format body answer left) = refl
-in_call s (Removes now path answer left) = refl
-in_call s (Delays path ms answer) = refl
-in_call s (Plains path answer) = refl
-in_call s (NextOut answer) = refl
-in_call s (Gets path answer) = refl
-in_call s (TellsApplied answer) = refl
+in_call s _ = refl
 
 pub refusals_are_errors : (s : Own) (c : Call) (code : ℕ) → refusal_in s c ≡ Some code → bad_request ≤ code
 refusals_are_errors s c code is = at_least (refusal_in s c) code (in_call s c) is

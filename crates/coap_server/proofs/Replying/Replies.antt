@@ -5,7 +5,7 @@ use Rattle.std.proofs.Common.{◌++◌, refl, ap, sym, subst, ◌∙◌, cond, a
 use Rattle.coap_types.specs.Roles.{role_of}
 use Rattle.coap_types.specs.declared.endpoint.Endpoint.{Endpoint}
 use Rattle.coap_types.specs.declared.message.Kind.{Kind}
-use Rattle.coap_types.specs.declared.message.Kind.TheVariants.{Con, Non, Ack, Rst}
+use Rattle.coap_types.specs.declared.message.Kind.TheVariants.{Con, Ack, Rst}
 use Rattle.coap_types.specs.declared.role.Role.TheVariants as role
 use Rattle.coap_codec.specs.Message.{Message, Spells}
 use Rattle.coap_codec.specs.Spelling.{message_bytes}
@@ -183,9 +183,6 @@ module _ (begin : L.State) (from : Endpoint) (now : ℕ) (bytes : List ℕ) (up 
   pub piggybacked : (s : E.Own) (a : Asked) (m : Message) (r : E.Response) (below : T.Answer) → Came from up a m
       → P.IsResponse a r → (kind : Kind) → a.kind ≡ kind
       → So begin (asked s.clock (P.answering s kind a r) below ∷ first)
-  piggybacked s a m r below c is Non k = ((λ to id b h. absurd (cc h)), taken)
-  piggybacked s a m r below c is Ack k = ((λ to id b h. absurd (cc h)), taken)
-  piggybacked s a m r below c is Rst k = ((λ to id b h. absurd (cc h)), taken)
   piggybacked s a m r below c is Con k =
       let h = hands_up from up a m c in
       let f = carrying from up a m r c is (small begin from now bytes up rest mid new before step m h) k in
@@ -195,6 +192,7 @@ module _ (begin : L.State) (from : Endpoint) (now : ℕ) (bytes : List ℕ) (up 
             (sym from_is) (at_once begin from now bytes up rest mid new before step m a.id.0 b h f),
         taken,
       )
+  piggybacked s a m r below c is _ k = ((λ to id b h. absurd (cc h)), taken)
 
   -- an Empty acknowledgement
   pub acknowledged : (a : Asked) (m : Message) → Came from up a m → a.kind ≡ Con → (d : Bool)

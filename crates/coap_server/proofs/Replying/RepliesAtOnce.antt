@@ -3,7 +3,7 @@ use Rattle.std.proofs.Common.{◌≡◌, ℕ, zero, suc, Bool, true, false, Opti
 use Rattle.std.proofs.Common.{ap, sym, subst}
 use Rattle.coap_types.specs.declared.endpoint.Endpoint.{Endpoint}
 use Rattle.coap_types.specs.declared.message.Kind.{Kind}
-use Rattle.coap_types.specs.declared.message.Kind.TheVariants.{Con, Non, Ack, Rst}
+use Rattle.coap_types.specs.declared.message.Kind.TheVariants.{Con, Ack}
 use Rattle.coap_codec.specs.Message.{Message}
 use Rattle.coap_codec.specs.Spelling.{message_bytes}
 use Rattle.coap_layer.specs.Trace as T
@@ -13,6 +13,7 @@ use Rattle.coap_layer.specs.Machine.Steps as G
 use Rattle.coap_layer.specs.Machine.Steps.{Steps, entries, left_after}
 use Rattle.coap_types.specs.Past.{Always}
 use Rattle.coap_layer.specs.Channel.{RepliesSo}
+use Rattle.coap_layer.specs.declared.setup.Setup.{Setup}
 use Rattle.coap_observe.specs.Observers.{Observer}
 use Rattle.coap_resource.specs.Limits.{Limits}
 use Rattle.coap_exchange.specs.declared.answerer.Asked.{Asked}
@@ -54,9 +55,6 @@ module _ (begin : L.State) (from : Endpoint) (now : ℕ) (bytes : List ℕ) (up 
   behind_refusal : (s : E.Own) (a : Asked) (m : Message) (r : E.Response) (below : T.Answer) → Came from up a m
       → P.IsResponse a r → (kind : Kind) → a.kind ≡ kind
       → So begin (asked s.clock (P.answering s kind a r) below ∷ first)
-  behind_refusal s a m r below c is Non k = ((λ to id b h. absurd (cc h)), taken)
-  behind_refusal s a m r below c is Ack k = ((λ to id b h. absurd (cc h)), taken)
-  behind_refusal s a m r below c is Rst k = ((λ to id b h. absurd (cc h)), taken)
   behind_refusal s a m r below c is Con k =
       let h = hands_up from up a m c in
       let f = carrying from up a m r c is (small begin from now bytes up rest mid new before step m h) k in
@@ -66,17 +64,18 @@ module _ (begin : L.State) (from : Endpoint) (now : ℕ) (bytes : List ℕ) (up 
             (sym from_is) (at_once_then begin from now bytes up rest mid new before step m a.id.0 b h f),
         taken,
       )
+  behind_refusal s a m r below c is _ k = ((λ to id b h. absurd (cc h)), taken)
 
-module _ (word : ℕ) where
+module _ (setup : Setup) where
   abbrev begin : L.State
-  begin = L.start (L.usual word)
+  begin = L.start setup
 
   -- calls that reply nothing
   abbrev Quiet : List E.Call → Type 0
   Quiet [] = Unit {0}
   Quiet (c ∷ calls) = ((s : E.Own) → NoReplies (P.lower s c)) × Quiet calls
 
-  quiet_over : (xs calls : List E.Call) → Quiet xs → Under word calls → Under word (xs ++ calls)
+  quiet_over : (xs calls : List E.Call) → Quiet xs → Under setup calls → Under setup (xs ++ calls)
   quiet_over [] calls q so = so
   quiet_over (x ∷ xs) calls q so = over begin (P.lower (W.own_of (xs ++ calls)) x) (W.lower_of (xs ++ calls))
       (q.0 (W.own_of (xs ++ calls))) (quiet_over xs calls q.1 so)
@@ -105,25 +104,20 @@ module _ (word : ℕ) where
   responding_quiet s due.Idle passed (Replies r) w id = readies_quiet s.clock passed (marked s.observers)
   responding_quiet s due.Idle passed (Serves q reply left) w id = readies_quiet s.clock passed (marked s.observers)
   responding_quiet s due.Idle passed (Waits q d) w id = readies_quiet s.clock passed (marked s.observers)
-  responding_quiet s due.Copied passed h w id = tt
-  responding_quiet s due.Expired passed h w id = tt
   responding_quiet s (due.Ready a) passed (Serves q reply left) w id = ((λ e. (refl, tt)), tt)
-  responding_quiet s (due.Ready a) passed Silent w id = tt
-  responding_quiet s (due.Ready a) passed (Replies r) w id = tt
-  responding_quiet s (due.Ready a) passed (Waits q d) w id = tt
-  responding_quiet s (due.Ready a) passed (Notifies o reply) w id = tt
+  responding_quiet s _ passed _ w id = tt
 
   -- a request that arrives
-  module _ (calls : List E.Call) (so : Under word calls) (at : ℕ) (from : Endpoint) (bytes : List ℕ) (up : T.Answer)
+  module _ (calls : List E.Call) (so : Under setup calls) (at : ℕ) (from : Endpoint) (bytes : List ℕ) (up : T.Answer)
       (p : Asked × Message) where
     abbrev came : E.Call
     came = E.Incoming at from bytes up (Some p)
 
     answered_then : (r : E.Response) (below : T.Answer) (delay : ℕ)
-        → W.AnswererLaw (E.Answers p.0 r below ∷ E.Defers at p.0 delay false ∷ came ∷ calls) → Left word (came ∷ calls)
-        → Under word (E.Answers p.0 r below ∷ E.Defers at p.0 delay false ∷ came ∷ calls)
+        → W.AnswererLaw (E.Answers p.0 r below ∷ E.Defers at p.0 delay false ∷ came ∷ calls) → Left setup (came ∷ calls)
+        → Under setup (E.Answers p.0 r below ∷ E.Defers at p.0 delay false ∷ came ∷ calls)
     answered_then r below delay law left =
-        let a = N.arrived word calls so at from bytes up (Some p) left in
+        let a = N.arrived setup calls so at from bytes up (Some p) left in
         let c : Came from up p.0 p.1 = came_by from up p.0 p.1 law.1.1.0 in
         let s : E.Own = W.own_of (came ∷ calls) in
         let t : E.Own = P.after s (E.Defers at p.0 delay false) in
@@ -131,7 +125,7 @@ module _ (word : ℕ) where
         let pass : G.Asked = asked at T.Pass T.Nothing in
         subst (λ l. So begin (asked t.clock (P.answering t p.0.kind p.0 r) below ∷
         ((P.deferring (P.may_defer s.deferred) p.0 ++ pass ∷ []) ++ (l ++ W.lower_of calls))))
-        (sym (N.plain word calls so at from bytes up p.0 p.1 c))
+        (sym (N.plain setup calls so at from bytes up p.0 p.1 c))
         (subst (λ b. So begin (asked t.clock (P.answering t p.0.kind p.0 r) below ∷
         ((P.deferring b p.0 ++ pass ∷ []) ++ (asked at (T.Receive from bytes) up ∷ W.lower_of calls)))) no
         (behind_refusal begin from at bytes up (W.lower_of calls) a.mid a.new a.before a.step so t p.0 p.1 r below c
@@ -139,33 +133,33 @@ module _ (word : ℕ) where
 
     served : (o : Option ℕ) (place : Bool) (r : E.Response) (below : T.Answer)
         → W.AnswererLaw (((E.Answers p.0 r below ∷ deferral_by o place at p.0) ++ came ∷ []) ++ calls)
-        → Left word (((E.Answers p.0 r below ∷ deferral_by o place at p.0) ++ came ∷ []) ++ calls)
-        → Under word (((E.Answers p.0 r below ∷ deferral_by o place at p.0) ++ came ∷ []) ++ calls)
-    served None place r below law left = N.answered word calls so at from bytes up p r below law
-        (one_back word (E.Answers p.0 r below) (came ∷ calls) left)
+        → Left setup (((E.Answers p.0 r below ∷ deferral_by o place at p.0) ++ came ∷ []) ++ calls)
+        → Under setup (((E.Answers p.0 r below ∷ deferral_by o place at p.0) ++ came ∷ []) ++ calls)
+    served None place r below law left = N.answered setup calls so at from bytes up p r below law
+        (one_back setup (E.Answers p.0 r below) (came ∷ calls) left)
     served (Some delay) true r below law left = let e = law.0.0 in absurd (cc e)
     served (Some delay) false r below law left =
-        answered_then r below delay law (one_back word (E.Defers at p.0 delay false) (came ∷ calls)
-        (one_back word (E.Answers p.0 r below) (E.Defers at p.0 delay false ∷ came ∷ calls) left))
+        answered_then r below delay law (one_back setup (E.Defers at p.0 delay false) (came ∷ calls)
+        (one_back setup (E.Answers p.0 r below) (E.Defers at p.0 delay false ∷ came ∷ calls) left))
 
     waited : (o : Option ℕ) (place : Bool) → W.AnswererLaw ((deferral_by o place at p.0 ++ came ∷ []) ++ calls)
-        → Left word ((deferral_by o place at p.0 ++ came ∷ []) ++ calls)
-        → Under word ((deferral_by o place at p.0 ++ came ∷ []) ++ calls)
-    waited None place law left = N.incoming word calls so at from bytes up (Some p) left
-    waited (Some delay) place law left = N.deferred word calls so at from bytes up p delay place law
-        (one_back word (E.Defers at p.0 delay place) (came ∷ calls) left)
+        → Left setup ((deferral_by o place at p.0 ++ came ∷ []) ++ calls)
+        → Under setup ((deferral_by o place at p.0 ++ came ∷ []) ++ calls)
+    waited None place law left = N.incoming setup calls so at from bytes up (Some p) left
+    waited (Some delay) place law left = N.deferred setup calls so at from bytes up p delay place law
+        (one_back setup (E.Defers at p.0 delay place) (came ∷ calls) left)
 
-  module _ (calls : List E.Call) (so : Under word calls) (w : Own) (from : Endpoint) (bytes : List ℕ)
+  module _ (calls : List E.Call) (so : Under setup calls) (w : Own) (from : Endpoint) (bytes : List ℕ)
       (up : T.Answer) where
     fed : (came : Option (Asked × Message)) (h : Handling) (below : T.Answer)
         → W.AnswererLaw ((answering w came h below ++ E.Incoming w.clock from bytes up came ∷ []) ++ calls)
-        → Left word ((answering w came h below ++ E.Incoming w.clock from bytes up came ∷ []) ++ calls)
-        → Under word ((answering w came h below ++ E.Incoming w.clock from bytes up came ∷ []) ++ calls)
-    fed None h below law left = N.incoming word calls so w.clock from bytes up None left
-    fed (Some p) Silent below law left = N.incoming word calls so w.clock from bytes up (Some p) left
-    fed (Some p) (Notifies o reply) below law left = N.incoming word calls so w.clock from bytes up (Some p) left
-    fed (Some p) (Replies r) below law left = N.answered word calls so w.clock from bytes up p r below law
-        (one_back word (E.Answers p.0 r below) (E.Incoming w.clock from bytes up (Some p) ∷ calls) left)
+        → Left setup ((answering w came h below ++ E.Incoming w.clock from bytes up came ∷ []) ++ calls)
+        → Under setup ((answering w came h below ++ E.Incoming w.clock from bytes up came ∷ []) ++ calls)
+    fed None h below law left = N.incoming setup calls so w.clock from bytes up None left
+    fed (Some p) Silent below law left = N.incoming setup calls so w.clock from bytes up (Some p) left
+    fed (Some p) (Notifies o reply) below law left = N.incoming setup calls so w.clock from bytes up (Some p) left
+    fed (Some p) (Replies r) below law left = N.answered setup calls so w.clock from bytes up p r below law
+        (one_back setup (E.Answers p.0 r below) (E.Incoming w.clock from bytes up (Some p) ∷ calls) left)
     fed (Some p) (Serves q reply store) below law left =
         served calls so w.clock from bytes up p (delay_for p.0.kind q.path w.delays) (P.may_defer w.exchanges.deferred)
         (response_to w.store w.observers p.0 q reply) below law left
@@ -173,33 +167,33 @@ module _ (word : ℕ) where
         waited calls so w.clock from bytes up p (delay_for p.0.kind q.path w.delays)
         (P.may_defer w.exchanges.deferred) law left
 
-module _ (limits : Limits) (szx word : ℕ) where
-  pub rejects_responses : (t : List Call) → ServerLaw limits szx word t
-      → Always RejectsSo (layer_of limits szx word t)
+module _ (limits : Limits) (szx : ℕ) (setup : Setup) where
+  pub rejects_responses : (t : List Call) → ServerLaw limits szx setup t
+      → Always RejectsSo (layer_of limits szx setup t)
   rejects_responses [] law = tt
-  rejects_responses (c ∷ t) law = here c law (rejects_responses t (server_back limits szx word c t law))
+  rejects_responses (c ∷ t) law = here c law (rejects_responses t (server_back limits szx setup c t law))
     where
-      here : (c : Call) → ServerLaw limits szx word (c ∷ t) → Under word (lower_of limits szx t)
-          → Under word (lower_of limits szx (c ∷ t))
+      here : (c : Call) → ServerLaw limits szx setup (c ∷ t) → Under setup (lower_of limits szx t)
+          → Under setup (lower_of limits szx (c ∷ t))
       here (Sets now path format body answer left) law so = so
       here (Removes now path answer left) law so = so
       here (Delays path ms answer) law so = so
       here (Plains path answer) law so = so
       here (Gets path answer) law so = so
       here (TellsApplied answer) law so = so
-      here (NextOut answer) law so = quiet_over word (E.Take answer ∷ []) (lower_of limits szx t)
+      here (NextOut answer) law so = quiet_over setup (E.Take answer ∷ []) (lower_of limits szx t)
           ((λ s. (refl, tt)), tt) so
       here (Feeds now from bytes w up came h below) law so =
           let s : Own = own_of limits szx t in
-          fed word (lower_of limits szx t) so (heard s now (incoming s now from bytes up came)) from bytes up came h
+          fed setup (lower_of limits szx t) so (heard s now (incoming s now from bytes up came)) from bytes up came h
           below law.exchanges.rows (law.exchanges.left, law.exchanges.layer)
       here (Ticks now w below room d passed h id answer) law so =
           let s : Own = own_of limits szx t in
           let first : E.Call = ticking s now below room d in
           let asks : List E.Call = responding (heard s now first) d passed h w id in
-          let last : Quiet word (first ∷ []) = ((λ e. asking_none _ _ room below), tt) in
-          quiet_over word (asks ++ first ∷ []) (lower_of limits szx t)
-          (quiet_append word asks (first ∷ []) (responding_quiet word (heard s now first) d passed h w id) last) so
+          let last : Quiet setup (first ∷ []) = ((λ e. asking_none _ _ room below), tt) in
+          quiet_over setup (asks ++ first ∷ []) (lower_of limits szx t)
+          (quiet_append setup asks (first ∷ []) (responding_quiet setup (heard s now first) d passed h w id) last) so
 
-  pub replies_at_once : (t : List Call) → ServerLaw limits szx word t → Always RepliesSo (layer_of limits szx word t)
-  replies_at_once t law = replies_so (layer_of limits szx word t) (rejects_responses t law)
+  pub replies_at_once : (t : List Call) → ServerLaw limits szx setup t → Always RepliesSo (layer_of limits szx setup t)
+  replies_at_once t law = replies_so (layer_of limits szx setup t) (rejects_responses t law)

@@ -14,6 +14,7 @@ use Rattle.coap_exchange.specs.AnswererLaw as W
 use Rattle.coap_exchange.specs.AskerRequests.{asked}
 use Rattle.coap_exchange.specs.AskerArrivals.{id_in, replying}
 use Rattle.coap_layer.proofs.Facts.StepsOfLayer.{steps_split}
+use Rattle.coap_layer.specs.declared.setup.Setup.{Setup}
 use Rattle.coap_common.proofs.Facts.AskerReplies.{NoReplies}
 use Rattle.coap_server.proofs.Replying.Replies.{Came, came_by, rejecting, piggybacked, acknowledged}
 use Rattle.coap_server.proofs.Replying.ResponsesRejected.{So}
@@ -23,18 +24,18 @@ pub asking_none : (at : ℕ) (o : Option Deferred) (room : Bool) (below : T.Answ
 asking_none at None room below = (refl, tt)
 asking_none at (Some d) room below = (refl, (refl, tt))
 
-module _ (word : ℕ) where
+module _ (setup : Setup) where
   abbrev pub begin : L.State
-  begin = L.start (L.usual word)
+  begin = L.start setup
 
   abbrev pub Under : List E.Call → Type 0
-  Under calls = So (L.start (L.usual word)) (W.lower_of calls)
+  Under calls = So (L.start setup) (W.lower_of calls)
 
   abbrev pub Left : List E.Call → Type 0
-  Left calls = (h : L.State) × Steps (L.start (L.usual word)) (W.lower_of calls) h
+  Left calls = (h : L.State) × Steps (L.start setup) (W.lower_of calls) h
 
   pub one_back : (c : E.Call) (calls : List E.Call) → Left (c ∷ calls) → Left calls
-  one_back c calls left = let k = steps_split (L.start (L.usual word)) left.0 (P.lower (W.own_of calls) c)
+  one_back c calls left = let k = steps_split (L.start setup) left.0 (P.lower (W.own_of calls) c)
       (W.lower_of calls) left.1 in (k.0, k.1)
 
   module _ (calls : List E.Call) (so : Under calls) (now : ℕ) where
@@ -42,13 +43,13 @@ module _ (word : ℕ) where
     pub record Arrived (from : Endpoint) (bytes : List ℕ) (up : T.Answer) : Type 0 where
       pub mid : L.State
       pub new : L.State
-      pub before : Steps (L.start (L.usual word)) (W.lower_of calls) mid
+      pub before : Steps (L.start setup) (W.lower_of calls) mid
       pub step : L.Step mid now (T.Receive from bytes) up new
 
     pub arrived : (from : Endpoint) (bytes : List ℕ) (up : T.Answer) (came : Option (Asked × Message))
         → Left (E.Incoming now from bytes up came ∷ calls) → Arrived from bytes up
     arrived from bytes up came left =
-        let k = steps_split (L.start (L.usual word)) left.0
+        let k = steps_split (L.start setup) left.0
         (P.lower (W.own_of calls) (E.Incoming now from bytes up came))
         (W.lower_of calls) left.1 in
         let f = steps_split k.0 left.0 (replying from (id_in up) (P.reject_by up))

@@ -8,6 +8,7 @@ use Rattle.coap_codec.specs.Message.{Message}
 use Rattle.coap_layer.specs.Machine.State as S
 use Rattle.coap_layer.specs.Trace as L
 use Rattle.coap_types.specs.declared.block.Block.{Block}
+use Rattle.coap_layer.specs.declared.setup.Setup.{Setup}
 use Rattle.coap_block.specs.declared.block_verdict.BlockVerdict.{BlockVerdict}
 use Rattle.coap_block.specs.declared.block_verdict.BlockVerdict.TheVariants.{Refuse, Join, Done}
 use Rattle.coap_block.specs.AssemblyAnswer.{refusal_code}
@@ -27,8 +28,7 @@ use Rattle.coap_exchange.specs.AnswererTrace as E
 use Rattle.coap_exchange.specs.AnswererLaw as W
 use Rattle.coap_exchange.proofs.Facts.ServerSide.{layer_stands}
 use Rattle.coap_server.specs.Trace.{Own, Handling, Silent, Replies, Serves, Waits, Notifies, Call}
-use Rattle.coap_server.specs.Trace.{Sets}
-use Rattle.coap_server.specs.Trace.{Removes, Delays, Plains, Feeds, Ticks, NextOut, Gets, TellsApplied}
+use Rattle.coap_server.specs.Trace.{Feeds, Ticks, NextOut}
 use Rattle.coap_server.specs.Responses.{bare, response_with}
 use Rattle.coap_server.specs.Checks.{Verdict, Ignored, Refused, Asks, Uploads, verdict_on}
 use Rattle.coap_server.specs.Checks.{bad_request}
@@ -76,7 +76,7 @@ pub record IsContinue (s : Own) (a : Asked) (v : Verdict) (r : E.Response) : Typ
 one_response : (r k : E.Response) → Replies r ≡ Replies k → r ≡ k
 one_response r k e = cc e
 
-never_replies : (o : Option ℕ) (place : Bool) (old : Content) (at : ℕ) (q : Question) (r : E.Response)
+pub never_replies : (o : Option ℕ) (place : Bool) (old : Content) (at : ℕ) (q : Question) (r : E.Response)
     → WaitsBy o place old at q (Replies r) → ⊥
 never_replies (Some d) true old at q r h = cc h
 never_replies (Some d) false old at q r h = let e = h.is in cc e
@@ -125,7 +125,7 @@ each_there Q [] o h k = absurd k
 each_there Q (y ∷ os) o h (inl e) = subst Q e h.0
 each_there Q (y ∷ os) o h (inr k) = each_there Q os o h.1 k
 
-module _ (limits : Limits) (szx word : ℕ) (p : L.Packet) where
+module _ (limits : Limits) (szx : ℕ) (setup : Setup) (p : L.Packet) where
   abbrev own : List Call → Own
   own t = own_of limits szx t
 
@@ -164,9 +164,9 @@ module _ (limits : Limits) (szx word : ℕ) (p : L.Packet) where
 
   module _ (t : List Call) where
     fed : (now : ℕ) (from : Endpoint) (bytes : List ℕ) (w : ℕ) (up : L.Answer) (came : Option (Asked × Message))
-        (h : Handling) (below : L.Answer) → ServerLaw limits szx word (Feeds now from bytes w up came h below ∷ t)
+        (h : Handling) (below : L.Answer) → ServerLaw limits szx setup (Feeds now from bytes w up came h below ∷ t)
         → In (lower (own t) (Feeds now from bytes w up came h below))
-        → CarriesResponse limits szx word p t (Feeds now from bytes w up came h below)
+        → CarriesResponse limits szx setup p t (Feeds now from bytes w up came h below)
     fed now from bytes w up None h below law (inl k) = absurd k
     fed now from bytes w up None h below law (inr k) = absurd k
     fed now from bytes w up (Some a) Silent below law (inl k) = absurd k
@@ -195,7 +195,7 @@ module _ (limits : Limits) (szx word : ℕ) (p : L.Packet) where
             asked = a.0;
             verdict = verdict_on szx a.1;
             code = f.code;
-            comes = comes_here limits szx word t now from bytes w up a (Replies r) below law;
+            comes = comes_here limits szx setup t now from bytes w up a (Replies r) below law;
             handed = refl;
             unserved = refl;
             refuses = f.refuses;
@@ -221,9 +221,9 @@ module _ (limits : Limits) (szx word : ℕ) (p : L.Packet) where
         ]
 
     ticked : (now w : ℕ) (below : L.Answer) (room : Bool) (d : Due) (passed : ℕ) (h : Handling) (id : ℕ) (answer : Bool)
-        → ServerLaw limits szx word (Ticks now w below room d passed h id answer ∷ t)
+        → ServerLaw limits szx setup (Ticks now w below room d passed h id answer ∷ t)
         → In (lower (own t) (Ticks now w below room d passed h id answer))
-        → CarriesResponse limits szx word p t (Ticks now w below room d passed h id answer)
+        → CarriesResponse limits szx setup p t (Ticks now w below room d passed h id answer)
     ticked now w below room (due.Ready a) passed (Serves q reply left) id answer law (inl k) =
         inl (record {
           request = serving_of (heard (own t) now (ticking (own t) now below room (due.Ready a))) a q reply
@@ -242,18 +242,6 @@ module _ (limits : Limits) (szx word : ℕ) (p : L.Packet) where
         elim k [ inl z ↦ absurd z | inr z ↦ absurd z ]
     ticked now w below room due.Copied passed h id answer law k = elim k [ inl z ↦ absurd z | inr z ↦ absurd z ]
     ticked now w below room due.Expired passed h id answer law k = elim k [ inl z ↦ absurd z | inr z ↦ absurd z ]
-    ticked now w below room due.Idle passed Silent id answer law k =
-        let s : Own = heard (own t) now (ticking (own t) now below room due.Idle) in absurd
-        (idle_none s.clock passed (marked s.observers) (ticking (own t) now below room due.Idle) (λ z. z) k)
-    ticked now w below room due.Idle passed (Replies r) id answer law k =
-        let s : Own = heard (own t) now (ticking (own t) now below room due.Idle) in absurd
-        (idle_none s.clock passed (marked s.observers) (ticking (own t) now below room due.Idle) (λ z. z) k)
-    ticked now w below room due.Idle passed (Waits q delay) id answer law k =
-        let s : Own = heard (own t) now (ticking (own t) now below room due.Idle) in absurd
-        (idle_none s.clock passed (marked s.observers) (ticking (own t) now below room due.Idle) (λ z. z) k)
-    ticked now w below room due.Idle passed (Serves q reply left) id answer law k =
-        let s : Own = heard (own t) now (ticking (own t) now below room due.Idle) in absurd
-        (idle_none s.clock passed (marked s.observers) (ticking (own t) now below room due.Idle) (λ z. z) k)
     ticked now w below room due.Idle passed (Notifies o reply) id answer law (inr k) =
         let s : Own = heard (own t) now (ticking (own t) now below room due.Idle) in absurd
         (idle_none s.clock passed (marked s.observers) (ticking (own t) now below room due.Idle) (λ z. z) k)
@@ -275,41 +263,37 @@ module _ (limits : Limits) (szx word : ℕ) (p : L.Packet) where
               (shows_held o (s.store.holds o.path));
           carries = notice_carries (by_plain s o) s.clock o (notification s.store o reply) w id k;
         })))
+    ticked now w below room due.Idle passed _ id answer law k = let s : Own = heard (own t) now (ticking (own t) now below room due.Idle) in absurd (idle_none s.clock passed (marked s.observers) (ticking (own t) now below room due.Idle) (λ z. z) k)
 
-    here : (c : Call) → ServerLaw limits szx word (c ∷ t) → In (lower (own t) c) → CarriesResponse limits szx word p t c
-    here (Sets now path format body answer left) law k = absurd k
-    here (Removes now path answer left) law k = absurd k
-    here (Delays path ms answer) law k = absurd k
-    here (Plains path answer) law k = absurd k
-    here (Gets path answer) law k = absurd k
-    here (TellsApplied answer) law k = absurd k
+    here : (c : Call) → ServerLaw limits szx setup (c ∷ t) → In (lower (own t) c) → CarriesResponse limits szx setup p t c
     here (Feeds now from bytes w up came h below) law k = fed now from bytes w up came h below law k
     here (Ticks now w below room d passed h id answer) law k = ticked now w below room d passed h id answer law k
     here (NextOut answer) law k = elim k [ inl z ↦ absurd z | inr z ↦ absurd z ]
+    here _ law k = absurd k
 
-  responded : (t : List Call) → ServerLaw limits szx word t → In (lower_of limits szx t)
-      → Sometime (CarriesResponse limits szx word p) t
+  responded : (t : List Call) → ServerLaw limits szx setup t → In (lower_of limits szx t)
+      → Sometime (CarriesResponse limits szx setup p) t
   responded [] law h = absurd h
   responded (c ∷ t) law h =
       elim (Ever_append (CarriesIn p) (lower (own t) c) (lower_of limits szx t) h) [
         | inl k ↦ inl (here t c law k)
-        | inr k ↦ inr (responded t (server_back limits szx word c t law) k)
+        | inr k ↦ inr (responded t (server_back limits szx setup c t law) k)
       ]
 
-pub sent_responses : (limits : Limits) (szx word : ℕ) (t : List Call) → ServerLaw limits szx word t
-    → SentResponses limits szx word t
-sent_responses limits szx word t law p h =
+pub sent_responses : (limits : Limits) (szx : ℕ) (setup : Setup) (t : List Call) → ServerLaw limits szx setup t
+    → SentResponses limits szx setup t
+sent_responses limits szx setup t law p h =
     let calls : List E.Call = lower_of limits szx t in
-    elim (sourced (S.usual word) p (W.below_of word calls) (layer_stands word calls law.exchanges) h) [
+    elim (sourced setup p (W.below_of setup calls) (layer_stands setup calls law.exchanges) h) [
       | inl k ↦ inl k
-      | inr k ↦ elim (made p calls law.exchanges.rows (called (Source p) (S.start (S.usual word)) (W.lower_of calls) k))
-          [ inl x ↦ inl x | inr x ↦ inr (responded limits szx word p t law x) ]
+      | inr k ↦ elim (made p calls law.exchanges.rows (called (Source p) (S.start setup) (W.lower_of calls) k))
+          [ inl x ↦ inl x | inr x ↦ inr (responded limits szx setup p t law x) ]
     ]
 
-pub sends_responses : (limits : Limits) (szx word : ℕ) (t : List Call) → ServerLaw limits szx word t
-    → SendsResponses limits szx word t
-sends_responses limits szx word [] law = tt
-sends_responses limits szx word (c ∷ t) law = (
-  sent_responses limits szx word (c ∷ t) law,
-  sends_responses limits szx word t (server_back limits szx word c t law),
+pub sends_responses : (limits : Limits) (szx : ℕ) (setup : Setup) (t : List Call) → ServerLaw limits szx setup t
+    → SendsResponses limits szx setup t
+sends_responses limits szx setup [] law = tt
+sends_responses limits szx setup (c ∷ t) law = (
+  sent_responses limits szx setup (c ∷ t) law,
+  sends_responses limits szx setup t (server_back limits szx setup c t law),
 )

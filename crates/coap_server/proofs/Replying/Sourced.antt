@@ -46,14 +46,7 @@ fault_id : (reason : Reason) (bytes : List ℕ) (kind : Kind) (id : ℕ) → Fau
     → id ≡ id_of bytes
 fault_id fault.Short bytes kind id h = absurd (cc h)
 fault_id fault.Version bytes kind id h = absurd (cc h)
-fault_id fault.TokenLength bytes kind id h = cc h
-fault_id fault.TokenCut bytes kind id h = cc h
-fault_id fault.EmptyNotBare bytes kind id h = cc h
-fault_id fault.DeltaReserved bytes kind id h = cc h
-fault_id fault.LengthReserved bytes kind id h = cc h
-fault_id fault.OptionCut bytes kind id h = cc h
-fault_id fault.NumberTooLarge bytes kind id h = cc h
-fault_id fault.NoPayload bytes kind id h = cc h
+fault_id _ bytes kind id h = cc h
 
 shown_small : (bytes : List ℕ) (id : ℕ) → AreBytes bytes
     → Shows bytes (Faulted Con id) ⊎ ((m : Message) × Shows bytes (Whole m) × (m.kind ≡ Con) × (m.id ≡ id)) → id < 65536
@@ -77,12 +70,8 @@ module _ (setup : Setup) where
   small_in past e w law (Reply to id bytes) is older h = absurd (cc h)
   small_in past e w law (Confirm to content wish) is older h = absurd (cc h)
   small_in past e w law (Plain to content) is older h = absurd (cc h)
-  small_in past e w law (Settle to id) is older h = older h
   small_in past e w law Ticks is older h = absurd (cc h)
-  small_in past e w law Take is older h = older h
-  small_in past e w law (Room to) is older h = older h
-  small_in past e w law AsksFree is older h = older h
-  small_in past e w law Pass is older h = older h
+  small_in past e w law _ is older h = older h
 
   awaited_small : (t : List Entry) → LayerLaw setup t → (w : Awaited) → awaits t ≡ Some w → w.id < 65536
   awaited_small [] law w h = absurd (cc h)

@@ -7,6 +7,7 @@ use Rattle.coap_types.specs.declared.endpoint.Endpoint.{Endpoint}
 use Rattle.coap_layer.specs.Machine.State as S
 use Rattle.coap_layer.specs.Machine.Steps.{Asked, Steps, left_after}
 use Rattle.coap_layer.specs.Trace as L
+use Rattle.coap_layer.specs.declared.setup.Setup.{Setup}
 use Rattle.coap_block.specs.Whole.{Each}
 use Rattle.coap_observe.specs.Observers.{Observer, is_of, noted_by, noted_to, removed, sent_to, unmarked_by}
 use Rattle.coap_observe.proofs.Facts.DueCounts.{note_never_raises}
@@ -180,13 +181,7 @@ due_taken : (below : L.Answer) (o : Option Deferred) (room : Bool) → IsTaken (
 due_taken (L.Copied to id) o room = refl
 due_taken (L.Expired to id) o room = refl
 due_taken L.Idle o room = if_taken L.Idle o room
-due_taken (L.Becomes u) o room = tt
-due_taken L.Nothing o room = tt
-due_taken (L.Is holds) o room = tt
-due_taken (L.Sent id) o room = tt
-due_taken L.Busied o room = tt
-due_taken L.NoIds o room = tt
-due_taken (L.Gives packet) o room = tt
+due_taken _ o room = tt
 
 -- a request that is ready waits no more
 without_one : (at : ℕ) (a : answerer.Asked) (ws : List Waiting) (q : Question) → question_of at a ws ≡ Some q
@@ -201,9 +196,9 @@ without_one at a (w ∷ ws) q h = by (D.is_of at a w) h (without_one at a ws q)
     by false k f = let e = f k in omega (arith, e)
 
 -- the layer, where it is asked at one moment
-module _ (word at : ℕ) (rest : List Asked) (below : L.Answer) where
+module _ (setup : Setup) (at : ℕ) (rest : List Asked) (below : L.Answer) where
   abbrev begin : S.State
-  begin = left_after (S.start (S.usual word)) rest
+  begin = left_after (S.start setup) rest
 
   abbrev moment : ℕ
   moment = max begin.clock at
@@ -212,27 +207,27 @@ module _ (word at : ℕ) (rest : List Asked) (below : L.Answer) where
   asking o room = (P.asking_room at o room ++ asked at L.Ticks below ∷ []) ++ rest
 
   record Asks (o : Option Deferred) (room : Bool) : Type 0 where
-    clock : max (left_after (S.start (S.usual word)) (asking o room)).clock at ≡ moment
-    least : due_count moment (left_after (S.start (S.usual word)) (asking o room)).open_cons
+    clock : max (left_after (S.start setup) (asking o room)).clock at ≡ moment
+    least : due_count moment (left_after (S.start setup) (asking o room)).open_cons
         ≤ due_count moment begin.open_cons
     fewer : is_step below ≡ true → due_count moment
-        (left_after (S.start (S.usual word)) (asking o room)).open_cons < due_count moment begin.open_cons
+        (left_after (S.start setup) (asking o room)).open_cons < due_count moment begin.open_cons
 
-  ticks : (new : S.State) (room : Bool) → Steps (S.start (S.usual word)) (asking None room) new → Asks None room
+  ticks : (new : S.State) (room : Bool) → Steps (S.start setup) (asking None room) new → Asks None room
   ticks new room h =
-      let step = last_step (S.start (S.usual word)) new (asked at L.Ticks below) rest h in
+      let step = last_step (S.start setup) new (asked at L.Ticks below) rest h in
       record {
         clock = omega arith;
         least = ticks_least begin _ at below step;
         fewer = λ is. ticks_fewer begin _ at below step is;
       }
 
-  asks : (new : S.State) (o : Option Deferred) (room : Bool) → Steps (S.start (S.usual word)) (asking o room) new
+  asks : (new : S.State) (o : Option Deferred) (room : Bool) → Steps (S.start setup) (asking o room) new
       → Asks o room
   asks new None room h = ticks new room h
   asks new (Some d) room h =
       let k = ticks h.0 room h.1 in
-      let step = last_step (S.start (S.usual word)) new (asked at (L.Room d.asked.from) (L.Is room))
+      let step = last_step (S.start setup) new (asked at (L.Room d.asked.from) (L.Is room))
       (asking None room) h in
       let same = room_same _ _ at d.asked.from (L.Is room) step in
       let first = k.least in
@@ -244,50 +239,50 @@ module _ (word at : ℕ) (rest : List Asked) (below : L.Answer) where
       }
 
 -- what calls of the exchanges leave of the layer
-abbrev pub behind_calls : ℕ → List E.Call → S.State
-behind_calls word calls = left_after (S.start (S.usual word)) (W.lower_of calls)
+abbrev pub behind_calls : Setup → List E.Call → S.State
+behind_calls setup calls = left_after (S.start setup) (W.lower_of calls)
 
 -- rooms that are asked for
-module _ (word at : ℕ) where
+module _ (setup : Setup) (at : ℕ) where
   record Rooms (before after : S.State) : Type 0 where
     opens : after.open_cons ≡ before.open_cons
     clock : max after.clock at ≡ max before.clock at
 
-  one_room : (to : Endpoint) (b : Bool) (calls : List E.Call) → W.ResponseLaw word (E.Ready at to b ∷ calls)
-      → Rooms (behind_calls word calls) (behind_calls word (E.Ready at to b ∷ calls))
+  one_room : (to : Endpoint) (b : Bool) (calls : List E.Call) → W.ResponseLaw setup (E.Ready at to b ∷ calls)
+      → Rooms (behind_calls setup calls) (behind_calls setup (E.Ready at to b ∷ calls))
   one_room to b calls law =
-      let step = last_step (S.start (S.usual word)) law.left (asked at (L.Room to) (L.Is b))
+      let step = last_step (S.start setup) law.left (asked at (L.Room to) (L.Is b))
       (W.lower_of calls) law.layer in
       record { opens = room_same _ _ at to (L.Is b) step; clock = omega arith }
 
   more_rooms : (a b c : S.State) → Rooms a b → Rooms b c → Rooms a c
   more_rooms a b c x y = record { opens = y.opens ∙ x.opens; clock = y.clock ∙ x.clock }
 
-  rooms : (n : ℕ) (os : List Observer) (calls : List E.Call) → W.ResponseLaw word (readies at n os ++ calls)
-      → Rooms (behind_calls word calls) (behind_calls word (readies at n os ++ calls))
+  rooms : (n : ℕ) (os : List Observer) (calls : List E.Call) → W.ResponseLaw setup (readies at n os ++ calls)
+      → Rooms (behind_calls setup calls) (behind_calls setup (readies at n os ++ calls))
   rooms n [] calls law = record { opens = refl; clock = refl }
   rooms zero (o ∷ os) calls law = one_room o.to true calls law
   rooms (suc n) (o ∷ os) calls law =
       let ready : E.Call = E.Ready at o.to false in
       let e = joined (readies at n os) ready calls in
-      let later = subst (W.ResponseLaw word) e law in
-      let first = one_room o.to false calls (back word (readies at n os) (ready ∷ calls) later) in
-      subst (λ z. Rooms (behind_calls word calls) (behind_calls word z)) (sym e)
-      (more_rooms (behind_calls word calls) (behind_calls word (ready ∷ calls))
-      (behind_calls word (readies at n os ++ ready ∷ calls)) first (rooms n os (ready ∷ calls) later))
+      let later = subst (W.ResponseLaw setup) e law in
+      let first = one_room o.to false calls (back setup (readies at n os) (ready ∷ calls) later) in
+      subst (λ z. Rooms (behind_calls setup calls) (behind_calls setup z)) (sym e)
+      (more_rooms (behind_calls setup calls) (behind_calls setup (ready ∷ calls))
+      (behind_calls setup (readies at n os ++ ready ∷ calls)) first (rooms n os (ready ∷ calls) later))
 
-module _ (limits : Limits) (szx word : ℕ) where
+module _ (limits : Limits) (szx : ℕ) (setup : Setup) where
   abbrev own : List Call → Own
   own t = own_of limits szx t
 
   abbrev layer : List Call → S.State
-  layer t = behind_calls word (lower_of limits szx t)
+  layer t = behind_calls setup (lower_of limits szx t)
 
   -- what is left to be done at this moment
   pub size : ℕ → List Call → ℕ
-  size now t = work (state_left limits szx word t) now
+  size now t = work (state_left limits szx setup t) now
 
-  pub size_is : (now : ℕ) (t : List Call) → size now t ≡ work (state_left limits szx word t) now
+  pub size_is : (now : ℕ) (t : List Call) → size now t ≡ work (state_left limits szx setup t) now
   unfolding size
   size_is now t = refl
 
@@ -302,7 +297,7 @@ module _ (limits : Limits) (szx word : ℕ) where
     ready = P.ready_if below (P.ready_at (W.own_of under) at)
 
     abbrev asked_room : S.State
-    asked_room = left_after (S.start (S.usual word)) (asking word at (W.lower_of under) below ready room)
+    asked_room = left_after (S.start setup) (asking setup at (W.lower_of under) below ready room)
 
     abbrev before : ℕ
     before = due_count (max (layer t).clock at) (layer t).open_cons
@@ -310,11 +305,11 @@ module _ (limits : Limits) (szx word : ℕ) where
     abbrev after : S.State → ℕ
     after s = due_count (max s.clock (max at now)) s.open_cons
 
-    taken_less : (new : S.State) → Steps (S.start (S.usual word))
-        (asking word at (W.lower_of under) below ready room) new
+    taken_less : (new : S.State) → Steps (S.start setup)
+        (asking setup at (W.lower_of under) below ready room) new
         → is_step below ≡ true → after asked_room < before
     taken_less new steps is =
-        let k = asks word at (W.lower_of under) below new ready room steps in
+        let k = asks setup at (W.lower_of under) below new ready room steps in
         let clock = k.clock in
         let fewer = k.fewer is in
         let now_same : max at now ≡ at = omega arith in
@@ -328,16 +323,16 @@ module _ (limits : Limits) (szx word : ℕ) where
         → ((old new : S.State) → S.Step old at call (L.Sent id) new
         → due_count (max old.clock at) new.open_cons ≡ due_count (max old.clock at) old.open_cons)
         → ((s : S.State) → S.moment s at call ≡ max s.clock at) → (b : S.State) (calls : List Asked) (new : S.State)
-        → b ≡ left_after (S.start (S.usual word)) calls → b.open_cons ≡ asked_room.open_cons
+        → b ≡ left_after (S.start setup) calls → b.open_cons ≡ asked_room.open_cons
         → max b.clock at ≡ max asked_room.clock at
-        → (mid : S.State) → Steps (S.start (S.usual word)) (asking word at (W.lower_of under) below ready room) mid
-        → Steps (S.start (S.usual word)) (asked at call (L.Sent id) ∷ calls) new
-        → after (left_after (S.start (S.usual word)) (asked at call (L.Sent id) ∷ calls)) ≤ before
+        → (mid : S.State) → Steps (S.start setup) (asking setup at (W.lower_of under) below ready room) mid
+        → Steps (S.start setup) (asked at call (L.Sent id) ∷ calls) new
+        → after (left_after (S.start setup) (asked at call (L.Sent id) ∷ calls)) ≤ before
     sent_now call id keeps timed b calls new b_is opens clocks mid turn steps =
-        let a : S.State = left_after (S.start (S.usual word)) calls in
-        let last : S.State = left_after (S.start (S.usual word)) (asked at call (L.Sent id) ∷ calls) in
-        let k = asks word at (W.lower_of under) below mid ready room turn in
-        let step = last_step (S.start (S.usual word)) new (asked at call (L.Sent id)) calls steps in
+        let a : S.State = left_after (S.start setup) calls in
+        let last : S.State = left_after (S.start setup) (asked at call (L.Sent id) ∷ calls) in
+        let k = asks setup at (W.lower_of under) below mid ready room turn in
+        let step = last_step (S.start setup) new (asked at call (L.Sent id)) calls steps in
         let same = keeps a last step in
         let moment = timed a in
         let clock = k.clock in
@@ -371,20 +366,20 @@ module _ (limits : Limits) (szx word : ℕ) where
 
     -- a notification, behind what was asked of the exchanges before it
     notice_least : (plain : Bool) (o : Observer) (r : E.Response) (id : ℕ) (calls : List E.Call)
-        → W.ResponseLaw word (notifies_by plain at o r w id ∷ calls) → Rooms word at asked_room (behind_calls word calls)
-        → (mid : S.State) → Steps (S.start (S.usual word)) (asking word at (W.lower_of under) below ready room) mid
-        → after (behind_calls word (notifies_by plain at o r w id ∷ calls)) ≤ before
+        → W.ResponseLaw setup (notifies_by plain at o r w id ∷ calls) → Rooms setup at asked_room (behind_calls setup calls)
+        → (mid : S.State) → Steps (S.start setup) (asking setup at (W.lower_of under) below ready room) mid
+        → after (behind_calls setup (notifies_by plain at o r w id ∷ calls)) ≤ before
     notice_least false o r id calls law rooms mid turn =
         let content : L.Content = P.content_with o.token r in
-        sent_now (with_con o.to content) id (con_now o.to content id) (λ s. refl) (behind_calls word calls)
+        sent_now (with_con o.to content) id (con_now o.to content id) (λ s. refl) (behind_calls setup calls)
         (W.lower_of calls) law.left refl rooms.opens rooms.clock mid turn law.layer
     notice_least true o r id calls law rooms mid turn =
         let content : L.Content = P.content_with o.token r in
-        sent_now (L.Plain o.to content) id (non_now o.to content id) (λ s. refl) (behind_calls word calls)
+        sent_now (L.Plain o.to content) id (non_now o.to content id) (λ s. refl) (behind_calls setup calls)
         (W.lower_of calls) law.left refl rooms.opens rooms.clock mid turn law.layer
 
     pub less : (d : Due) (passed : ℕ) (h : Handling) (id : ℕ)
-        → ServerLaw limits szx word (Ticks now w below room d passed h id true ∷ t)
+        → ServerLaw limits szx setup (Ticks now w below room d passed h id true ∷ t)
         → size now (Ticks now w below room d passed h id true ∷ t) < size now t
     unfolding size
     less due.Copied passed Silent id law =
@@ -438,11 +433,11 @@ module _ (limits : Limits) (szx word : ℕ) where
         let calls : List E.Call = (cs ++ first ∷ []) ++ under in
         let e = joined cs first under in
         let r : E.Response = notification s.store o reply in
-        let rest = back word (notifies_by (by_plain s o) at o r w id ∷ []) calls law.exchanges in
-        let room_law = subst (W.ResponseLaw word) e rest in
-        let all = subst (λ z. Rooms word at asked_room (behind_calls word z)) (sym e)
-        (rooms word at passed (marked s.observers) (first ∷ under) room_law) in
-        let turn = back word cs (first ∷ under) room_law in
+        let rest = back setup (notifies_by (by_plain s o) at o r w id ∷ []) calls law.exchanges in
+        let room_law = subst (W.ResponseLaw setup) e rest in
+        let all = subst (λ z. Rooms setup at asked_room (behind_calls setup z)) (sym e)
+        (rooms setup at passed (marked s.observers) (first ∷ under) room_law) in
+        let turn = back setup cs (first ∷ under) room_law in
         let k = notice_least (by_plain s o) o r id calls law.exchanges all turn.left turn.layer in
         omega (arith, k, l, fewer)
     less (due.Ready a) passed (Serves q reply left) id law = by (question_of at a (own t).waiting) refl law.rows.0.0
@@ -457,11 +452,11 @@ module _ (limits : Limits) (szx word : ℕ) where
             → AnswersWaiting o (own t).store at (Serves q reply left) → size now (c ∷ t) < size now t
         by None is h = absurd (cc h)
         by (Some x) is h =
-            let turn = back word (E.Responds at a (R.response_to s.store s.observers a q reply) w id ∷ [])
+            let turn = back setup (E.Responds at a (R.response_to s.store s.observers a q reply) w id ∷ [])
             (ticking (own t) now below room (due.Ready a) ∷ under) law.exchanges in
             let content : L.Content = P.content_of a (R.response_to s.store s.observers a q reply) in
             let k = sent_now (with_con a.from content) id (con_now a.from content id) (λ s. refl) asked_room
-            (asking word at (W.lower_of under) below ready room) law.exchanges.left refl refl refl turn.left turn.layer
+            (asking setup at (W.lower_of under) below ready room) law.exchanges.left refl refl refl turn.left turn.layer
             law.exchanges.layer in
             let few = (are_observers limits szx (c ∷ t)).registrations.few in
             let most = length-filter_both (λ (o : Observer). o.marked) (λ (o : Observer). not o.marked) (λ o. refl)
@@ -469,30 +464,30 @@ module _ (limits : Limits) (szx word : ℕ) where
             let one = without_one at a (own t).waiting x is in
             omega (arith, k, few, most, one)
     less (due.Ready a) passed Silent id law = let k =
-        (ready_are_served limits szx word (Ticks now w below room (due.Ready a) passed Silent id true ∷ t) law).0 a refl
+        (ready_are_served limits szx setup (Ticks now w below room (due.Ready a) passed Silent id true ∷ t) law).0 a refl
         in let no = k.1 in absurd (cc no)
     less (due.Ready a) passed (Replies r) id law = let k =
-        (ready_are_served limits szx word (Ticks now w below room (due.Ready a) passed (Replies r) id true ∷ t) law).0 a
+        (ready_are_served limits szx setup (Ticks now w below room (due.Ready a) passed (Replies r) id true ∷ t) law).0 a
         refl in let no = k.1 in absurd (cc no)
     less (due.Ready a) passed (Waits q d) id law = let k =
-        (ready_are_served limits szx word (Ticks now w below room (due.Ready a) passed (Waits q d) id true ∷ t) law).0 a
+        (ready_are_served limits szx setup (Ticks now w below room (due.Ready a) passed (Waits q d) id true ∷ t) law).0 a
         refl in let no = k.1 in absurd (cc no)
     less (due.Ready a) passed (Notifies o reply) id law =
-        let k = (ready_are_served limits szx word (Ticks now w below room (due.Ready a) passed
+        let k = (ready_are_served limits szx setup (Ticks now w below room (due.Ready a) passed
         (Notifies o reply) id true ∷ t) law).0 a refl in let no = k.1 in absurd (cc no)
 
-  so_many : (now : ℕ) (t calls : List Call) → Each (IsTick now true) calls → ServerLaw limits szx word (calls ++ t)
+  so_many : (now : ℕ) (t calls : List Call) → Each (IsTick now true) calls → ServerLaw limits szx setup (calls ++ t)
       → length calls + size now (calls ++ t) ≤ size now t
   so_many now t [] h law = omega arith
   so_many now t (c ∷ calls) h law =
-      let k = so_many now t calls h.1 (server_back limits szx word c (calls ++ t) law) in
+      let k = so_many now t calls h.1 (server_back limits szx setup c (calls ++ t) law) in
       let b = h.0 in
       let one = less now b.0 (calls ++ t) b.1 b.2 b.3 b.4 b.5 b.6
-      (subst (λ d. ServerLaw limits szx word (d ∷ (calls ++ t))) b.7 law) in
+      (subst (λ d. ServerLaw limits szx setup (d ∷ (calls ++ t))) b.7 law) in
       let same : size now (c ∷ (calls ++ t)) ≡ size now (Ticks now b.0 b.1 b.2 b.3 b.4 b.5 b.6 true ∷ (calls ++ t)) =
       ap (λ d. size now (d ∷ (calls ++ t))) b.7 in
       omega (arith, k, one, same)
 
-  pub ticks_end : (t : List Call) → TicksEnd limits szx word t
+  pub ticks_end : (t : List Call) → TicksEnd limits szx setup t
   unfolding size
   ticks_end t now calls h law = let k = so_many now t calls h law in omega (arith, k)

@@ -76,10 +76,8 @@ module _ (limits : Limits) (szx : ℕ) where
 
   uploads_with : (v : Verdict) (at : ℕ) (a : Asked) (u : AssemblyState) (h : AssemblyTrace) → u ≡ state_after h
       → uploads_after at a v u ≡ state_after (arrived h at a v)
-  uploads_with Ignored at a u h e = e
-  uploads_with (Refused code) at a u h e = e
-  uploads_with (Asks q) at a u h e = e
   uploads_with (Uploads q b) at a u h e = ap (λ z. after_block z at (key_of a q) b q.body) e
+  uploads_with _ at a u h e = e
 
   -- the longest body that it joins stays
   limit_with : (v : Verdict) (at : ℕ) (a : Asked) (u : AssemblyState) → (uploads_after at a v u).limit ≡ u.limit
@@ -120,12 +118,10 @@ module _ (limits : Limits) (szx : ℕ) where
   since_with_is : (key : Key) (v : Verdict) (at : ℕ) (a : Asked) (u : AssemblyState) (h : AssemblyTrace)
       (xs : List Took) → u ≡ state_after h → parts_of xs ≡ A.blocks_since key h
       → parts_of (since_with key (taken_by u at a v) xs) ≡ A.blocks_since key (arrived h at a v)
-  since_with_is key Ignored at a u h xs e f = f
-  since_with_is key (Refused code) at a u h xs e f = f
-  since_with_is key (Asks q) at a u h xs e f = f
   since_with_is key (Uploads q b) at a u h xs e f =
       ap (λ z. parts_of (since_with key (took_by (verdict_at z at (key_of a q) b (length q.body)) (took a q b)) xs)) e
       ∙ since_same key (verdict_at (state_after h) at (key_of a q) b (length q.body)) xs a q b (A.blocks_since key h) f
+  since_with_is key _ at a u h xs e f = f
 
   -- and so it does of the blocks of a key
   pub since_is : (key : Key) (t : List Call) → parts_of (blocks_since limits szx key t) ≡ A.blocks_since key (history t)

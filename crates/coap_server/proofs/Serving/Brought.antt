@@ -9,6 +9,7 @@ use Rattle.coap_layer.specs.Trace as L
 use Rattle.coap_layer.specs.Machine.State as S
 use Rattle.coap_layer.specs.Machine.Steps.{Steps, entries, left_after}
 use Rattle.coap_layer.specs.Machine.Steps as G
+use Rattle.coap_layer.specs.declared.setup.Setup.{Setup}
 use Rattle.coap_resource.specs.Limits.{Limits}
 use Rattle.coap_exchange.specs.declared.answerer.Asked.{Asked}
 use Rattle.coap_exchange.specs.AnswererTrace as E
@@ -27,18 +28,18 @@ use Rattle.coap_server.specs.Follows.Brings.{HandsUp, Comes}
 use Rattle.coap_server.proofs.Exact.Asked.{back}
 
 -- the law of a past
-pub server_back : (limits : Limits) (szx word : ℕ) (c : Call) (t : List Call) → ServerLaw limits szx word (c ∷ t)
-    → ServerLaw limits szx word t
-server_back limits szx word c t law = record {
+pub server_back : (limits : Limits) (szx : ℕ) (setup : Setup) (c : Call) (t : List Call) → ServerLaw limits szx setup (c ∷ t)
+    → ServerLaw limits szx setup t
+server_back limits szx setup c t law = record {
   rows = law.rows.1;
-  exchanges = back word (lower (own_of limits szx t) c) (lower_of limits szx t) law.exchanges;
+  exchanges = back setup (lower (own_of limits szx t) c) (lower_of limits szx t) law.exchanges;
 }
 
-pub servers_back : (limits : Limits) (szx word : ℕ) (calls t : List Call) → ServerLaw limits szx word (calls ++ t)
-    → ServerLaw limits szx word t
-servers_back limits szx word [] t law = law
-servers_back limits szx word (c ∷ calls) t law =
-    servers_back limits szx word calls t (server_back limits szx word c (calls ++ t) law)
+pub servers_back : (limits : Limits) (szx : ℕ) (setup : Setup) (calls t : List Call) → ServerLaw limits szx setup (calls ++ t)
+    → ServerLaw limits szx setup t
+servers_back limits szx setup [] t law = law
+servers_back limits szx setup (c ∷ calls) t law =
+    servers_back limits szx setup calls t (server_back limits szx setup c (calls ++ t) law)
 
 -- the size of blocks stays
 pub szx_is : (limits : Limits) (szx : ℕ) (t : List Call) → (own_of limits szx t).szx ≡ szx
@@ -100,16 +101,7 @@ came_by from (L.Becomes (L.Request n true)) a m h =
     let same : m ≡ n = ap (λ (p : Asked × Message). p.1) both in
     let it : a ≡ asked_of from n = ap (λ (p : Asked × Message). p.0) both in
     record { up_is = ap (λ z. L.Becomes (L.Request z true)) (sym same); asked_is = it ∙ ap (asked_of from) (sym same) }
-came_by from (L.Becomes u) a m h = absurd (cc h)
-came_by from L.Nothing a m h = absurd (cc h)
-came_by from (L.Is holds) a m h = absurd (cc h)
-came_by from (L.Sent id) a m h = absurd (cc h)
-came_by from L.Busied a m h = absurd (cc h)
-came_by from L.NoIds a m h = absurd (cc h)
-came_by from L.Idle a m h = absurd (cc h)
-came_by from (L.Copied to id) a m h = absurd (cc h)
-came_by from (L.Expired to id) a m h = absurd (cc h)
-came_by from (L.Gives packet) a m h = absurd (cc h)
+came_by from _ a m h = absurd (cc h)
 
 abbrev Arrives : Asked → Message → L.Call → L.Answer → Type 0
 Arrives a m call answer = (bytes : List ℕ) × (call ≡ L.Receive a.from bytes) × (answer ≡ L.Becomes (L.Request m true))
@@ -146,31 +138,31 @@ module _ (a : Asked) (m : Message) where
       (subst (λ d. Ever (λ (b : G.Asked). Arrives a m b.call b.answer) (P.lower s d)) (sym h.4)
       (arrives_here s h.0 h.1 h.2 h.3 (subst (P.IsRight s) h.4 law.0)))
 
-module _ (limits : Limits) (szx word : ℕ) (t : List Call) where
+module _ (limits : Limits) (szx : ℕ) (setup : Setup) (t : List Call) where
   -- whatever the exchanges are asked in a call, the entries that come with it
-  comes_by : (c : Call) (a : Asked) (m : Message) (v : Verdict) → ServerLaw limits szx word (c ∷ t)
-      → verdict_on szx m ≡ v → Ever (Comes_in a m) (lower (own_of limits szx t) c) → Comes limits szx word t c a v
+  comes_by : (c : Call) (a : Asked) (m : Message) (v : Verdict) → ServerLaw limits szx setup (c ∷ t)
+      → verdict_on szx m ≡ v → Ever (Comes_in a m) (lower (own_of limits szx t) c) → Comes limits szx setup t c a v
   comes_by c a m v law is h =
       let xs : List E.Call = lower (own_of limits szx t) c in
       let calls : List E.Call = lower_of limits szx t in
       let e = under_is xs calls in
       record {
-        news = news (S.start (S.usual word)) (under xs calls) (W.lower_of calls);
-        is = ap (entries (S.start (S.usual word))) e
-            ∙ news_is (S.start (S.usual word)) (under xs calls) (W.lower_of calls);
+        news = news (S.start setup) (under xs calls) (W.lower_of calls);
+        is = ap (entries (S.start setup)) e
+            ∙ news_is (S.start setup) (under xs calls) (W.lower_of calls);
         here =
             Ever_map (λ (e : L.Entry). Arrives a m e.call e.answer) (HandsUp szx a v)
             (λ e z. record { message = m; bytes = z.0; call = z.1; answer = z.2; asked_is = z.3; verdict = is })
-            (news (S.start (S.usual word)) (under xs calls) (W.lower_of calls))
-            (entry_of (Arrives a m) (S.start (S.usual word)) law.exchanges.left (under xs calls) (W.lower_of calls)
-            (subst (λ z. Steps (S.start (S.usual word)) z law.exchanges.left) e law.exchanges.layer)
+            (news (S.start setup) (under xs calls) (W.lower_of calls))
+            (entry_of (Arrives a m) (S.start setup) law.exchanges.left (under xs calls) (W.lower_of calls)
+            (subst (λ z. Steps (S.start setup) z law.exchanges.left) e law.exchanges.layer)
             (arrives a m xs calls law.exchanges.rows h));
       }
 
   pub comes_here : (now : ℕ) (from : Endpoint) (bytes : List ℕ) (w : ℕ) (up : L.Answer) (p : Asked × Message)
       (h : Handling) (below : L.Answer)
-      → ServerLaw limits szx word (Feeds now from bytes w up (Some p) h below ∷ t)
-      → Comes limits szx word t (Feeds now from bytes w up (Some p) h below) p.0 (verdict_on szx p.1)
+      → ServerLaw limits szx setup (Feeds now from bytes w up (Some p) h below ∷ t)
+      → Comes limits szx setup t (Feeds now from bytes w up (Some p) h below) p.0 (verdict_on szx p.1)
   comes_here now from bytes w up p h below law =
       let s : Own = own_of limits szx t in
       let first : E.Call = incoming s now from bytes up (Some p) in

@@ -1,5 +1,5 @@
 -- What waits at a server is what its exchanges defer, and what they say is ready is served then.
-use Rattle.std.proofs.Common.{◌≡◌, Bool, true, false, Option, Some, None, refl}
+use Rattle.std.proofs.Common.{◌≡◌, Bool, true, Option, Some, refl}
 use Rattle.std.proofs.Common.{sym}
 use Rattle.coap_layer.specs.Trace as L
 use Rattle.coap_exchange.specs.declared.answerer.Asked.{Asked}
@@ -18,6 +18,4 @@ pub found_ready : (below : L.Answer) (o : Option Deferred) (room : Bool) (a : As
     → due.Ready a ≡ P.due_of below o room → FoundReady below o a
 found_ready L.Idle (Some d) true a h = record
     { idle = refl; deferred = d; first = refl; asked = (let e : a ≡ d.asked = cc h in sym e) }
-found_ready L.Idle (Some d) false a h = absurd (cc h)
-found_ready L.Idle None room a h = absurd (cc h)
-found_ready up o room a h = absurd (cc h)
+found_ready _ _ _ a h = absurd (cc h)

@@ -13,6 +13,7 @@ use Rattle.coap_types.specs.declared.endpoint.Endpoint.{Endpoint}
 use Rattle.coap_types.specs.declared.message.Kind.{Kind}
 use Rattle.coap_types.specs.declared.message.Kind.TheVariants.{Con, Non, Ack, Rst}
 use Rattle.coap_types.specs.declared.option_number.TheConstants.{BLOCK1 as block1, BLOCK2 as block2}
+use Rattle.coap_layer.specs.Machine.State.{usual}
 use Rattle.coap_types.specs.declared.option_number.TheConstants.{PROXY_URI as proxy_uri, PROXY_SCHEME as proxy_scheme}
 use Rattle.coap_types.specs.declared.path.TheConstants.{MAX_SEGMENTS as max_segments}
 use Rattle.coap_types.specs.declared.request.Method.{Method}
@@ -28,8 +29,7 @@ use Rattle.coap_block.specs.AssemblyState.{reached, without_key}
 use Rattle.coap_block.specs.AssemblyStep.{there_at}
 use Rattle.coap_block.specs.declared.block_verdict.BlockVerdict.{BlockVerdict}
 use Rattle.coap_block.specs.declared.block_verdict.BlockVerdict.TheVariants.{Refuse, Join, Done}
-use Rattle.coap_server.specs.Trace.{Own, Handling, Waits, Call, Sets, Removes, Delays, Plains, Feeds, Ticks}
-use Rattle.coap_server.specs.Trace.{NextOut, Gets, TellsApplied}
+use Rattle.coap_server.specs.Trace.{Own, Handling, Waits, Call, Feeds}
 use Rattle.coap_server.specs.Checks.{Verdict, Refused, Asks, Uploads, verdict_on, bad_by, asked_by}
 use Rattle.coap_server.specs.Checks.{uploading, question, asks, is_reserved, bad_request}
 use Rattle.coap_server.specs.Checks.{proxying_not_supported}
@@ -204,7 +204,7 @@ module _ (limits : Limits) (szx : ℕ) where
         absurd (cc (more, last))
     by_ruling h q b Done is rule k takes last = (
       whole s.uploads s.clock p.0 q b,
-      completes limits szx 0 t now from bytes w up p h below q b is rule,
+      completes limits szx (usual 0) t now from bytes w up p h below q b is rule,
       by_whole (whole s.uploads s.clock p.0 q b) h k,
     )
 
@@ -227,15 +227,7 @@ module _ (limits : Limits) (szx : ℕ) where
       subst (λ (z : Asked × Message). IsAttended limits szx t (Feeds now from bytes w up (Some r) h below) z.0 q)
       (sym same)
       (asks_whole t now from bytes w up r below h q rows.0 (there t r.1 (Asks q) verdict))
-  methods_here t (Feeds now from bytes w up None h below) rows p q is asked = absurd (cc is)
-  methods_here t (Ticks now w below room d passed h id answer) rows p q is asked = absurd (cc is)
-  methods_here t (Sets now path format body answer left) rows p q is asked = absurd (cc is)
-  methods_here t (Removes now path answer left) rows p q is asked = absurd (cc is)
-  methods_here t (Delays path ms answer) rows p q is asked = absurd (cc is)
-  methods_here t (Plains path answer) rows p q is asked = absurd (cc is)
-  methods_here t (NextOut answer) rows p q is asked = absurd (cc is)
-  methods_here t (Gets path answer) rows p q is asked = absurd (cc is)
-  methods_here t (TellsApplied answer) rows p q is asked = absurd (cc is)
+  methods_here t _ rows p q is asked = absurd (cc is)
 
   pub all_methods : (t : List Call) → ServerRows limits szx t → AllMethods limits szx t
   all_methods [] rows = tt
@@ -250,15 +242,7 @@ module _ (limits : Limits) (szx : ℕ) where
       subst (λ (z : Asked × Message). takes_block (own_of limits szx t) c ≡ Some (took z.0 q b) → b.more ≡ false
       → (v : Question) × Completes limits szx t c z.0 q b v × IsAttended limits szx t c z.0 v) (sym same)
       (takes_last t now from bytes w up r below h q b rows.0 (there t r.1 (Uploads q b) verdict))
-  uploads_here t (Feeds now from bytes w up None h below) rows p q b is asked = absurd (cc is)
-  uploads_here t (Ticks now w below room d passed h id answer) rows p q b is asked = absurd (cc is)
-  uploads_here t (Sets now path format body answer left) rows p q b is asked = absurd (cc is)
-  uploads_here t (Removes now path answer left) rows p q b is asked = absurd (cc is)
-  uploads_here t (Delays path ms answer) rows p q b is asked = absurd (cc is)
-  uploads_here t (Plains path answer) rows p q b is asked = absurd (cc is)
-  uploads_here t (NextOut answer) rows p q b is asked = absurd (cc is)
-  uploads_here t (Gets path answer) rows p q b is asked = absurd (cc is)
-  uploads_here t (TellsApplied answer) rows p q b is asked = absurd (cc is)
+  uploads_here t _ rows p q b is asked = absurd (cc is)
 
   pub all_uploads : (t : List Call) → ServerRows limits szx t → AllUploads limits szx t
   all_uploads [] rows = tt

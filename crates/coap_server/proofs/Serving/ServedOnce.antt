@@ -66,24 +66,14 @@ module _ (b : Asked) (s : Own) where
 -- the calls beneath one call: a response, where there is one, and what came
 answering_handed : (a : Asked) (s : Own) (came : Option (Asked × Message)) (h : Handling) (below : L.Answer)
     (rest : List E.Call) → H a (answering s came h below ++ rest) ≡ H a rest
-answering_handed a s None h below rest = refl
-answering_handed a s (Some p) Silent below rest = refl
-answering_handed a s (Some p) (Notifies o reply) below rest = refl
 answering_handed a s (Some p) (Replies r) below rest = omega arith
 answering_handed a s (Some p) (Serves q reply left) below rest = let k =
     (deferred_handed a s p.0 q rest).0 in omega (arith, k)
 answering_handed a s (Some p) (Waits q d) below rest = (deferred_handed a s p.0 q rest).0
+answering_handed a s _ _ below rest = refl
 
 responding_handed : (a : Asked) (s : Own) (d : Due) (passed : ℕ) (h : Handling) (word id : ℕ) (rest : List E.Call)
     → H a (responding s d passed h word id ++ rest) ≡ H a rest
-responding_handed a s due.Idle passed Silent word id rest =
-    (readies_handed a s.clock passed (marked s.observers) rest).0
-responding_handed a s due.Idle passed (Replies r) word id rest =
-    (readies_handed a s.clock passed (marked s.observers) rest).0
-responding_handed a s due.Idle passed (Serves q reply left) word id rest =
-    (readies_handed a s.clock passed (marked s.observers) rest).0
-responding_handed a s due.Idle passed (Waits q d) word id rest =
-    (readies_handed a s.clock passed (marked s.observers) rest).0
 responding_handed a s due.Idle passed (Notifies o reply) word id rest =
     let k = (readies_handed a s.clock passed (marked s.observers) rest).0 in
     let none = in_either (λ c. H a (c ∷ []) ≡ 0) (by_plain s o) s.clock o (notification s.store o reply) word id refl refl
@@ -95,20 +85,18 @@ responding_handed a s (due.Ready b) passed (Replies r) word id rest = refl
 responding_handed a s (due.Ready b) passed (Waits q d) word id rest = refl
 responding_handed a s (due.Ready b) passed (Notifies o reply) word id rest = refl
 responding_handed a s (due.Ready b) passed (Serves q reply left) word id rest = omega arith
+responding_handed a s due.Idle passed _ word id rest = (readies_handed a s.clock passed (marked s.observers) rest).0
 
 -- a serving is a response
 answering_served : (a : Asked) (s : Own) (now : ℕ) (from : Endpoint) (bytes : List ℕ) (word : ℕ) (up : L.Answer)
     (came : Option (Asked × Message)) (h : Handling) (below : L.Answer) (rest : List E.Call)
     → hits (same_asked a) (asked_of (serving s (Feeds now from bytes word up came h below))) + A a rest ≤ A a
     (answering (heard s now (incoming s now from bytes up came)) came h below ++ rest)
-answering_served a s now from bytes word up None h below rest = omega arith
-answering_served a s now from bytes word up (Some p) Silent below rest = omega arith
-answering_served a s now from bytes word up (Some p) (Notifies o reply) below rest = omega arith
-answering_served a s now from bytes word up (Some p) (Replies r) below rest = omega arith
 answering_served a s now from bytes word up (Some p) (Serves q reply left) below rest = let k =
     (deferred_handed a (heard s now (incoming s now from bytes up (Some p))) p.0 q rest).1 in omega (arith, k)
 answering_served a s now from bytes word up (Some p) (Waits q d) below rest = let k =
     (deferred_handed a (heard s now (incoming s now from bytes up (Some p))) p.0 q rest).1 in omega (arith, k)
+answering_served a s now from bytes word up _ _ below rest = omega arith
 
 responding_served : (a : Asked) (s : Own) (now word : ℕ) (below : L.Answer) (room : Bool) (d : Due) (passed : ℕ)
     (h : Handling) (id : ℕ) (answer : Bool) (rest : List E.Call)
@@ -220,25 +208,7 @@ module _ (limits : Limits) (szx : ℕ) where
       let k = served_at_most x.asked t in
       let e = handed_is x.asked t in
       omega (arith, f, k, e)
-  here t (Feeds now from bytes word up None h below) law x e = absurd (cc e)
-  here t (Feeds now from bytes word up (Some p) Silent below) law x e = absurd (cc e)
-  here t (Feeds now from bytes word up (Some p) (Replies r) below) law x e = absurd (cc e)
-  here t (Feeds now from bytes word up (Some p) (Waits q d) below) law x e = absurd (cc e)
-  here t (Feeds now from bytes word up (Some p) (Notifies o reply) below) law x e = absurd (cc e)
-  here t (Ticks now word below room due.Idle passed h id answer) law x e = absurd (cc e)
-  here t (Ticks now word below room due.Copied passed h id answer) law x e = absurd (cc e)
-  here t (Ticks now word below room due.Expired passed h id answer) law x e = absurd (cc e)
-  here t (Ticks now word below room (due.Ready a) passed Silent id answer) law x e = absurd (cc e)
-  here t (Ticks now word below room (due.Ready a) passed (Replies r) id answer) law x e = absurd (cc e)
-  here t (Ticks now word below room (due.Ready a) passed (Waits q d) id answer) law x e = absurd (cc e)
-  here t (Ticks now word below room (due.Ready a) passed (Notifies o reply) id answer) law x e = absurd (cc e)
-  here t (Sets now path format body answer left) law x e = absurd (cc e)
-  here t (Removes now path answer left) law x e = absurd (cc e)
-  here t (Delays path ms answer) law x e = absurd (cc e)
-  here t (Plains path answer) law x e = absurd (cc e)
-  here t (Gets path answer) law x e = absurd (cc e)
-  here t (TellsApplied answer) law x e = absurd (cc e)
-  here t (NextOut answer) law x e = absurd (cc e)
+  here t _ law x e = absurd (cc e)
 
   pub served_once : (t : List Call) → F.AreResponses (lower_of limits szx t) → ServedOnce limits szx t
   served_once [] law = tt

@@ -33,8 +33,9 @@ use Rattle.coap_exchange.specs.AnswererFollows.{same_asked}
 use Rattle.coap_exchange.specs.AnswererSteps.{may_defer}
 use Rattle.coap_exchange.specs.Tokens.{same_token}
 use Rattle.std.proofs.lemmas.Bool.{and_parts}
+use Rattle.coap_layer.specs.declared.setup.Setup.{Setup}
 use Rattle.coap_exchange.proofs.Facts.SameToken.{same_token_is}
-use Rattle.coap_server.specs.Trace.{Waiting, Own, Handling, Silent, Replies, Serves, Waits, Notifies}
+use Rattle.coap_server.specs.Trace.{Waiting, Own, Handling, Serves, Waits}
 use Rattle.coap_server.specs.Trace.{Call, Sets, Removes, Delays, Plains, Feeds, Ticks, NextOut, Gets}
 use Rattle.coap_server.specs.Trace.{TellsApplied}
 use Rattle.coap_server.specs.Checks.{Verdict, Ignored, Refused, Asks, Uploads, verdict_on}
@@ -57,18 +58,7 @@ kind_is Con Con h = refl
 kind_is Non Non h = refl
 kind_is Ack Ack h = refl
 kind_is Rst Rst h = refl
-kind_is Con Non h = absurd (cc h)
-kind_is Con Ack h = absurd (cc h)
-kind_is Con Rst h = absurd (cc h)
-kind_is Non Con h = absurd (cc h)
-kind_is Non Ack h = absurd (cc h)
-kind_is Non Rst h = absurd (cc h)
-kind_is Ack Con h = absurd (cc h)
-kind_is Ack Non h = absurd (cc h)
-kind_is Ack Rst h = absurd (cc h)
-kind_is Rst Con h = absurd (cc h)
-kind_is Rst Non h = absurd (cc h)
-kind_is Rst Ack h = absurd (cc h)
+kind_is _ _ h = absurd (cc h)
 
 pub same_asked_is : (a b : Asked) → same_asked a b ≡ true → a ≡ b
 same_asked_is a b h =
@@ -140,7 +130,7 @@ whole_asks None place old at p h q right is = served_asks h p q (ap question_in 
 nothing_asked : (X : Type 0) (h : Handling) (q : Question) → question_in h ≡ None → question_in h ≡ Some q → X
 nothing_asked X h q none is = let e : None ≡ Some q = sym none ∙ is in absurd (cc e)
 
-module _ (limits : Limits) (szx word : ℕ) where
+module _ (limits : Limits) (szx : ℕ) (setup : Setup) where
   abbrev own : List Call → Own
   own t = own_of limits szx t
 
@@ -197,32 +187,30 @@ module _ (limits : Limits) (szx word : ℕ) where
     asks_by (Uploads asked b) q is right e = block_asks
         (ruling_of (own t).uploads moment p.0 asked b) asked b q is refl right e
 
-    pub brings_here : ServerLaw limits szx word (call ∷ t) → (q : Question) → question_in h ≡ Some q
-        → Brings limits szx word t call p.0 q
+    pub brings_here : ServerLaw limits szx setup (call ∷ t) → (q : Question) → question_in h ≡ Some q
+        → Brings limits szx setup t call p.0 q
     brings_here law q e =
         let v : Verdict = verdict_on (own t).szx p.1 in
         let same : verdict_on szx p.1 ≡ v = ap (λ n. verdict_on n p.1) (sym (szx_is limits szx t)) in
         record {
           verdict = v;
-          comes = subst (Comes limits szx word t call p.0) same
-              (comes_here limits szx word t now from bytes w up p h below law);
+          comes = subst (Comes limits szx setup t call p.0) same
+              (comes_here limits szx setup t now from bytes w up p h below law);
           asks = asks_by v q refl law.rows.0 e;
         }
 
     takes_by : (v : Verdict) (x : Took) → taken_by (own t).uploads moment p.0 v ≡ Some x
         → (q : Question) × (b : Block) × (v ≡ Uploads q b) × (took p.0 q b ≡ x)
-    takes_by Ignored x e = absurd (cc e)
-    takes_by (Refused code) x e = absurd (cc e)
-    takes_by (Asks q) x e = absurd (cc e)
     takes_by (Uploads q b) x e = (q, b, refl, by (ruling_of (own t).uploads moment p.0 q b) e)
       where
         by : (v : BlockVerdict) → took_by v (took p.0 q b) ≡ Some x → took p.0 q b ≡ x
         by (Refuse why) k = absurd (cc k)
         by (Join n) k = cc k
         by Done k = cc k
+    takes_by _ x e = absurd (cc e)
 
-    pub block_comes : ServerLaw limits szx word (call ∷ t) → (x : Took) → takes_block (own t) call ≡ Some x
-        → ComesIn limits szx word t call x
+    pub block_comes : ServerLaw limits szx setup (call ∷ t) → (x : Took) → takes_block (own t) call ≡ Some x
+        → ComesIn limits szx setup t call x
     block_comes law x e =
         let v : Verdict = verdict_on (own t).szx p.1 in
         let k = takes_by v x e in
@@ -233,14 +221,14 @@ module _ (limits : Limits) (szx word : ℕ) where
           question = k.0;
           block = k.1;
           is = sym k.3 ∙ ap (λ a. took a k.0 k.1) from_is;
-          comes = subst (λ a. Comes limits szx word t call a (Uploads k.0 k.1)) from_is
-              (subst (Comes limits szx word t call p.0) same
-              (comes_here limits szx word t now from bytes w up p h below law));
+          comes = subst (λ a. Comes limits szx setup t call a (Uploads k.0 k.1)) from_is
+              (subst (Comes limits szx setup t call p.0) same
+              (comes_here limits szx setup t now from bytes w up p h below law));
         }
 
   -- what waits came so
   abbrev WasBrought : Asked → Question → List Call → Type 0
-  WasBrought a q t = Sometime (λ old b. Brings limits szx word old b a q) t
+  WasBrought a q t = Sometime (λ old b. Brings limits szx setup old b a q) t
 
   abbrev AllFrom : List Call → List Waiting → Type 0
   AllFrom t [] = Unit {0}
@@ -278,32 +266,26 @@ module _ (limits : Limits) (szx word : ℕ) where
 
   waits_fed : (t : List Call) (now : ℕ) (from : Endpoint) (bytes : List ℕ) (w : ℕ) (up : L.Answer)
       (came : Option (Asked × Message)) (h : Handling) (below : L.Answer)
-      → ServerLaw limits szx word (Feeds now from bytes w up came h below ∷ t)
+      → ServerLaw limits szx setup (Feeds now from bytes w up came h below ∷ t)
       → AllFrom (Feeds now from bytes w up came h below ∷ t) (own t).waiting
       → AllFrom (Feeds now from bytes w up came h below ∷ t)
       (own (Feeds now from bytes w up came h below ∷ t)).waiting
-  waits_fed t now from bytes w up None h below law k = k
-  waits_fed t now from bytes w up (Some p) Silent below law k = k
-  waits_fed t now from bytes w up (Some p) (Replies r) below law k = k
-  waits_fed t now from bytes w up (Some p) (Serves q reply left) below law k = k
-  waits_fed t now from bytes w up (Some p) (Notifies o reply) below law k = k
   waits_fed t now from bytes w up (Some p) (Waits q d) below law k =
       from_with (Feeds now from bytes w up (Some p) (Waits q d) below ∷ t) (own t).waiting
       (record { asked = p.0; at = max (own t).clock now; delay = d; question = q }) k
       (inl (brings_here t now from bytes w up p (Waits q d) below law q refl))
+  waits_fed t now from bytes w up _ _ below law k = k
 
   waits_ticked : (t : List Call) (at : ℕ) (d : Due) (ws : List Waiting) → AllFrom t ws
       → AllFrom t (waiting_due at (ready_in d) ws)
-  waits_ticked t at due.Idle ws k = k
-  waits_ticked t at due.Copied ws k = k
-  waits_ticked t at due.Expired ws k = k
   waits_ticked t at (due.Ready a) ws k = from_without t at a ws k
+  waits_ticked t at _ ws k = k
 
-  pub waits : (t : List Call) → ServerLaw limits szx word t → AllFrom t (own t).waiting
+  pub waits : (t : List Call) → ServerLaw limits szx setup t → AllFrom t (own t).waiting
   waits [] law = tt
-  waits (c ∷ t) law = by c law (from_later c t (own t).waiting (waits t (server_back limits szx word c t law)))
+  waits (c ∷ t) law = by c law (from_later c t (own t).waiting (waits t (server_back limits szx setup c t law)))
     where
-      by : (c : Call) → ServerLaw limits szx word (c ∷ t) → AllFrom (c ∷ t) (own t).waiting
+      by : (c : Call) → ServerLaw limits szx setup (c ∷ t) → AllFrom (c ∷ t) (own t).waiting
           → AllFrom (c ∷ t) (own (c ∷ t)).waiting
       by (Sets now path format body answer left) law k = k
       by (Removes now path answer left) law k = k
@@ -321,7 +303,7 @@ module _ (limits : Limits) (szx word : ℕ) where
   answers_by None old at h q right is = nothing_asked _ h q (ap question_in right) is
   answers_by (Some p) old at h q right is = sym (ap question_in right.is) ∙ is
 
-  served_from : (t : List Call) (c : Call) → ServerLaw limits szx word (c ∷ t) → (x : Serving)
+  served_from : (t : List Call) (c : Call) → ServerLaw limits szx setup (c ∷ t) → (x : Serving)
       → serving (own t) c ≡ Some x → WasBrought x.asked x.question (c ∷ t)
   served_from t (Feeds now from bytes w up (Some p) (Serves q reply left) below) law x h =
       let same : ◌≡◌ {A = Serving} (serving_of (heard (own t) now (incoming (own t) now from bytes up (Some p))) p.0 q
@@ -337,45 +319,19 @@ module _ (limits : Limits) (szx word : ℕ) where
       (Serves q reply left) q law.rows.0.0 refl in
       let c : Call = Ticks now w below room (due.Ready a) passed (Serves q reply left) id answer in
       inr (subst (λ (y : Serving). WasBrought y.asked y.question t) same
-      (from_question t at a (own t).waiting q (waits t (server_back limits szx word c t law)) is))
-  served_from t (Feeds now from bytes w up None h below) law x e = absurd (cc e)
-  served_from t (Feeds now from bytes w up (Some p) Silent below) law x e = absurd (cc e)
-  served_from t (Feeds now from bytes w up (Some p) (Replies r) below) law x e = absurd (cc e)
-  served_from t (Feeds now from bytes w up (Some p) (Waits q d) below) law x e = absurd (cc e)
-  served_from t (Feeds now from bytes w up (Some p) (Notifies o reply) below) law x e = absurd (cc e)
-  served_from t (Ticks now w below room due.Idle passed h id answer) law x e = absurd (cc e)
-  served_from t (Ticks now w below room due.Copied passed h id answer) law x e = absurd (cc e)
-  served_from t (Ticks now w below room due.Expired passed h id answer) law x e = absurd (cc e)
-  served_from t (Ticks now w below room (due.Ready a) passed Silent id answer) law x e = absurd (cc e)
-  served_from t (Ticks now w below room (due.Ready a) passed (Replies r) id answer) law x e = absurd (cc e)
-  served_from t (Ticks now w below room (due.Ready a) passed (Waits q d) id answer) law x e = absurd (cc e)
-  served_from t (Ticks now w below room (due.Ready a) passed (Notifies o reply) id answer) law x e = absurd (cc e)
-  served_from t (Sets now path format body answer left) law x e = absurd (cc e)
-  served_from t (Removes now path answer left) law x e = absurd (cc e)
-  served_from t (Delays path ms answer) law x e = absurd (cc e)
-  served_from t (Plains path answer) law x e = absurd (cc e)
-  served_from t (Gets path answer) law x e = absurd (cc e)
-  served_from t (TellsApplied answer) law x e = absurd (cc e)
-  served_from t (NextOut answer) law x e = absurd (cc e)
+      (from_question t at a (own t).waiting q (waits t (server_back limits szx setup c t law)) is))
+  served_from t _ law x e = absurd (cc e)
 
-  pub handed_up : (t : List Call) → ServerLaw limits szx word t → AreHandedUp limits szx word t
+  pub handed_up : (t : List Call) → ServerLaw limits szx setup t → AreHandedUp limits szx setup t
   handed_up [] law = tt
-  handed_up (c ∷ t) law = (λ x is. served_from t c law x is, handed_up t (server_back limits szx word c t law))
+  handed_up (c ∷ t) law = (λ x is. served_from t c law x is, handed_up t (server_back limits szx setup c t law))
 
-  taken_from : (t : List Call) (c : Call) → ServerLaw limits szx word (c ∷ t) → (x : Took)
-      → takes_block (own t) c ≡ Some x → ComesIn limits szx word t c x
+  taken_from : (t : List Call) (c : Call) → ServerLaw limits szx setup (c ∷ t) → (x : Took)
+      → takes_block (own t) c ≡ Some x → ComesIn limits szx setup t c x
   taken_from t (Feeds now from bytes w up (Some p) h below) law x e =
       block_comes t now from bytes w up p h below law x e
-  taken_from t (Feeds now from bytes w up None h below) law x e = absurd (cc e)
-  taken_from t (Ticks now w below room d passed h id answer) law x e = absurd (cc e)
-  taken_from t (Sets now path format body answer left) law x e = absurd (cc e)
-  taken_from t (Removes now path answer left) law x e = absurd (cc e)
-  taken_from t (Delays path ms answer) law x e = absurd (cc e)
-  taken_from t (Plains path answer) law x e = absurd (cc e)
-  taken_from t (Gets path answer) law x e = absurd (cc e)
-  taken_from t (TellsApplied answer) law x e = absurd (cc e)
-  taken_from t (NextOut answer) law x e = absurd (cc e)
+  taken_from t _ law x e = absurd (cc e)
 
-  pub blocks_come : (t : List Call) → ServerLaw limits szx word t → BlocksCome limits szx word t
+  pub blocks_come : (t : List Call) → ServerLaw limits szx setup t → BlocksCome limits szx setup t
   blocks_come [] law = tt
-  blocks_come (c ∷ t) law = (λ x is. taken_from t c law x is, blocks_come t (server_back limits szx word c t law))
+  blocks_come (c ∷ t) law = (λ x is. taken_from t c law x is, blocks_come t (server_back limits szx setup c t law))

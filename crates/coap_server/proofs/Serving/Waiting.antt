@@ -18,6 +18,7 @@ use Rattle.coap_exchange.specs.AnswererFollows.{same_asked}
 use Rattle.coap_exchange.proofs.Facts.ServerSide.{same_asked_self}
 use Rattle.std.proofs.lemmas.Bool.{and_parts}
 use Rattle.coap_types.specs.declared.block.Block.{Block}
+use Rattle.coap_layer.specs.declared.setup.Setup.{Setup}
 use Rattle.coap_block.specs.declared.block_verdict.BlockVerdict.{BlockVerdict}
 use Rattle.coap_block.specs.declared.block_verdict.BlockVerdict.TheVariants.{Refuse, Join, Done}
 use Rattle.coap_observe.specs.Observers.{Observer}
@@ -179,7 +180,7 @@ readies_same at (suc n) (o ∷ os) s =
           k.1 in omega (arith, c, l)),
     )
 
-module _ (limits : Limits) (szx word : ℕ) where
+module _ (limits : Limits) (szx : ℕ) (setup : Setup) where
   abbrev own : List Call → Own
   own t = own_of limits szx t
 
@@ -193,13 +194,6 @@ module _ (limits : Limits) (szx word : ℕ) where
         (h : Handling) (below : L.Answer)
         → HandlesCame (heard (own t) now (incoming (own t) now from bytes up came)) came h
         → Mirrors (Feeds now from bytes w up came h below ∷ t)
-    fed now from bytes w up None h below right = record { clock = let k = m.clock in omega (arith, k); lists = m.lists }
-    fed now from bytes w up (Some p) Silent below right =
-        record { clock = let k = m.clock in omega (arith, k); lists = m.lists }
-    fed now from bytes w up (Some p) (Replies r) below right =
-        record { clock = let k = m.clock in omega (arith, k); lists = m.lists }
-    fed now from bytes w up (Some p) (Notifies o reply) below right =
-        record { clock = let k = m.clock in omega (arith, k); lists = m.lists }
     fed now from bytes w up (Some p) (Serves q reply left) below right =
         let s : Own = heard (own t) now (incoming (own t) now from bytes up (Some p)) in
         let says = by_verdict (verdict_on s.szx p.1) s p.0 (Serves q reply left) right in
@@ -229,10 +223,11 @@ module _ (limits : Limits) (szx word : ℕ) where
               ∙ (ap (λ n. (own t).exchanges.deferred ++ record { asked = p.0; at = record { 0 = n }; delay = delay } ∷
               []) same ∙ sym (ap (λ (z : E.Own). z.deferred) after)));
         }
+    fed now from bytes w up _ _ below right = record { clock = let k = m.clock in omega (arith, k); lists = m.lists }
 
     -- a request that is ready
     module _ (now w : ℕ) (below : L.Answer) (room : Bool) (a : Asked) (passed : ℕ) (h : Handling) (id : ℕ)
-        (answer : Bool) (law : ServerLaw limits szx word (Ticks now w below room (due.Ready a) passed h id answer ∷ t))
+        (answer : Bool) (law : ServerLaw limits szx setup (Ticks now w below room (due.Ready a) passed h id answer ∷ t))
       where
         abbrev at : ℕ
         at = max (own t).clock now
@@ -246,7 +241,7 @@ module _ (limits : Limits) (szx word : ℕ) where
         found : FoundReady below (P.ready_at (own t).exchanges at) a
         found =
             let first : E.Call = ticking (own t) now below room (due.Ready a) in
-            let row = first_row word (responding (heard (own t) now first) (due.Ready a) passed h w id) first
+            let row = first_row setup (responding (heard (own t) now first) (due.Ready a) passed h w id) first
             (lower_of limits szx t) law.exchanges in
             found_ready below (P.ready_at (own t).exchanges at) room a
             (subst (λ (z : E.Own). due.Ready a ≡ P.due_of below (P.ready_at z at) room)
@@ -262,7 +257,7 @@ module _ (limits : Limits) (szx word : ℕ) where
         served = subst (λ o. AnswersWaiting o (own t).store at h) is_taken.asks law.rows.0.0
 
     ready : (now w : ℕ) (below : L.Answer) (room : Bool) (a : Asked) (passed : ℕ) (h : Handling) (id : ℕ)
-        (answer : Bool) → ServerLaw limits szx word (Ticks now w below room (due.Ready a) passed h id answer ∷ t)
+        (answer : Bool) → ServerLaw limits szx setup (Ticks now w below room (due.Ready a) passed h id answer ∷ t)
         → Mirrors (Ticks now w below room (due.Ready a) passed h id answer ∷ t)
         × ((x : Serving) × (serving (own t) (Ticks now w below room (due.Ready a) passed h id answer) ≡ Some x)
         × (x.asked ≡ a))
@@ -322,42 +317,35 @@ module _ (limits : Limits) (szx word : ℕ) where
             record { clock = omega (arith, clock, same); lists = lists ∙ sym k.1 }
 
     ticked : (now w : ℕ) (below : L.Answer) (room : Bool) (d : Due) (passed : ℕ) (h : Handling) (id : ℕ) (answer : Bool)
-        → ServerLaw limits szx word (Ticks now w below room d passed h id answer ∷ t)
+        → ServerLaw limits szx setup (Ticks now w below room d passed h id answer ∷ t)
         → Mirrors (Ticks now w below room d passed h id answer ∷ t)
     ticked now w below room (due.Ready a) passed h id answer law = (ready now w below room a passed h id answer law).0
     ticked now w below room due.Idle passed h id answer law = idled now w below room passed h id answer
-    ticked now w below room due.Copied passed h id answer law =
-        record { clock = let k = m.clock in omega (arith, k); lists = m.lists }
-    ticked now w below room due.Expired passed h id answer law =
-        record { clock = let k = m.clock in omega (arith, k); lists = m.lists }
+    ticked now w below room _ passed h id answer law = record { clock = let k = m.clock in omega (arith, k); lists = m.lists }
 
-    mirrored : (c : Call) → ServerLaw limits szx word (c ∷ t) → Mirrors (c ∷ t)
+    mirrored : (c : Call) → ServerLaw limits szx setup (c ∷ t) → Mirrors (c ∷ t)
     mirrored (Sets now path format body answer left) law =
         record { clock = let k = m.clock in omega (arith, k); lists = m.lists }
     mirrored (Removes now path answer left) law =
         record { clock = let k = m.clock in omega (arith, k); lists = m.lists }
-    mirrored (Delays path ms answer) law = record { clock = m.clock; lists = m.lists }
-    mirrored (Plains path answer) law = record { clock = m.clock; lists = m.lists }
-    mirrored (Gets path answer) law = record { clock = m.clock; lists = m.lists }
-    mirrored (TellsApplied answer) law = record { clock = m.clock; lists = m.lists }
     mirrored (Feeds now from bytes w up came h below) law = fed now from bytes w up came h below law.rows.0
     mirrored (Ticks now w below room d passed h id answer) law = ticked now w below room d passed h id answer law
-    mirrored (NextOut answer) law = record { clock = m.clock; lists = m.lists }
+    mirrored _ law = record { clock = m.clock; lists = m.lists }
 
-  pub mirrors : (t : List Call) → ServerLaw limits szx word t → Mirrors t
+  pub mirrors : (t : List Call) → ServerLaw limits szx setup t → Mirrors t
   mirrors [] law = record { clock = omega arith; lists = refl }
-  mirrors (c ∷ t) law = mirrored t (mirrors t (server_back limits szx word c t law)) c law
+  mirrors (c ∷ t) law = mirrored t (mirrors t (server_back limits szx setup c t law)) c law
 
-  pub waits_as_deferred : (t : List Call) → ServerLaw limits szx word t → WaitsAsDeferred limits szx t
+  pub waits_as_deferred : (t : List Call) → ServerLaw limits szx setup t → WaitsAsDeferred limits szx t
   waits_as_deferred t law = (mirrors t law).lists ∙ ap (λ (z : E.Own). z.deferred) (exchanges_kept limits szx t)
 
-  pub ready_are_served : (t : List Call) → ServerLaw limits szx word t → ReadyAreServed limits szx t
+  pub ready_are_served : (t : List Call) → ServerLaw limits szx setup t → ReadyAreServed limits szx t
   ready_are_served [] law = tt
   ready_are_served (c ∷ t) law =
-      let back = server_back limits szx word c t law in
+      let back = server_back limits szx setup c t law in
       (λ a is. here c (mirrors t back) law a is, ready_are_served t back)
     where
-      here : (c : Call) → Mirrors t → ServerLaw limits szx word (c ∷ t) → (a : Asked) → ready_in c ≡ Some a
+      here : (c : Call) → Mirrors t → ServerLaw limits szx setup (c ∷ t) → (a : Asked) → ready_in c ≡ Some a
           → (x : Serving) × (serving (own t) c ≡ Some x) × (x.asked ≡ a)
       here (Ticks now w below room (due.Ready b) passed h id answer) m law a is =
           let same : b ≡ a = cc is in

@@ -2,7 +2,7 @@
 use Rattle.std.proofs.Common.{◌≡◌, ℕ, Bool, true, false, Option, Some, None, List, refl, sym, subst}
 use Rattle.coap_types.specs.declared.block.Block.{Block}
 use Rattle.coap_types.specs.declared.message.Kind.{Kind}
-use Rattle.coap_types.specs.declared.message.Kind.TheVariants.{Con, Non, Ack, Rst}
+use Rattle.coap_types.specs.declared.message.Kind.TheVariants.{Con}
 use Rattle.coap_block.specs.declared.block_verdict.BlockVerdict.{BlockVerdict}
 use Rattle.coap_block.specs.declared.block_verdict.BlockVerdict.TheVariants.{Refuse, Join, Done}
 use Rattle.coap_resource.specs.Serves.{Question}
@@ -18,9 +18,7 @@ use Rattle.coap_server.specs.Handling.{HandlesBlock, Handles}
 pub delay_is : (k : Kind) (path : List (List ℕ)) (ds : List Delay) (d : ℕ) → delay_for k path ds ≡ Some d
     → (k ≡ Con) × (delay_of path ds ≡ Some d)
 delay_is Con path ds d h = (refl, h)
-delay_is Non path ds d h = absurd (cc h)
-delay_is Ack path ds d h = absurd (cc h)
-delay_is Rst path ds d h = absurd (cc h)
+delay_is _ path ds d h = absurd (cc h)
 
 pub has_delay : (k : Kind) (path : List (List ℕ)) (ds : List Delay) (d : ℕ) → k ≡ Con → delay_of path ds ≡ Some d
     → delay_for k path ds ≡ Some d

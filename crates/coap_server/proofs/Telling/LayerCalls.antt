@@ -11,6 +11,7 @@ use Rattle.coap_layer.specs.Trace as L
 use Rattle.coap_layer.specs.Words.{is_kept}
 use Rattle.coap_layer.proofs.Facts.Calls.{steps_left}
 use Rattle.coap_layer.proofs.Facts.StepsOfLayer.{steps_split}
+use Rattle.coap_layer.specs.declared.setup.Setup.{Setup}
 use Rattle.coap_resource.specs.Limits.{Limits}
 use Rattle.coap_exchange.specs.declared.answerer.Asked.{Asked}
 use Rattle.coap_exchange.specs.declared.separate.Deferred.{Deferred}
@@ -73,16 +74,7 @@ module _ (K : L.Call → L.Answer → Type 0) where
         by true (inl g) = empties from m.id (inr g)
         by true (inr g) = absurd g
         by false g = absurd g
-    rejected from (L.Becomes u) h = absurd h
-    rejected from L.Nothing h = absurd h
-    rejected from (L.Is holds) h = absurd h
-    rejected from (L.Sent id) h = absurd h
-    rejected from L.Busied h = absurd h
-    rejected from L.NoIds h = absurd h
-    rejected from L.Idle h = absurd h
-    rejected from (L.Copied to id) h = absurd h
-    rejected from (L.Expired to id) h = absurd h
-    rejected from (L.Gives packet) h = absurd h
+    rejected from _ h = absurd h
 
     deferral : (at : ℕ) (a : Asked) (d : Bool) → In (P.deferring d a ++ asked at L.Pass L.Nothing ∷ []) → Origin s c
     deferral at a true (inl g) = empties a.from a.id.0 (inl g)
@@ -147,34 +139,34 @@ module _ (K : L.Call → L.Answer → Type 0) where
             { before = g.before; call = g.call; there = inr g.there; right = g.right; from = g.from })
       ]
 
-module _ (limits : Limits) (szx word : ℕ) where
+module _ (limits : Limits) (szx : ℕ) (setup : Setup) where
   pub asked_next : (past : List Call) (c : Call)
       → all_asked limits szx (c ∷ past) ≡ call_asks limits szx past c ++ all_asked limits szx past
   asked_next past c = answerer_append (lower (own_of limits szx past) c) (lower_of limits szx past)
 
   -- what a call adds to the layer's entries stands in front
   pub layer_next : (past : List Call) (c : Call)
-      → layer_of limits szx word (c ∷ past) ≡ call_adds limits szx word past c ++ layer_of limits szx word past
-  layer_next past c = ap (entries (S.start (S.usual word))) (asked_next past c)
-      ∙ entries_append (S.start (S.usual word)) (call_asks limits szx past c) (all_asked limits szx past)
+      → layer_of limits szx setup (c ∷ past) ≡ call_adds limits szx setup past c ++ layer_of limits szx setup past
+  layer_next past c = ap (entries (S.start setup)) (asked_next past c)
+      ∙ entries_append (S.start setup) (call_asks limits szx past c) (all_asked limits szx past)
 
   -- the steps of the layer at one call
-  pub steps_here : (past : List Call) (c : Call) → ServerLaw limits szx word (c ∷ past)
+  pub steps_here : (past : List Call) (c : Call) → ServerLaw limits szx setup (c ∷ past)
       → (old new : S.State) × Steps old (call_asks limits szx past c) new
-      × (call_adds limits szx word past c ≡ entries old (call_asks limits szx past c))
+      × (call_adds limits szx setup past c ≡ entries old (call_asks limits szx past c))
   steps_here past c law =
       let asks = call_asks limits szx past c in
       let before = all_asked limits szx past in
-      let steps = subst (λ (z : List G.Asked). Steps (S.start (S.usual word)) z law.exchanges.left)
+      let steps = subst (λ (z : List G.Asked). Steps (S.start setup) z law.exchanges.left)
       (asked_next past c) law.exchanges.layer in
-      let k = steps_split (S.start (S.usual word)) law.exchanges.left asks before steps in
-      let from = steps_left (S.start (S.usual word)) before k.0 k.1 in
+      let k = steps_split (S.start setup) law.exchanges.left asks before steps in
+      let from = steps_left (S.start setup) before k.0 k.1 in
       (k.0, law.exchanges.left, k.2, ap (λ s. entries s asks) (sym from))
 
   -- which call of the exchanges gives the layer what it sends in this call
   pub given_here : (K : L.Call → L.Answer → Type 0) → IsOfSending K → (past : List Call) (c : Call)
-      → ServerLaw limits szx word (c ∷ past)
-      → Ever (λ (e : L.Entry). K e.call e.answer) (call_adds limits szx word past c)
+      → ServerLaw limits szx setup (c ∷ past)
+      → Ever (λ (e : L.Entry). K e.call e.answer) (call_adds limits szx setup past c)
       → Given K (lower (own_of limits szx past) c)
   given_here K q past c law h =
       let k = steps_here past c law in

@@ -7,6 +7,7 @@ use Rattle.coap_layer.specs.Machine.State as S
 use Rattle.coap_layer.specs.Machine.Steps as G
 use Rattle.coap_layer.specs.Machine.Steps.{left_after}
 use Rattle.coap_layer.specs.Trace as L
+use Rattle.coap_layer.specs.declared.setup.Setup.{Setup}
 use Rattle.coap_block.specs.Whole.{Each}
 use Rattle.coap_observe.specs.Observers.{Observer}
 use Rattle.coap_resource.specs.Limits.{Limits}
@@ -22,8 +23,8 @@ use Rattle.coap_exchange.specs.AskerRequests.{asked}
 use Rattle.coap_exchange.specs.AskerArrivals.{id_in, replying}
 use Rattle.coap_common.specs.Adds.{asked_by_server}
 use Rattle.coap_common.proofs.Facts.Adds.{left_append}
-use Rattle.coap_server.specs.Trace.{Own, Handling, Silent, Replies, Serves, Waits, Notifies, Call, Sets}
-use Rattle.coap_server.specs.Trace.{Removes, Delays, Plains, Feeds, Ticks, NextOut, Gets, TellsApplied}
+use Rattle.coap_server.specs.Trace.{Own, Handling, Silent, Replies, Serves, Waits, Notifies, Call}
+use Rattle.coap_server.specs.Trace.{Feeds, Ticks, NextOut}
 use Rattle.coap_server.specs.Asks.{answering, lower, responding}
 use Rattle.coap_server.specs.Deferring.{deferral, deferral_by, delay_for}
 use Rattle.coap_server.specs.Handling.{incoming, ticking, heard}
@@ -48,16 +49,10 @@ module _ (t : ℕ) where
   Early a = a.now ≤ t
 
   not_after : (s : S.State) (now : ℕ) (call : L.Call) → s.clock ≤ t → now ≤ t → S.moment s now call ≤ t
-  not_after s now (L.Receive from bytes) h k = omega (arith, h, k)
-  not_after s now L.Ticks h k = omega (arith, h, k)
   not_after s now (L.Reply to id bytes) h k = h
-  not_after s now (L.Confirm to content word) h k = omega (arith, h, k)
-  not_after s now (L.Plain to content) h k = omega (arith, h, k)
   not_after s now (L.Settle to id) h k = h
   not_after s now L.Take h k = h
-  not_after s now (L.Room to) h k = omega (arith, h, k)
-  not_after s now L.AsksFree h k = omega (arith, h, k)
-  not_after s now L.Pass h k = omega (arith, h, k)
+  not_after s now _ h k = omega (arith, h, k)
 
   pub till : (old : S.State) (asks : List G.Asked) → old.clock ≤ t → Each Early asks → (left_after old asks).clock ≤ t
   till old [] h e = h
@@ -76,15 +71,9 @@ module _ (t : ℕ) where
   Asks (E.Take answer) = Unit {0}
 
   own_by : (s : E.Own) (c : E.Call) → s.clock ≤ t → Asks c → (P.after s c).clock ≤ t
-  own_by s (E.Incoming now from bytes up answer) h k = omega (arith, h, k)
   own_by s (E.Answers a r below) h k = h
-  own_by s (E.Defers now a delay answer) h k = omega (arith, h, k)
-  own_by s (E.Ticks now below room answer) h k = omega (arith, h, k)
-  own_by s (E.Responds now a r word id) h k = omega (arith, h, k)
-  own_by s (E.Ready now to answer) h k = omega (arith, h, k)
-  own_by s (E.Notifies now to token r word id) h k = omega (arith, h, k)
-  own_by s (E.NotifiesPlain now to token r id) h k = omega (arith, h, k)
   own_by s (E.Take answer) h k = h
+  own_by s _ h k = omega (arith, h, k)
 
   owns_by : (past later : List E.Call) → (W.own_of past).clock ≤ t → Each Asks later
       → (W.own_of (later ++ past)).clock ≤ t
@@ -114,11 +103,8 @@ module _ (t : ℕ) where
   lower_early s (E.Ticks now below room answer) h k =
       each_join Early (P.asking_room now (P.ready_if below (P.ready_at s now)) room) (asked now L.Ticks below ∷ [])
       (room_early now (P.ready_if below (P.ready_at s now)) room k) (k, tt)
-  lower_early s (E.Responds now a r word id) h k = (k, tt)
-  lower_early s (E.Ready now to answer) h k = (k, tt)
-  lower_early s (E.Notifies now to token r word id) h k = (k, tt)
-  lower_early s (E.NotifiesPlain now to token r id) h k = (k, tt)
   lower_early s (E.Take answer) h k = (omega arith, tt)
+  lower_early s _ h k = (k, tt)
 
   pub wishes : (past later : List E.Call) → (W.own_of past).clock ≤ t → Each Asks later
       → Each Early (asked_by_server past later)
@@ -138,12 +124,10 @@ module _ (t : ℕ) where
 
   answering_asks : (s : Own) (came : Option (Asked × Message)) (h : Handling) (below : L.Answer) → s.clock ≤ t
       → Each Asks (answering s came h below)
-  answering_asks s None h below k = tt
-  answering_asks s (Some p) Silent below k = tt
   answering_asks s (Some p) (Replies response) below k = (tt, tt)
   answering_asks s (Some p) (Serves q reply left) below k = (tt, deferral_asks s p.0 q k)
   answering_asks s (Some p) (Waits q delay) below k = deferral_asks s p.0 q k
-  answering_asks s (Some p) (Notifies o reply) below k = tt
+  answering_asks s _ _ below k = tt
 
   pub readies_asks : (at passed : ℕ) (os : List Observer) → at ≤ t → Each Asks (readies at passed os)
   readies_asks at passed [] k = tt
@@ -154,10 +138,6 @@ module _ (t : ℕ) where
   responding_asks : (s : Own) (d : Due) (passed : ℕ) (h : Handling) (word id : ℕ) → s.clock ≤ t
       → Each Asks (responding s d passed h word id)
   responding_asks s (due.Ready a) passed (Serves q reply left) word id k = (k, tt)
-  responding_asks s (due.Ready a) passed Silent word id k = tt
-  responding_asks s (due.Ready a) passed (Replies response) word id k = tt
-  responding_asks s (due.Ready a) passed (Waits q delay) word id k = tt
-  responding_asks s (due.Ready a) passed (Notifies o reply) word id k = tt
   responding_asks s due.Idle passed (Notifies o reply) word id k = (
     in_either Asks (by_plain s o) s.clock o (notification s.store o reply) word id k k,
     readies_asks s.clock passed (marked s.observers) k,
@@ -166,20 +146,13 @@ module _ (t : ℕ) where
   responding_asks s due.Idle passed Silent word id k = readies_asks s.clock passed (marked s.observers) k
   responding_asks s due.Idle passed (Replies response) word id k = readies_asks s.clock passed (marked s.observers) k
   responding_asks s due.Idle passed (Waits q delay) word id k = readies_asks s.clock passed (marked s.observers) k
-  responding_asks s due.Copied passed h word id k = tt
-  responding_asks s due.Expired passed h word id k = tt
+  responding_asks s _ passed _ word id k = tt
 
-module _ (limits : Limits) (szx word : ℕ) where
+module _ (limits : Limits) (szx : ℕ) (setup : Setup) where
   abbrev own : List Call → Own
   own t = own_of limits szx t
 
   call_asks_early : (t : List Call) (c : Call) → Each (Asks (own (c ∷ t)).clock) (lower (own t) c)
-  call_asks_early t (Sets now path format body answer left) = tt
-  call_asks_early t (Removes now path answer left) = tt
-  call_asks_early t (Delays path ms answer) = tt
-  call_asks_early t (Plains path answer) = tt
-  call_asks_early t (Gets path answer) = tt
-  call_asks_early t (TellsApplied answer) = tt
   call_asks_early t (NextOut answer) = (tt, tt)
   call_asks_early t (Feeds now from bytes w up came h below) =
       let at : ℕ = max (own t).clock now in
@@ -191,35 +164,36 @@ module _ (limits : Limits) (szx word : ℕ) where
       let first : E.Call = ticking (own t) now below room d in
       each_join (Asks at) (responding (heard (own t) now first) d passed h w id) (first ∷ [])
       (responding_asks at (heard (own t) now first) d passed h w id (omega arith)) (omega arith, tt)
+  call_asks_early t _ = tt
 
-  pub exchanges_till : (t : List Call) → ServerLaw limits szx word t → (W.own_of (lower_of limits szx t)).clock
+  pub exchanges_till : (t : List Call) → ServerLaw limits szx setup t → (W.own_of (lower_of limits szx t)).clock
       ≤ (own t).clock
   exchanges_till t law =
-      let m = (mirrors limits szx word t law).clock in
+      let m = (mirrors limits szx setup t law).clock in
       let e = ap (λ (z : E.Own). z.clock) (exchanges_kept limits szx t) in omega (arith, m, e)
 
-  pub layer_till : (t : List Call) → ServerLaw limits szx word t
-      → (left_after (S.start (S.usual word)) (all_asked limits szx t)).clock ≤ (own t).clock
+  pub layer_till : (t : List Call) → ServerLaw limits szx setup t
+      → (left_after (S.start setup) (all_asked limits szx t)).clock ≤ (own t).clock
   layer_till [] law = omega arith
   layer_till (c ∷ t) law =
-      let past = server_back limits szx word c t law in
+      let past = server_back limits szx setup c t law in
       let rises = clock_rises limits szx t c in
       let before = layer_till t past in
       let between = exchanges_till t past in
-      let begin : S.State = S.start (S.usual word) in
+      let begin : S.State = S.start setup in
       let at : ℕ = (own (c ∷ t)).clock in
       subst (λ (s : S.State). s.clock ≤ at)
-      (sym (ap (left_after begin) (asked_next limits szx word t c)
+      (sym (ap (left_after begin) (asked_next limits szx setup t c)
       ∙ left_append begin (call_asks limits szx t c) (all_asked limits szx t)))
       (till at (left_after begin (all_asked limits szx t)) (call_asks limits szx t c) (omega (arith, before, rises))
       (wishes at (lower_of limits szx t) (lower (own t) c) (omega (arith, between, rises)) (call_asks_early t c)))
 
   -- .. at each of the calls that one makes
-  pub calls_till : (t : List Call) (c : Call) (asks : List G.Asked) → ServerLaw limits szx word t
+  pub calls_till : (t : List Call) (c : Call) (asks : List G.Asked) → ServerLaw limits szx setup t
       → Each (Early (own (c ∷ t)).clock) asks
-      → (left_after (left_after (S.start (S.usual word)) (all_asked limits szx t)) asks).clock ≤ (own (c ∷ t)).clock
+      → (left_after (left_after (S.start setup) (all_asked limits szx t)) asks).clock ≤ (own (c ∷ t)).clock
   calls_till t c asks law early =
       let rises = clock_rises limits szx t c in
       let before = layer_till t law in
-      till (own (c ∷ t)).clock (left_after (S.start (S.usual word)) (all_asked limits szx t)) asks
+      till (own (c ∷ t)).clock (left_after (S.start setup) (all_asked limits szx t)) asks
       (omega (arith, before, rises)) early

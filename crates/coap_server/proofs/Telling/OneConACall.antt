@@ -11,6 +11,7 @@ use Rattle.coap_layer.specs.Machine.Steps as G
 use Rattle.coap_layer.specs.Machine.Steps.{Steps, entries, left_after}
 use Rattle.coap_layer.specs.Trace as L
 use Rattle.coap_layer.specs.Words.{Open, begun, begun_in}
+use Rattle.coap_layer.specs.declared.setup.Setup.{Setup}
 use Rattle.coap_observe.specs.Observers.{Observer}
 use Rattle.coap_resource.specs.Serves.{Question}
 use Rattle.coap_resource.specs.Limits.{Limits}
@@ -25,9 +26,8 @@ use Rattle.coap_exchange.specs.AskerRequests.{asked}
 use Rattle.coap_exchange.specs.AskerArrivals.{id_in, replying}
 use Rattle.coap_common.specs.Adds.{asked_by_server}
 use Rattle.coap_server.specs.Trace.{Own, Handling, Silent, Replies, Serves, Waits, Notifies, Call}
-use Rattle.coap_server.specs.Trace.{Sets}
-use Rattle.coap_server.specs.Trace.{Removes, Delays, Plains, Feeds}
-use Rattle.coap_server.specs.Trace.{Ticks, NextOut, Gets, TellsApplied}
+use Rattle.coap_server.specs.Trace.{Feeds}
+use Rattle.coap_server.specs.Trace.{Ticks}
 use Rattle.coap_server.specs.Asks.{lower, answering, responding}
 use Rattle.coap_server.specs.Deferring.{deferral, deferral_by, delay_for}
 use Rattle.coap_server.specs.Handling.{incoming, ticking, heard}
@@ -67,15 +67,7 @@ total_append (x ∷ xs) ys = let k = total_append xs ys in omega (arith, k)
 begins_con : (at : ℕ) (call : L.Call) (answer : L.Answer) (a : Open) → begun_in at call answer ≡ Some a
     → con_in call ≡ 1
 begins_con at (L.Confirm to content word) answer a h = refl
-begins_con at (L.Receive from bytes) answer a h = absurd (cc h)
-begins_con at (L.Reply to id bytes) answer a h = absurd (cc h)
-begins_con at (L.Plain to content) answer a h = absurd (cc h)
-begins_con at (L.Settle to id) answer a h = absurd (cc h)
-begins_con at L.Ticks answer a h = absurd (cc h)
-begins_con at L.Take answer a h = absurd (cc h)
-begins_con at (L.Room to) answer a h = absurd (cc h)
-begins_con at L.AsksFree answer a h = absurd (cc h)
-begins_con at L.Pass answer a h = absurd (cc h)
+begins_con at _ answer a h = absurd (cc h)
 
 begun_here : (s : S.State) (x : G.Asked) (a : Open) → begun (S.made s x.now x.call) ≡ Some a → con_in x.call ≡ 1
 begun_here s x a h = begins_con (S.moment s x.now x.call) x.call (S.answer_of s (S.moment s x.now x.call) x.call) a h
@@ -130,11 +122,7 @@ weighs s (E.Ticks at below room d) =
     let o : Option Deferred = P.ready_if below (P.ready_at s at) in
     let k = cons_append (P.asking_room at o room) (asked at L.Ticks below ∷ []) in let z =
     no_room at o room in omega (arith, k, z)
-weighs s (E.Responds at a r word id) = refl
-weighs s (E.Ready at to answer) = refl
-weighs s (E.Notifies at to token r word id) = refl
-weighs s (E.NotifiesPlain at to token r id) = refl
-weighs s (E.Take answer) = refl
+weighs s _ = refl
 
 all_weigh : (past later : List E.Call) → cons (asked_by_server past later) ≡ total later
 all_weigh past [] = refl
@@ -161,12 +149,9 @@ no_readies at (suc n) (o ∷ os) = let k = total_append (readies at n os) (E.Rea
 
 few_answers : (s : Own) (came : Option (Asked × Message)) (h : Handling) (below : L.Answer)
     → total (answering s came h below) ≤ 1
-few_answers s None h below = omega arith
-few_answers s (Some p) Silent below = omega arith
-few_answers s (Some p) (Replies r) below = omega arith
 few_answers s (Some p) (Serves q reply left) below = let z = no_deferred s p.0 q in omega (arith, z)
 few_answers s (Some p) (Waits q d) below = let z = no_deferred s p.0 q in omega (arith, z)
-few_answers s (Some p) (Notifies o reply) below = omega arith
+few_answers s _ _ below = omega arith
 
 few_notices : (plain : Bool) (at : ℕ) (o : Observer) (r : E.Response) (word id : ℕ)
     → weight (notifies_by plain at o r word id) ≤ 1
@@ -186,14 +171,7 @@ few_responses s due.Idle passed (Notifies o reply) word id =
     let z = no_readies s.clock passed (marked s.observers) in
     let one = few_notices (by_plain s o) s.clock o (notification s.store o reply) word id in
     omega (arith, z, one)
-few_responses s due.Idle passed Silent word id = let z =
-    no_readies s.clock passed (marked s.observers) in omega (arith, z)
-few_responses s due.Idle passed (Replies r) word id = let z =
-    no_readies s.clock passed (marked s.observers) in omega (arith, z)
-few_responses s due.Idle passed (Waits q d) word id = let z =
-    no_readies s.clock passed (marked s.observers) in omega (arith, z)
-few_responses s due.Idle passed (Serves q reply left) word id = let z =
-    no_readies s.clock passed (marked s.observers) in omega (arith, z)
+few_responses s due.Idle passed _ word id = let z = no_readies s.clock passed (marked s.observers) in omega (arith, z)
 
 few : (s : Own) (c : Call) → total (lower s c) ≤ 1
 few s (Feeds now from bytes word up came h below) =
@@ -205,19 +183,13 @@ few s (Ticks now word below room d passed h id answer) =
     let cs : List E.Call = responding (heard s now first) d passed h word id in
     let k = total_append cs (first ∷ []) in let z =
     few_responses (heard s now first) d passed h word id in omega (arith, k, z)
-few s (Sets now path format body answer left) = omega arith
-few s (Removes now path answer left) = omega arith
-few s (Delays path ms answer) = omega arith
-few s (Plains path answer) = omega arith
-few s (NextOut answer) = omega arith
-few s (Gets path answer) = omega arith
-few s (TellsApplied answer) = omega arith
+few s _ = omega arith
 
-pub one_con : (limits : Limits) (szx word : ℕ) (past : List Call) (c : Call) (a b : Open)
-    → Begins a (call_adds limits szx word past c) → Begins b (call_adds limits szx word past c) → a ≡ b
-one_con limits szx word past c a b p q =
+pub one_con : (limits : Limits) (szx : ℕ) (setup : Setup) (past : List Call) (c : Call) (a b : Open)
+    → Begins a (call_adds limits szx setup past c) → Begins b (call_adds limits szx setup past c) → a ≡ b
+one_con limits szx setup past c a b p q =
     let calls : List E.Call = lower (own_of limits szx past) c in
     let w = all_weigh (lower_of limits szx past) calls in
     let f = few (own_of limits szx past) c in
-    one_of (left_after (S.start (S.usual word)) (all_asked limits szx past)) (call_asks limits szx past c) a b
+    one_of (left_after (S.start setup) (all_asked limits szx past)) (call_asks limits szx past c) a b
     (omega (arith, w, f)) p q

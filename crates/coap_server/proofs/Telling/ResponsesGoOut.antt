@@ -10,6 +10,7 @@ use Rattle.coap_layer.specs.Machine.Steps as G
 use Rattle.coap_layer.specs.Machine.Steps.{Steps, entries, left_after}
 use Rattle.coap_layer.specs.Trace as L
 use Rattle.coap_layer.proofs.Facts.Calls.{steps_left}
+use Rattle.coap_layer.specs.declared.setup.Setup.{Setup}
 use Rattle.coap_observe.specs.Observers.{Observer}
 use Rattle.coap_resource.specs.Limits.{Limits}
 use Rattle.coap_exchange.specs.declared.answerer.Asked.{Asked}
@@ -18,8 +19,8 @@ use Rattle.coap_exchange.specs.AnswererSteps as P
 use Rattle.coap_exchange.specs.AnswererTrace as E
 use Rattle.coap_exchange.specs.AnswererLaw as W
 use Rattle.coap_common.specs.Adds.{asked_by_server}
-use Rattle.coap_server.specs.Trace.{Own, Silent, Replies, Serves, Waits, Notifies, Call, Sets, Removes}
-use Rattle.coap_server.specs.Trace.{Delays, Plains, Feeds, Ticks, NextOut, Gets, TellsApplied}
+use Rattle.coap_server.specs.Trace.{Own, Notifies, Call}
+use Rattle.coap_server.specs.Trace.{Ticks}
 use Rattle.coap_server.specs.Asks.{lower, notifies_by}
 use Rattle.coap_server.specs.Plain.{by_plain}
 use Rattle.coap_server.specs.Deferring.{question_of}
@@ -59,12 +60,12 @@ module _ (K : L.Call → L.Answer → Type 0) (Q : E.Call → Type 0)
     asked_of (d ∷ later) past law (inr h) = Ever_back (λ (b : G.Asked). K b.call b.answer)
         (P.lower (W.own_of (later ++ past)) d) (asked_by_server past later) (asked_of later past law.1 h)
 
-    module _ (limits : Limits) (szx word : ℕ) where
-      pub given_in : (past : List Call) (c : Call) → ServerLaw limits szx word (c ∷ past)
+    module _ (limits : Limits) (szx : ℕ) (setup : Setup) where
+      pub given_in : (past : List Call) (c : Call) → ServerLaw limits szx setup (c ∷ past)
           → Ever Q (lower (own_of limits szx past) c)
-          → Ever (λ (e : L.Entry). K e.call e.answer) (call_adds limits szx word past c)
+          → Ever (λ (e : L.Entry). K e.call e.answer) (call_adds limits szx setup past c)
       given_in past c law h =
-          let k = steps_here limits szx word past c law in
+          let k = steps_here limits szx setup past c law in
           subst (Ever (λ (e : L.Entry). K e.call e.answer)) (sym k.3)
           (added_for K k.0 k.1 (call_asks limits szx past c) k.2
           (asked_of (lower (own_of limits szx past) c) (lower_of limits szx past) law.exchanges.rows h))
@@ -95,13 +96,7 @@ module _ (a : Asked) (r : E.Response) where
       let k = pair_of x a y r h in
       inl (in_con w id (ap (λ (z : Asked). L.Confirm z.from (P.content_of z y) w) k.0
       ∙ ap (λ z. L.Confirm a.from (P.content_of a z) w) k.1) refl)
-  response_out s (E.Incoming now from bytes up came) right h = absurd (cc h)
-  response_out s (E.Defers now x delay answer) right h = absurd (cc h)
-  response_out s (E.Ticks now below room d) right h = absurd (cc h)
-  response_out s (E.Ready now to answer) right h = absurd (cc h)
-  response_out s (E.Notifies now to token r w id) right h = absurd (cc h)
-  response_out s (E.NotifiesPlain now to token r id) right h = absurd (cc h)
-  response_out s (E.Take answer) right h = absurd (cc h)
+  response_out s _ right h = absurd (cc h)
 
 -- a notification
 abbrev IsNotifying : Bool → Observer → E.Response → E.Call → Type 0
@@ -117,8 +112,8 @@ notice_out false o r s d right k =
     subst (λ x. Ever (λ (b : G.Asked). InCon o.to (P.content_with o.token r) b.call b.answer) (P.lower s x)) (sym k.3)
     (inl (record { word = k.1; id = k.2; call_is = refl; answer_is = refl }))
 
-module _ (limits : Limits) (szx word : ℕ) where
-  notifying : (t : List Call) (c : Call) → ServerLaw limits szx word (c ∷ t) → (x : Notice) → notice c ≡ Some x
+module _ (limits : Limits) (szx : ℕ) (setup : Setup) where
+  notifying : (t : List Call) (c : Call) → ServerLaw limits szx setup (c ∷ t) → (x : Notice) → notice c ≡ Some x
       → Ever (IsNotifying (plain_in (own_of limits szx t) c) x.observer
       (notification (own_of limits szx t).store x.observer x.reply)) (lower (own_of limits szx t) c)
   notifying t (Ticks now w below room due.Idle passed (Notifies o reply) id answer) law x e =
@@ -135,35 +130,24 @@ module _ (limits : Limits) (szx word : ℕ) where
   notifying t (Ticks now w below room (due.Ready a) passed (Notifies o reply) id answer) law x e =
       let s : Own = heard (own_of limits szx t) now (ticking (own_of limits szx t) now below room (due.Ready a)) in
       absurd (never_notifies_ready (question_of s.clock a s.waiting) s.store s.clock o reply law.rows.0.0)
-  notifying t (Ticks now w below room d passed Silent id answer) law x e = absurd (cc e)
-  notifying t (Ticks now w below room d passed (Replies r) id answer) law x e = absurd (cc e)
-  notifying t (Ticks now w below room d passed (Serves q reply left) id answer) law x e = absurd (cc e)
-  notifying t (Ticks now w below room d passed (Waits q ms) id answer) law x e = absurd (cc e)
-  notifying t (Feeds now from bytes w up came h below) law x e = absurd (cc e)
-  notifying t (Sets now path format body answer left) law x e = absurd (cc e)
-  notifying t (Removes now path answer left) law x e = absurd (cc e)
-  notifying t (Delays path ms answer) law x e = absurd (cc e)
-  notifying t (Plains path answer) law x e = absurd (cc e)
-  notifying t (Gets path answer) law x e = absurd (cc e)
-  notifying t (TellsApplied answer) law x e = absurd (cc e)
-  notifying t (NextOut answer) law x e = absurd (cc e)
+  notifying t _ law x e = absurd (cc e)
 
-  here : (t : List Call) (c : Call) → ServerLaw limits szx word (c ∷ t) → GoesOutHere limits szx word t c
+  here : (t : List Call) (c : Call) → ServerLaw limits szx setup (c ∷ t) → GoesOutHere limits szx setup t c
   here t c law =
       record {
         answers = λ a h. answer_sent a (lower (own_of limits szx t) c) h;
         serves = λ x e. served_sent (own_of limits szx t) c x e;
-        made = λ a r h. made_here limits szx word t c law a r h;
+        made = λ a r h. made_here limits szx setup t c law a r h;
         responses = λ a r h. given_in (GoesOut a r) (λ d. responds_with d ≡ Some (a, r)) (response_out a r) limits szx
-            word t c law h;
+            setup t c law h;
         notices = λ x e.
             let r : E.Response = notification (own_of limits szx t).store x.observer x.reply in
             let plain : Bool = plain_in (own_of limits szx t) c in
             given_in (InEither plain x.observer.to (P.content_with x.observer.token r))
-            (IsNotifying plain x.observer r) (notice_out plain x.observer r) limits szx word t c law
+            (IsNotifying plain x.observer r) (notice_out plain x.observer r) limits szx setup t c law
             (notifying t c law x e);
       }
 
-  pub all_go_out : (t : List Call) → ServerLaw limits szx word t → AllGoOut limits szx word t
+  pub all_go_out : (t : List Call) → ServerLaw limits szx setup t → AllGoOut limits szx setup t
   all_go_out [] law = tt
-  all_go_out (c ∷ t) law = (here t c law, all_go_out t (server_back limits szx word c t law))
+  all_go_out (c ∷ t) law = (here t c law, all_go_out t (server_back limits szx setup c t law))

@@ -6,6 +6,7 @@ use Rattle.coap_types.proofs.Facts.Traces.{Ever_append}
 use Rattle.coap_types.specs.declared.endpoint.Endpoint.{Endpoint}
 use Rattle.coap_codec.specs.Message.{Message}
 use Rattle.coap_layer.specs.Trace as L
+use Rattle.coap_layer.specs.declared.setup.Setup.{Setup}
 use Rattle.coap_block.specs.AssemblyState.{AssemblyState, reached, without_key}
 use Rattle.coap_block.specs.AssemblyStep.{there_at}
 use Rattle.coap_observe.specs.Observers.{Observer}
@@ -17,8 +18,8 @@ use Rattle.coap_exchange.specs.declared.answerer.Due.TheVariants as due
 use Rattle.coap_exchange.specs.AnswererFollows.{responds}
 use Rattle.coap_exchange.specs.AnswererSteps.{may_defer}
 use Rattle.coap_exchange.specs.AnswererTrace as E
-use Rattle.coap_server.specs.Trace.{Own, Handling, Silent, Replies, Serves, Waits, Notifies, Call, Sets, Removes}
-use Rattle.coap_server.specs.Trace.{Delays, Plains, Feeds, Ticks, NextOut, Gets, TellsApplied}
+use Rattle.coap_server.specs.Trace.{Own, Handling, Silent, Replies, Serves, Waits, Notifies, Call}
+use Rattle.coap_server.specs.Trace.{Feeds, Ticks, NextOut}
 use Rattle.coap_server.specs.Asks.{lower}
 use Rattle.coap_server.specs.Checks.{verdict_on}
 use Rattle.coap_server.specs.Uploads.{key_of}
@@ -46,13 +47,7 @@ response_in a (E.Answers x r below) h =
     let same : x ≡ a = cc h in (r, ap (λ (y : Asked). Some (y, r)) same)
 response_in a (E.Responds now x r w id) h =
     let same : x ≡ a = cc h in (r, ap (λ (y : Asked). Some (y, r)) same)
-response_in a (E.Incoming now from bytes up came) h = absurd (cc h)
-response_in a (E.Defers now x delay answer) h = absurd (cc h)
-response_in a (E.Ticks now below room d) h = absurd (cc h)
-response_in a (E.Ready now to answer) h = absurd (cc h)
-response_in a (E.Notifies now to token r w id) h = absurd (cc h)
-response_in a (E.NotifiesPlain now to token r id) h = absurd (cc h)
-response_in a (E.Take answer) h = absurd (cc h)
+response_in a _ h = absurd (cc h)
 
 pub answer_sent : (a : Asked) (cs : List E.Call) → Ever (λ b. responds b ≡ Some a) cs
     → (r : E.Response) × Ever (λ b. responds_with b ≡ Some (a, r)) cs
@@ -77,25 +72,7 @@ served_sent s (Ticks now word below room (due.Ready a) passed (Serves q reply le
     let w : Own = heard s now (ticking s now below room (due.Ready a)) in
     of_it s (Ticks now word below room (due.Ready a) passed (Serves q reply left) id answer)
     (serving_of w a q reply left) x h (inl refl)
-served_sent s (Feeds now from bytes word up None h below) x e = absurd (cc e)
-served_sent s (Feeds now from bytes word up (Some p) Silent below) x e = absurd (cc e)
-served_sent s (Feeds now from bytes word up (Some p) (Replies r) below) x e = absurd (cc e)
-served_sent s (Feeds now from bytes word up (Some p) (Waits q d) below) x e = absurd (cc e)
-served_sent s (Feeds now from bytes word up (Some p) (Notifies o reply) below) x e = absurd (cc e)
-served_sent s (Ticks now word below room due.Idle passed h id answer) x e = absurd (cc e)
-served_sent s (Ticks now word below room due.Copied passed h id answer) x e = absurd (cc e)
-served_sent s (Ticks now word below room due.Expired passed h id answer) x e = absurd (cc e)
-served_sent s (Ticks now word below room (due.Ready a) passed Silent id answer) x e = absurd (cc e)
-served_sent s (Ticks now word below room (due.Ready a) passed (Replies r) id answer) x e = absurd (cc e)
-served_sent s (Ticks now word below room (due.Ready a) passed (Waits q d) id answer) x e = absurd (cc e)
-served_sent s (Ticks now word below room (due.Ready a) passed (Notifies o reply) id answer) x e = absurd (cc e)
-served_sent s (Sets now path format body answer left) x e = absurd (cc e)
-served_sent s (Removes now path answer left) x e = absurd (cc e)
-served_sent s (Delays path ms answer) x e = absurd (cc e)
-served_sent s (Plains path answer) x e = absurd (cc e)
-served_sent s (Gets path answer) x e = absurd (cc e)
-served_sent s (TellsApplied answer) x e = absurd (cc e)
-served_sent s (NextOut answer) x e = absurd (cc e)
+served_sent s _ x e = absurd (cc e)
 
 -- what is sent was made
 
@@ -136,7 +113,7 @@ module _ (a : Asked) (r : E.Response) where
       elim (Ever_append (λ b. responds_with b ≡ Some (a, r)) (readies at n os) cs h)
       [ inl k ↦ readies_none at n os k | inr k ↦ f k ]
 
-module _ (limits : Limits) (szx word : ℕ) (t : List Call) (a : Asked) (r : E.Response) where
+module _ (limits : Limits) (szx : ℕ) (setup : Setup) (t : List Call) (a : Asked) (r : E.Response) where
   abbrev own : Own
   own = own_of limits szx t
 
@@ -151,7 +128,7 @@ module _ (limits : Limits) (szx word : ℕ) (t : List Call) (a : Asked) (r : E.R
   tick_none now below room d h = last_none a r (ticking own now below room d) (λ z. cc z) h
 
   fed : (now : ℕ) (from : Endpoint) (bytes : List ℕ) (w : ℕ) (up : L.Answer) (came : Option (Asked × Message))
-      (h : Handling) (below : L.Answer) → ServerLaw limits szx word (Feeds now from bytes w up came h below ∷ t)
+      (h : Handling) (below : L.Answer) → ServerLaw limits szx setup (Feeds now from bytes w up came h below ∷ t)
       → In a r (lower own (Feeds now from bytes w up came h below)) → Made (Feeds now from bytes w up came h below)
   fed now from bytes w up None h below law k = absurd (came_none now from bytes up None k)
   fed now from bytes w up (Some p) Silent below law k = absurd (came_none now from bytes up (Some p) k)
@@ -224,35 +201,15 @@ module _ (limits : Limits) (szx word : ℕ) (t : List Call) (a : Asked) (r : E.R
       let s : Own = heard own now (ticking own now below room due.Idle) in
       absurd (idle_none a r s.clock passed (marked s.observers) (ticking own now below room due.Idle ∷ [])
       (tick_none now below room due.Idle) k)
-  ticked now w below room due.Idle passed Silent id answer k =
-      let s : Own = heard own now (ticking own now below room due.Idle) in
-      absurd (idle_none a r s.clock passed (marked s.observers) (ticking own now below room due.Idle ∷ [])
-      (tick_none now below room due.Idle) k)
-  ticked now w below room due.Idle passed (Replies y) id answer k =
-      let s : Own = heard own now (ticking own now below room due.Idle) in
-      absurd (idle_none a r s.clock passed (marked s.observers) (ticking own now below room due.Idle ∷ [])
-      (tick_none now below room due.Idle) k)
-  ticked now w below room due.Idle passed (Waits q delay) id answer k =
-      let s : Own = heard own now (ticking own now below room due.Idle) in
-      absurd (idle_none a r s.clock passed (marked s.observers) (ticking own now below room due.Idle ∷ [])
-      (tick_none now below room due.Idle) k)
-  ticked now w below room due.Idle passed (Serves q reply left) id answer k =
-      let s : Own = heard own now (ticking own now below room due.Idle) in
-      absurd (idle_none a r s.clock passed (marked s.observers) (ticking own now below room due.Idle ∷ [])
-      (tick_none now below room due.Idle) k)
+  ticked now w below room due.Idle passed _ id answer k = let s : Own = heard own now (ticking own now below room due.Idle) in absurd (idle_none a r s.clock passed (marked s.observers) (ticking own now below room due.Idle ∷ []) (tick_none now below room due.Idle) k)
 
-  here : (c : Call) → ServerLaw limits szx word (c ∷ t) → In a r (lower own c) → Made c
-  here (Sets now path format body answer left) law k = absurd k
-  here (Removes now path answer left) law k = absurd k
-  here (Delays path ms answer) law k = absurd k
-  here (Plains path answer) law k = absurd k
-  here (Gets path answer) law k = absurd k
-  here (TellsApplied answer) law k = absurd k
+  here : (c : Call) → ServerLaw limits szx setup (c ∷ t) → In a r (lower own c) → Made c
   here (Feeds now from bytes w up came h below) law k = fed now from bytes w up came h below law k
   here (Ticks now w below room d passed h id answer) law k = ticked now w below room d passed h id answer k
   here (NextOut answer) law k = absurd (last_none a r (E.Take answer) (λ z. cc z) k)
+  here _ law k = absurd k
 
-pub made_here : (limits : Limits) (szx word : ℕ) (t : List Call) (c : Call) → ServerLaw limits szx word (c ∷ t)
+pub made_here : (limits : Limits) (szx : ℕ) (setup : Setup) (t : List Call) (c : Call) → ServerLaw limits szx setup (c ∷ t)
     → (a : Asked) (r : E.Response) → Ever (λ b. responds_with b ≡ Some (a, r)) (lower (own_of limits szx t) c)
     → IsMade limits szx t c a r
-made_here limits szx word t c law a r k = here limits szx word t a r c law k
+made_here limits szx setup t c law a r k = here limits szx setup t a r c law k

@@ -15,6 +15,7 @@ use Rattle.coap_types.specs.declared.option_number.TheConstants.{CONTENT_FORMAT 
 use Rattle.coap_types.specs.declared.option_number.TheConstants.{BLOCK1 as block1}
 use Rattle.coap_codec.specs.Message.{Message}
 use Rattle.coap_layer.specs.Trace as L
+use Rattle.coap_layer.specs.declared.setup.Setup.{Setup}
 use Rattle.coap_block.specs.declared.block_verdict.BlockVerdict.{BlockVerdict}
 use Rattle.coap_block.specs.declared.block_verdict.BlockVerdict.TheVariants.{Refuse, Join, Done}
 use Rattle.coap_block.specs.Whole.{Each}
@@ -33,9 +34,8 @@ use Rattle.coap_exchange.specs.AnswererSteps.{may_defer}
 use Rattle.coap_exchange.specs.AnswererTrace as E
 use Rattle.coap_common.specs.SuccessCodes.{content}
 use Rattle.coap_server.specs.Trace.{Own, Handling, Silent, Replies, Serves, Waits, Notifies, Call}
-use Rattle.coap_server.specs.Trace.{Sets}
-use Rattle.coap_server.specs.Trace.{Removes, Delays, Plains, Feeds}
-use Rattle.coap_server.specs.Trace.{Ticks, NextOut, Gets, TellsApplied}
+use Rattle.coap_server.specs.Trace.{Feeds}
+use Rattle.coap_server.specs.Trace.{Ticks, NextOut}
 use Rattle.coap_server.specs.Responses.{response_with}
 use Rattle.coap_server.specs.Serving.{response_to}
 use Rattle.coap_server.specs.Checks.{Verdict, Ignored, Refused, Asks, Uploads, verdict_on}
@@ -56,6 +56,7 @@ use Rattle.coap_server.proofs.Facts.Laws as facts
 use Rattle.coap_server.proofs.Observing.Outcomes.{serves_came, serves_waited}
 use Rattle.coap_server.proofs.Replying.ResponsesHaveRequests.{next_told}
 use Rattle.coap_server.proofs.Telling.NotedOptions.{none_recognised, tag_recognised}
+use Rattle.coap_server.proofs.Replying.ResponsesHaveRequests.{never_replies}
 
 -- the response is a 2.05 with Observe
 pub record Notes (r : E.Response) : Type 0 where
@@ -204,12 +205,6 @@ none_by : (r k : E.Response) → Replies r ≡ Replies k → value_of observe k.
     → value_of observe r.options ≡ None
 none_by r k e none = let same : r ≡ k = cc e in ap (λ (z : E.Response). value_of observe z.options) same ∙ none
 
-never_replies : (o : Option ℕ) (place : Bool) (old : Content) (at : ℕ) (q : Question) (r : E.Response)
-    → WaitsBy o place old at q (Replies r) → ⊥
-never_replies (Some d) true old at q r h = cc h
-never_replies (Some d) false old at q r h = let e = h.is in cc e
-never_replies None place old at q r h = let e = h.is in cc e
-
 block_replies : (v : BlockVerdict) (s : Own) (a : Asked) (q : Question) (b : Block) (r : E.Response)
     → HandlesBlock v s a q b (Replies r) → value_of observe r.options ≡ None
 block_replies (Refuse why) s a q b r h = none_by r _ h refl
@@ -266,27 +261,24 @@ module _ (limits : Limits) (szx : ℕ) (t : List Call) (c : Call) where
   meant e (d ∷ cs) m (inl h) = subst Means h m.0
   meant e (d ∷ cs) m (inr h) = meant e cs m.1 h
 
-module _ (limits : Limits) (szx word : ℕ) (t : List Call) where
+module _ (limits : Limits) (szx : ℕ) (setup : Setup) (t : List Call) where
   abbrev own : Own
   own = own_of limits szx t
 
   abbrev Mean : Call → List E.Call → Type 0
   Mean c cs = Each (Means limits szx t c) cs
 
-  module _ (c : Call) (law : ServerLaw limits szx word (c ∷ t)) where
+  module _ (c : Call) (law : ServerLaw limits szx setup (c ∷ t)) where
     pub stamped : AreStamped limits szx t
-    stamped = (facts.stamped limits szx word (c ∷ t) law).1
+    stamped = (facts.stamped limits szx setup (c ∷ t) law).1
 
     pub kept : (path : List (List ℕ)) → own.store.holds path ≡ held_at limits szx path t
     kept path = facts.held_is limits szx t law.rows.1 path
 
   fed : (now : ℕ) (from : Endpoint) (bytes : List ℕ) (w : ℕ) (up : L.Answer) (came : Option (Asked × Message))
-      (h : Handling) (below : L.Answer) → ServerLaw limits szx word (Feeds now from bytes w up came h below ∷ t)
+      (h : Handling) (below : L.Answer) → ServerLaw limits szx setup (Feeds now from bytes w up came h below ∷ t)
       → Mean (Feeds now from bytes w up came h below)
       (answering (heard own now (incoming own now from bytes up came)) came h below)
-  fed now from bytes w up None h below law = tt
-  fed now from bytes w up (Some p) Silent below law = tt
-  fed now from bytes w up (Some p) (Notifies o reply) below law = tt
   fed now from bytes w up (Some p) (Waits q d) below law =
       deferred_mean limits szx t (Feeds now from bytes w up (Some p) (Waits q d) below)
       (heard own now (incoming own now from bytes up (Some p))) p.0 q
@@ -303,9 +295,10 @@ module _ (limits : Limits) (szx word : ℕ) (t : List Call) where
         ),
         deferred_mean limits szx t c s p.0 q,
       )
+  fed now from bytes w up _ _ below law = tt
 
   ticked : (now w : ℕ) (below : L.Answer) (room : Bool) (d : Due) (passed : ℕ) (h : Handling) (id : ℕ) (answer : Bool)
-      → ServerLaw limits szx word (Ticks now w below room d passed h id answer ∷ t)
+      → ServerLaw limits szx setup (Ticks now w below room d passed h id answer ∷ t)
       → Mean (Ticks now w below room d passed h id answer)
       (responding (heard own now (ticking own now below room d)) d passed h w id)
   ticked now w below room (due.Ready a) passed (Serves q reply left) id answer law =
@@ -329,21 +322,10 @@ module _ (limits : Limits) (szx word : ℕ) (t : List Call) where
             (next_told (behind passed (marked s.observers)) s.store o reply law.rows.0.0) n),
         readies_mean limits szx t c s.clock passed (marked s.observers),
       )
-  ticked now w below room due.Idle passed Silent id answer law = let s : Own =
-      heard own now (ticking own now below room due.Idle) in readies_mean limits szx t _ s.clock passed
-      (marked s.observers)
-  ticked now w below room due.Idle passed (Replies r) id answer law = let s : Own =
-      heard own now (ticking own now below room due.Idle) in readies_mean limits szx t _ s.clock passed
-      (marked s.observers)
-  ticked now w below room due.Idle passed (Waits q e) id answer law = let s : Own =
-      heard own now (ticking own now below room due.Idle) in readies_mean limits szx t _ s.clock passed
-      (marked s.observers)
-  ticked now w below room due.Idle passed (Serves q reply left) id answer law = let s : Own =
-      heard own now (ticking own now below room due.Idle) in readies_mean limits szx t _ s.clock passed
-      (marked s.observers)
+  ticked now w below room due.Idle passed _ id answer law = let s : Own = heard own now (ticking own now below room due.Idle) in readies_mean limits szx t _ s.clock passed (marked s.observers)
 
   -- what each call of the exchanges means that a call makes
-  pub mean : (c : Call) → ServerLaw limits szx word (c ∷ t) → Mean c (lower own c)
+  pub mean : (c : Call) → ServerLaw limits szx setup (c ∷ t) → Mean c (lower own c)
   mean (Feeds now from bytes w up came h below) law =
       let first : E.Call = incoming own now from bytes up came in
       join limits szx t (Feeds now from bytes w up came h below) (answering (heard own now first) came h below)
@@ -352,10 +334,5 @@ module _ (limits : Limits) (szx word : ℕ) (t : List Call) where
       let first : E.Call = ticking own now below room d in
       join limits szx t (Ticks now w below room d passed h id answer) (responding (heard own now first) d passed h w id)
       (first ∷ []) (ticked now w below room d passed h id answer law) (tt, tt)
-  mean (Sets now path format body answer left) law = tt
-  mean (Removes now path answer left) law = tt
-  mean (Delays path ms answer) law = tt
-  mean (Plains path answer) law = tt
-  mean (Gets path answer) law = tt
-  mean (TellsApplied answer) law = tt
   mean (NextOut answer) law = (tt, tt)
+  mean _ law = tt

@@ -13,6 +13,7 @@ use Rattle.coap_layer.specs.Machine.Steps as G
 use Rattle.coap_layer.specs.Machine.Steps.{entries, left_after}
 use Rattle.coap_layer.specs.Trace as L
 use Rattle.coap_layer.specs.Trace.{with_head}
+use Rattle.coap_layer.specs.declared.setup.Setup.{Setup}
 use Rattle.coap_block.specs.Whole.{Each}
 use Rattle.coap_observe.specs.Observers.{Observer}
 use Rattle.coap_resource.specs.Limits.{Limits}
@@ -22,8 +23,8 @@ use Rattle.coap_exchange.specs.declared.answerer.Due.TheVariants as due
 use Rattle.coap_exchange.specs.AnswererSteps as P
 use Rattle.coap_exchange.specs.AnswererSteps.{may_defer}
 use Rattle.coap_exchange.specs.AnswererTrace as E
-use Rattle.coap_server.specs.Trace.{Own, Handling, Silent, Replies, Serves, Waits, Notifies, Call, Sets, Removes}
-use Rattle.coap_server.specs.Trace.{Delays, Plains, Feeds, Ticks, NextOut, Gets, TellsApplied}
+use Rattle.coap_server.specs.Trace.{Own, Handling, Silent, Replies, Serves, Waits, Notifies, Call}
+use Rattle.coap_server.specs.Trace.{Feeds, Ticks}
 use Rattle.coap_server.specs.Asks.{answering, responding, lower}
 use Rattle.coap_server.specs.Deferring.{deferral_by, delay_for}
 use Rattle.coap_server.specs.Handling.{incoming, ticking, heard}
@@ -115,14 +116,12 @@ deferral_now (Some delay) place at a = (refl, tt)
 
 all_now : (s : Own) (came : Option (Asked × Message)) (h : Handling) (below : L.Answer)
     → Each Now (answering s came h below)
-all_now s None h below = tt
-all_now s (Some p) Silent below = tt
 all_now s (Some p) (Replies r) below = (refl, tt)
 all_now s (Some p) (Serves q reply left) below =
     (refl, deferral_now (delay_for p.0.kind q.path s.delays) (may_defer s.exchanges.deferred) s.clock p.0)
 all_now s (Some p) (Waits q delay) below =
     deferral_now (delay_for p.0.kind q.path s.delays) (may_defer s.exchanges.deferred) s.clock p.0
-all_now s (Some p) (Notifies o reply) below = tt
+all_now s _ _ below = tt
 
 readies_later : (at n : ℕ) (os : List Observer) → Each Later (readies at n os)
 readies_later at n [] = tt
@@ -132,10 +131,6 @@ readies_later at (suc n) (o ∷ os) = joined Later (readies at n os) (E.Ready at
 
 all_later : (s : Own) (d : Due) (passed : ℕ) (h : Handling) (w id : ℕ) → Each Later (responding s d passed h w id)
 all_later s (due.Ready a) passed (Serves q reply left) w id = (refl, tt)
-all_later s (due.Ready a) passed Silent w id = tt
-all_later s (due.Ready a) passed (Replies r) w id = tt
-all_later s (due.Ready a) passed (Waits q delay) w id = tt
-all_later s (due.Ready a) passed (Notifies o reply) w id = tt
 all_later s due.Idle passed (Notifies o reply) w id = (
   in_either Later (by_plain s o) s.clock o (notification s.store o reply) w id refl refl,
   readies_later s.clock passed (marked s.observers),
@@ -144,8 +139,7 @@ all_later s due.Idle passed Silent w id = readies_later s.clock passed (marked s
 all_later s due.Idle passed (Replies r) w id = readies_later s.clock passed (marked s.observers)
 all_later s due.Idle passed (Serves q reply left) w id = readies_later s.clock passed (marked s.observers)
 all_later s due.Idle passed (Waits q delay) w id = readies_later s.clock passed (marked s.observers)
-all_later s due.Copied passed h w id = tt
-all_later s due.Expired passed h w id = tt
+all_later s _ passed _ w id = tt
 
 -- what they ask of the layer
 module _ (a : Asked) (r : E.Response) where
@@ -168,13 +162,7 @@ module _ (a : Asked) (r : E.Response) where
       inl (ap (λ (z : Asked). P.answering s z.kind z y) k.0 ∙ (ap (λ z. P.answering s a.kind a z) k.1
       ∙ ap (λ z. P.answering s z a r) con))
   asks_now con s (E.Responds now x y w id) right h = let k = h.1 in absurd (cc k)
-  asks_now con s (E.Incoming now from bytes up came) right h = let k = h.0 in absurd (cc k)
-  asks_now con s (E.Defers now x delay answer) right h = let k = h.0 in absurd (cc k)
-  asks_now con s (E.Ticks now below room d) right h = let k = h.0 in absurd (cc k)
-  asks_now con s (E.Ready now to answer) right h = let k = h.0 in absurd (cc k)
-  asks_now con s (E.Notifies now to token y w id) right h = let k = h.0 in absurd (cc k)
-  asks_now con s (E.NotifiesPlain now to token y id) right h = let k = h.0 in absurd (cc k)
-  asks_now con s (E.Take answer) right h = let k = h.0 in absurd (cc k)
+  asks_now con s _ right h = let k = h.0 in absurd (cc k)
 
   asks_later : (s : E.Own) (d : E.Call) → P.IsRight s d → RespondsLater d
       → Ever (λ (b : G.Asked). Begins b.call b.answer) (P.lower s d)
@@ -188,20 +176,14 @@ module _ (a : Asked) (r : E.Response) where
         refl,
       )
   asks_later s (E.Answers x y below) right h = let k = h.1 in absurd (cc k)
-  asks_later s (E.Incoming now from bytes up came) right h = let k = h.0 in absurd (cc k)
-  asks_later s (E.Defers now x delay answer) right h = let k = h.0 in absurd (cc k)
-  asks_later s (E.Ticks now below room d) right h = let k = h.0 in absurd (cc k)
-  asks_later s (E.Ready now to answer) right h = let k = h.0 in absurd (cc k)
-  asks_later s (E.Notifies now to token y w id) right h = let k = h.0 in absurd (cc k)
-  asks_later s (E.NotifiesPlain now to token y id) right h = let k = h.0 in absurd (cc k)
-  asks_later s (E.Take answer) right h = let k = h.0 in absurd (cc k)
+  asks_later s _ right h = let k = h.0 in absurd (cc k)
 
-module _ (limits : Limits) (szx word : ℕ) (t : List Call) where
+module _ (limits : Limits) (szx : ℕ) (setup : Setup) (t : List Call) where
   abbrev own : Own
   own = own_of limits szx t
 
   abbrev begin : S.State
-  begin = left_after (S.start (S.usual word)) (all_asked limits szx t)
+  begin = left_after (S.start setup) (all_asked limits szx t)
 
   fed : (now : ℕ) (from : Endpoint) (bytes : List ℕ) (w : ℕ) (up : L.Answer) (came : Option (Asked × Message))
       (h : Handling) (below : L.Answer) → Each Now (lower own (Feeds now from bytes w up came h below))
@@ -219,43 +201,36 @@ module _ (limits : Limits) (szx word : ℕ) (t : List Call) where
 
   handed_now : (c : Call) (a : Asked) → hands c ≡ Some a → Each Now (lower own c)
   handed_now (Feeds now from bytes w up came h below) a is = fed now from bytes w up came h below
-  handed_now (Sets now path format body answer left) a is = absurd (cc is)
-  handed_now (Removes now path answer left) a is = absurd (cc is)
-  handed_now (Delays path ms answer) a is = absurd (cc is)
-  handed_now (Plains path answer) a is = absurd (cc is)
-  handed_now (Ticks now w below room d passed h id answer) a is = absurd (cc is)
-  handed_now (NextOut answer) a is = absurd (cc is)
-  handed_now (Gets path answer) a is = absurd (cc is)
-  handed_now (TellsApplied answer) a is = absurd (cc is)
+  handed_now _ a is = absurd (cc is)
 
   tick_later : (c : Call) (now : ℕ) (answer : Bool) → IsTick now answer c → Each Later (lower own c)
   tick_later c now answer k = subst (λ d. Each Later (lower own d)) (sym k.7)
       (ticked now k.0 k.1 k.2 k.3 k.4 k.5 k.6 answer)
 
-  here : (c : Call) → ServerLaw limits szx word (c ∷ t) → SentHere limits szx word t c
+  here : (c : Call) → ServerLaw limits szx setup (c ∷ t) → SentHere limits szx setup t c
   here c law = record {
     at_once = λ a r is con h.
         Ever_map (λ (e : L.Entry). (e.call ≡ L.Reply a.from a.id.0 (ack_with a r))
         × (e.out ≡ record { to = a.from; bytes = ack_with a r } ∷ [])) (InAck a r)
-        (λ e k. record { call = k.0; out = k.1 }) (call_adds limits szx word t c)
+        (λ e k. record { call = k.0; out = k.1 }) (call_adds limits szx setup t c)
         (reply_out a.from a.id.0 (ack_with a r) begin (call_asks limits szx t c)
-        (given_in (Acks a r) (RespondsNow a r) (asks_now a r con) limits szx word t c law
+        (given_in (Acks a r) (RespondsNow a r) (asks_now a r con) limits szx setup t c law
         (both (λ d. responds_with d ≡ Some (a, r)) Now (lower own c) h (handed_now c a is))));
     later = λ now answer a r is h.
         Ever_map (λ (e : L.Entry). (k : IsBegun a.from (P.content_of a r) e)
         × (e.out ≡ record { to = a.from; bytes = message_bytes (with_head Con k.1 (P.content_of a r)) } ∷ []))
         (InOwnCon a r)
         (λ e k. record { word = k.0.0; id = k.0.1; call = k.0.2; answer = k.0.3; out = k.1 })
-        (call_adds limits szx word t c)
+        (call_adds limits szx setup t c)
         (confirm_out a.from (P.content_of a r) begin (call_asks limits szx t c)
-        (given_in (Begins a r) (RespondsLater a r) (asks_later a r) limits szx word t c law
+        (given_in (Begins a r) (RespondsLater a r) (asks_later a r) limits szx setup t c law
         (both (λ d. responds_with d ≡ Some (a, r)) Later (lower own c) h (tick_later c now answer is))));
   }
 
-pub all_sent_so : (limits : Limits) (szx word : ℕ) (t : List Call) → ServerLaw limits szx word t
-    → AllSentSo limits szx word t
-all_sent_so limits szx word [] law = tt
-all_sent_so limits szx word (c ∷ t) law = (
-  here limits szx word t c law,
-  all_sent_so limits szx word t (server_back limits szx word c t law),
+pub all_sent_so : (limits : Limits) (szx : ℕ) (setup : Setup) (t : List Call) → ServerLaw limits szx setup t
+    → AllSentSo limits szx setup t
+all_sent_so limits szx setup [] law = tt
+all_sent_so limits szx setup (c ∷ t) law = (
+  here limits szx setup t c law,
+  all_sent_so limits szx setup t (server_back limits szx setup c t law),
 )

@@ -25,7 +25,7 @@ use Rattle.coap_layer.specs.Trace as L
 use Rattle.coap_layer.specs.Trace.{Content, with_head}
 use Rattle.coap_layer.specs.Words.{Open, begun}
 use Rattle.coap_layer.proofs.Facts.Laws.{begins_of, spelled_begun}
-use Rattle.coap_layer.specs.Machine.State.{usual}
+use Rattle.coap_layer.specs.declared.setup.Setup.{Setup}
 use Rattle.coap_resource.specs.Limits.{Limits}
 use Rattle.coap_exchange.specs.declared.answerer.Asked.{Asked}
 use Rattle.coap_exchange.specs.EmptyMessages.{ack_bytes, reset_bytes}
@@ -99,17 +99,17 @@ module _ (kind : Kind) (id : ℕ) (token : List ℕ) (r : E.Response) (bytes : L
           };
         }
 
-module _ (limits : Limits) (szx word : ℕ) (past : List Call) (c : Call)
-    (law : ServerLaw limits szx word (c ∷ past)) where
+module _ (limits : Limits) (szx : ℕ) (setup : Setup) (past : List Call) (c : Call)
+    (law : ServerLaw limits szx setup (c ∷ past)) where
   abbrev adds : List L.Entry
-  adds = call_adds limits szx word past c
+  adds = call_adds limits szx setup past c
 
   means : (K : L.Call → L.Answer → Type 0) → (g : Given K (lower (own_of limits szx past) c)) → (e : E.Call)
       → g.call ≡ e
       → Means limits szx past c e × P.IsRight (W.own_of g.before) e
   means K g e is = (
     subst (Means limits szx past c) is (meant limits szx past c g.call (lower (own_of limits szx past) c)
-        (mean limits szx word past c law) g.there),
+        (mean limits szx setup past c law) g.there),
     subst (P.IsRight (W.own_of g.before)) is g.right,
   )
 
@@ -141,10 +141,10 @@ module _ (limits : Limits) (szx word : ℕ) (past : List Call) (c : Call)
 
   con_small : (con : Open) → Ever (λ b. begun b ≡ Some con) adds → con.id < message_ids
   con_small con h =
-      let there = subst (Ever (λ b. begun b ≡ Some con)) (sym (layer_next limits szx word past c))
-      (Ever_front (λ b. begun b ≡ Some con) adds (layer_of limits szx word past) h) in
-      let s = spelled_begun (usual word) (layer_of limits szx word (c ∷ past)) con
-      (facts.layer limits szx word (c ∷ past) law) there in
+      let there = subst (Ever (λ b. begun b ≡ Some con)) (sym (layer_next limits szx setup past c))
+      (Ever_front (λ b. begun b ≡ Some con) adds (layer_of limits szx setup past) h) in
+      let s = spelled_begun setup (layer_of limits szx setup (c ∷ past)) con
+      (facts.layer limits szx setup (c ∷ past) law) there in
       let low = s.1.id in let e = s.3 in omega (arith, low, e)
 
   module _ (con : Open) (m : Message) (h : Ever (λ b. begun b ≡ Some con) adds) (are : AreBytes con.bytes)
@@ -178,7 +178,7 @@ module _ (limits : Limits) (szx word : ℕ) (past : List Call) (c : Call)
 
     begun_tells : TellsIn limits szx (InCon con.id) con.to m past c
     begun_tells =
-        let g = given_here limits szx word (Confirms con) (confirming con) past c law
+        let g = given_here limits szx setup (Confirms con) (confirming con) past c law
         (Ever_map (λ b. begun b ≡ Some con) (λ (e : L.Entry). Confirms con e.call e.answer) (begins_so con) adds h)
         in
         begun_so g g.from
@@ -216,9 +216,7 @@ module _ (limits : Limits) (szx word : ℕ) (past : List Call) (c : Call)
         tells_so Ack a.id.0 a.token r bytes m are spells there limits szx past c InReply to
         (subst (λ z. Says limits szx past c InReply z a.token r) place
         (f (notes Ack a.id.0 a.token r bytes m are spells there note)))
-    ack_says s Non a r below k is f = absurd (cc k)
-    ack_says s Ack a r below k is f = absurd (cc k)
-    ack_says s Rst a r below k is f = absurd (cc k)
+    ack_says s _ a r below k is f = absurd (cc k)
 
     replied_so : (g : Given Replies (lower (own_of limits szx past) c)) → Origin Replies (W.own_of g.before) g.call
         → TellsIn limits szx InReply to m past c
@@ -242,7 +240,7 @@ module _ (limits : Limits) (szx word : ℕ) (past : List Call) (c : Call)
     replied_so g (plains now there token r id is k) = absurd (cc k)
 
     replied_tells : Ever (λ (b : L.Entry). b.call ≡ L.Reply to m.id bytes) adds → TellsIn limits szx InReply to m past c
-    replied_tells h = let g = given_here limits szx word Replies replying_so past c law h in replied_so g g.from
+    replied_tells h = let g = given_here limits szx setup Replies replying_so past c law h in replied_so g g.from
 
     -- a NON
 
@@ -320,18 +318,18 @@ module _ (limits : Limits) (szx word : ℕ) (past : List Call) (c : Call)
 
     plain_tells : Ever (λ (b : L.Entry). PlainOut b (record { to = to; bytes = bytes })) adds → TellsPlainly
     plain_tells h =
-        let g = given_here limits szx word Plainly plainly_so past c law
+        let g = given_here limits szx setup Plainly plainly_so past c law
         (Ever_map (λ (b : L.Entry). PlainOut b (record { to = to; bytes = bytes }))
         (λ (e : L.Entry). Plainly e.call e.answer) (λ e k. (k.content, k.id, k.call, k.spells)) adds h) in
         plain_so g g.from
 
-  tells_sent : TellsSent limits szx word past c
+  tells_sent : TellsSent limits szx setup past c
   tells_sent = record {
     begun_now = λ con m h are spells note. begun_tells con m h are spells note;
     replied = λ to bytes m h are spells note. replied_tells to bytes m are spells note h;
     plain = λ to bytes m h are spells note. plain_tells to bytes m are spells note h;
     now = λ x h. told_at limits szx past c x h;
-    one = λ a b p q. one_con limits szx word past c a b p q;
+    one = λ a b p q. one_con limits szx setup past c a b p q;
   }
 
 -- what arrives
@@ -372,29 +370,29 @@ module _ (to : Endpoint) (id : ℕ) where
       (last_there Comes (answering (heard s h.now first) h.came h.handling h.below) first
       (max s.clock h.now, h.bytes, h.came, refl))
 
-  ack_arrives : (limits : Limits) (szx word : ℕ) (past : List Call) (c : Call) → ServerLaw limits szx word (c ∷ past)
-      → HearsAck to id c → Ever (TakesAck to id) (call_adds limits szx word past c)
-  ack_arrives limits szx word past c law h =
-      let k = steps_here limits szx word past c law in
+  ack_arrives : (limits : Limits) (szx : ℕ) (setup : Setup) (past : List Call) (c : Call) → ServerLaw limits szx setup (c ∷ past)
+      → HearsAck to id c → Ever (TakesAck to id) (call_adds limits szx setup past c)
+  ack_arrives limits szx setup past c law h =
+      let k = steps_here limits szx setup past c law in
       let asks = call_asks limits szx past c in
       Ever_map (λ (e : L.Entry). Takes to id e.call e.answer) (TakesAck to id)
-      (λ e z. record { bytes = z.0; call = z.1; answer = z.2 }) (call_adds limits szx word past c)
+      (λ e z. record { bytes = z.0; call = z.1; answer = z.2 }) (call_adds limits szx setup past c)
       (subst (Ever (λ (e : L.Entry). Takes to id e.call e.answer)) (sym k.3)
       (entry_of (Takes to id) k.0 k.1 asks k.2 (taken_in (lower_of limits szx past) (lower (own_of limits szx past) c)
       (comes_in (own_of limits szx past) c h))))
 
-pub all_tell_sent : (limits : Limits) (szx word : ℕ) (t : List Call) → ServerLaw limits szx word t
-    → AllTellSent limits szx word t
-all_tell_sent limits szx word [] law = tt
-all_tell_sent limits szx word (c ∷ t) law = (
-  tells_sent limits szx word t c law,
-  all_tell_sent limits szx word t (server_back limits szx word c t law),
+pub all_tell_sent : (limits : Limits) (szx : ℕ) (setup : Setup) (t : List Call) → ServerLaw limits szx setup t
+    → AllTellSent limits szx setup t
+all_tell_sent limits szx setup [] law = tt
+all_tell_sent limits szx setup (c ∷ t) law = (
+  tells_sent limits szx setup t c law,
+  all_tell_sent limits szx setup t (server_back limits szx setup c t law),
 )
 
-pub acks_arrive : (limits : Limits) (szx word : ℕ) (t : List Call) → ServerLaw limits szx word t
-    → AcksArrive limits szx word t
-acks_arrive limits szx word [] law = tt
-acks_arrive limits szx word (c ∷ t) law = (
-  λ to id h. ack_arrives to id limits szx word t c law h,
-  acks_arrive limits szx word t (server_back limits szx word c t law),
+pub acks_arrive : (limits : Limits) (szx : ℕ) (setup : Setup) (t : List Call) → ServerLaw limits szx setup t
+    → AcksArrive limits szx setup t
+acks_arrive limits szx setup [] law = tt
+acks_arrive limits szx setup (c ∷ t) law = (
+  λ to id h. ack_arrives to id limits szx setup t c law h,
+  acks_arrive limits szx setup t (server_back limits szx setup c t law),
 )

@@ -3,6 +3,7 @@ use Rattle.std.proofs.Common.{◌≡◌, ◌⊎◌, inl, inr, ℕ, Bool, true, f
 use Rattle.std.proofs.Common.{sym, subst, ◌∙◌, cond}
 use Rattle.coap_types.specs.Past.{Sometime}
 use Rattle.coap_types.proofs.Facts.Traces.{Sometime_map}
+use Rattle.coap_layer.specs.declared.setup.Setup.{Setup}
 use Rattle.coap_block.specs.Whole.{Each}
 use Rattle.coap_observe.specs.Observers.{Observer}
 use Rattle.coap_resource.specs.Content.{Content, Held}
@@ -11,9 +12,8 @@ use Rattle.coap_resource.specs.Limits.{Limits}
 use Rattle.coap_exchange.specs.declared.answerer.Asked.{Asked}
 use Rattle.coap_exchange.specs.declared.answerer.Due.TheVariants as due
 use Rattle.coap_exchange.specs.AnswererSteps as P
-use Rattle.coap_server.specs.Trace.{Own, Silent, Replies, Serves, Waits, Notifies, Call, Sets, Removes}
-use Rattle.coap_server.specs.Trace.{Delays, Plains, Feeds, Ticks, NextOut}
-use Rattle.coap_server.specs.Trace.{Gets, TellsApplied}
+use Rattle.coap_server.specs.Trace.{Own, Serves, Notifies, Call}
+use Rattle.coap_server.specs.Trace.{Feeds, Ticks}
 use Rattle.coap_server.specs.Observers.{registers}
 use Rattle.coap_server.specs.Notifying.{marked, behind}
 use Rattle.coap_server.specs.Handling.{incoming, ticking, heard}
@@ -27,13 +27,9 @@ use Rattle.coap_server.proofs.Observing.ObserversWereMade.{good_ended, good}
 use Rattle.coap_server.proofs.Observing.VersionsRise.{IsThere, behind_there, marked_there, next_is}
 use Rattle.coap_server.proofs.Serving.Brought.{server_back}
 use Rattle.coap_server.specs.Follows.Told.{ServesPair, AllServePairs, pair_of, IsUnder, AreUnder}
+use Rattle.coap_server.proofs.Replying.ResponsesHaveRequests.{each_there}
 
-each_there : (Q : Observer → Type 0) (os : List Observer) (o : Observer) → Each Q os → IsThere o os → Q o
-each_there Q [] o h k = absurd k
-each_there Q (y ∷ os) o h (inl e) = subst Q e h.0
-each_there Q (y ∷ os) o h (inr k) = each_there Q os o h.1 k
-
-module _ (limits : Limits) (szx word : ℕ) (t : List Call) where
+module _ (limits : Limits) (szx : ℕ) (setup : Setup) (t : List Call) where
   abbrev own : Own
   own = own_of limits szx t
 
@@ -85,7 +81,7 @@ module _ (limits : Limits) (szx word : ℕ) (t : List Call) where
             (ServesPair limits szx (record { to = o.to; token = o.token })) (made_so o) t made,
       ))
 
-  told_under : (c : Call) → ServerLaw limits szx word (c ∷ t) → IsUnder limits szx t c
+  told_under : (c : Call) → ServerLaw limits szx setup (c ∷ t) → IsUnder limits szx t c
   told_under (Feeds now from bytes w up (Some p) (Serves q reply left) below) law x h =
       answered (Feeds now from bytes w up (Some p) (Serves q reply left) below)
       (heard own now (incoming own now from bytes up (Some p))) p.0 q reply left InReply refl refl x h
@@ -100,28 +96,7 @@ module _ (limits : Limits) (szx word : ℕ) (t : List Call) where
       (good limits szx t) in
       notified (Ticks now w below room due.Idle passed (Notifies o reply) id answer) o (way_of (by_plain s o) id) s.clock (s.store.holds o.path)
       (each_there (WasMade limits szx t) s.observers o g.made there) x h
-  told_under (Feeds now from bytes w up None h below) law x e = absurd (cc e)
-  told_under (Feeds now from bytes w up (Some p) Silent below) law x e = absurd (cc e)
-  told_under (Feeds now from bytes w up (Some p) (Replies r) below) law x e = absurd (cc e)
-  told_under (Feeds now from bytes w up (Some p) (Waits q d) below) law x e = absurd (cc e)
-  told_under (Feeds now from bytes w up (Some p) (Notifies o reply) below) law x e = absurd (cc e)
-  told_under (Ticks now w below room due.Copied passed h id answer) law x e = absurd (cc e)
-  told_under (Ticks now w below room due.Expired passed h id answer) law x e = absurd (cc e)
-  told_under (Ticks now w below room due.Idle passed Silent id answer) law x e = absurd (cc e)
-  told_under (Ticks now w below room due.Idle passed (Replies r) id answer) law x e = absurd (cc e)
-  told_under (Ticks now w below room due.Idle passed (Serves q reply left) id answer) law x e = absurd (cc e)
-  told_under (Ticks now w below room due.Idle passed (Waits q d) id answer) law x e = absurd (cc e)
-  told_under (Ticks now w below room (due.Ready a) passed Silent id answer) law x e = absurd (cc e)
-  told_under (Ticks now w below room (due.Ready a) passed (Replies r) id answer) law x e = absurd (cc e)
-  told_under (Ticks now w below room (due.Ready a) passed (Waits q d) id answer) law x e = absurd (cc e)
-  told_under (Ticks now w below room (due.Ready a) passed (Notifies o reply) id answer) law x e = absurd (cc e)
-  told_under (Sets now path format body answer left) law x e = absurd (cc e)
-  told_under (Removes now path answer left) law x e = absurd (cc e)
-  told_under (Delays path ms answer) law x e = absurd (cc e)
-  told_under (Plains path answer) law x e = absurd (cc e)
-  told_under (NextOut answer) law x e = absurd (cc e)
-  told_under (Gets path answer) law x e = absurd (cc e)
-  told_under (TellsApplied answer) law x e = absurd (cc e)
+  told_under _ law x e = absurd (cc e)
 
 module _ (limits : Limits) (szx : ℕ) (t : List Call) where
   abbrev at_hand : Own
@@ -154,33 +129,15 @@ module _ (limits : Limits) (szx : ℕ) (t : List Call) where
   serves_pair (Ticks now w below room (due.Ready a) passed (Serves q reply left) id answer) p h =
       registered (Ticks now w below room (due.Ready a) passed (Serves q reply left) id answer)
       (heard at_hand now (ticking at_hand now below room (due.Ready a))) a q reply left refl refl p h
-  serves_pair (Feeds now from bytes w up None h below) p e = absurd (cc e)
-  serves_pair (Feeds now from bytes w up (Some m) Silent below) p e = absurd (cc e)
-  serves_pair (Feeds now from bytes w up (Some m) (Replies r) below) p e = absurd (cc e)
-  serves_pair (Feeds now from bytes w up (Some m) (Waits q d) below) p e = absurd (cc e)
-  serves_pair (Feeds now from bytes w up (Some m) (Notifies o reply) below) p e = absurd (cc e)
-  serves_pair (Ticks now w below room due.Copied passed h id answer) p e = absurd (cc e)
-  serves_pair (Ticks now w below room due.Expired passed h id answer) p e = absurd (cc e)
-  serves_pair (Ticks now w below room due.Idle passed h id answer) p e = absurd (cc e)
-  serves_pair (Ticks now w below room (due.Ready a) passed Silent id answer) p e = absurd (cc e)
-  serves_pair (Ticks now w below room (due.Ready a) passed (Replies r) id answer) p e = absurd (cc e)
-  serves_pair (Ticks now w below room (due.Ready a) passed (Waits q d) id answer) p e = absurd (cc e)
-  serves_pair (Ticks now w below room (due.Ready a) passed (Notifies o reply) id answer) p e = absurd (cc e)
-  serves_pair (Sets now path format body answer left) p e = absurd (cc e)
-  serves_pair (Removes now path answer left) p e = absurd (cc e)
-  serves_pair (Delays path ms answer) p e = absurd (cc e)
-  serves_pair (Plains path answer) p e = absurd (cc e)
-  serves_pair (NextOut answer) p e = absurd (cc e)
-  serves_pair (Gets path answer) p e = absurd (cc e)
-  serves_pair (TellsApplied answer) p e = absurd (cc e)
+  serves_pair _ p e = absurd (cc e)
 
 pub all_serve_pairs : (limits : Limits) (szx : ℕ) (t : List Call) → AllServePairs limits szx t
 all_serve_pairs limits szx [] = tt
 all_serve_pairs limits szx (c ∷ t) = (serves_pair limits szx t c, all_serve_pairs limits szx t)
 
-pub are_under : (limits : Limits) (szx word : ℕ) (t : List Call) → ServerLaw limits szx word t → AreUnder limits szx t
-are_under limits szx word [] law = tt
-are_under limits szx word (c ∷ t) law = (
-  told_under limits szx word t c law,
-  are_under limits szx word t (server_back limits szx word c t law),
+pub are_under : (limits : Limits) (szx : ℕ) (setup : Setup) (t : List Call) → ServerLaw limits szx setup t → AreUnder limits szx t
+are_under limits szx setup [] law = tt
+are_under limits szx setup (c ∷ t) law = (
+  told_under limits szx setup t c law,
+  are_under limits szx setup t (server_back limits szx setup c t law),
 )

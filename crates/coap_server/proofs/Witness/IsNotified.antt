@@ -185,7 +185,7 @@ steps = (
   record { may = bytes_are empty_ack refl; right = refl; new_is = refl },
 )
 
-pub lawful : ServerLaw limits 6 0 run
+pub lawful : ServerLaw limits 6 (L.usual 0) run
 lawful = record {
   rows = rows;
   exchanges = record

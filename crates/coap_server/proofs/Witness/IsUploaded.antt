@@ -99,7 +99,7 @@ steps = (
   record { may = tt; right = refl; new_is = refl },
 )
 
-pub lawful : ServerLaw limits 6 0 run
+pub lawful : ServerLaw limits 6 (L.usual 0) run
 lawful = record {
   rows = rows;
   exchanges = record

@@ -1,8 +1,9 @@
 -- What each call of a server asks of its message layer, and the entries that it adds there (RFC 7252, section 4).
 use Rattle.std.specs.Prelude.{ℕ, List}
-use Rattle.coap_layer.specs.Machine.State.{start, usual}
+use Rattle.coap_layer.specs.Machine.State.{start}
 use Rattle.coap_layer.specs.Machine.Steps.{Asked, left_after, entries}
 use Rattle.coap_layer.specs.Trace.{Entry}
+use Rattle.coap_layer.specs.declared.setup.Setup.{Setup}
 use Rattle.coap_resource.specs.Limits.{Limits}
 use Rattle.coap_exchange.specs.AnswererLaw as answerer
 use Rattle.coap_common.specs.Adds.{asked_by_server}
@@ -18,5 +19,5 @@ module _ (limits : Limits) (szx : ℕ) where
   all_asked past = answerer.lower_of (lower_of limits szx past)
 
   -- the entries that a call adds
-  abbrev pub call_adds : ℕ → List Call → Call → List Entry
-  call_adds word past c = entries (left_after (start (usual word)) (all_asked past)) (call_asks past c)
+  abbrev pub call_adds : Setup → List Call → Call → List Entry
+  call_adds setup past c = entries (left_after (start setup) (all_asked past)) (call_asks past c)

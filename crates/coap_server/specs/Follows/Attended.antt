@@ -11,7 +11,7 @@ use Rattle.coap_codec.specs.Message.{Message}
 use Rattle.coap_layer.specs.Trace as L
 use Rattle.coap_layer.specs.Rows.{Busy, Withholds}
 use Rattle.coap_layer.specs.Words.{clock}
-use Rattle.coap_layer.specs.Machine.State.{usual}
+use Rattle.coap_layer.specs.declared.setup.Setup.{Setup}
 use Rattle.coap_block.specs.Whole.{Each}
 use Rattle.coap_resource.specs.Serves.{Question}
 use Rattle.coap_resource.specs.Limits.{Limits}
@@ -69,11 +69,11 @@ module _ (limits : Limits) (szx : ℕ) where
       Always (λ past c. (p : Asked × Message) → came_in c ≡ Some p
       → AnswersIt past c p.0 ⊎ (WaitsToAsk past c p ⊎ IsIgnored p.1)) t
 
-  module _ (word : ℕ) where
+  module _ (setup : Setup) where
     -- no Message ID is free for what is sent now
     abbrev pub NoId : List Call → ℕ → Type 0
-    NoId past now = Withholds (usual word) (layer_of limits szx word past)
-        (max (clock (layer_of limits szx word past)) (max (own_of limits szx past).clock now))
+    NoId past now = Withholds setup (layer_of limits szx setup past)
+        (max (clock (layer_of limits szx setup past)) (max (own_of limits szx past).clock now))
 
     -- what came of a request that the message layer hands up: it is handed up, save a NON for which no Message ID is
     -- free
@@ -91,7 +91,7 @@ module _ (limits : Limits) (szx : ℕ) where
     -- what waits can be answered: its delay has passed, and no CON to its endpoint is unacknowledged (section 4.7)
     pub record CanAnswer (past : List Call) (now : ℕ) (x : Waiting) : Type 0 where
       pub passed : x.delay ≤ max (own_of limits szx past).clock now - x.at
-      pub alone : Busy (layer_of limits szx word past) x.asked.from → ⊥
+      pub alone : Busy (layer_of limits szx setup past) x.asked.from → ⊥
 
     -- Where the message layer has nothing due, a tick answers the first that can be, if a Message ID is free.
     abbrev pub FirstIsAnswered : List Call → Type 0

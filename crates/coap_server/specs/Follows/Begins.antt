@@ -5,7 +5,7 @@ use Rattle.coap_types.specs.Past.{Always, Since}
 use Rattle.coap_layer.specs.Trace as L
 use Rattle.coap_layer.specs.Rows.{Busy, MayGive}
 use Rattle.coap_layer.specs.Words.{clock}
-use Rattle.coap_layer.specs.Machine.State.{usual}
+use Rattle.coap_layer.specs.declared.setup.Setup.{Setup}
 use Rattle.coap_block.specs.Whole.{Each}
 use Rattle.coap_observe.specs.Observers.{Observer}
 use Rattle.coap_resource.specs.Limits.{Limits}
@@ -22,21 +22,21 @@ use Rattle.coap_server.specs.Follows.Serves.{Serving, serving}
 abbrev pub IsFirst : {X : Type 0} → (X → Type 0) → X → List X → Type 0
 IsFirst P x xs = Since (λ y. (y ≡ x) × P y) (λ y. P y → ⊥) xs
 
-module _ (limits : Limits) (szx word : ℕ) where
+module _ (limits : Limits) (szx : ℕ) (setup : Setup) where
   -- a Message ID is free for what is sent now
   abbrev pub HasId : List Call → ℕ → Type 0
-  HasId past now = MayGive (usual word) (layer_of limits szx word past)
-      (max (clock (layer_of limits szx word past)) (max (own_of limits szx past).clock now))
+  HasId past now = MayGive setup (layer_of limits szx setup past)
+      (max (clock (layer_of limits szx setup past)) (max (own_of limits szx past).clock now))
 
   -- an observer can be notified: a notification is due to it, and no CON to its endpoint is unacknowledged
   pub record CanNotify (past : List Call) (o : Observer) : Type 0 where
     pub due : o.marked ≡ true
-    pub alone : Busy (layer_of limits szx word past) o.to → ⊥
+    pub alone : Busy (layer_of limits szx setup past) o.to → ⊥
 
   -- nothing that waits can be answered, and nobody can be notified
 
   abbrev pub NoneToAnswer : List Call → ℕ → Type 0
-  NoneToAnswer past now = Each (λ x. CanAnswer limits szx word past now x → ⊥) (own_of limits szx past).waiting
+  NoneToAnswer past now = Each (λ x. CanAnswer limits szx setup past now x → ⊥) (own_of limits szx past).waiting
 
   abbrev pub NoneToNotify : List Call → Type 0
   NoneToNotify past = Each (λ o. CanNotify past o → ⊥) (own_of limits szx past).observers
@@ -45,13 +45,13 @@ module _ (limits : Limits) (szx word : ℕ) where
   -- is free.
   abbrev pub NoneLeft : List Call → Type 0
   NoneLeft t = Always (λ past c. (now : ℕ) → IsTick now false c
-      → NoId limits szx word past now ⊎ (NoneToAnswer past now × NoneToNotify past)) t
+      → NoId limits szx setup past now ⊎ (NoneToAnswer past now × NoneToNotify past)) t
 
   -- The response to what waits: it is the first, by arrival, that can be answered, a Message ID is free, and what it
   -- asks is served now.
   pub record IsNextResponse (past : List Call) (c : Call) (now : ℕ) (a : Asked) : Type 0 where
     pub request : Waiting
-    pub first : IsFirst (CanAnswer limits szx word past now) request (own_of limits szx past).waiting
+    pub first : IsFirst (CanAnswer limits szx setup past now) request (own_of limits szx past).waiting
     pub asked : request.asked ≡ a
     pub id : HasId past now
     pub serves : Serving
@@ -81,4 +81,4 @@ module _ (limits : Limits) (szx word : ℕ) where
       (now w : ℕ) (room : Bool) (d : Due) (passed : ℕ) (h : Handling) (id : ℕ) (answer : Bool) (o : Observer)
       → c ≡ Ticks now w L.Idle room d passed h id answer → NoneToAnswer past now
       → IsFirst (CanNotify past) o (own_of limits szx past).observers
-      → ((x : Notice) × (notice c ≡ Some x) × (x.observer ≡ o)) ⊎ NoId limits szx word past now) t
+      → ((x : Notice) × (notice c ≡ Some x) × (x.observer ≡ o)) ⊎ NoId limits szx setup past now) t

@@ -5,6 +5,7 @@ use Rattle.coap_types.specs.Past.{Ever, Sometime, Always}
 use Rattle.coap_codec.specs.Message.{Message}
 use Rattle.coap_layer.specs.Trace.{Receive, Becomes, Request, Entry}
 use Rattle.coap_types.specs.declared.block.Block.{Block}
+use Rattle.coap_layer.specs.declared.setup.Setup.{Setup}
 use Rattle.coap_block.specs.AssemblyTrace.{IsWholeBody}
 use Rattle.coap_resource.specs.Serves.{Question}
 use Rattle.coap_resource.specs.Limits.{Limits}
@@ -28,9 +29,9 @@ pub record HandsUp (szx : ℕ) (asked : Asked) (v : Verdict) (e : Entry) : Type 
 
 module _ (limits : Limits) (szx : ℕ) where
   -- in this call the message layer hands up the request, and it comes to this
-  pub record Comes (word : ℕ) (past : List Call) (c : Call) (asked : Asked) (v : Verdict) : Type 0 where
+  pub record Comes (setup : Setup) (past : List Call) (c : Call) (asked : Asked) (v : Verdict) : Type 0 where
     pub news : List Entry
-    pub is : layer_of limits szx word (c ∷ past) ≡ news ++ layer_of limits szx word past
+    pub is : layer_of limits szx setup (c ∷ past) ≡ news ++ layer_of limits szx setup past
     pub here : Ever (HandsUp szx asked v) news
 
   -- the last block of an upload is taken, and the blocks since its block 0 are the whole body
@@ -47,24 +48,24 @@ module _ (limits : Limits) (szx : ℕ) where
   AsksBy past c a q (Uploads p b) = Completes past c a p b q
   AsksBy past c a q _ = ⊥
 
-  pub record Brings (word : ℕ) (past : List Call) (c : Call) (a : Asked) (q : Question) : Type 0 where
+  pub record Brings (setup : Setup) (past : List Call) (c : Call) (a : Asked) (q : Question) : Type 0 where
     pub verdict : Verdict
-    pub comes : Comes word past c a verdict
+    pub comes : Comes setup past c a verdict
     pub asks : AsksBy past c a q verdict
 
   -- What is served was handed up, at once or before, and asks this.
-  abbrev pub AreHandedUp : ℕ → List Call → Type 0
-  AreHandedUp word t =
+  abbrev pub AreHandedUp : Setup → List Call → Type 0
+  AreHandedUp setup t =
       Always (λ past c. (x : Serving) → serving (own_of limits szx past) c ≡ Some x
-      → Sometime (λ old b. Brings word old b x.asked x.question) (c ∷ past)) t
+      → Sometime (λ old b. Brings setup old b x.asked x.question) (c ∷ past)) t
 
   -- A block that is taken came in a request that was handed up in this very call.
-  pub record ComesIn (word : ℕ) (past : List Call) (c : Call) (x : Took) : Type 0 where
+  pub record ComesIn (setup : Setup) (past : List Call) (c : Call) (x : Took) : Type 0 where
     pub question : Question
     pub block : Block
     pub is : x ≡ took x.asked question block
-    pub comes : Comes word past c x.asked (Uploads question block)
+    pub comes : Comes setup past c x.asked (Uploads question block)
 
-  abbrev pub BlocksCome : ℕ → List Call → Type 0
-  BlocksCome word t = Always (λ past c. (x : Took) → takes_block (own_of limits szx past) c ≡ Some x
-      → ComesIn word past c x) t
+  abbrev pub BlocksCome : Setup → List Call → Type 0
+  BlocksCome setup t = Always (λ past c. (x : Took) → takes_block (own_of limits szx past) c ≡ Some x
+      → ComesIn setup past c x) t

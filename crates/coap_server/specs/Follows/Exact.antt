@@ -3,6 +3,7 @@ use Rattle.std.specs.Prelude.{◌≡◌, ℕ, Bool, Option, List, ◌∷◌, Res
 use Rattle.coap_types.specs.declared.endpoint.Endpoint.{Endpoint}
 use Rattle.coap_codec.specs.Message.{Message}
 use Rattle.coap_layer.specs.Trace as L
+use Rattle.coap_layer.specs.declared.setup.Setup.{Setup}
 use Rattle.coap_resource.specs.Content.{Content, Held}
 use Rattle.coap_resource.specs.declared.refusal.StoreRefusal.{StoreRefusal}
 use Rattle.coap_resource.specs.Limits.{Limits}
@@ -32,26 +33,26 @@ pub record LeaveAlike (limits : Limits) (szx : ℕ) (past : List Call) (c d : Ca
 
 -- With equal arguments, what the layers answer is equal, wherever they are asked, and so are what becomes of a request
 -- and what is answered. (What was not asked, `below`, or `room`, `passed` and `id`, says nothing.)
-pub record IsExact (limits : Limits) (szx word : ℕ) (past : List Call) : Type 0 where
+pub record IsExact (limits : Limits) (szx : ℕ) (setup : Setup) (past : List Call) : Type 0 where
   pub sets :
       (now : ℕ) (path : List (List ℕ)) (format : Option ℕ) (body : List ℕ) (answer another : Result ℕ StoreRefusal)
-      (left other : Content) → ServerLaw limits szx word (Sets now path format body answer left ∷ past)
-      → ServerLaw limits szx word (Sets now path format body another other ∷ past) → (answer ≡ another) × (left ≡ other)
+      (left other : Content) → ServerLaw limits szx setup (Sets now path format body answer left ∷ past)
+      → ServerLaw limits szx setup (Sets now path format body another other ∷ past) → (answer ≡ another) × (left ≡ other)
   pub removes :
       (now : ℕ) (path : List (List ℕ)) (answer another : Result Bool StoreRefusal) (left other : Content)
-      → ServerLaw limits szx word (Removes now path answer left ∷ past)
-      → ServerLaw limits szx word (Removes now path another other ∷ past) → (answer ≡ another) × (left ≡ other)
+      → ServerLaw limits szx setup (Removes now path answer left ∷ past)
+      → ServerLaw limits szx setup (Removes now path another other ∷ past) → (answer ≡ another) × (left ≡ other)
   pub delays : (path : List (List ℕ)) (ms : ℕ) (answer another : Bool)
-      → ServerLaw limits szx word (Delays path ms answer ∷ past)
-      → ServerLaw limits szx word (Delays path ms another ∷ past) → answer ≡ another
+      → ServerLaw limits szx setup (Delays path ms answer ∷ past)
+      → ServerLaw limits szx setup (Delays path ms another ∷ past) → answer ≡ another
   pub plains : (path : List (List ℕ)) (answer another : Bool)
-      → ServerLaw limits szx word (Plains path answer ∷ past)
-      → ServerLaw limits szx word (Plains path another ∷ past) → answer ≡ another
+      → ServerLaw limits szx setup (Plains path answer ∷ past)
+      → ServerLaw limits szx setup (Plains path another ∷ past) → answer ≡ another
   pub feeds :
       (now : ℕ) (from : Endpoint) (bytes : List ℕ) (w : ℕ) (up other : L.Answer) (came come : Option (Asked × Message))
       (h k : Handling) (below beyond : L.Answer)
-      → ServerLaw limits szx word (Feeds now from bytes w up came h below ∷ past)
-      → ServerLaw limits szx word (Feeds now from bytes w other come k beyond ∷ past)
+      → ServerLaw limits szx setup (Feeds now from bytes w up came h below ∷ past)
+      → ServerLaw limits szx setup (Feeds now from bytes w other come k beyond ∷ past)
       → (up ≡ other) × (came ≡ come) × (h ≡ k)
       × (answering (fed limits szx past now from bytes up came) came h below
       ≡ answering (fed limits szx past now from bytes other come) come k beyond)
@@ -59,16 +60,16 @@ pub record IsExact (limits : Limits) (szx word : ℕ) (past : List Call) : Type 
   pub ticks :
       (now w : ℕ) (below other : L.Answer) (room space : Bool) (d due : Due) (passed skipped : ℕ) (h k : Handling)
       (id number : ℕ) (answer another : Bool)
-      → ServerLaw limits szx word (Ticks now w below room d passed h id answer ∷ past)
-      → ServerLaw limits szx word (Ticks now w other space due skipped k number another ∷ past)
+      → ServerLaw limits szx setup (Ticks now w below room d passed h id answer ∷ past)
+      → ServerLaw limits szx setup (Ticks now w other space due skipped k number another ∷ past)
       → (below ≡ other) × (d ≡ due) × (h ≡ k)
       × (responding (turned limits szx past now below room d) d passed h w id
       ≡ responding (turned limits szx past now other space due) due skipped k w number) × (answer ≡ another)
       × LeaveAlike limits szx past (Ticks now w below room d passed h id answer)
       (Ticks now w other space due skipped k number another)
-  pub next_out : (answer another : Option L.Packet) → ServerLaw limits szx word (NextOut answer ∷ past)
-      → ServerLaw limits szx word (NextOut another ∷ past) → answer ≡ another
-  pub gets : (path : List (List ℕ)) (answer another : Option Held) → ServerLaw limits szx word (Gets path answer ∷ past)
-      → ServerLaw limits szx word (Gets path another ∷ past) → answer ≡ another
-  pub tells_applied : (answer another : List Applied) → ServerLaw limits szx word (TellsApplied answer ∷ past)
-      → ServerLaw limits szx word (TellsApplied another ∷ past) → answer ≡ another
+  pub next_out : (answer another : Option L.Packet) → ServerLaw limits szx setup (NextOut answer ∷ past)
+      → ServerLaw limits szx setup (NextOut another ∷ past) → answer ≡ another
+  pub gets : (path : List (List ℕ)) (answer another : Option Held) → ServerLaw limits szx setup (Gets path answer ∷ past)
+      → ServerLaw limits szx setup (Gets path another ∷ past) → answer ≡ another
+  pub tells_applied : (answer another : List Applied) → ServerLaw limits szx setup (TellsApplied answer ∷ past)
+      → ServerLaw limits szx setup (TellsApplied another ∷ past) → answer ≡ another

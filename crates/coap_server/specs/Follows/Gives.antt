@@ -10,6 +10,7 @@ use Rattle.coap_codec.specs.Spelling.{message_bytes}
 use Rattle.coap_layer.specs.Sends.{IsIn}
 use Rattle.coap_layer.specs.Trace as L
 use Rattle.coap_layer.specs.Trace.{with_head}
+use Rattle.coap_layer.specs.declared.setup.Setup.{Setup}
 use Rattle.coap_block.specs.declared.block_verdict.BlockVerdict.{BlockVerdict}
 use Rattle.coap_block.specs.declared.block_verdict.BlockVerdict.TheVariants.{Refuse, Join}
 use Rattle.coap_block.specs.AssemblyAnswer.{refusal_code}
@@ -102,11 +103,11 @@ module _ (limits : Limits) (szx : ℕ) where
         (continuing size (record { num = block.part.num; more = true; szx = block.part.szx }))
 
   -- the refusal, without the store, of a request that was handed up here
-  pub record CarriesRefusal (word : ℕ) (past : List Call) (c : Call) (p : L.Packet) : Type 0 where
+  pub record CarriesRefusal (setup : Setup) (past : List Call) (c : Call) (p : L.Packet) : Type 0 where
     pub asked : Asked
     pub verdict : Verdict
     pub code : ℕ
-    pub comes : Comes limits szx word past c asked verdict
+    pub comes : Comes limits szx setup past c asked verdict
     pub handed : hands c ≡ Some asked
     pub unserved : serving (own_of limits szx past) c ≡ None
     pub refuses : refusal_in (own_of limits szx past) c ≡ Some code
@@ -123,18 +124,18 @@ module _ (limits : Limits) (szx : ℕ) where
         (notification (own_of limits szx past).store observer reply)
     pub carries : Carries p observer.to observer.token (notification (own_of limits szx past).store observer reply)
 
-  abbrev pub CarriesResponse : ℕ → L.Packet → List Call → Call → Type 0
-  CarriesResponse word p past c = CarriesServed past c p
-      ⊎ (CarriesContinue past c p ⊎ (CarriesRefusal word past c p ⊎ CarriesNotice past c p))
+  abbrev pub CarriesResponse : Setup → L.Packet → List Call → Call → Type 0
+  CarriesResponse setup p past c = CarriesServed past c p
+      ⊎ (CarriesContinue past c p ⊎ (CarriesRefusal setup past c p ⊎ CarriesNotice past c p))
 
   -- what the message layer sent in all these calls is Empty, or carries a response that was made in them
-  abbrev pub SentResponses : ℕ → List Call → Type 0
-  SentResponses word t = (p : L.Packet) → Ever (λ e. IsIn p e.out) (layer_of limits szx word t)
-      → IsEmpty p ⊎ Sometime (CarriesResponse word p) t
+  abbrev pub SentResponses : Setup → List Call → Type 0
+  SentResponses setup t = (p : L.Packet) → Ever (λ e. IsIn p e.out) (layer_of limits szx setup t)
+      → IsEmpty p ⊎ Sometime (CarriesResponse setup p) t
 
   -- Whatever is sent, at any time, is Empty, or carries a response that was made by then.
-  abbrev pub SendsResponses : ℕ → List Call → Type 0
-  SendsResponses word trace = Always (λ past c. SentResponses word (c ∷ past)) trace
+  abbrev pub SendsResponses : Setup → List Call → Type 0
+  SendsResponses setup trace = Always (λ past c. SentResponses setup (c ∷ past)) trace
 
   -- The store never answers 2.31.
   abbrev pub NoneContinues : List Call → Type 0

@@ -7,6 +7,7 @@ use Rattle.coap_types.specs.declared.message.Kind.TheVariants.{Con, Ack}
 use Rattle.coap_codec.specs.Spelling.{message_bytes}
 use Rattle.coap_layer.specs.Trace as L
 use Rattle.coap_layer.specs.Trace.{with_head}
+use Rattle.coap_layer.specs.declared.setup.Setup.{Setup}
 use Rattle.coap_resource.specs.Limits.{Limits}
 use Rattle.coap_exchange.specs.declared.answerer.Asked.{Asked}
 use Rattle.coap_exchange.specs.AnswererTrace as E
@@ -97,19 +98,19 @@ module _ (limits : Limits) (szx : ℕ) where
 
 -- What is answered is sent a response, and to what is served it is what the store replied; each that is sent was made
 -- in that call, and goes out in it; and so does each notification.
-module _ (limits : Limits) (szx word : ℕ) where
+module _ (limits : Limits) (szx : ℕ) (setup : Setup) where
   pub record GoesOutHere (past : List Call) (c : Call) : Type 0 where
     pub answers : (a : Asked) → AnswersIt limits szx past c a → (r : E.Response) × Sends limits szx past c a r
     pub serves : (x : Serving) → serving (own_of limits szx past) c ≡ Some x
         → Sends limits szx past c x.asked (response_of x)
     pub made : (a : Asked) (r : E.Response) → Sends limits szx past c a r → IsMade limits szx past c a r
     pub responses : (a : Asked) (r : E.Response) → Sends limits szx past c a r
-        → Ever (λ e. GoesOut a r e.call e.answer) (call_adds limits szx word past c)
+        → Ever (λ e. GoesOut a r e.call e.answer) (call_adds limits szx setup past c)
     pub notices : (x : Notice) → notice c ≡ Some x
         → Ever (λ e. InEither (plain_in (own_of limits szx past) c) x.observer.to
         (content_with x.observer.token (notification (own_of limits szx past).store x.observer x.reply)) e.call
         e.answer)
-        (call_adds limits szx word past c)
+        (call_adds limits szx setup past c)
 
   abbrev pub AllGoOut : List Call → Type 0
   AllGoOut t = Always GoesOutHere t

@@ -6,6 +6,7 @@ use Rattle.coap_types.specs.declared.message.Kind.TheVariants.{Con, Ack}
 use Rattle.coap_codec.specs.Spelling.{message_bytes}
 use Rattle.coap_layer.specs.Trace as L
 use Rattle.coap_layer.specs.Trace.{with_head}
+use Rattle.coap_layer.specs.declared.setup.Setup.{Setup}
 use Rattle.coap_resource.specs.Limits.{Limits}
 use Rattle.coap_exchange.specs.declared.answerer.Asked.{Asked}
 use Rattle.coap_exchange.specs.AnswererTrace as E
@@ -32,13 +33,13 @@ pub record InOwnCon (a : Asked) (r : E.Response) (e : L.Entry) : Type 0 where
   pub answer : e.answer ≡ L.Sent id
   pub out : e.out ≡ record { to = a.from; bytes = message_bytes (with_head Con id (content_of a r)) } ∷ []
 
-module _ (limits : Limits) (szx word : ℕ) where
+module _ (limits : Limits) (szx : ℕ) (setup : Setup) where
   pub record SentHere (past : List Call) (c : Call) : Type 0 where
     pub at_once : (a : Asked) (r : E.Response) → hands c ≡ Some a → a.kind ≡ Con → Sends limits szx past c a r
-        → Ever (InAck a r) (call_adds limits szx word past c)
+        → Ever (InAck a r) (call_adds limits szx setup past c)
     pub later : (now : ℕ) (answer : Bool) (a : Asked) (r : E.Response) → IsTick now answer c
         → Sends limits szx past c a r
-        → Ever (InOwnCon a r) (call_adds limits szx word past c)
+        → Ever (InOwnCon a r) (call_adds limits szx setup past c)
 
   abbrev pub AllSentSo : List Call → Type 0
   AllSentSo t = Always SentHere t

@@ -8,6 +8,7 @@ use Rattle.coap_codec.specs.Message.{Message, Spells}
 use Rattle.coap_layer.specs.Sends.{PlainOut}
 use Rattle.coap_layer.specs.Trace as L
 use Rattle.coap_layer.specs.Words.{Open, begun}
+use Rattle.coap_layer.specs.declared.setup.Setup.{Setup}
 use Rattle.coap_resource.specs.RequestOptions.{tag_of}
 use Rattle.coap_resource.specs.Limits.{Limits}
 use Rattle.coap_common.specs.Notifications.{is_notification, tag_in}
@@ -47,29 +48,29 @@ module _ (limits : Limits) (szx : ℕ) where
     pub kind : request.asked.kind ≢ Con
 
   -- A notification that the message layer is given in a call, that very call tells.
-  pub record TellsSent (word : ℕ) (past : List Call) (c : Call) : Type 0 where
-    pub begun_now : (con : Open) (m : Message) → Ever (λ b. begun b ≡ Some con) (call_adds limits szx word past c)
+  pub record TellsSent (setup : Setup) (past : List Call) (c : Call) : Type 0 where
+    pub begun_now : (con : Open) (m : Message) → Ever (λ b. begun b ≡ Some con) (call_adds limits szx setup past c)
         → AreBytes con.bytes → Spells con.bytes m → is_notification m ≡ true
         → TellsIn (InCon con.id) con.to m past c
     pub replied : (to : Endpoint) (bytes : List ℕ) (m : Message)
-        → Ever (λ b. b.call ≡ L.Reply to m.id bytes) (call_adds limits szx word past c) → AreBytes bytes
+        → Ever (λ b. b.call ≡ L.Reply to m.id bytes) (call_adds limits szx setup past c) → AreBytes bytes
         → Spells bytes m
         → is_notification m ≡ true
         → TellsIn InReply to m past c
     -- A NON is the answer to a request that was no CON, or is told so.
     pub plain : (to : Endpoint) (bytes : List ℕ) (m : Message)
-        → Ever (λ b. PlainOut b (record { to = to; bytes = bytes })) (call_adds limits szx word past c) → AreBytes bytes
+        → Ever (λ b. PlainOut b (record { to = to; bytes = bytes })) (call_adds limits szx setup past c) → AreBytes bytes
         → Spells bytes m
         → is_notification m ≡ true
         → (TellsIn InReply to m past c × ServesNon to past c) ⊎ TellsIn InNon to m past c
     -- What is told is told at the moment of the call.
     pub now : (x : Telling) → telling (own_of limits szx past) c ≡ Some x → x.at ≡ (own_of limits szx (c ∷ past)).clock
     -- One CON begins in a call at most.
-    pub one : (a b : Open) → Ever (λ e. begun e ≡ Some a) (call_adds limits szx word past c)
-        → Ever (λ e. begun e ≡ Some b) (call_adds limits szx word past c) → a ≡ b
+    pub one : (a b : Open) → Ever (λ e. begun e ≡ Some a) (call_adds limits szx setup past c)
+        → Ever (λ e. begun e ≡ Some b) (call_adds limits szx setup past c) → a ≡ b
 
-  abbrev pub AllTellSent : ℕ → List Call → Type 0
-  AllTellSent word t = Always (TellsSent word) t
+  abbrev pub AllTellSent : Setup → List Call → Type 0
+  AllTellSent setup t = Always (TellsSent setup) t
 
   -- a request of this endpoint under this token is served, and makes the registration
   pub record ServesPair (p : Pair) (past : List Call) (c : Call) : Type 0 where
@@ -98,6 +99,6 @@ module _ (limits : Limits) (szx : ℕ) where
   AreUnder t = Always IsUnder t
 
   -- An acknowledgement that is heard the message layer takes in that very call.
-  abbrev pub AcksArrive : ℕ → List Call → Type 0
-  AcksArrive word t = Always (λ past c. (to : Endpoint) (id : ℕ) → HearsAck to id c
-      → Ever (TakesAck to id) (call_adds limits szx word past c)) t
+  abbrev pub AcksArrive : Setup → List Call → Type 0
+  AcksArrive setup t = Always (λ past c. (to : Endpoint) (id : ℕ) → HearsAck to id c
+      → Ever (TakesAck to id) (call_adds limits szx setup past c)) t

@@ -21,6 +21,7 @@ use std::alloc::Allocator;
 use std::hash::BuildHasher;
 
 /// Answers the request that was handed up (RFC 7252, sections 5.2.1 and 5.2.3). It takes no memory.
+#[inline(always)]
 pub(crate) fn answer<A: Allocator + Copy, H: BuildHasher>(
     exchanges: &mut Answerer<A, H>,
     asked: &Asked,
@@ -38,6 +39,7 @@ pub(crate) fn answer<A: Allocator + Copy, H: BuildHasher>(
 
 /// Answers the request that was handed up with a code, and with Block1 where it is given: nothing
 /// was applied.
+#[inline(always)]
 pub(crate) fn reply<S: Store<A>, A: Allocator + Copy, H: BuildHasher>(
     parts: &mut Parts<S, A, H>,
     asked: &Asked,

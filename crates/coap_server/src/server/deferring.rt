@@ -20,6 +20,7 @@ use std::alloc::{AllocError, Allocator};
 use std::hash::BuildHasher;
 
 // The delay of a path, for a request of this type.
+#[inline(always)]
 fn delay_for<A: Allocator>(delays: &[Delay<A>], kind: Kind, path: &Path<A>) -> Option<u64>
     ensures { result ≡ delay_for kind path.now (map delay_as delays.now) }
 {
@@ -62,6 +63,7 @@ fn kept<A: Allocator + Copy>(
 /// What is done with a request whose body is whole: it waits where its path has a delay and there
 /// is a place, and else it is served. After an `Err` only the exchanges are not as before; they can
 /// be taken back.
+#[inline(always)]
 pub(crate) fn handle_whole<S: Store<A>, A: Allocator + Copy, H: BuildHasher>(
     parts: &mut Parts<S, A, H>,
     asked: &Asked,
@@ -133,6 +135,7 @@ fn defer<S: Store<A>, A: Allocator + Copy, H: BuildHasher>(
 }
 
 // Serves a request, and answers it.
+#[inline(always)]
 fn serve_now<S: Store<A>, A: Allocator + Copy, H: BuildHasher>(
     parts: &mut Parts<S, A, H>,
     asked: &Asked,

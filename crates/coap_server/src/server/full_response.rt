@@ -106,6 +106,7 @@ fn uint_slice(bytes: &Option<UintBytes>) -> Option<&[u8]>
 impl<A: Allocator> FullResponse<A> {
     /// What the store answers, with Observe and Block1 where they are given (RFC 7641, section 4.2;
     /// RFC 7959, section 2.3).
+    #[inline(always)]
     pub(crate) fn of(
         response: Response<A>,
         observe: Option<u32>,

@@ -21,6 +21,7 @@ use std::alloc::{AllocError, Allocator};
 use std::hash::BuildHasher;
 
 // The options of a request that are recognised, and whether a critical one is not.
+#[inline(always)]
 fn recognise<'a, A: Allocator + Copy>(
     alloc: A,
     request: &View<'a>,

@@ -56,6 +56,7 @@ fn bad_option<A: Allocator>(kind: Kind) -> Checked<A>
 
 /// What the checks say, in their order, of a request with this code and these recognised options;
 /// `bad`: whether a critical option is not recognised.
+#[inline(always)]
 pub(crate) fn check<A: Allocator + Copy>(
     alloc: A,
     kind: Kind,

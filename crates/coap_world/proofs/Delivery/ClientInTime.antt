@@ -30,7 +30,7 @@ use Rattle.coap_world.specs.Record.{OfClient}
 use Rattle.coap_world.specs.Hops.{client_asks, client_asked, client_adds}
 use Rattle.coap_world.proofs.Delivery.HopsAreEntries.{client_asked_next}
 use Rattle.coap_layer.specs.Trace as L
-use Rattle.coap_layer.specs.Machine.State.{usual}
+use Rattle.coap_layer.specs.declared.setup.Setup.{Setup}
 use Rattle.coap_exchange.specs.AskerTrace as A
 use Rattle.coap_exchange.specs.AskerLaw as asker
 use Rattle.coap_exchange.specs.AskerSteps as asker_steps
@@ -68,11 +68,11 @@ abbrev pub Fed : Call → Endpoint → List ℕ → Type 0
 Fed c from bytes = FedToClient from bytes (OfClient c)
 
 -- a forgetting asks nothing of the layer: a token is kept no more, or nothing is done
-forgets_nothing : (to : Endpoint) (word : ℕ) (past : List A.Call) (o : Option Observation) (s : Own) (now w : ℕ)
+forgets_nothing : (to : Endpoint) (setup : Setup) (past : List A.Call) (o : Option Observation) (s : Own) (now w : ℕ)
     (sent : L.Answer) (token : Result (List ℕ) AskRefusal) (kept : Bool)
-    → asked_by_client to word past (deeds (releases o) s now w sent token kept) ≡ []
-forgets_nothing to word past None s now w sent token kept = refl
-forgets_nothing to word past (Some o) s now w sent token kept = refl
+    → asked_by_client to setup past (deeds (releases o) s now w sent token kept) ≡ []
+forgets_nothing to setup past None s now w sent token kept = refl
+forgets_nothing to setup past (Some o) s now w sent token kept = refl
 
 module _ (t : ℕ) (F : Endpoint → List ℕ → Type 0) where
   -- what is asked of the exchanges
@@ -111,13 +111,13 @@ module _ (t : ℕ) (F : Endpoint → List ℕ → Type 0) where
   lower_wish s (A.Release token answer) h = tt
   lower_wish s (A.Take answer) h = (record { now = omega arith; fed = λ from bytes is. absurd (cc is) }, tt)
 
-  wishes : (to : Endpoint) (word : ℕ) (past later : List A.Call) → Every AsksAt later
-      → Every (Wish t F) (asked_by_client to word past later)
-  wishes to word past [] h = tt
-  wishes to word past (c ∷ later) h =
-      every_join (Wish t F) (asker_steps.lower (asker.own_of to word (later ++ past)) c)
-      (asked_by_client to word past later) (lower_wish (asker.own_of to word (later ++ past)) c h.0)
-      (wishes to word past later h.1)
+  wishes : (to : Endpoint) (setup : Setup) (past later : List A.Call) → Every AsksAt later
+      → Every (Wish t F) (asked_by_client to setup past later)
+  wishes to setup past [] h = tt
+  wishes to setup past (c ∷ later) h =
+      every_join (Wish t F) (asker_steps.lower (asker.own_of to setup (later ++ past)) c)
+      (asked_by_client to setup past later) (lower_wish (asker.own_of to setup (later ++ past)) c h.0)
+      (wishes to setup past later h.1)
 
   -- the oldest is an arrival or a tick
   abbrev Begins : A.Call → Type 0
@@ -131,17 +131,14 @@ module _ (t : ℕ) (F : Endpoint → List ℕ → Type 0) where
       subst (Ends t F) (sym (append_assoc (acts s from up settled v) (asked now (L.Receive from bytes) up ∷ []) []))
       (ends_over t F (acts s from up settled v) (asked now (L.Receive from bytes) up ∷ []) (k, tt))
   first_ends s (A.Ticks now below answer) k = (k, tt)
-  first_ends s (A.Ask now r word below answer) k = absurd k
-  first_ends s (A.Keep token answer) k = absurd k
-  first_ends s (A.Release token answer) k = absurd k
-  first_ends s (A.Take answer) k = absurd k
+  first_ends s _ k = absurd k
 
-  ends : (to : Endpoint) (word : ℕ) (past later : List A.Call) (c : A.Call) → Begins c
-      → Ends t F (asked_by_client to word past (later ++ c ∷ []))
-  ends to word past [] c k = first_ends (asker.own_of to word past) c k
-  ends to word past (d ∷ later) c k =
-      ends_over t F (asker_steps.lower (asker.own_of to word ((later ++ c ∷ []) ++ past)) d)
-      (asked_by_client to word past (later ++ c ∷ [])) (ends to word past later c k)
+  ends : (to : Endpoint) (setup : Setup) (past later : List A.Call) (c : A.Call) → Begins c
+      → Ends t F (asked_by_client to setup past (later ++ c ∷ []))
+  ends to setup past [] c k = first_ends (asker.own_of to setup past) c k
+  ends to setup past (d ∷ later) c k =
+      ends_over t F (asker_steps.lower (asker.own_of to setup ((later ++ c ∷ []) ++ past)) d)
+      (asked_by_client to setup past (later ++ c ∷ [])) (ends to setup past later c k)
 
   deed_asks : (d : Deed) (s : Own) (now word : ℕ) (sent : L.Answer) (token : Result (List ℕ) AskRefusal) (kept : Bool)
       → now ≤ t → Every AsksAt (deeds d s now word sent token kept)
@@ -151,7 +148,7 @@ module _ (t : ℕ) (F : Endpoint → List ℕ → Type 0) where
   deed_asks (Releases key) s now word sent token kept h = (tt, tt)
 
   -- an input at the exchanges, and what is done for it
-  input_done : (to : Endpoint) (w : ℕ) (past : List A.Call) (e : Effect) (now word : ℕ) (sent : L.Answer)
+  input_done : (to : Endpoint) (w : Setup) (past : List A.Call) (e : Effect) (now word : ℕ) (sent : L.Answer)
       (token : Result (List ℕ) AskRefusal) (kept : Bool) (input : A.Call) → now ≤ t → AsksAt input → Begins input
       → Every (Wish t F) (asked_by_client to w past (done_for e now word sent token kept input))
       × Ends t F (asked_by_client to w past (done_for e now word sent token kept input))
@@ -174,7 +171,7 @@ module _ (config : Config) where
   exchanges past = lower_of config.client_sizes past
 
   abbrev before : List Call → State
-  before past = left_after (start (usual config.client_word)) (client_asked config past)
+  before past = left_after (start config.client_setup) (client_asked config past)
 
   -- no clock of the client is past this moment
   pub record IsBy (t : ℕ) (past : List Call) : Type 0 where
@@ -185,7 +182,7 @@ module _ (config : Config) where
       → Done t (Fed (Forgets number kept answer)) (before past) (client_asks config past (Forgets number kept answer))
   forgets_done t past number kept true by =
       subst (Done t (Fed (Forgets number kept true)) (before past))
-      (sym (forgets_nothing server_end config.client_word (exchanges past)
+      (sym (forgets_nothing server_end config.client_setup (exchanges past)
       (observation_of number (own past).observations) (own past) 0 0 _ _ kept))
       (nothing_done t (Fed (Forgets number kept true)) (before past) by.layer)
   forgets_done t past number kept false by = nothing_done t (Fed (Forgets number kept false)) (before past) by.layer
@@ -207,7 +204,7 @@ module _ (config : Config) where
       let h : m ≤ t = omega (arith, o, at) in
       let k : t ≤ m = omega (arith, at) in
       let c : Call = Feeds now from bytes word up settled event sent token kept in
-      let w = input_done t (Fed c) server_end config.client_word (exchanges past)
+      let w = input_done t (Fed c) server_end config.client_setup (exchanges past)
       (effect (own past) c) m word sent token kept (A.Receive m from bytes up settled event) h
       (h, (now, word, up, settled, event, sent, token, kept, refl)) k in
       done t (Fed c) (before past) _ by.layer w.0 w.1
@@ -217,28 +214,24 @@ module _ (config : Config) where
       let h : m ≤ t = omega (arith, o, at) in
       let k : t ≤ m = omega (arith, at) in
       let c : Call = Ticks now word below turn sent token kept answer in
-      let w = input_done t (Fed c) server_end config.client_word (exchanges past)
+      let w = input_done t (Fed c) server_end config.client_setup (exchanges past)
       (effect (own past) c) m word sent token kept (A.Ticks m below turn) h h k in
       done t (Fed c) (before past) _ by.layer w.0 w.1
 
   moment_by : (t : ℕ) (s : Own) (c : Call) → s.clock ≤ t → IsAt t c → moment_of s c ≤ t
-  moment_by t s (Calls now r answer) h at = omega (arith, h, at)
-  moment_by t s (Observes now path answer) h at = omega (arith, h, at)
-  moment_by t s (Cancels now number answer) h at = omega (arith, h, at)
   moment_by t s (Forgets number kept answer) h at = h
-  moment_by t s (Feeds now from bytes word up settled event sent token kept) h at = omega (arith, h, at)
-  moment_by t s (Ticks now word below turn sent token kept answer) h at = omega (arith, h, at)
   moment_by t s (NextOut answer) h at = h
   moment_by t s (NextReport answer) h at = h
   moment_by t s (Asked answer) h at = h
+  moment_by t s _ h at = omega (arith, h, at)
 
   pub next_by : (t : ℕ) (past : List Call) (c : Call) → IsBy t past → IsAt t c → IsBy t (c ∷ past)
   next_by t past c by at =
       record {
         own = subst (λ (n : ℕ). n ≤ t) (sym (clock_is (own past) c)) (moment_by t (own past) c by.own at);
         layer = subst (λ (s : State). s.clock ≤ t)
-            (sym (ap (left_after (start (usual config.client_word))) (client_asked_next config past c)
-            ∙ left_append (start (usual config.client_word)) (client_asks config past c) (client_asked config past)))
+            (sym (ap (left_after (start config.client_setup)) (client_asked_next config past c)
+            ∙ left_append (start config.client_setup) (client_asks config past c) (client_asked config past)))
             (asks_done t past c by at).till;
       }
 

@@ -13,7 +13,6 @@ use Rattle.coap_layer.specs.Trace.{Packet}
 use Rattle.coap_layer.specs.Words.{waiting}
 use Rattle.coap_layer.proofs.Facts.Calls.{steps_left, led_steps}
 use Rattle.coap_layer.proofs.Facts.StepsOfLayer.{steps_split}
-use Rattle.coap_layer.specs.Machine.State.{usual}
 use Rattle.coap_client.specs.Trace.{Call, NextOut, NextReport, Reported}
 use Rattle.coap_world.specs.Delivery.{FedToClient}
 use Rattle.coap_world.specs.Events.{client_end, server_end, Config}
@@ -30,18 +29,18 @@ use Rattle.coap_world.proofs.Delivery.AfterATurn.{Still, Goes}
 use Rattle.coap_world.proofs.Delivery.OneEndATurn.{ClientTurn, client_client, server_client, client_takes}
 
 -- the calls of a turn, with what is taken after them
-abbrev taken_after : List Packet → List Call → List Call
+abbrev pub taken_after : List Packet → List Call → List Call
 taken_after outs calls = NextOut None ∷ (map (λ p. NextOut (Some p)) outs ++ calls)
 
-abbrev told_after : List Reported → List Call → List Call
+abbrev pub told_after : List Reported → List Call → List Call
 told_after reports calls = map (λ r. NextReport (Some r)) reports ++ calls
 
-every_out : (t : ℕ) (outs : List Packet) (calls : List Call) → Every (IsAt t) calls
+pub every_out : (t : ℕ) (outs : List Packet) (calls : List Call) → Every (IsAt t) calls
     → Every (IsAt t) (map (λ p. NextOut (Some p)) outs ++ calls)
 every_out t [] calls h = h
 every_out t (p ∷ outs) calls h = (tt, every_out t outs calls h)
 
-every_told : (t : ℕ) (reports : List Reported) (calls : List Call) → Every (IsAt t) calls
+pub every_told : (t : ℕ) (reports : List Reported) (calls : List Call) → Every (IsAt t) calls
     → Every (IsAt t) (told_after reports calls)
 every_told t [] calls h = h
 every_told t (p ∷ reports) calls h = (tt, every_told t reports calls h)
@@ -55,29 +54,29 @@ to_entries from bytes (c ∷ cs) (inr h) = inr (to_entries from bytes cs h)
 module _ (config : Config) where
   -- the layer has answered so
   abbrev pub IsGood : List Call → Type 0
-  IsGood past = (h : State) × Steps (start (usual config.client_word)) (client_asked config past) h
+  IsGood past = (h : State) × Steps (start config.client_setup) (client_asked config past) h
 
   pub down : (past : List Call) (c : Call) → IsGood (c ∷ past) → IsGood past
   down past c good =
-      let k = steps_split (start (usual config.client_word)) good.0 (client_asks config past c) (client_asked config past)
-      (subst (λ a. Steps (start (usual config.client_word)) a good.0) (client_asked_next config past c) good.1) in
+      let k = steps_split (start config.client_setup) good.0 (client_asks config past c) (client_asked config past)
+      (subst (λ a. Steps (start config.client_setup) a good.0) (client_asked_next config past c) good.1) in
       (k.0, k.1)
 
-  law : (past : List Call) → IsGood past → LayerLaw (usual config.client_word) (client_layer config past)
+  pub law : (past : List Call) → IsGood past → LayerLaw config.client_setup (client_layer config past)
   law past good =
-      subst (LayerLaw (usual config.client_word)) (append-nil (client_layer config past))
-      (led_steps (usual config.client_word) [] (start (usual config.client_word)) good.0 (client_asked config past)
+      subst (LayerLaw config.client_setup) (append-nil (client_layer config past))
+      (led_steps config.client_setup [] (start config.client_setup) good.0 (client_asked config past)
       (record { law = tt; kept = refl }) good.1).law
 
-  took : (answer : Option Packet) (past : List Call) → IsGood (NextOut answer ∷ past)
+  pub took : (answer : Option Packet) (past : List Call) → IsGood (NextOut answer ∷ past)
       → Took answer (client_adds config past (NextOut answer))
   took answer past good =
       record {
-        entry = made (left_after (start (usual config.client_word)) (client_asked config past)) 0 L.Take;
+        entry = made (left_after (start config.client_setup) (client_asked config past)) 0 L.Take;
         is = refl;
         call = refl;
         answer_is = ap (λ (s : State). L.Gives (slice_get s.queue 0))
-            (sym (steps_left (start (usual config.client_word)) (client_asked config past) good.1.0 good.1.1))
+            (sym (steps_left (start config.client_setup) (client_asked config past) good.1.0 good.1.1))
             ∙ sym good.1.2.right;
         out = refl;
       }
@@ -129,7 +128,7 @@ module _ (config : Config) where
     none_left : IsGood (all ++ client_of es) → waiting (client_layer config (all ++ client_of es)) ≡ []
     none_left good =
         ap waiting (told_same reports (taken_after outs calls) (client_of es))
-        ∙ nothing_waits (usual config.client_word) t (client_layer config) (client_adds config)
+        ∙ nothing_waits config.client_setup t (client_layer config) (client_adds config)
         (client_next config) IsGood down law NextOut took
         ((map (λ p. NextOut (Some p)) outs ++ calls) ++ client_of es)
         (told_good reports (taken_after outs calls) (client_of es)
@@ -143,7 +142,7 @@ module _ (config : Config) where
           k.by,
           subst (λ (m : ℕ). Ever (OnNear (SendsAt m g.packet)) (map Near adds ++ hops_in config es)) (sym k.at)
               (on_near (SendsAt t g.packet) adds (hops_in config es)
-              (sent_at_once (usual config.client_word) t (client_layer config) (client_adds config)
+              (sent_at_once config.client_setup t (client_layer config) (client_adds config)
               (client_next config) IsGood down law NextOut took g.packet all (client_of es) good still.client_none
               (every_map (Timely t G) (InTime t) (λ e w. in_time t G e w) adds timely) k.taken)),
         )

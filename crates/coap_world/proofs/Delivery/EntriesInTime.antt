@@ -28,14 +28,7 @@ IsTimed _ = ⊥
 timed : (s : State) (now : ℕ) (call : Call) → IsTimed call → now ≤ moment s now call
 timed s now (Receive from bytes) h = omega arith
 timed s now Ticks h = omega arith
-timed s now (Reply to id bytes) h = absurd h
-timed s now (Confirm to content word) h = absurd h
-timed s now (Plain to content) h = absurd h
-timed s now (Settle to id) h = absurd h
-timed s now Take h = absurd h
-timed s now (Room to) h = absurd h
-timed s now AsksFree h = absurd h
-timed s now Pass h = absurd h
+timed s now _ h = absurd h
 
 not_before : (s : State) (now : ℕ) (call : Call) → s.clock ≤ moment s now call
 not_before s now (Receive from bytes) = omega arith

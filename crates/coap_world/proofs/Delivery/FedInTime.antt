@@ -26,14 +26,14 @@ numbered g [] h = absurd h
 numbered g (x ∷ gs) (inl h) = (length gs, inl (h, refl))
 numbered g (x ∷ gs) (inr h) = let k = numbered g gs h in (k.0, inr k.1)
 
-in_or_late : (a b : ℕ) → (a ≤ b) ⊎ (b < a)
+pub in_or_late : (a b : ℕ) → (a ≤ b) ⊎ (b < a)
 in_or_late a b = by (nat_le a b) refl
   where
     by : (x : Bool) → nat_le a b ≡ x → (a ≤ b) ⊎ (b < a)
     by true e = inl (leb-true a b e)
     by false e = inr (grind (arith, nat_tests, e))
 
-apart : client_end ≡ server_end → ⊥
+pub apart : client_end ≡ server_end → ⊥
 apart h = let k : 40001 ≡ 5683 = ap (λ (e : Endpoint). e.port) h in absurd (omega (arith, k))
 
 -- the one call of a turn, behind what is taken after it

@@ -7,7 +7,7 @@ use Rattle.coap_layer.specs.Trace.{Packet}
 use Rattle.coap_world.specs.Record.{Given, given_as, IsOne, AreTicks, Entry, OfClient, OfServer, Turn, given_by}
 use Rattle.coap_world.specs.Record.{given_in, IsNumber, OnClient, OnServer, ClientTick, ServerTick, Makes}
 use Rattle.coap_types.proofs.Facts.Traces.{Ever_map, Ever_append, Ever_of_Sometime}
-use Rattle.coap_world.specs.Events.{client_end, server_end, What, Calls, Observes, Cancels, Forgets, Sets, Removes}
+use Rattle.coap_world.specs.Events.{client_end, server_end, What, Cancels, Forgets, Sets, Removes}
 use Rattle.coap_world.specs.Events.{TickClient, TickServer, Deliver, StrangerToClient, StrangerToServer}
 use Rattle.coap_world.specs.Legal.{NotBefore, MayCome, AllLegal}
 use Rattle.coap_world.specs.Delivery.{GaveOut, FedToServer, FedToClient, AllFair}
@@ -77,22 +77,7 @@ packet_is p to bytes h k = ap {B = Packet} (λ t. record { to = t; bytes = p.byt
 by_at : (at : ℕ) (e : Entry) (g : Given) → Ever (λ h. h ≡ g) (given_by at e) → g.at ≡ at
 by_at at (OfClient (C.NextOut o)) g h = as_at at client_end o g h
 by_at at (OfServer (S.NextOut o)) g h = as_at at server_end o g h
-by_at at (OfClient (C.Calls now r answer)) g h = absurd h
-by_at at (OfClient (C.Observes now path answer)) g h = absurd h
-by_at at (OfClient (C.Cancels now number answer)) g h = absurd h
-by_at at (OfClient (C.Forgets number kept answer)) g h = absurd h
-by_at at (OfClient (C.Asked answer)) g h = absurd h
-by_at at (OfClient (C.Feeds now from bytes word up settled e sent token kept)) g h = absurd h
-by_at at (OfClient (C.Ticks now word below w sent z kept answer)) g h = absurd h
-by_at at (OfClient (C.NextReport r)) g h = absurd h
-by_at at (OfServer (S.Sets now path format body answer left)) g h = absurd h
-by_at at (OfServer (S.Removes now path answer left)) g h = absurd h
-by_at at (OfServer (S.Delays path ms answer)) g h = absurd h
-by_at at (OfServer (S.Plains path answer)) g h = absurd h
-by_at at (OfServer (S.Feeds now from bytes word up came w below)) g h = absurd h
-by_at at (OfServer (S.Ticks now word below room d passed w id answer)) g h = absurd h
-by_at at (OfServer (S.Gets path answer)) g h = absurd h
-by_at at (OfServer (S.TellsApplied answer)) g h = absurd h
+by_at at _ g h = absurd h
 
 in_at : (at : ℕ) (es : List Entry) (g : Given) → Ever (λ h. h ≡ g) (all_of (given_by at) es) → g.at ≡ at
 in_at at [] g h = absurd h
@@ -212,12 +197,6 @@ module _ (past : List Turn) (at word : ℕ) (refused : Bool) (entries : List Ent
   to_server : (what : What) → Makes past at word what refused entries → MayCome past at what
       → Ever (FedToServer client_end bytes) entries
       → Ever (GaveOut client_end server_end bytes at) (all_of given_in past)
-  to_server (Calls r) m may h = absurd (never_there client_end bytes m.0 entries m.2 h)
-  to_server (Observes path) m may h = absurd (never_there client_end bytes m.0 entries m.2 h)
-  to_server (Cancels number) m may h = absurd (never_there client_end bytes m.0 entries m.2 h)
-  to_server (Forgets number) m may h = absurd (never_there client_end bytes m.0 entries m.2 h)
-  to_server TickClient m may h = absurd (never_there client_end bytes m.0 entries m.2 h)
-  to_server (StrangerToClient from b) m may h = absurd (never_there client_end bytes m.0 entries m.2 h)
   to_server (Sets path format body) m may h = let k =
       one_call _ _ refused m.0 m.1 (server_call client_end bytes m.0 entries m.2 h) in absurd (cc (k.1.2, k.2.6))
   to_server (Removes path) m may h = let k =
@@ -234,14 +213,11 @@ module _ (past : List Turn) (at word : ℕ) (refused : Bool) (entries : List Ent
         (cc (k.1.4, k.2.6)))
     | inr d ↦ absurd (never_there client_end bytes d.1 entries d.3 h)
   ]
+  to_server _ m may h = absurd (never_there client_end bytes m.0 entries m.2 h)
 
   to_client : (what : What) → Makes past at word what refused entries → MayCome past at what
       → Ever (FedToClient server_end bytes) entries
       → Ever (GaveOut server_end client_end bytes at) (all_of given_in past)
-  to_client (Calls r) m may h = let k = one_call _ _ refused m.0 m.1
-      (client_call server_end bytes m.0 entries m.2 h) in absurd (cc (k.1.1, k.2.8))
-  to_client (Observes path) m may h = let k = one_call _ _ refused m.0 m.1
-      (client_call server_end bytes m.0 entries m.2 h) in absurd (cc (k.1.1, k.2.8))
   to_client (Cancels number) m may h = let k =
       one_call _ _ false m.0 m.1.0 (client_call server_end bytes m.0 entries m.2 h) in absurd (cc (k.1.1, k.2.8))
   to_client (Forgets number) m may h = let k =
@@ -262,6 +238,9 @@ module _ (past : List Turn) (at word : ℕ) (refused : Bool) (entries : List Ent
         gave past at number legal later may m.0 m.1 server_end client_end bytes (cc (k.1.6, k.2.8)) d.0
         (cc (k.1.6, k.2.8)))
   ]
+  to_client _ m may h =
+      let k = one_call _ _ refused m.0 m.1 (client_call server_end bytes m.0 entries m.2 h) in
+      absurd (cc (k.1.1, k.2.8))
 
 pub all_fair : (turns : List Turn) → Always (λ past t. Makes past t.event.at t.event.word t.event.what t.refused
     t.entries) turns → AllLegal turns → AllFair turns

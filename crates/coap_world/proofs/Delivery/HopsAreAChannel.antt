@@ -3,7 +3,6 @@ use Rattle.std.proofs.Common.{List, sym, subst}
 use Rattle.coap_types.specs.Past.{Always}
 use Rattle.coap_layer.specs.Channel.{RepliesSo, ChannelLaw}
 use Rattle.coap_layer.specs.Rows.{LayerLaw}
-use Rattle.coap_layer.specs.Machine.State.{usual}
 use Rattle.coap_client.proofs.Facts.Laws as client_facts
 use Rattle.coap_server.proofs.Facts.Laws as server_facts
 use Rattle.coap_world.specs.Events.{client_end, server_end, Config, Event}
@@ -23,20 +22,20 @@ module _ (config : Config) (events : List Event) (turns : List Turn) (made : Rec
       ran config turns made.made legal (all_fair turns made.made legal) (below.left, below.layer)
       (under.left, under.layer)
 
-  pub channel : ChannelLaw (usual config.client_word) (usual config.server_word) client_end server_end (hops_of config turns)
+  pub channel : ChannelLaw config.client_setup config.server_setup client_end server_end (hops_of config turns)
   channel =
       let near = near_is config (entries_of turns) in
       let far = far_is config (entries_of turns) in
       let client = client_of (entries_of turns) in
       let server = server_trace config (entries_of turns) in
       record {
-        near_law = subst (LayerLaw (usual config.client_word)) (sym near)
-            (client_facts.layer server_end config.client_sizes config.client_word client made.client);
-        far_law = subst (LayerLaw (usual config.server_word)) (sym far)
-            (server_facts.layer config.limits config.server_szx config.server_word server made.server);
+        near_law = subst (LayerLaw config.client_setup) (sym near)
+            (client_facts.layer server_end config.client_sizes config.client_setup client made.client);
+        far_law = subst (LayerLaw config.server_setup) (sym far)
+            (server_facts.layer config.limits config.server_szx config.server_setup server made.server);
         near_replies = subst (Always RepliesSo) (sym near)
-            (client_facts.replies server_end config.client_sizes config.client_word client made.client);
+            (client_facts.replies server_end config.client_sizes config.client_setup client made.client);
         far_replies = subst (Always RepliesSo) (sym far)
-            (server_facts.replies config.limits config.server_szx config.server_word server made.server);
+            (server_facts.replies config.limits config.server_szx config.server_setup server made.server);
         fair = run.fair;
       }

@@ -10,7 +10,6 @@ use Rattle.coap_common.proofs.Facts.Adds.{answerer_append, entries_append}
 use Rattle.coap_world.specs.Hops.{client_asks, client_asked, client_adds, server_asks, server_asked, server_adds}
 use Rattle.coap_world.specs.Hops.{hops_in}
 use Rattle.coap_layer.specs.Trace as L
-use Rattle.coap_layer.specs.Machine.State.{usual}
 use Rattle.coap_exchange.specs.AnswererLaw as answerer
 use Rattle.coap_client.specs.Trace as C
 use Rattle.coap_client.specs.Law as client
@@ -39,14 +38,14 @@ far_near (x ∷ xs) hs = far_near xs hs
 
 module _ (config : Config) where
   abbrev pub client_layer : List C.Call → List L.Entry
-  client_layer t = client.layer_of server_end config.client_sizes config.client_word t
+  client_layer t = client.layer_of server_end config.client_sizes config.client_setup t
 
   abbrev pub server_layer : List S.Call → List L.Entry
-  server_layer t = server.layer_of config.limits config.server_szx config.server_word t
+  server_layer t = server.layer_of config.limits config.server_szx config.server_setup t
 
   pub client_asked_next : (past : List C.Call) (c : C.Call)
       → client_asked config (c ∷ past) ≡ client_asks config past c ++ client_asked config past
-  client_asked_next past c = client_facts.asked_next server_end config.client_sizes config.client_word past c
+  client_asked_next past c = client_facts.asked_next server_end config.client_sizes config.client_setup past c
 
   pub server_asked_next : (past : List S.Call) (c : S.Call)
       → server_asked config (c ∷ past) ≡ server_asks config past c ++ server_asked config past
@@ -55,12 +54,12 @@ module _ (config : Config) where
 
   pub client_next : (past : List C.Call) (c : C.Call)
       → client_layer (c ∷ past) ≡ client_adds config past c ++ client_layer past
-  client_next past c = client_facts.layer_next server_end config.client_sizes config.client_word past c
+  client_next past c = client_facts.layer_next server_end config.client_sizes config.client_setup past c
 
   pub server_next : (past : List S.Call) (c : S.Call)
       → server_layer (c ∷ past) ≡ server_adds config past c ++ server_layer past
-  server_next past c = ap (entries (start (usual config.server_word))) (server_asked_next past c)
-      ∙ entries_append (start (usual config.server_word)) (server_asks config past c) (server_asked config past)
+  server_next past c = ap (entries (start config.server_setup)) (server_asked_next past c)
+      ∙ entries_append (start config.server_setup) (server_asks config past c) (server_asked config past)
 
   -- a server begins with no call of its layer
   pub begins_silent : (ss : List Setting) → server.lower_of config.limits config.server_szx
@@ -77,7 +76,7 @@ module _ (config : Config) where
       ∙ near_is past
 
   pub far_is : (all : List Entry) → far_of (hops_in config all) ≡ server_layer (server_trace config all)
-  far_is [] = sym (ap (λ t. entries (start (usual config.server_word)) (answerer.lower_of t)) (begins_silent (settings config)))
+  far_is [] = sym (ap (λ t. entries (start config.server_setup) (answerer.lower_of t)) (begins_silent (settings config)))
   far_is (OfServer c ∷ past) = far_far (server_adds config (server_trace config past) c) (hops_in config past)
       ∙ ap (λ t. server_adds config (server_trace config past) c ++ t) (far_is past)
       ∙ sym (server_next (server_trace config past) c)

@@ -19,7 +19,6 @@ use Rattle.coap_world.proofs.Delivery.HopsAreEntries.{begins_silent}
 use Rattle.coap_world.proofs.Delivery.AfterATurn.{Still, Goes}
 use Rattle.coap_world.proofs.Delivery.OneEndATurn.{ClientTurn, ServerTurn, side}
 use Rattle.coap_layer.specs.Trace as L
-use Rattle.coap_layer.specs.Machine.State.{usual}
 use Rattle.coap_world.specs.Delivery as D
 use Rattle.coap_server.specs.Law as server_law
 use Rattle.coap_exchange.specs.AnswererLaw as answerer
@@ -110,11 +109,11 @@ module _ (config : Config) where
         server = record {
           own = begins_by t (settings config);
           between = subst (λ l. (answerer.own_of l).clock ≤ t) (sym none) (omega arith);
-          layer = subst (λ l. (left_after (start (usual config.server_word)) (answerer.lower_of l)).clock ≤ t) (sym none)
+          layer = subst (λ l. (left_after (start config.server_setup) (answerer.lower_of l)).clock ≤ t) (sym none)
               (omega arith);
         };
         client_none = refl;
-        server_none = ap (λ l. waiting (entries (start (usual config.server_word)) (answerer.lower_of l))) none;
+        server_none = ap (λ l. waiting (entries (start config.server_setup) (answerer.lower_of l))) none;
       }
 
   pub record Ran (turns : List Turn) : Type 0 where

@@ -8,7 +8,7 @@ use Rattle.coap_world.specs.Record.{Given, given_as, IsOne, AreTicks, Entry, OfC
 use Rattle.coap_world.specs.Record.{Turn, given_by, OnClient, OnServer, ClientTick, ServerTick, Makes}
 use Rattle.coap_world.proofs.Delivery.EntriesInTime.{Every}
 use Rattle.coap_types.proofs.Facts.Traces.{Ever_append}
-use Rattle.coap_world.specs.Events.{client_end, server_end, What, Calls, Observes, Cancels, Forgets, Sets, Removes}
+use Rattle.coap_world.specs.Events.{client_end, server_end, What, Cancels, Forgets, Sets, Removes}
 use Rattle.coap_world.specs.Events.{TickClient, TickServer, Deliver, StrangerToClient, StrangerToServer}
 use Rattle.coap_client.specs.Trace as C
 use Rattle.coap_server.specs.Trace as S
@@ -63,18 +63,8 @@ pub record ServerTurn (t : ℕ) (entries : List Entry) : Type 0 where
   pub on : OnServer calls entries
   pub at : Every (server.IsAt t) calls
 
-module _ (past : List Turn) (t word : ℕ) (refused : Bool) (entries : List Entry) where
+module _ (past : List Turn) (t : ℕ) (word : ℕ) (refused : Bool) (entries : List Entry) where
   pub side : (what : What) → Makes past t word what refused entries → ClientTurn t entries ⊎ ServerTurn t entries
-  side (Calls r) m = inl (record {
-    calls = m.0;
-    on = m.2;
-    at = each_one _ (client.IsAt t) (λ c h. subst (client.IsAt t) (sym h.1) refl) refused m.0 m.1;
-  })
-  side (Observes path) m = inl (record {
-    calls = m.0;
-    on = m.2;
-    at = each_one _ (client.IsAt t) (λ c h. subst (client.IsAt t) (sym h.1) refl) refused m.0 m.1;
-  })
   side (Cancels number) m = inl (record {
     calls = m.0;
     on = m.2;
@@ -132,6 +122,13 @@ module _ (past : List Turn) (t word : ℕ) (refused : Bool) (entries : List Entr
       at = each_one _ (client.IsAt t) (λ c h. subst (client.IsAt t) (sym h.6) refl) refused d.1 d.2;
     })
   ]
+  side _ m =
+      inl (record {
+        calls = m.0;
+        on = m.2;
+        at = each_one _ (client.IsAt t) (λ c h. subst (client.IsAt t)
+            (sym h.1) refl) refused m.0 m.1;
+      })
 
 -- the calls of the ends, of a turn and of what was before
 
@@ -156,26 +153,12 @@ server_client (c ∷ cs) es = server_client cs es
 client_one : (t : ℕ) (g : Given) (c : C.Call) → Ever (λ h. h ≡ g) (given_by t (OfClient c))
     → Takes C.NextOut client_end t g (c ∷ [])
 client_one t g (C.NextOut o) h = as_taken C.NextOut client_end t g o h
-client_one t g (C.Calls now r answer) h = absurd h
-client_one t g (C.Observes now path answer) h = absurd h
-client_one t g (C.Cancels now number answer) h = absurd h
-client_one t g (C.Forgets number kept answer) h = absurd h
-client_one t g (C.Asked answer) h = absurd h
-client_one t g (C.Feeds now from bytes word up settled e sent token kept) h = absurd h
-client_one t g (C.Ticks now word below w sent z kept answer) h = absurd h
-client_one t g (C.NextReport r) h = absurd h
+client_one t g _ h = absurd h
 
 server_one : (t : ℕ) (g : Given) (c : S.Call) → Ever (λ h. h ≡ g) (given_by t (OfServer c))
     → Takes S.NextOut server_end t g (c ∷ [])
 server_one t g (S.NextOut o) h = as_taken S.NextOut server_end t g o h
-server_one t g (S.Sets now path format body answer left) h = absurd h
-server_one t g (S.Removes now path answer left) h = absurd h
-server_one t g (S.Delays path ms answer) h = absurd h
-server_one t g (S.Plains path answer) h = absurd h
-server_one t g (S.Feeds now from bytes word up came w below) h = absurd h
-server_one t g (S.Ticks now word below room d passed w id answer) h = absurd h
-server_one t g (S.Gets path answer) h = absurd h
-server_one t g (S.TellsApplied answer) h = absurd h
+server_one t g _ h = absurd h
 
 pub client_takes : (t : ℕ) (g : Given) (cs : List C.Call) → Ever (λ h. h ≡ g) (all_of (given_by t) (map OfClient cs))
     → Takes C.NextOut client_end t g cs

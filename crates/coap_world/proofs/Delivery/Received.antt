@@ -3,9 +3,10 @@ use Rattle.std.proofs.Common.{◌≡◌, inl, inr, ℕ, max, List, [], ◌∷◌
 use Rattle.coap_types.specs.Past.{Ever}
 use Rattle.coap_types.specs.declared.endpoint.Endpoint.{Endpoint}
 use Rattle.coap_types.proofs.Facts.Traces.{Ever_front, Ever_back, Ever_by_law}
-use Rattle.coap_layer.specs.Machine.State.{State, start, usual}
+use Rattle.coap_layer.specs.Machine.State.{State, start}
 use Rattle.coap_layer.specs.Machine.Steps.{Asked, left_after, entries}
 use Rattle.coap_layer.specs.Trace as L
+use Rattle.coap_layer.specs.declared.setup.Setup.{Setup}
 use Rattle.coap_exchange.specs.AnswererLaw as answerer
 use Rattle.coap_exchange.specs.AnswererSteps as answerer_steps
 use Rattle.coap_exchange.specs.AnswererSteps.{reject_by}
@@ -60,13 +61,13 @@ server_last past [] c call h = Ever_front (λ a. a.call ≡ call) _ [] h
 server_last past (d ∷ later) c call h = Ever_back (λ a. a.call ≡ call)
     (answerer_steps.lower (answerer.own_of ((later ++ c ∷ []) ++ past)) d) _ (server_last past later c call h)
 
-client_last : (to : Endpoint) (word : ℕ) (past later : List A.Call) (c : A.Call) (call : L.Call)
-    → Ever (λ a. a.call ≡ call) (asker_steps.lower (asker.own_of to word past) c)
-    → Ever (λ a. a.call ≡ call) (asked_by_client to word past (later ++ c ∷ []))
-client_last to word past [] c call h = Ever_front (λ a. a.call ≡ call) _ [] h
-client_last to word past (d ∷ later) c call h = Ever_back (λ a. a.call ≡ call)
-    (asker_steps.lower (asker.own_of to word ((later ++ c ∷ []) ++ past)) d) _
-    (client_last to word past later c call h)
+client_last : (to : Endpoint) (setup : Setup) (past later : List A.Call) (c : A.Call) (call : L.Call)
+    → Ever (λ a. a.call ≡ call) (asker_steps.lower (asker.own_of to setup past) c)
+    → Ever (λ a. a.call ≡ call) (asked_by_client to setup past (later ++ c ∷ []))
+client_last to setup past [] c call h = Ever_front (λ a. a.call ≡ call) _ [] h
+client_last to setup past (d ∷ later) c call h = Ever_back (λ a. a.call ≡ call)
+    (asker_steps.lower (asker.own_of to setup ((later ++ c ∷ []) ++ past)) d) _
+    (client_last to setup past later c call h)
 
 incoming_asked : (s : R.Own) (m : ℕ) (from : Endpoint) (bytes : List ℕ) (up : _) (came : _)
     → Ever (λ (a : Asked). a.call ≡ L.Receive from bytes) (answerer_steps.lower s (R.Incoming m from bytes up came))
@@ -86,7 +87,7 @@ module _ (config : Config) where
       subst (λ d. Ever (ReceivesAt t from bytes) (server_adds config past d)) (sym is)
       (at_moment t (server.Fed (S.Feeds t from bytes word up came h below)) from bytes _
       (server.adds_timely config t past (S.Feeds t from bytes word up came h below) by refl)
-      (in_entries (L.Receive from bytes) (left_after (start (usual config.server_word)) (server_asked config past)) _
+      (in_entries (L.Receive from bytes) (left_after (start config.server_setup) (server_asked config past)) _
       (server_last (server_law.lower_of config.limits config.server_szx past)
       (answering (heard own t (incoming own t from bytes up came)) came h below) (incoming own t from bytes up came)
       (L.Receive from bytes) (incoming_asked (answerer.own_of (server_law.lower_of config.limits config.server_szx past))
@@ -109,12 +110,12 @@ module _ (config : Config) where
       let input : A.Call = A.Receive m from bytes up settled event in
       subst (λ x. Ever (ReceivesAt t from bytes) (client_adds config past x)) (sym is)
       (at_moment t (client.Fed d) from bytes _ (client.adds_timely config t past d by refl)
-      (in_entries (L.Receive from bytes) (left_after (start (usual config.client_word)) (client_asked config past)) _
+      (in_entries (L.Receive from bytes) (left_after (start config.client_setup) (client_asked config past)) _
       (subst (λ l. Ever (λ (a : Asked). a.call ≡ L.Receive from bytes)
-      (asked_by_client server_end config.client_word (client_law.lower_of config.client_sizes past) l))
+      (asked_by_client server_end config.client_setup (client_law.lower_of config.client_sizes past) l))
       (append_assoc later first (input ∷ []))
-      (client_last server_end config.client_word (client_law.lower_of config.client_sizes past) (later ++ first) input
-      (L.Receive from bytes) (receive_asked (asker.own_of server_end config.client_word
+      (client_last server_end config.client_setup (client_law.lower_of config.client_sizes past) (later ++ first) input
+      (L.Receive from bytes) (receive_asked (asker.own_of server_end config.client_setup
       (client_law.lower_of config.client_sizes past)) m from bytes up settled event)))))
 
 pub are_received : (config : Config) (events : List Event) (turns : List Turn) → RecordOf config events turns

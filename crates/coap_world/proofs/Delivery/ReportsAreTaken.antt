@@ -12,7 +12,7 @@ use Rattle.coap_client.specs.Follows.Gives.{made, given, forgotten, NoneDropped}
 use Rattle.coap_client.specs.Trace as C
 use Rattle.coap_server.specs.Trace as S
 use Rattle.coap_client.proofs.Facts.EachCall.{all_wait}
-use Rattle.coap_world.specs.Events.{Config, What, Calls, Observes, Cancels, Forgets, Sets, Removes, TickClient}
+use Rattle.coap_world.specs.Events.{Config, What, Cancels, Forgets, Sets, Removes, TickClient}
 use Rattle.coap_world.specs.Events.{TickServer, Deliver, StrangerToClient, StrangerToServer}
 use Rattle.coap_world.specs.Given.{AllGiven}
 use Rattle.coap_world.specs.Record.{Turn, Entry, OnClient, OnServer, ClientTick, Makes, client_of, entries_of}
@@ -36,18 +36,8 @@ record ServerTakes (entries : List Entry) : Type 0 where
   calls : List S.Call
   on : OnServer calls entries
 
-module _ (past : List Turn) (t word : ℕ) (refused : Bool) (entries : List Entry) where
+module _ (past : List Turn) (t : ℕ) (word : ℕ) (refused : Bool) (entries : List Entry) where
   side : (what : What) → Makes past t word what refused entries → ClientTakes entries ⊎ ServerTakes entries
-  side (Calls r) m = inl (record {
-    calls = m.0;
-    on = m.2;
-    few = inl (each_one _ Keeps (λ c h. subst Keeps (sym h.1) refl) refused m.0 m.1);
-  })
-  side (Observes path) m = inl (record {
-    calls = m.0;
-    on = m.2;
-    few = inl (each_one _ Keeps (λ c h. subst Keeps (sym h.1) refl) refused m.0 m.1);
-  })
   side (Cancels number) m = inl (record {
     calls = m.0;
     on = m.2;
@@ -73,6 +63,13 @@ module _ (past : List Turn) (t word : ℕ) (refused : Bool) (entries : List Entr
       few = inl (each_one _ Keeps (λ c h. subst Keeps (sym h.6) refl) refused d.1 d.2);
     })
   ]
+  side _ m =
+      inl (record {
+        calls = m.0;
+        on = m.2;
+        few = inl (each_one _ Keeps (λ c h. subst Keeps
+            (sym h.1) refl) refused m.0 m.1);
+      })
 
 none_first : {X : Type 0} (rs : List X) → None ≡ slice_get rs 0 → drop 1 rs ≡ []
 none_first [] h = refl

@@ -33,13 +33,8 @@ module _ (t : ℕ) (F : Endpoint → List ℕ → Type 0) where
   own_by : (s : R.Own) (c : R.Call) → s.clock ≤ t → Asks c → (answerer_steps.after s c).clock ≤ t
   own_by s (R.Incoming now from bytes up answer) h a = let k = a.0 in omega (arith, h, k)
   own_by s (R.Answers a r below) h k = h
-  own_by s (R.Defers now a delay answer) h k = omega (arith, h, k)
-  own_by s (R.Ticks now below room answer) h k = omega (arith, h, k)
-  own_by s (R.Responds now a r word id) h k = omega (arith, h, k)
-  own_by s (R.Ready now to answer) h k = omega (arith, h, k)
-  own_by s (R.Notifies now to token r word id) h k = omega (arith, h, k)
-  own_by s (R.NotifiesPlain now to token r id) h k = omega (arith, h, k)
   own_by s (R.Take answer) h k = h
+  own_by s _ h k = omega (arith, h, k)
 
   pub owns_by : (past later : List R.Call) → (answerer.own_of past).clock ≤ t → Every Asks later
       → (answerer.own_of (later ++ past)).clock ≤ t
@@ -105,13 +100,7 @@ module _ (t : ℕ) (F : Endpoint → List ℕ → Type 0) where
       subst (Ends t F) (sym (append_assoc (asking_room now (ready_if below (ready_at s now)) room)
       (asked now L.Ticks below ∷ []) [])) (ends_over t F (asking_room now (ready_if below (ready_at s now)) room)
       (asked now L.Ticks below ∷ []) (k, tt))
-  first_ends s (R.Answers a r below) k = absurd k
-  first_ends s (R.Defers now a delay answer) k = absurd k
-  first_ends s (R.Responds now a r word id) k = absurd k
-  first_ends s (R.Ready now to answer) k = absurd k
-  first_ends s (R.Notifies now to token r word id) k = absurd k
-  first_ends s (R.NotifiesPlain now to token r id) k = absurd k
-  first_ends s (R.Take answer) k = absurd k
+  first_ends s _ k = absurd k
 
   pub ends : (past later : List R.Call) (c : R.Call) → Begins c → Ends t F (asked_by_server past (later ++ c ∷ []))
   ends past [] c k = first_ends (answerer.own_of past) c k

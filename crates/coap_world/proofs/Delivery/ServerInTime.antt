@@ -6,7 +6,6 @@ use Rattle.coap_codec.specs.Message.{Message}
 use Rattle.coap_layer.specs.Trace as L
 use Rattle.coap_layer.specs.Machine.State.{State, start}
 use Rattle.coap_layer.specs.Machine.Steps.{left_after}
-use Rattle.coap_layer.specs.Machine.State.{usual}
 use Rattle.coap_observe.specs.Observers.{Observer}
 use Rattle.coap_exchange.specs.declared.answerer.Asked as request
 use Rattle.coap_exchange.specs.declared.answerer.Due.{Due}
@@ -60,13 +59,9 @@ Counts t clock (TellsApplied answer) = Unit {0}
 counts : (t clock : ℕ) (c : Call) → clock ≤ t → IsAt t c → Counts t clock c
 counts t clock (Sets now path format body answer left) h at = omega (arith, h, at)
 counts t clock (Removes now path answer left) h at = omega (arith, h, at)
-counts t clock (Delays path ms answer) h at = tt
-counts t clock (Plains path answer) h at = tt
 counts t clock (Feeds now from bytes word up came w below) h at = omega (arith, h, at)
 counts t clock (Ticks now word below room d passed w id answer) h at = omega (arith, h, at)
-counts t clock (NextOut answer) h at = tt
-counts t clock (Gets path answer) h at = tt
-counts t clock (TellsApplied answer) h at = tt
+counts t clock _ h at = tt
 
 abbrev pub Fed : Call → Endpoint → List ℕ → Type 0
 Fed c from bytes = FedToServer from bytes (OfServer c)
@@ -82,12 +77,10 @@ module _ (t : ℕ) (F : Endpoint → List ℕ → Type 0) where
 
   answering_asks : (s : Own) (came : Option (request.Asked × Message)) (h : Handling) (below : L.Answer) → s.clock ≤ t
       → Every (Asks t F) (answering s came h below)
-  answering_asks s None h below k = tt
-  answering_asks s (Some p) Silent below k = tt
   answering_asks s (Some p) (Replies response) below k = (tt, tt)
   answering_asks s (Some p) (Serves q reply left) below k = (tt, deferral_asks s p.0 q k)
   answering_asks s (Some p) (Waits q delay) below k = deferral_asks s p.0 q k
-  answering_asks s (Some p) (Notifies o reply) below k = tt
+  answering_asks s _ _ below k = tt
 
   readies_asks : (at passed : ℕ) (os : List Observer) → at ≤ t → Every (Asks t F) (readies at passed os)
   readies_asks at passed [] k = tt
@@ -103,10 +96,6 @@ module _ (t : ℕ) (F : Endpoint → List ℕ → Type 0) where
   responding_asks : (s : Own) (d : Due) (passed : ℕ) (h : Handling) (word id : ℕ) → s.clock ≤ t
       → Every (Asks t F) (responding s d passed h word id)
   responding_asks s (due.Ready a) passed (Serves q reply left) word id k = (k, tt)
-  responding_asks s (due.Ready a) passed Silent word id k = tt
-  responding_asks s (due.Ready a) passed (Replies response) word id k = tt
-  responding_asks s (due.Ready a) passed (Waits q delay) word id k = tt
-  responding_asks s (due.Ready a) passed (Notifies o reply) word id k = tt
   responding_asks s due.Idle passed (Notifies o reply) word id k = (
     notifying_asks (by_plain s o) s.clock o (notification s.store o reply) word id k,
     readies_asks s.clock passed (marked s.observers) k,
@@ -115,16 +104,11 @@ module _ (t : ℕ) (F : Endpoint → List ℕ → Type 0) where
   responding_asks s due.Idle passed Silent word id k = readies_asks s.clock passed (marked s.observers) k
   responding_asks s due.Idle passed (Replies response) word id k = readies_asks s.clock passed (marked s.observers) k
   responding_asks s due.Idle passed (Waits q delay) word id k = readies_asks s.clock passed (marked s.observers) k
-  responding_asks s due.Copied passed h word id k = tt
-  responding_asks s due.Expired passed h word id k = tt
+  responding_asks s _ passed _ word id k = tt
 
   -- what a call asks of the exchanges
   lower_asks : (s : Own) (c : Call) → s.clock ≤ t → Counts t s.clock c
       → ((from : Endpoint) (bytes : List ℕ) → Fed c from bytes → F from bytes) → Every (Asks t F) (asks_of.lower s c)
-  lower_asks s (Sets now path format body answer left) h at f = tt
-  lower_asks s (Removes now path answer left) h at f = tt
-  lower_asks s (Delays path ms answer) h at f = tt
-  lower_asks s (Plains path answer) h at f = tt
   lower_asks s (Feeds now from bytes word up came w below) h at f =
       let k : max s.clock now ≤ t = omega (arith, at) in
       let z : Own = heard s now (incoming s now from bytes up came) in
@@ -136,8 +120,7 @@ module _ (t : ℕ) (F : Endpoint → List ℕ → Type 0) where
       every_join (Asks t F) (responding z d passed w word id) (ticking s now below room d ∷ [])
       (responding_asks z d passed w word id k) (k, tt)
   lower_asks s (NextOut answer) h at f = (tt, tt)
-  lower_asks s (Gets path answer) h at f = tt
-  lower_asks s (TellsApplied answer) h at f = tt
+  lower_asks s _ h at f = tt
 
 module _ (config : Config) where
   abbrev own : List Call → Own
@@ -147,7 +130,7 @@ module _ (config : Config) where
   exchanges past = lower_of config.limits config.server_szx past
 
   abbrev before : List Call → State
-  before past = left_after (start (usual config.server_word)) (server_asked config past)
+  before past = left_after (start config.server_setup) (server_asked config past)
 
   -- no clock of the server is past this moment
   pub record IsBy (t : ℕ) (past : List Call) : Type 0 where
@@ -190,13 +173,9 @@ module _ (config : Config) where
   end_by : (t : ℕ) (s : Own) (c : Call) → s.clock ≤ t → Counts t s.clock c → (steps.after s c).clock ≤ t
   end_by t s (Sets now path format body answer left) h at = omega (arith, at)
   end_by t s (Removes now path answer left) h at = omega (arith, at)
-  end_by t s (Delays path ms answer) h at = h
-  end_by t s (Plains path answer) h at = h
   end_by t s (Feeds now from bytes word up came w below) h at = omega (arith, at)
   end_by t s (Ticks now word below room d passed w id answer) h at = omega (arith, at)
-  end_by t s (NextOut answer) h at = h
-  end_by t s (Gets path answer) h at = h
-  end_by t s (TellsApplied answer) h at = h
+  end_by t s _ h at = h
 
   pub next_counted : (t : ℕ) (past : List Call) (c : Call) → IsBy t past → Counts t (own past).clock c
       → IsBy t (c ∷ past)
@@ -205,8 +184,8 @@ module _ (config : Config) where
         own = end_by t (own past) c by.own at;
         between = owns_by t (Fed c) (exchanges past) (asks_of.lower (own past) c) by.between (asks t past c by at);
         layer = subst (λ (s : State). s.clock ≤ t)
-            (sym (ap (left_after (start (usual config.server_word))) (server_asked_next config past c)
-            ∙ left_append (start (usual config.server_word)) (server_asks config past c) (server_asked config past)))
+            (sym (ap (left_after (start config.server_setup)) (server_asked_next config past c)
+            ∙ left_append (start config.server_setup) (server_asks config past c) (server_asked config past)))
             (asks_done t past c by at).till;
       }
 

@@ -13,7 +13,6 @@ use Rattle.coap_layer.specs.Trace.{Packet}
 use Rattle.coap_layer.specs.Words.{waiting}
 use Rattle.coap_layer.proofs.Facts.Calls.{steps_left, led_steps}
 use Rattle.coap_layer.proofs.Facts.StepsOfLayer.{steps_split}
-use Rattle.coap_layer.specs.Machine.State.{usual}
 use Rattle.coap_server.specs.Trace.{Call, NextOut}
 use Rattle.coap_world.specs.Delivery.{FedToServer}
 use Rattle.coap_world.specs.Events.{client_end, server_end, Config}
@@ -29,10 +28,10 @@ use Rattle.coap_world.proofs.Delivery.AfterATurn.{map_over, on_far, far_fair}
 use Rattle.coap_world.proofs.Delivery.AfterATurn.{Still, Goes}
 use Rattle.coap_world.proofs.Delivery.OneEndATurn.{ServerTurn, server_server, client_server, server_takes}
 
-abbrev outs_after : List Packet → List Call → List Call
+abbrev pub outs_after : List Packet → List Call → List Call
 outs_after outs calls = map (λ p. NextOut (Some p)) outs ++ calls
 
-every_out : (t : ℕ) (outs : List Packet) (calls : List Call) → Every (IsAt t) calls
+pub every_out : (t : ℕ) (outs : List Packet) (calls : List Call) → Every (IsAt t) calls
     → Every (IsAt t) (outs_after outs calls)
 every_out t [] calls h = h
 every_out t (p ∷ outs) calls h = (tt, every_out t outs calls h)
@@ -46,29 +45,29 @@ to_entries from bytes (c ∷ cs) (inr h) = inr (to_entries from bytes cs h)
 module _ (config : Config) where
   -- the layer has answered so
   abbrev pub IsGood : List Call → Type 0
-  IsGood past = (h : State) × Steps (start (usual config.server_word)) (server_asked config past) h
+  IsGood past = (h : State) × Steps (start config.server_setup) (server_asked config past) h
 
   pub down : (past : List Call) (c : Call) → IsGood (c ∷ past) → IsGood past
   down past c good =
-      let k = steps_split (start (usual config.server_word)) good.0 (server_asks config past c) (server_asked config past)
-      (subst (λ a. Steps (start (usual config.server_word)) a good.0) (server_asked_next config past c) good.1) in
+      let k = steps_split (start config.server_setup) good.0 (server_asks config past c) (server_asked config past)
+      (subst (λ a. Steps (start config.server_setup) a good.0) (server_asked_next config past c) good.1) in
       (k.0, k.1)
 
-  law : (past : List Call) → IsGood past → LayerLaw (usual config.server_word) (server_layer config past)
+  pub law : (past : List Call) → IsGood past → LayerLaw config.server_setup (server_layer config past)
   law past good =
-      subst (LayerLaw (usual config.server_word)) (append-nil (server_layer config past))
-      (led_steps (usual config.server_word) [] (start (usual config.server_word)) good.0 (server_asked config past)
+      subst (LayerLaw config.server_setup) (append-nil (server_layer config past))
+      (led_steps config.server_setup [] (start config.server_setup) good.0 (server_asked config past)
       (record { law = tt; kept = refl }) good.1).law
 
-  took : (answer : Option Packet) (past : List Call) → IsGood (NextOut answer ∷ past)
+  pub took : (answer : Option Packet) (past : List Call) → IsGood (NextOut answer ∷ past)
       → Took answer (server_adds config past (NextOut answer))
   took answer past good =
       record {
-        entry = made (left_after (start (usual config.server_word)) (server_asked config past)) 0 L.Take;
+        entry = made (left_after (start config.server_setup) (server_asked config past)) 0 L.Take;
         is = refl;
         call = refl;
         answer_is = ap (λ (s : State). L.Gives (slice_get s.queue 0))
-            (sym (steps_left (start (usual config.server_word)) (server_asked config past) good.1.0 good.1.1))
+            (sym (steps_left (start config.server_setup) (server_asked config past) good.1.0 good.1.1))
             ∙ sym good.1.2.right;
         out = refl;
       }
@@ -115,7 +114,7 @@ module _ (config : Config) where
         (adds_timely config t) G all past still.server all_at (λ from bytes h. to_entries from bytes all h)
 
     none_left : IsGood (all ++ past) → waiting (server_layer config (all ++ past)) ≡ []
-    none_left good = nothing_waits (usual config.server_word) t (server_layer config) (server_adds config)
+    none_left good = nothing_waits config.server_setup t (server_layer config) (server_adds config)
         (server_next config) IsGood down law NextOut took (outs_after outs calls ++ past) good
 
     sent_now : IsGood (all ++ past) → (g : Given) → Ever (λ h. h ≡ g) (all_of (given_by t) (map OfServer all))
@@ -126,7 +125,7 @@ module _ (config : Config) where
           k.by,
           subst (λ (m : ℕ). Ever (OnFar (SendsAt m g.packet)) (map Far adds ++ hops_in config es)) (sym k.at)
               (on_far (SendsAt t g.packet) adds (hops_in config es)
-              (sent_at_once (usual config.server_word) t (server_layer config) (server_adds config)
+              (sent_at_once config.server_setup t (server_layer config) (server_adds config)
               (server_next config) IsGood down law NextOut took g.packet all past good still.server_none
               (every_map (Timely t G) (InTime t) (λ e w. in_time t G e w) adds timely) k.taken)),
         )

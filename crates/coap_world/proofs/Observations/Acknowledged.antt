@@ -11,7 +11,6 @@ use Rattle.coap_layer.specs.Words.{Open, begun, clock}
 use Rattle.coap_layer.proofs.Facts.Hops.{earlier, far_ever, to_far}
 use Rattle.coap_layer.proofs.Facts.Laws.{acks_heard, acks_taken, handed_once}
 use Rattle.coap_layer.proofs.Facts.Taken.{alone, kept_by, taken_handed}
-use Rattle.coap_layer.specs.Machine.State.{usual}
 use Rattle.coap_layer.specs.declared.setup.Setup.{Setup}
 use Rattle.coap_server.specs.Trace as S
 use Rattle.coap_server.specs.Follows.Told.{TakesAck}
@@ -115,7 +114,7 @@ module _ (one other : Setup) (con : Open) (to : con.to ≡ client_end) (hs : Lis
 
 module _ (config : Config) (con : Open) (to : con.to ≡ client_end) where
   abbrev Acked : List S.Call → S.Call → Type 0
-  Acked past b = AckedBehind config.limits config.server_szx config.server_word client_end con past b
+  Acked past b = AckedBehind config.limits config.server_szx config.server_setup client_end con past b
 
   none_first : (past : List S.Call) (s : Setting) → Acked past (gives_it s) → ⊥
   none_first past (DelayOf d) k = let is = k.0.is in cc is
@@ -134,16 +133,16 @@ module _ (config : Config) (con : Open) (to : con.to ≡ client_end) where
       (taken_at past (lawful_back config past e law) h)
   taken_at (OfServer c ∷ past) law (inl h) =
       let adds = server_adds config (server_trace config past) c in
-      let channel = subst (ChannelLaw (usual config.server_word) (usual config.client_word) server_end client_end)
+      let channel = subst (ChannelLaw config.server_setup config.client_setup server_end client_end)
       (across_far adds (hops_in config past))
-      (channel_across (usual config.client_word) (usual config.server_word) client_end server_end
+      (channel_across config.client_setup config.server_setup client_end server_end
       (hops_in config (OfServer c ∷ past)) law.channel) in
       let there = subst (Ever (λ b. begun b ≡ Some con))
       (sym (near_across (hops_in config past) ∙ far_is config past)) h.1 in
-      let acks = (acks_arrive config.limits config.server_szx config.server_word
+      let acks = (acks_arrive config.limits config.server_szx config.server_setup
       (server_trace config (OfServer c ∷ past)) law.server).0 client_end con.id h.0 in
       across_back (OfServer c) past (OnFar (TakenBefore con))
-      (acked_taken (usual config.server_word) (usual config.client_word) con to
+      (acked_taken config.server_setup config.client_setup con to
       (across (hops_in config past)) there adds channel acks)
 
   -- what the server hears acknowledged the client has taken

@@ -62,10 +62,10 @@ module _ (sizes : Sizes) (number : ℕ) where
       by false e f = inr (f e)
 
   -- what was taken is the newest of the observation, or that rises over it
-  record Above (n : Newly) (t : List Call) : Type 0 where
-    last : Newly
-    is : newest sizes number t ≡ Some last
-    above : (n ≡ last) ⊎ Rise n last
+  pub record Above (n : Newly) (t : List Call) : Type 0 where
+    pub last : Newly
+    pub is : newest sizes number t ≡ Some last
+    pub above : (n ≡ last) ⊎ Rise n last
 
   now_newest : (past : List Call) (c : Call) (n : Newly) → Takes n past c → n.number ≡ number
       → newest sizes number (c ∷ past) ≡ Some n
@@ -96,7 +96,7 @@ module _ (sizes : Sizes) (number : ℕ) where
             | inr less ↦ rises_on (tag_in first.message) (tag_in a.last.message) (tag_in n.message) less up
           ]
 
-  above : (t : List Call) → AreTaken sizes t → Always RisesNext t → (n : Newly) → n.number ≡ number
+  pub above : (t : List Call) → AreTaken sizes t → Always RisesNext t → (n : Newly) → n.number ≡ number
       → Sometime (Takes n) t → Above n t
   above [] taken next n of h = absurd h
   above (c ∷ past) taken next n of (inl h) = record { last = n; is = now_newest past c n h of; above = inl refl }

@@ -15,7 +15,6 @@ use Rattle.coap_layer.specs.Words.{Open, begun, handed, handed_in, Incoming, is_
 use Rattle.coap_layer.proofs.Facts.Hops.{earlier, far_ever}
 use Rattle.coap_layer.proofs.Facts.Laws.{acks_heard, acks_replied, begun_as, handed_spelled, nons_sent}
 use Rattle.coap_layer.proofs.Facts.Laws.{responses_spelled}
-use Rattle.coap_layer.specs.Machine.State.{usual}
 use Rattle.coap_layer.specs.declared.setup.Setup.{Setup}
 use Rattle.coap_client.specs.Follows.Hears.{Hears}
 use Rattle.coap_client.specs.Follows.Noted.{HeardAt}
@@ -172,7 +171,7 @@ module _ (config : Config) where
   -- the server tells it in this CON
   abbrev pub TellsCon : Open → Message → List S.Call → S.Call → Type 0
   TellsCon con m past c = TellsIn config.limits config.server_szx (InCon con.id) client_end m past c
-      × Ever (λ b. begun b ≡ Some con) (call_adds config.limits config.server_szx config.server_word past c)
+      × Ever (λ b. begun b ≡ Some con) (call_adds config.limits config.server_szx config.server_setup past c)
 
   abbrev pub TellsAck : Message → List S.Call → S.Call → Type 0
   TellsAck m past c = TellsIn config.limits config.server_szx InReply client_end m past c
@@ -198,38 +197,38 @@ module _ (config : Config) where
     abbrev adds : List T.Entry
     adds = client_adds config (client_of past) c
 
-    pub law_across : ChannelLaw (usual config.server_word) (usual config.client_word) server_end client_end
+    pub law_across : ChannelLaw config.server_setup config.client_setup server_end client_end
         (map Far adds ++ across (hops_in config past))
     law_across =
-        subst (ChannelLaw (usual config.server_word) (usual config.client_word) server_end client_end)
+        subst (ChannelLaw config.server_setup config.client_setup server_end client_end)
         (across_near adds (hops_in config past))
-        (channel_across (usual config.client_word) (usual config.server_word) client_end server_end
+        (channel_across config.client_setup config.server_setup client_end server_end
         (hops_in config (OfClient c ∷ past)) law.channel)
 
     near_there : near_of (across (hops_in config past))
-        ≡ layer_of config.limits config.server_szx config.server_word (trace past)
+        ≡ layer_of config.limits config.server_szx config.server_setup (trace past)
     near_there = near_across (hops_in config past) ∙ far_is config past
 
     abbrev Added : (T.Entry → Type 0) → List S.Call → S.Call → Type 0
-    Added P p b = Ever P (call_adds config.limits config.server_szx config.server_word p b)
+    Added P p b = Ever P (call_adds config.limits config.server_szx config.server_setup p b)
 
-    told : Always (TellsSent config.limits config.server_szx config.server_word) (trace past)
-    told = all_tell_sent config.limits config.server_szx config.server_word (trace past) law.server
+    told : Always (TellsSent config.limits config.server_szx config.server_setup) (trace past)
+    told = all_tell_sent config.limits config.server_szx config.server_setup (trace past) law.server
 
     -- in a CON
     pub con_told : m.kind ≡ Con → ConTold m at past adds
     con_told kind =
-        let k = con_heard (usual config.server_word) (usual config.client_word) m
+        let k = con_heard config.server_setup config.client_setup m
         (across (hops_in config past)) at adds law_across hears kind in
         let P : T.Entry → Type 0 = λ b. begun b ≡ Some k.con in
-        let there = located config.limits config.server_szx config.server_word P (trace past)
+        let there = located config.limits config.server_szx config.server_setup P (trace past)
         (subst (Ever P) near_there k.begun_before) in
         record {
           con = k.con;
           to_is = k.to_is;
           begun_before = k.begun_before;
           up = k.up;
-          told = by_law (TellsSent config.limits config.server_szx config.server_word) (Added P) (TellsCon k.con m)
+          told = by_law (TellsSent config.limits config.server_szx config.server_setup) (Added P) (TellsCon k.con m)
               (λ p b l h. (
                 subst (λ z. TellsIn config.limits config.server_szx (InCon k.con.id) z m p b) k.to_is
                     (l.0.begun_now k.con m h k.are k.spells note),
@@ -241,22 +240,22 @@ module _ (config : Config) where
     -- in an acknowledgement
     pub ack_told : m.kind ≡ Ack → Sometime (TellsAck m) (trace past)
     ack_told kind =
-        let k = ack_heard (usual config.client_word) (usual config.server_word) m (hops_in config past) at adds
+        let k = ack_heard config.client_setup config.server_setup m (hops_in config past) at adds
         law.channel hears kind in
         let P : T.Entry → Type 0 = λ b. b.call ≡ T.Reply client_end m.id k.bytes in
-        let there = located config.limits config.server_szx config.server_word P (trace past)
+        let there = located config.limits config.server_szx config.server_setup P (trace past)
         (subst (Ever P) (far_is config past) k.given) in
-        by_law (TellsSent config.limits config.server_szx config.server_word) (Added P) (TellsAck m)
+        by_law (TellsSent config.limits config.server_szx config.server_setup) (Added P) (TellsAck m)
         (λ p b l h. l.0.replied client_end k.bytes m h k.are k.spells note) (trace past) told there
 
     -- in a NON, which the server's layer sent in that call, at most MAX_LATENCY before
     pub non_sent : m.kind ≡ Non → (k : NonHeard m at (across (hops_in config past)))
         × Sometime (Added (PlainSent client_end k.bytes at)) (trace past)
     non_sent kind =
-        let k = non_heard (usual config.server_word) (usual config.client_word) m
+        let k = non_heard config.server_setup config.client_setup m
         (across (hops_in config past)) at adds law_across hears kind in
         let P : T.Entry → Type 0 = PlainSent client_end k.bytes at in
-        (k, located config.limits config.server_szx config.server_word P (trace past) (subst (Ever P) near_there k.sent))
+        (k, located config.limits config.server_szx config.server_setup P (trace past) (subst (Ever P) near_there k.sent))
 
     -- that was the answer to a request in a NON, or it was told so
     pub non_told : m.kind ≡ Non
@@ -265,12 +264,12 @@ module _ (config : Config) where
         let sent = non_sent kind in
         let k = sent.0 in
         let P : T.Entry → Type 0 = PlainSent client_end k.bytes at in
-        by_law (TellsSent config.limits config.server_szx config.server_word) (Added P)
+        by_law (TellsSent config.limits config.server_szx config.server_setup) (Added P)
         (λ p b. ServesNon config.limits config.server_szx client_end p b ⊎ TellsNon m at p b)
         (λ p b l h.
         elim (l.0.plain client_end k.bytes m
         (Ever_map P (λ e. PlainOut e (record { to = client_end; bytes = k.bytes })) (λ e z. z.goes)
-        (call_adds config.limits config.server_szx config.server_word p b) h) k.are k.spells note) [
+        (call_adds config.limits config.server_szx config.server_setup p b) h) k.are k.spells note) [
           | inl z ↦ inl z.1
           | inr z ↦ (let then = told_in_non config p b z.told client_end k.bytes at z.here h in
               inr (record { tells = z; from = then.0; till = then.1 }))

@@ -15,7 +15,7 @@ all_named config (e ∷ past) law = (
       let t : List S.Call = server_trace config (e ∷ past) in
       record {
         small = held_small config.limits config.server_szx path held t
-            (server_facts.stamped config.limits config.server_szx config.server_word t law.server) h;
+            (server_facts.stamped config.limits config.server_szx config.server_setup t law.server) h;
         is = refl;
       }),
   all_named config past (lawful_back config past e law),

@@ -6,7 +6,6 @@ use Rattle.coap_types.specs.Past.{Ever, Sometime, Always}
 use Rattle.coap_codec.specs.Message.{Message, Spells}
 use Rattle.coap_layer.specs.Channel.{near_of}
 use Rattle.coap_layer.specs.Words.{Open, begun}
-use Rattle.coap_layer.specs.Machine.State.{usual}
 use Rattle.coap_exchange.specs.declared.answerer.Asked.{Asked}
 use Rattle.coap_exchange.specs.AnswererFollows.{hits, same_asked}
 use Rattle.coap_exchange.specs.AnswererSteps.{asked_of}
@@ -45,7 +44,7 @@ module _ (config : Config) where
       → Traced config x.asked x.question (OfServer c ∷ past)
   came past c law x here from =
       let w : List Entry = OfServer c ∷ past in
-      let brings = (server_facts.handed config.limits config.server_szx config.server_word
+      let brings = (server_facts.handed config.limits config.server_szx config.server_setup
       (server_trace config w) law.server).0 x here in
       traced config x.asked x.question w law.came from (brought_in config x.asked x.question w brings)
 
@@ -76,7 +75,7 @@ module _ (config : Config) (all : List Entry) (whole : Lawful config all) (numbe
     (none : WasCancelled config.client_sizes number (client_of all) → ⊥) where
   -- the token is that of the registration alone
   is_first : (x : Sending) → WasSent config.client_sizes x (client_of all) → x.token ≡ token → x ≡ first
-  is_first x there same = by (client_facts.tokens server_end config.client_sizes config.client_word
+  is_first x there same = by (client_facts.tokens server_end config.client_sizes config.client_setup
       (client_of all) whole.client x first there sent (same ∙ sym token_is))
     where
       by : (x ≡ first) ⊎ (Deregisters x first ⊎ Deregisters first x) → x ≡ first
@@ -106,7 +105,7 @@ module _ (config : Config) (all : List Entry) (whole : Lawful config all) (numbe
   one_con : OneConBy token (near_of (hops_in config all))
   one_con a b i j x y ab bb sa sb ia ib ta tb =
       let near = near_is config all in
-      by (client_facts.one_con server_end config.client_sizes config.client_word (client_of all) whole.client a b
+      by (client_facts.one_con server_end config.client_sizes config.client_setup (client_of all) whole.client a b
       (subst (Ever (λ e. begun e ≡ Some a)) near i) (subst (Ever (λ e. begun e ≡ Some b)) near j) x y ab bb sa sb
       (ta ∙ sym tb))
     where
@@ -133,6 +132,16 @@ module _ (config : Config) (all : List Entry) (whole : Lawful config all) (numbe
     λ con k. h.1 con (near_later (λ b. begun b ≡ Some con) (hops_at config past e) (hops_in config past) k),
   )
 
+  -- a request of the client under this token is served, whether it registers or not
+  pub record ServesIt (past : List S.Call) (c : S.Call) : Type 0 where
+    pub request : Serving
+    pub here : serving (own_of config.limits config.server_szx past) c ≡ Some request
+    pub from : request.asked.from ≡ client_end
+    pub under : request.asked.token ≡ token
+
+  abbrev it : (past : List S.Call) (c : S.Call) → Serves past c → ServesIt past c
+  it past c k = record { request = k.request; here = k.here; from = k.from; under = k.token_is }
+
   -- which request it is
   record Known (x : Serving) : Type 0 where
     con : Open
@@ -142,13 +151,13 @@ module _ (config : Config) (all : List Entry) (whole : Lawful config all) (numbe
     asked : x.asked ≡ asked_of client_end (request_of con.id first)
 
   known : (past : List Entry) (c : S.Call) → Later (OfServer c ∷ past) → Lawful config (OfServer c ∷ past)
-      → (k : Serves (server_trace config past) c) → Known k.request
+      → (k : ServesIt (server_trace config past) c) → Known k.request
   known past c later law k =
       let x : Serving = k.request in
       let t = came config past c law x k.here k.from in
       let s : Sending = t.came.sending in
       let same : s ≡ first = is_first s (later.0 s t.sent)
-      (sym (ap (λ (z : Asked). z.token) t.came.asked) ∙ k.token_is) in
+      (sym (ap (λ (z : Asked). z.token) t.came.asked) ∙ k.under) in
       record {
         con = t.came.con;
         begun_there = later.1 t.came.con t.begun_before;
@@ -185,7 +194,8 @@ module _ (config : Config) (all : List Entry) (whole : Lawful config all) (numbe
   served_before y k (OfClient c ∷ past) later law (inr h) =
       served_before y k past (later_back (OfClient c) past later) (lawful_back config past (OfClient c) law) h
   served_before y k (OfServer c ∷ past) later law (inl a) =
-      let n = served_now past c a.request y.asked (same_asked_by a.request y (known past c later law a) k) a.here in
+      let n = served_now past c a.request y.asked
+      (same_asked_by a.request y (known past c later law (it (server_trace config past) c a)) k) a.here in
       omega (arith, n)
   served_before y k (OfServer c ∷ past) later law (inr h) = let n =
       served_before y k past (later_back (OfServer c) past later) (lawful_back config past (OfServer c) law) h in omega
@@ -196,7 +206,7 @@ module _ (config : Config) (all : List Entry) (whole : Lawful config all) (numbe
   first_none past (PlainOf p) k = let here = k.here in cc here
 
   not_twice : (past : List Entry) (c : S.Call) → Later (OfServer c ∷ past) → Lawful config (OfServer c ∷ past)
-      → Serves (server_trace config past) c → Sometime Serves (server_trace config past) → ⊥
+      → ServesIt (server_trace config past) c → Sometime Serves (server_trace config past) → ⊥
   not_twice past c later law a h =
       let e : Entry = OfServer c in
       let x : Serving = a.request in
@@ -204,16 +214,16 @@ module _ (config : Config) (all : List Entry) (whole : Lawful config all) (numbe
       let k : Known x = known past c later law a in
       let before = served_before x k past (later_back e past later) (lawful_back config past e law)
       (server_entries config Serves first_none past h) in
-      let fewer = (server_facts.served config.limits config.server_szx config.server_word t law.server).0 x a.here in
-      let counted = (server_facts.counts config.limits config.server_szx config.server_word t law.server).0 x.asked in
-      let its : x.asked.token ≡ token = a.token_is in
+      let fewer = (server_facts.served config.limits config.server_szx config.server_setup t law.server).0 x a.here in
+      let counted = (server_facts.counts config.limits config.server_szx config.server_setup t law.server).0 x.asked in
+      let its : x.asked.token ≡ token = a.under in
       let cons : OneConBy x.asked.token (near_of (hops_in config (e ∷ past))) = λ p q i j m n pb qb pm qn pi qi tp tq.
       one_con p q (later.1 p i) (later.1 q j) m n pb qb pm qn pi qi (tp ∙ its) (tq ∙ its)
       in
       let nons = subst NoNons (sym (near_is config (e ∷ past)))
-      (client_facts.nons server_end config.client_sizes config.client_word (client_of past)) in
+      (client_facts.nons server_end config.client_sizes config.client_setup (client_of past)) in
       let few = once_counted x.asked (hops_in config (e ∷ past))
-      (up_once (usual config.client_word) (usual config.server_word) client_end server_end x.asked a.from
+      (up_once config.client_setup config.server_setup client_end server_end x.asked a.from
       (hops_in config (e ∷ past)) law.channel nons cons) in
       let same = ap (ups x.asked) (far_is config (e ∷ past)) in
       omega (arith, before, fewer, counted, few, same)
@@ -221,11 +231,19 @@ module _ (config : Config) (all : List Entry) (whole : Lawful config all) (numbe
   abbrev pub Once : List S.Call → Type 0
   Once t = Always (λ past c. Serves past c → Sometime Serves past → ⊥) t
 
-  once_first : (ss : List Setting) → Once (map gives_it ss)
-  once_first [] = tt
-  once_first (s ∷ ss) = (λ a h. first_none _ s a, once_first ss)
+  -- behind that none is served
+  abbrev pub ServedOnce : List S.Call → Type 0
+  ServedOnce t = Always (λ past c. ServesIt past c → Sometime Serves past → ⊥) t
 
-  once_in : (t : List Entry) → Later t → Lawful config t → Once (server_trace config t)
+  it_first : (past : List S.Call) (s : Setting) → ServesIt past (gives_it s) → ⊥
+  it_first past (DelayOf d) k = let here = k.here in cc here
+  it_first past (PlainOf p) k = let here = k.here in cc here
+
+  once_first : (ss : List Setting) → ServedOnce (map gives_it ss)
+  once_first [] = tt
+  once_first (s ∷ ss) = (λ a h. it_first _ s a, once_first ss)
+
+  once_in : (t : List Entry) → Later t → Lawful config t → ServedOnce (server_trace config t)
   once_in [] later law = once_first (settings config)
   once_in (OfClient c ∷ past) later law = once_in past (later_back (OfClient c) past later)
       (lawful_back config past (OfClient c) law)
@@ -234,5 +252,12 @@ module _ (config : Config) (all : List Entry) (whole : Lawful config all) (numbe
     once_in past (later_back (OfServer c) past later) (lawful_back config past (OfServer c) law),
   )
 
+  pub served_once : ServedOnce (server_trace config all)
+  served_once = once_in all (λ x h. h, λ con h. h) whole
+
+  registers_once : (t : List S.Call) → ServedOnce t → Once t
+  registers_once [] h = tt
+  registers_once (c ∷ t) h = (λ k before. h.0 (it t c k) before, registers_once t h.1)
+
   pub serves_once : Once (server_trace config all)
-  serves_once = once_in all (λ x h. h, λ con h. h) whole
+  serves_once = registers_once (server_trace config all) served_once

@@ -39,7 +39,7 @@ module _ (config : Config) where
       → (v : ℕ) → Names v (tag_in m) → sequence_in m ≡ sequence_number v
   says_number t law m k note v names =
       let calls = server_trace config t in
-      let stamped = server_facts.stamped config.limits config.server_szx config.server_word calls law.server in
+      let stamped = server_facts.stamped config.limits config.server_szx config.server_setup calls law.server in
       let low = was_small config.limits config.server_szx k.path k.held calls stamped k.was in
       let same = one_version k.held.version v (tag_in m) (record { small = low; is = k.shown.tag }) names in
       k.shown.sequence note ∙ ap sequence_number same

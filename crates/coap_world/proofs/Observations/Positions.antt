@@ -5,6 +5,7 @@ use Rattle.coap_types.proofs.Facts.Traces.{Ever_append}
 use Rattle.coap_resource.specs.Limits.{Limits}
 use Rattle.coap_layer.specs.Channel.{Hop, Near, Far}
 use Rattle.coap_layer.specs.Trace as L
+use Rattle.coap_layer.specs.declared.setup.Setup.{Setup}
 use Rattle.coap_client.specs.Trace as C
 use Rattle.coap_server.specs.Trace as S
 use Rattle.coap_server.specs.Law.{layer_of}
@@ -50,14 +51,14 @@ across_far [] hs = refl
 across_far (x ∷ xs) hs = ap (λ t. Near x ∷ t) (across_far xs hs)
 
 -- in which call of a server its layer's entry was added
-pub located : (limits : Limits) (szx word : ℕ) (P : L.Entry → Type 0) (t : List S.Call) → Ever P (layer_of limits szx word t)
-    → Sometime (λ past c. Ever P (call_adds limits szx word past c)) t
-located limits szx word P [] h = absurd h
-located limits szx word P (c ∷ t) h =
-    elim (Ever_append P (call_adds limits szx word t c) (layer_of limits szx word t)
-    (subst (Ever P) (layer_next limits szx word t c) h)) [
+pub located : (limits : Limits) (szx : ℕ) (setup : Setup) (P : L.Entry → Type 0) (t : List S.Call) → Ever P (layer_of limits szx setup t)
+    → Sometime (λ past c. Ever P (call_adds limits szx setup past c)) t
+located limits szx setup P [] h = absurd h
+located limits szx setup P (c ∷ t) h =
+    elim (Ever_append P (call_adds limits szx setup t c) (layer_of limits szx setup t)
+    (subst (Ever P) (layer_next limits szx setup t c) h)) [
       | inl k ↦ inl k
-      | inr k ↦ inr (located limits szx word P t k)
+      | inr k ↦ inr (located limits szx setup P t k)
     ]
 
 module _ (config : Config) where

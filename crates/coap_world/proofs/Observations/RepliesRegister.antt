@@ -10,8 +10,8 @@ use Rattle.coap_server.specs.Follows.Tells.{way_of}
 use Rattle.coap_server.specs.Handling.{incoming, ticking, heard}
 use Rattle.coap_server.specs.Observers.{registers}
 use Rattle.coap_server.specs.Plain.{by_plain}
-use Rattle.coap_server.specs.Trace.{Own, Silent, Replies, Serves, Waits, Notifies, Call, Sets, Removes}
-use Rattle.coap_server.specs.Trace.{Delays, Plains, Feeds, Ticks, NextOut, Gets, TellsApplied}
+use Rattle.coap_server.specs.Trace.{Own, Serves, Notifies, Call}
+use Rattle.coap_server.specs.Trace.{Feeds, Ticks}
 
 answers_by : (s : Own) (a : Asked) (q : Question) (way : Way) (b : Bool) (x : Telling)
     → tells_if b s.clock s.store a q way ≡ Some x → x.registers ≡ true
@@ -48,25 +48,4 @@ reply_registers s (Ticks now word below room due.Idle passed (Notifies o reply) 
     let t = heard s now (ticking s now below room due.Idle) in
     let way = way_of (by_plain t o) id in
     absurd (no_reply (by_plain t o) id (sym (notice_way t o way (t.store.holds o.path) x h) ∙ none))
-reply_registers s (Feeds now from bytes word up None handling below) x h none = absurd (cc h)
-reply_registers s (Feeds now from bytes word up (Some p) Silent below) x h none = absurd (cc h)
-reply_registers s (Feeds now from bytes word up (Some p) (Replies r) below) x h none = absurd (cc h)
-reply_registers s (Feeds now from bytes word up (Some p) (Waits q d) below) x h none = absurd (cc h)
-reply_registers s (Feeds now from bytes word up (Some p) (Notifies o r) below) x h none = absurd (cc h)
-reply_registers s (Ticks now word below room due.Copied passed handling id answer) x h none = absurd (cc h)
-reply_registers s (Ticks now word below room due.Expired passed handling id answer) x h none = absurd (cc h)
-reply_registers s (Ticks now word below room due.Idle passed Silent id answer) x h none = absurd (cc h)
-reply_registers s (Ticks now word below room due.Idle passed (Replies r) id answer) x h none = absurd (cc h)
-reply_registers s (Ticks now word below room due.Idle passed (Waits q d) id answer) x h none = absurd (cc h)
-reply_registers s (Ticks now word below room due.Idle passed (Serves q reply left) id answer) x h none = absurd (cc h)
-reply_registers s (Ticks now word below room (due.Ready a) passed Silent id answer) x h none = absurd (cc h)
-reply_registers s (Ticks now word below room (due.Ready a) passed (Replies r) id answer) x h none = absurd (cc h)
-reply_registers s (Ticks now word below room (due.Ready a) passed (Waits q d) id answer) x h none = absurd (cc h)
-reply_registers s (Ticks now word below room (due.Ready a) passed (Notifies o r) id answer) x h none = absurd (cc h)
-reply_registers s (Sets now path format body answer left) x h none = absurd (cc h)
-reply_registers s (Removes now path answer left) x h none = absurd (cc h)
-reply_registers s (Delays path ms answer) x h none = absurd (cc h)
-reply_registers s (Plains path answer) x h none = absurd (cc h)
-reply_registers s (NextOut answer) x h none = absurd (cc h)
-reply_registers s (Gets path answer) x h none = absurd (cc h)
-reply_registers s (TellsApplied answer) x h none = absurd (cc h)
+reply_registers s _ x h none = absurd (cc h)

@@ -8,7 +8,6 @@ use Rattle.coap_types.specs.declared.message.Kind.TheVariants.{Con, Non}
 use Rattle.coap_codec.specs.Message.{Message}
 use Rattle.coap_layer.specs.Channel.{Hop, Far, ChannelLaw, near_of, OnFar, HandsUpAs}
 use Rattle.coap_layer.specs.Words.{Open, begun}
-use Rattle.coap_layer.specs.Machine.State.{usual}
 use Rattle.coap_resource.specs.declared.tally.TheConstants.{MAX_CHANGES_PER_WINDOW as max_changes}
 use Rattle.coap_client.specs.Follows.Ended.{WasCancelled}
 use Rattle.coap_client.specs.Follows.Newer.{Newly, notifies}
@@ -82,7 +81,7 @@ module _ (config : Config) (small : config.server_szx ≤ 6) (few : config.limit
     calls = server_trace config past
 
     taken : IsTaken (sizes config) second (client_of past) c
-    taken = (are_taken server_end (sizes config) config.client_word (client_of (OfClient c ∷ past)) law.client).0 second
+    taken = (are_taken server_end (sizes config) config.client_setup (client_of (OfClient c ∷ past)) law.client).0 second
         comes
 
     told_here : TakenTold config second (OfClient c ∷ past)
@@ -111,11 +110,11 @@ module _ (config : Config) (small : config.server_szx ≤ 6) (few : config.limit
         let r = prior_registered in
         let s = second_registered in
         let same = one_registration (sizes config) number r.path s.path r.sending s.sending (client_of past)
-        (ask_once server_end (sizes config) config.client_word (client_of past) before.client) r.sent s.sent r.registers
+        (ask_once server_end (sizes config) config.client_setup (client_of past) before.client) r.sent s.sent r.registers
         s.registers in
         sym r.token_is ∙ (ap (λ (x : Sending). x.token) same ∙ s.token_is)
 
-    once : OnceOf config.limits config.server_szx config.server_word
+    once : OnceOf config.limits config.server_szx config.server_setup
         (record { to = client_end; token = n.token }) calls
     once =
         let s = second_registered in
@@ -125,20 +124,20 @@ module _ (config : Config) (small : config.server_szx ≤ 6) (few : config.limit
     Heard = Ever (HeardAt server_end n second.mark.at) (client_adds config (client_of past) c)
 
     heard : Heard
-    heard = (are_noted_at server_end (sizes config) config.client_word (client_of (OfClient c ∷ past)) law.client).0
+    heard = (are_noted_at server_end (sizes config) config.client_setup (client_of (OfClient c ∷ past)) law.client).0
         second comes
 
     abbrev hops : List Hop
     hops = across (hops_in config past)
 
-    across_here : ChannelLaw (usual config.server_word) (usual config.client_word) server_end client_end
+    across_here : ChannelLaw config.server_setup config.client_setup server_end client_end
         (map Far (client_adds config (client_of past) c) ++ hops)
     across_here = law_across config past c law n second.mark.at heard taken.notification
 
     -- the mark moves on
     renews : Renews prior.mark second.mark
     renews = record {
-      order = not_earlier (usual config.server_word) (usual config.client_word) m n prior.mark.at second.mark.at hops
+      order = not_earlier config.server_setup config.client_setup m n prior.mark.at second.mark.at hops
           (client_adds config (client_of past) c) across_here heard earlier.heard;
       newer = later.newer;
     }
@@ -174,7 +173,7 @@ module _ (config : Config) (small : config.server_szx ≤ 6) (few : config.limit
         → ((p : List S.Call) (b : S.Call) → A p b → Says k m p b) → ((p : List S.Call) (b : S.Call) → B p b → Says l n p b)
         → Sometime (λ p b. B p b × Sometime A p) calls → Rise prior second
     rises_behind k l A B is_prior is_second h =
-        let f = follows_in config.limits config.server_szx config.server_word client_end n.token k l m n token refl A B
+        let f = follows_in config.limits config.server_szx config.server_setup client_end n.token k l m n token refl A B
         is_prior is_second calls before.server once h in
         let x = is_prior f.older f.call f.one in
         let y = is_second (f.after ++ f.call ∷ f.older) f.next f.other in
@@ -203,12 +202,12 @@ module _ (config : Config) (small : config.server_szx ≤ 6) (few : config.limit
           → ((p : List S.Call) (b : S.Call) → A p b → Says k m p b)
           → Sometime (λ p b. A p b × Sometime (TellsCon config con n) p) calls → ⊥
       not_sooner k A is_prior h =
-          let acked = acked_in config.limits config.server_szx config.server_word client_end n.token con k n m refl
+          let acked = acked_in config.limits config.server_szx config.server_setup client_end n.token con k n m refl
           token calls before.server once
           (Sometime_map (λ p b. A p b × Sometime (TellsCon config con n) p)
           (λ p b. Says k m p b × Sometime (TellsCon config con n) p)
           (λ p b x. (is_prior p b x.0, x.1)) calls h) in
-          not_after (usual config.server_word) (usual config.client_word) con to hops begun_before
+          not_after config.server_setup config.client_setup con to hops begun_before
           (client_adds config (client_of past) c) across_here up (taken_before config con to past before acked)
 
       decide : (k : Way) (A : List S.Call → S.Call → Type 0)
@@ -220,7 +219,7 @@ module _ (config : Config) (small : config.server_szx ≤ 6) (few : config.limit
 
       -- one call begins one CON
       one_begun : (other : Open) (t : List S.Call)
-          → Always (TellsSent config.limits config.server_szx config.server_word) t
+          → Always (TellsSent config.limits config.server_szx config.server_setup) t
           → Sometime (λ p b. TellsCon config other m p b × TellsCon config con n p b) t → other ≡ con
       one_begun other [] told h = absurd h
       one_begun other (b ∷ p) told (inl h) = told.0.one other con h.0.1 h.1.1
@@ -239,9 +238,9 @@ module _ (config : Config) (small : config.server_szx ≤ 6) (few : config.limit
           by (in_con other from before_up x) =
               decide (InCon other.id) (TellsCon config other m) (λ p b h. h.0)
               (λ same.
-              let e = one_begun other calls (all_tell_sent config.limits config.server_szx config.server_word calls
+              let e = one_begun other calls (all_tell_sent config.limits config.server_szx config.server_setup calls
               before.server) same in
-              not_again (usual config.server_word) (usual config.client_word) con to hops begun_before
+              not_again config.server_setup config.client_setup con to hops begun_before
               (client_adds config (client_of past) c) across_here up
               (subst (λ z. Ever (OnFar (HandsUpAs server_end z)) hops) e before_up)) x
 
@@ -268,7 +267,7 @@ module _ (config : Config) (small : config.server_szx ≤ 6) (few : config.limit
           → ((p : List S.Call) (b : S.Call) (x : A p b) → (is_prior p b x).told.at ≤ prior.mark.at)
           → Sometime (λ p b. A p b × Sometime ByNon p) calls → ⊥
       crosses_none k A is_prior from h =
-          let f = follows_in config.limits config.server_szx config.server_word client_end n.token InNon k n m refl token
+          let f = follows_in config.limits config.server_szx config.server_setup client_end n.token InNon k n m refl token
           ByNon A (λ p b z. z.tells) is_prior calls before.server once h in
           let x = f.one.tells in
           let y = is_prior (f.after ++ f.call ∷ f.older) f.next f.other in
@@ -298,7 +297,7 @@ module _ (config : Config) (small : config.server_szx ≤ 6) (few : config.limit
           by : HeardTold config m prior.mark.at past → Rise prior second
           by (in_ack x) = by_non InReply (TellsAck config m) (λ p b h. h)
               (apart InReply InNon (TellsAck config m) ByNon (λ p b h. h) non_says (λ e. cc e) calls)
-              (λ h. reply_first config.limits config.server_szx config.server_word client_end n.token InNon InReply n m
+              (λ h. reply_first config.limits config.server_szx config.server_setup client_end n.token InNon InReply n m
               refl token refl calls before.server once
               (Sometime_map (λ p b. TellsAck config m p b × Sometime ByNon p)
               (λ p b. TellsAck config m p b × Sometime (Says InNon n) p)
@@ -311,7 +310,7 @@ module _ (config : Config) (small : config.server_szx ≤ 6) (few : config.limit
               (λ p b h. (let then = told_in_con config p b h.0.told other h.0.here h.1 in omega (arith, then, first)))) x
 
     rises_here : Rise prior second
-    rises_here = by ((are_of_types server_end (sizes config) config.client_word (client_of (OfClient c ∷ past))
+    rises_here = by ((are_of_types server_end (sizes config) config.client_setup (client_of (OfClient c ∷ past))
         law.client).0.noted n later.noted)
       where
         by : (n.kind ≡ Con) ⊎ (n.kind ≡ Non) → Rise prior second
@@ -321,7 +320,7 @@ module _ (config : Config) (small : config.server_szx ≤ 6) (few : config.limit
             rises_by_con k.con k.up k.told k.begun_before k.to_is
 
   -- each that is taken of an observation that is not cancelled rises over the newest before it
-  each_next : (number : ℕ) (t : List Entry) → Lawful config t → FormatsIn t
+  pub each_next : (number : ℕ) (t : List Entry) → Lawful config t → FormatsIn t
       → (WasCancelled (sizes config) number (client_of t) → ⊥) → Always (RisesNext (sizes config) number) (client_of t)
   each_next number [] law formats none = tt
   each_next number (OfServer c ∷ past) law formats none =
@@ -350,7 +349,7 @@ module _ (config : Config) (small : config.server_szx ≤ 6) (few : config.limit
       let k = earlier_value past (lawful_back config past (OfClient c) law) number tag h in record
       { first = k.first; tag_is = k.tag_is; number_is = k.number_is; shown = inr k.shown }
   earlier_value (OfClient c ∷ past) law number tag (inl h) =
-      let v = (values_are_whole (sizes config) server_end config.client_word (client_of (OfClient c ∷ past))
+      let v = (values_are_whole (sizes config) server_end config.client_setup (client_of (OfClient c ∷ past))
       law.client).0 number h.sequence tag h.format h.body h.here in
       record {
         first = v.first;
@@ -365,20 +364,20 @@ module _ (config : Config) (small : config.server_szx ≤ 6) (few : config.limit
   rises_at past (OfServer c) law formats number first second h sooner = absurd h.here
   rises_at past (OfClient c) law formats number first second h sooner =
       let t : List Call = client_of (OfClient c ∷ past) in
-      let v = (values_are_whole (sizes config) server_end config.client_word t law.client).0 number h.sequence second
+      let v = (values_are_whole (sizes config) server_end config.client_setup t law.client).0 number h.sequence second
       h.format h.body h.here in
       let shows = shown_of (sizes config) number h.sequence second h.format h.body (client_of past) c v h.here in
       let k = earlier_value past (lawful_back config past (OfClient c) law) number first sooner in
-      let comes = (values_rise (sizes config) server_end config.client_word t law.client).0 number k.first v.first shows
+      let comes = (values_rise (sizes config) server_end config.client_setup t law.client).0 number k.first v.first shows
       k.shown in
       let none : WasCancelled (sizes config) number (client_of past) → ⊥ =
-      λ x. (are_over (sizes config) server_end config.client_word t law.client).0.cancelled number x shows.value in
+      λ x. (are_over (sizes config) server_end config.client_setup t law.client).0.cancelled number x shows.value in
       let next : Always (RisesNext (sizes config) number) t = (
         λ n of is later. rises_here past c law formats number n of is later none,
         each_next number past (lawful_back config past (OfClient c) law) formats none,
       ) in
       let number_is = newest_number (sizes config) number t v.first v.is_newest in
-      let taken = are_taken server_end (sizes config) config.client_word t law.client in
+      let taken = are_taken server_end (sizes config) config.client_setup t law.client in
       let rising = chained (sizes config) number t taken next k.first v.first k.number_is number_is comes in
       subst (λ z. AreRising z second) (sym k.tag_is)
       (subst (λ z. AreRising (tag_in k.first.message) z)

@@ -45,6 +45,10 @@ pub formats_back : (past : List Entry) (e : Entry) → FormatsIn (e ∷ past) �
 formats_back past (OfClient c) h = h
 formats_back past (OfServer c) h = h.1
 
+pub formats_before : (later es : List Entry) → FormatsIn (later ++ es) → FormatsIn es
+formats_before [] es h = h
+formats_before (e ∷ later) es h = formats_before later es (formats_back (later ++ es) e h)
+
 -- what is heard here was not heard before what was heard in the past
 pub not_earlier : (one other : Setup) (m n : Message) (before now : ℕ) (hs : List Hop) (adds : List T.Entry)
     → ChannelLaw one other server_end client_end (map Far adds ++ hs) → Ever (HeardAt server_end n now) adds
@@ -148,9 +152,9 @@ module _ (config : Config) where
         → notifies (C.own_of sizes (client_of past)) c ≡ Some n → TakenTold n (OfClient c ∷ past)
     taken_here past c law formats n is =
         let t : List Call = client_of (OfClient c ∷ past) in
-        let k = (are_taken server_end sizes config.client_word t law.client).0 n is in
-        let types = (are_of_types server_end sizes config.client_word t law.client).0 in
-        let hears = (are_noted_at server_end sizes config.client_word t law.client).0 n is in
+        let k = (are_taken server_end sizes config.client_setup t law.client).0 n is in
+        let types = (are_of_types server_end sizes config.client_setup t law.client).0 in
+        let hears = (are_noted_at server_end sizes config.client_setup t law.client).0 n is in
         record {
           told = heard_here past c law n.message n.mark.at hears k.notification (by types k.comes);
           heard = hops_here (HeardAt server_end n.message n.mark.at) past c hears;

@@ -19,8 +19,8 @@ use Rattle.coap_server.specs.Law.{own_of}
 use Rattle.coap_server.specs.Observers.{registers}
 use Rattle.coap_server.specs.Plain.{by_plain}
 use Rattle.coap_server.specs.Steps.{after}
-use Rattle.coap_server.specs.Trace.{Own, Silent, Replies, Serves, Waits, Notifies, Call, Sets, Removes}
-use Rattle.coap_server.specs.Trace.{Delays, Plains, Feeds, Ticks, NextOut, Gets, TellsApplied}
+use Rattle.coap_server.specs.Trace.{Own, Serves, Notifies, Call, Sets, Removes}
+use Rattle.coap_server.specs.Trace.{Feeds, Ticks}
 use Rattle.coap_world.specs.Events.{Config}
 use Rattle.coap_world.specs.Hops.{server_adds}
 use Rattle.coap_world.proofs.Delivery.EntriesInTime.{Every, Timely}
@@ -56,40 +56,15 @@ told_then s (Ticks now word below room (due.Ready a) passed (Serves q reply left
 told_then s (Ticks now word below room due.Idle passed (Notifies o reply) id answer) x h =
     let t = heard s now (ticking s now below room due.Idle) in
     notice_at t o (way_of (by_plain t o) id) (t.store.holds o.path) x h
-told_then s (Feeds now from bytes word up None handling below) x h = absurd (cc h)
-told_then s (Feeds now from bytes word up (Some p) Silent below) x h = absurd (cc h)
-told_then s (Feeds now from bytes word up (Some p) (Replies r) below) x h = absurd (cc h)
-told_then s (Feeds now from bytes word up (Some p) (Waits q d) below) x h = absurd (cc h)
-told_then s (Feeds now from bytes word up (Some p) (Notifies o r) below) x h = absurd (cc h)
-told_then s (Ticks now word below room due.Copied passed handling id answer) x h = absurd (cc h)
-told_then s (Ticks now word below room due.Expired passed handling id answer) x h = absurd (cc h)
-told_then s (Ticks now word below room due.Idle passed Silent id answer) x h = absurd (cc h)
-told_then s (Ticks now word below room due.Idle passed (Replies r) id answer) x h = absurd (cc h)
-told_then s (Ticks now word below room due.Idle passed (Waits q d) id answer) x h = absurd (cc h)
-told_then s (Ticks now word below room due.Idle passed (Serves q reply left) id answer) x h = absurd (cc h)
-told_then s (Ticks now word below room (due.Ready a) passed Silent id answer) x h = absurd (cc h)
-told_then s (Ticks now word below room (due.Ready a) passed (Replies r) id answer) x h = absurd (cc h)
-told_then s (Ticks now word below room (due.Ready a) passed (Waits q d) id answer) x h = absurd (cc h)
-told_then s (Ticks now word below room (due.Ready a) passed (Notifies o r) id answer) x h = absurd (cc h)
-told_then s (Sets now path format body answer left) x h = absurd (cc h)
-told_then s (Removes now path answer left) x h = absurd (cc h)
-told_then s (Delays path ms answer) x h = absurd (cc h)
-told_then s (Plains path answer) x h = absurd (cc h)
-told_then s (NextOut answer) x h = absurd (cc h)
-told_then s (Gets path answer) x h = absurd (cc h)
-told_then s (TellsApplied answer) x h = absurd (cc h)
+told_then s _ x h = absurd (cc h)
 
 -- a call moves the clock on, to the moment that counts
-moves : (s : Own) (c : Call) → (s.clock ≤ (after s c).clock) × Counts (after s c).clock s.clock c
+pub moves : (s : Own) (c : Call) → (s.clock ≤ (after s c).clock) × Counts (after s c).clock s.clock c
 moves s (Sets now path format body answer left) = (omega arith, refl)
 moves s (Removes now path answer left) = (omega arith, refl)
-moves s (Delays path ms answer) = (omega arith, tt)
-moves s (Plains path answer) = (omega arith, tt)
 moves s (Feeds now from bytes word up came h below) = (omega arith, refl)
 moves s (Ticks now word below room d passed h id answer) = (omega arith, refl)
-moves s (NextOut answer) = (omega arith, tt)
-moves s (Gets path answer) = (omega arith, tt)
-moves s (TellsApplied answer) = (omega arith, tt)
+moves s _ = (omega arith, tt)
 
 -- a CON of these entries, and a NON
 
@@ -132,11 +107,14 @@ module _ (config : Config) where
       adds_counted config (own (c ∷ t)).clock t c
       (later_by config (own t).clock (own (c ∷ t)).clock t k.0 (by_own t)) k.1
 
+  -- a CON begins at the moment of the call
+  pub begun_then : (t : List Call) (c : Call) (con : Open) → Ever (λ b. begun b ≡ Some con) (server_adds config t c)
+      → con.first ≡ (own (c ∷ t)).clock
+  begun_then t c con h = con_in (own (c ∷ t)).clock (Fed c) con (server_adds config t c) (timely t c) h
+
   pub told_in_con : (t : List Call) (c : Call) (x : Telling) (con : Open) → telling (own t) c ≡ Some x
       → Ever (λ b. begun b ≡ Some con) (server_adds config t c) → x.at ≡ con.first
-  told_in_con t c x con is h =
-      let first = con_in (own (c ∷ t)).clock (Fed c) con (server_adds config t c) (timely t c) h in
-      told_then (own t) c x is ∙ sym first
+  told_in_con t c x con is h = told_then (own t) c x is ∙ sym (begun_then t c con h)
 
   pub told_in_non : (t : List Call) (c : Call) (x : Telling) (to : Endpoint) (bytes : List ℕ) (at : ℕ)
       → telling (own t) c ≡ Some x → Ever (PlainSent to bytes at) (server_adds config t c)

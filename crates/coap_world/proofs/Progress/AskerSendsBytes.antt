@@ -6,12 +6,13 @@ use Rattle.coap_types.specs.Bytes.{AreBytes}
 use Rattle.coap_types.specs.declared.endpoint.Endpoint.{Endpoint}
 use Rattle.coap_layer.specs.Machine.Steps.{Asked as Below}
 use Rattle.coap_layer.specs.Trace as L
+use Rattle.coap_layer.specs.declared.setup.Setup.{Setup}
 use Rattle.coap_exchange.specs.declared.asker.Exchange.{Exchange}
 use Rattle.coap_exchange.specs.declared.matching.Opening.{Opening}
 use Rattle.coap_exchange.specs.declared.matching.Opening.TheVariants.{Running, Spent, Sends}
 use Rattle.coap_exchange.specs.declared.matching.Verdict.{Verdict}
-use Rattle.coap_exchange.specs.declared.matching.Verdict.TheVariants.{Ignore, Reject, Acknowledge, AnswerCon, Answer}
-use Rattle.coap_exchange.specs.declared.matching.Verdict.TheVariants.{NoticeCon, Notice, Await, EndByReset}
+use Rattle.coap_exchange.specs.declared.matching.Verdict.TheVariants.{Reject, Acknowledge, AnswerCon}
+use Rattle.coap_exchange.specs.declared.matching.Verdict.TheVariants.{NoticeCon}
 use Rattle.coap_exchange.specs.AskerTrace as E
 use Rattle.coap_exchange.specs.AskerRequests as Q
 use Rattle.coap_exchange.specs.AskerArrivals as R
@@ -39,15 +40,11 @@ beneath_are Spent server content word h = tt
 beneath_are Sends server content word h = h
 
 reply_are : (v : Verdict) (id : ℕ) → ReplyAre id (R.reply_by v id)
-reply_are Ignore id = tt
 reply_are Reject id = reset_are id
 reply_are Acknowledge id = ack_are id
 reply_are AnswerCon id = ack_are id
-reply_are Answer id = tt
 reply_are NoticeCon id = ack_are id
-reply_are Notice id = tt
-reply_are Await id = tt
-reply_are EndByReset id = tt
+reply_are _ id = tt
 
 settling_are : (b : Bool) (server : Endpoint) (o : Option Exchange) (settled : Bool)
     → EachAre (R.settling b server o settled)
@@ -73,10 +70,10 @@ lower_are s (E.Keep token answer) h = tt
 lower_are s (E.Release token answer) h = tt
 lower_are s (E.Take answer) h = (tt, tt)
 
-pub each_are : (server : Endpoint) (word : ℕ) (t : List E.Call) → Each RequestAre t → EachAre (W.lower_of server word t)
-each_are server word [] h = tt
-each_are server word (c ∷ t) h = each_join _ (P.lower (W.own_of server word t) c) (W.lower_of server word t)
-    (lower_are (W.own_of server word t) c h.0) (each_are server word t h.1)
+pub each_are : (server : Endpoint) (setup : Setup) (t : List E.Call) → Each RequestAre t → EachAre (W.lower_of server setup t)
+each_are server setup [] h = tt
+each_are server setup (c ∷ t) h = each_join _ (P.lower (W.own_of server setup t) c) (W.lower_of server setup t)
+    (lower_are (W.own_of server setup t) c h.0) (each_are server setup t h.1)
 
 -- what arrives is of bytes
 
@@ -91,18 +88,14 @@ input_are : (s : E.Own) (c : E.Call) → Received (P.lower s c) → InputAre c
 input_are s (E.Receive now from bytes up settled answer) h =
     last_of (λ (a : Below). ReceivedAre a.call) (R.acts s from up settled (R.verdict_on s from up))
     (Q.asked now (L.Receive from bytes) up) h
-input_are s (E.Ask now r w below answer) h = tt
-input_are s (E.Ticks now below answer) h = tt
-input_are s (E.Keep token answer) h = tt
-input_are s (E.Release token answer) h = tt
-input_are s (E.Take answer) h = tt
+input_are s _ h = tt
 
-pub inputs_are : (server : Endpoint) (word : ℕ) (t : List E.Call) → Received (W.lower_of server word t)
+pub inputs_are : (server : Endpoint) (setup : Setup) (t : List E.Call) → Received (W.lower_of server setup t)
     → Each InputAre t
-inputs_are server word [] h = tt
-inputs_are server word (c ∷ t) h = (
-  input_are (W.own_of server word t) c (each_front (λ (a : Below). ReceivedAre a.call)
-      (P.lower (W.own_of server word t) c) (W.lower_of server word t) h),
-  inputs_are server word t (each_back (λ (a : Below). ReceivedAre a.call) (P.lower (W.own_of server word t) c)
-      (W.lower_of server word t) h),
+inputs_are server setup [] h = tt
+inputs_are server setup (c ∷ t) h = (
+  input_are (W.own_of server setup t) c (each_front (λ (a : Below). ReceivedAre a.call)
+      (P.lower (W.own_of server setup t) c) (W.lower_of server setup t) h),
+  inputs_are server setup t (each_back (λ (a : Below). ReceivedAre a.call) (P.lower (W.own_of server setup t) c)
+      (W.lower_of server setup t) h),
 )

@@ -47,7 +47,7 @@ said_small (Some n) b h = by_small n b h
 
 -- what is written
 
-bit_small : (b : Bool) → more_bit b ≤ 8
+pub bit_small : (b : Bool) → more_bit b ≤ 8
 bit_small true = omega arith
 bit_small false = omega arith
 

@@ -65,16 +65,14 @@ pub record OwnAre (s : Own) : Type 0 where
 -- what an operation makes of it
 
 dropped_are : (k : ℕ) (running : Option Operation) → IfSome running OpAre → IfSome (dropped k running) OpAre
-dropped_are k None h = tt
 dropped_are k (Some (Calling j r t)) h = h
 dropped_are k (Some (Registering j path)) h = h
-dropped_are k (Some (Cancelling j)) h = tt
-dropped_are k (Some Dropped) h = tt
 dropped_are k (Some (Fetching j)) h = by (j == k)
   where
     by : (b : Bool) → IfSome (cond b (Some Dropped) (Some (Fetching j))) OpAre
     by true = tt
     by false = tt
+dropped_are k _ h = tt
 
 -- one observation changes
 changed_are : (k : ℕ) (f : Observation → Observation) → ((o : Observation) → WatchAre o → WatchAre (f o))
@@ -197,7 +195,6 @@ module _ (s : Own) (now : ℕ) (told : Option Event) (h : OwnAre s)
         observations = each_join WatchAre s.observations (begun k path s.sizes now a ∷ []) h.observations
             (begun_are k path a (ran (Registering k path) runs) (tokens a hears), tt);
       }
-  moves_are (mv.refuses k path a hears runs note) = still s h
   moves_are (mv.fetches_on k n a num size hears runs rest code asks) =
       record {
         szx = h.szx;
@@ -209,9 +206,7 @@ module _ (s : Own) (now : ℕ) (told : Option Event) (h : OwnAre s)
       }
   moves_are (mv.fetched k n a hears runs rest code done) = fetch_over_are k s h
   moves_are (mv.gives_up k a hears runs) = fetch_over_are k s h
-  moves_are (mv.fetched_none k a hears runs) = still s h
   moves_are (mv.cancels k a hears runs) = over_are k (record s { running = None }) (still s h)
-  moves_are (mv.is_dropped a hears runs) = still s h
   moves_are (mv.fails e un) = failed_are s (λ t. true) (lapse e) s.running h
   moves_are (mv.is_ended o a notes found note) = over_are o.number s h
   moves_are (mv.renews o a notes found note newer) =
@@ -224,6 +219,7 @@ module _ (s : Own) (now : ℕ) (told : Option Event) (h : OwnAre s)
       }
   moves_are (mv.passes_by o a notes found note newer) =
       record { szx = h.szx; limit = h.limit; queue = h.queue; running = h.running; observations = passed_are o.number a }
+  moves_are _ = still s h
 
 pub closed_are : (now : ℕ) (e : Effect) (token : Result (List ℕ) AskRefusal) → OwnAre e.own → Closing now e token
     → OwnAre (closed now e e.deed token).own

@@ -19,6 +19,7 @@ use Rattle.coap_codec.specs.Message.{Message}
 use Rattle.coap_layer.specs.Machine.State as layer
 use Rattle.coap_layer.specs.Sends.{IsIn}
 use Rattle.coap_layer.specs.Trace as L
+use Rattle.coap_layer.specs.declared.setup.Setup.{Setup}
 use Rattle.coap_exchange.specs.declared.asker.AskRefusal.{AskRefusal}
 use Rattle.coap_exchange.specs.declared.asker.Event.{Event}
 use Rattle.coap_exchange.specs.AskerTrace as E
@@ -75,9 +76,7 @@ conditions_are r h = values_append (map (option if_match) r.if_match) (flag_opti
 
 before_are : (m : Method) (r : Request) → HeadAre r → ValuesAre (before_path m r)
 before_are Get r h = values_of etag r.etags h.etags
-before_are Post r h = conditions_are r h
-before_are Put r h = conditions_are r h
-before_are Delete r h = conditions_are r h
+before_are _ r h = conditions_are r h
 
 after_are : (m : Method) (r : Request) → HeadAre r → ValuesAre (after_path m r)
 after_are Get r h = number_are _ r.accept h.accept
@@ -166,19 +165,14 @@ deeds_are (Keeps t) s now word sent token kept f = (tt, tt)
 deeds_are (Releases t) s now word sent token kept f = (tt, tt)
 
 failed_rests : (s : Own) (op other : Operation) → (failed has_sent NoIds s (Some op)).deed ≡ Asks other → ⊥
-failed_rests s (Calling k r t) other h = cc h
-failed_rests s (Registering k path) other h = cc h
-failed_rests s (Fetching k) other h = cc h
 failed_rests s (Cancelling k) other h = releases_none _ other h
-failed_rests s Dropped other h = cc h
+failed_rests s _ other h = cc h
 
 closed_rests : (now : ℕ) (e : Effect) (d : Deed) (token : Result (List ℕ) AskRefusal) (op : Operation) → e.deed ≡ d
     → (closed now e d token).deed ≡ Asks op → ⊥
-closed_rests now e (Asks o) (Ok key) op is h = cc h
 closed_rests now e (Asks o) (Err why) op is h = failed_rests e.own o op h
 closed_rests now e Rests token op is h = let k : Rests ≡ Asks op = sym is ∙ h in cc k
-closed_rests now e (Keeps t) token op is h = cc h
-closed_rests now e (Releases t) token op is h = cc h
+closed_rests now e _ _ op is h = cc h
 
 releases_are : (o : Option Observation) (s : Own) (kept : Bool)
     → Each RequestAre (deeds (Rattle.coap_client.specs.Observing.releases o) s 0 0 L.Nothing
@@ -306,14 +300,14 @@ module _ (server : Endpoint) (sizes : Sizes) (small : sizes.szx ≤ 6) (low : si
       let j = call_are t c f range.0 (each_front InputAre (lower s c) (lower_of sizes t) inputs) k.0 in
       (j.0, each_join RequestAre (lower s c) (lower_of sizes t) j.1 k.1)
 
-pub client_are : (server : Endpoint) (sizes : Sizes) (word : ℕ) (t : List Call) → sizes.szx ≤ 6
-    → sizes.limit ≤ max_limit → ClientLaw server sizes word t
-    → Each CallInRange t → (p : L.Packet) → Ever (λ e. IsIn p e.out) (layer_of server sizes word t) → AreBytes p.bytes
-client_are server sizes word t small low law range p h =
+pub client_are : (server : Endpoint) (sizes : Sizes) (setup : Setup) (t : List Call) → sizes.szx ≤ 6
+    → sizes.limit ≤ max_limit → ClientLaw server sizes setup t
+    → Each CallInRange t → (p : L.Packet) → Ever (λ e. IsIn p e.out) (layer_of server sizes setup t) → AreBytes p.bytes
+client_are server sizes setup t small low law range p h =
     let calls : List E.Call = lower_of sizes t in
     let under = law.exchanges in
-    let received = steps_are (layer.start (layer.usual word)) under.left (W.lower_of server word calls) under.layer in
-    let k = all_are server sizes small low t (facts.from_server server sizes word t law) range
-    (inputs_are server word calls received) in
-    sent_are p (layer.usual word) (W.lower_of server word calls) (layer_stands server word calls under)
-    (each_are server word calls k.1) h
+    let received = steps_are (layer.start setup) under.left (W.lower_of server setup calls) under.layer in
+    let k = all_are server sizes small low t (facts.from_server server sizes setup t law) range
+    (inputs_are server setup calls received) in
+    sent_are p setup (W.lower_of server setup calls) (layer_stands server setup calls under)
+    (each_are server setup calls k.1) h

@@ -51,17 +51,17 @@ module _ (config : Config) (events : List Event) (turns : List Turn) (run : Reco
   abbrev servers : List S.Call
   servers = server_trace config all
 
-  client_goes_on : client_goes_spec.GoesOn server_end config.client_sizes config.client_word clients
-  client_goes_on = client_calls.goes_on server_end config.client_sizes config.client_word clients run.client
+  client_goes_on : client_goes_spec.GoesOn server_end config.client_sizes config.client_setup clients
+  client_goes_on = client_calls.goes_on server_end config.client_sizes config.client_setup clients run.client
 
-  server_goes_on : server_goes_spec.GoesOn config.limits config.server_szx config.server_word servers
-  server_goes_on = server_facts.goes config.limits config.server_szx config.server_word servers run.server
+  server_goes_on : server_goes_spec.GoesOn config.limits config.server_szx config.server_setup servers
+  server_goes_on = server_facts.goes config.limits config.server_szx config.server_setup servers run.server
 
   -- a turn that makes these entries
   follows : (what : What) → MayHappen turns (event what) → (entries : List Entry)
       → Makes turns at word what false entries
-      → ClientLaw server_end config.client_sizes config.client_word (client_of (entries ++ all))
-      → ServerLaw config.limits config.server_szx config.server_word (server_trace config (entries ++ all))
+      → ClientLaw server_end config.client_sizes config.client_setup (client_of (entries ++ all))
+      → ServerLaw config.limits config.server_szx config.server_setup (server_trace config (entries ++ all))
       → Follows config events turns (event what)
   follows what may entries makes on_client on_server = record {
     entries = entries;
@@ -83,13 +83,13 @@ module _ (config : Config) (events : List Event) (turns : List Turn) (run : Reco
 
   -- a turn of the client: its calls, all that it has out, and its reports
   of_client : (what : What) → MayHappen turns (event what) → (calls : List C.Call)
-      → ClientLaw server_end config.client_sizes config.client_word (calls ++ clients)
+      → ClientLaw server_end config.client_sizes config.client_setup (calls ++ clients)
       → ((entries : List Entry) → OnClient calls entries → Makes turns at word what false entries)
       → Follows config events turns (event what)
   of_client what may calls law makes =
-      let outs = (client_calls.comes_to_rest server_end config.client_sizes config.client_word
+      let outs = (client_calls.comes_to_rest server_end config.client_sizes config.client_setup
       (calls ++ clients) law).outs in
-      let reports = (client_calls.comes_to_rest server_end config.client_sizes config.client_word
+      let reports = (client_calls.comes_to_rest server_end config.client_sizes config.client_setup
       (all_taken C.NextOut outs.0 ++ (calls ++ clients)) outs.1).reports in
       let taken : List C.Call = C.NextOut None ∷ (map (λ p. C.NextOut (Some p)) outs.0 ++ calls) in
       let given : List C.Call = map (λ r. C.NextReport (Some r)) reports.0 in
@@ -101,26 +101,26 @@ module _ (config : Config) (events : List Event) (turns : List Turn) (run : Reco
       (append_assoc (map (λ p. C.NextOut (Some p)) outs.0) calls clients)) in
       follows what may (map OfClient list) (makes (map OfClient list)
       (record { outs = outs.0; reports = reports.0; is = refl }))
-      (subst (ClientLaw server_end config.client_sizes config.client_word)
+      (subst (ClientLaw server_end config.client_sizes config.client_setup)
       (sym (client_client list all ∙ same)) reports.1)
-      (subst (λ xs. ServerLaw config.limits config.server_szx config.server_word (xs ++ begun_with config))
+      (subst (λ xs. ServerLaw config.limits config.server_szx config.server_setup (xs ++ begun_with config))
       (sym (server_client list all)) run.server)
 
   -- a turn of the server: its calls, and all that it has out
   of_server : (what : What) → MayHappen turns (event what) → (calls : List S.Call)
-      → ServerLaw config.limits config.server_szx config.server_word (calls ++ servers)
+      → ServerLaw config.limits config.server_szx config.server_setup (calls ++ servers)
       → ((entries : List Entry) → OnServer calls entries → Makes turns at word what false entries)
       → Follows config events turns (event what)
   of_server what may calls law makes =
-      let outs = (server_facts.rests config.limits config.server_szx config.server_word (calls ++ servers) law).outs in
+      let outs = (server_facts.rests config.limits config.server_szx config.server_setup (calls ++ servers) law).outs in
       let given : List S.Call = map (λ p. S.NextOut (Some p)) outs.0 in
       let list : List S.Call = S.NextOut None ∷ (given ++ calls) in
       let same : (list ++ server_of all) ++ begun_with config ≡ all_taken S.NextOut outs.0 ++ (calls ++ servers) =
       append_assoc list (server_of all) (begun_with config)
       ∙ ap (λ xs. S.NextOut None ∷ xs) (append_assoc given calls servers) in
       follows what may (map OfServer list) (makes (map OfServer list) (record { outs = outs.0; is = refl }))
-      (subst (ClientLaw server_end config.client_sizes config.client_word) (sym (client_server list all)) run.client)
-      (subst (ServerLaw config.limits config.server_szx config.server_word)
+      (subst (ClientLaw server_end config.client_sizes config.client_setup) (sym (client_server list all)) run.client)
+      (subst (ServerLaw config.limits config.server_szx config.server_setup)
       (sym (ap (λ xs. xs ++ begun_with config) (server_server list all) ∙ same)) outs.1)
 
   -- a datagram
@@ -171,11 +171,11 @@ module _ (config : Config) (events : List Event) (turns : List Turn) (run : Reco
       of_server (Removes path) may (call ∷ []) k.2
       (λ entries on. (call ∷ [], ((call, (k.0, k.1, refl), refl), refl), on))
   by_what TickClient may =
-      let k = (client_calls.comes_to_rest server_end config.client_sizes config.client_word clients run.client).ticks at
+      let k = (client_calls.comes_to_rest server_end config.client_sizes config.client_setup clients run.client).ticks at
       word in
       of_client TickClient may k.0 k.2 (λ entries on. (k.0, are_ticks (ClientTick at word) k.0 k.1, on))
   by_what TickServer may =
-      let k = (server_facts.rests config.limits config.server_szx config.server_word servers run.server).ticks at word in
+      let k = (server_facts.rests config.limits config.server_szx config.server_setup servers run.server).ticks at word in
       of_server TickServer may k.0 k.2 (λ entries on. (k.0, are_ticks (ServerTick at word) k.0 k.1, on))
   by_what (StrangerToClient from bytes) may = to_client (StrangerToClient from bytes) may from bytes may.range.1
       (λ calls entries one on. (calls, one, on))
@@ -221,11 +221,11 @@ module _ (config : Config) where
       omega (arith, k, o, e)
 
   begins_by : (ds : List S.Delay) → length ds ≤ max_delays
-      → ServerLaw config.limits config.server_szx config.server_word (begun_by ds)
+      → ServerLaw config.limits config.server_szx config.server_setup (begun_by ds)
   begins_by [] few = record {
     rows = tt;
     exchanges =
-        record { rows = tt; left = layer.start (layer.usual config.server_word); layer = refl };
+        record { rows = tt; left = layer.start config.server_setup; layer = refl };
   }
   begins_by (d ∷ ds) few =
       let have = (own_of config.limits config.server_szx (begun_by ds)).delays in
@@ -241,7 +241,7 @@ module _ (config : Config) where
   plain_by ps ds = map gives_it (map (λ p. PlainOf p) ps ++ map (λ d. DelayOf d) ds)
 
   begins_plain : (ps : List (List (List ℕ))) (ds : List S.Delay) → length ps ≤ max_plains → length ds ≤ max_delays
-      → ServerLaw config.limits config.server_szx config.server_word (plain_by ps ds)
+      → ServerLaw config.limits config.server_szx config.server_setup (plain_by ps ds)
   begins_plain [] ds few_ps few = begins_by ds few
   begins_plain (p ∷ ps) ds few_ps few =
       let have = (own_of config.limits config.server_szx (plain_by ps ds)).plains in
@@ -259,7 +259,7 @@ module _ (config : Config) where
     client = record {
       rows = tt;
       exchanges = record
-          { rows = tt; left = layer.start (layer.usual config.client_word); layer = refl };
+          { rows = tt; left = layer.start config.client_setup; layer = refl };
     };
     server = begins_plain config.plains config.delays range.few_plains range.few;
   }

@@ -6,8 +6,8 @@ use Rattle.coap_client.specs.Law.{ClientLaw}
 use Rattle.coap_server.specs.Law.{ServerLaw}
 use Rattle.coap_client.proofs.Facts.Laws as client_facts
 use Rattle.coap_server.proofs.Facts.Laws as server_facts
-use Rattle.coap_world.specs.Events.{server_end, Config, Event, What, Calls, Observes, Cancels, Forgets, Sets, Removes}
-use Rattle.coap_world.specs.Events.{TickClient, TickServer, Deliver, StrangerToClient, StrangerToServer}
+use Rattle.coap_world.specs.Events.{server_end, Config, Event, What, Cancels, Forgets, Sets, Removes}
+use Rattle.coap_world.specs.Events.{TickClient, TickServer, Deliver, StrangerToServer}
 use Rattle.coap_world.specs.Legal.{Legal}
 use Rattle.coap_world.specs.NoFault.{events_of, IsLost, NoFault}
 use Rattle.coap_world.specs.Record.{Entry, OfClient, OfServer, Turn, RecordOf, entries_of, client_of, server_trace}
@@ -17,22 +17,22 @@ use Rattle.coap_world.proofs.Progress.EachEventHasATurn.{goes_on}
 -- what was before stands in the laws of both ends
 module _ (config : Config) where
   abbrev ForClient : List Entry → Type 0
-  ForClient t = ClientLaw server_end config.client_sizes config.client_word (client_of t)
+  ForClient t = ClientLaw server_end config.client_sizes config.client_setup (client_of t)
 
   abbrev ForServer : List Entry → Type 0
-  ForServer t = ServerLaw config.limits config.server_szx config.server_word (server_trace config t)
+  ForServer t = ServerLaw config.limits config.server_szx config.server_setup (server_trace config t)
 
   client_behind : (later past : List Entry) → ForClient (later ++ past) → ForClient past
   client_behind [] past law = law
   client_behind (OfClient c ∷ later) past law = client_behind later past
-      (client_facts.back server_end config.client_sizes config.client_word (c ∷ []) (client_of (later ++ past)) law)
+      (client_facts.back server_end config.client_sizes config.client_setup (c ∷ []) (client_of (later ++ past)) law)
   client_behind (OfServer c ∷ later) past law = client_behind later past law
 
   server_behind : (later past : List Entry) → ForServer (later ++ past) → ForServer past
   server_behind [] past law = law
   server_behind (OfClient c ∷ later) past law = server_behind later past law
   server_behind (OfServer c ∷ later) past law = server_behind later past
-      (server_facts.back config.limits config.server_szx config.server_word (c ∷ [])
+      (server_facts.back config.limits config.server_szx config.server_setup (c ∷ [])
       (server_trace config (later ++ past)) law)
 
   client_before : (later past : List Turn) → ForClient (entries_of (later ++ past)) → ForClient (entries_of past)
@@ -61,15 +61,12 @@ module _ (config : Config) where
 -- an input that is refused memory has no call
 lost : (past : List Turn) (at word : ℕ) (what : What) (entries : List Entry) → Makes past at word what true entries
     → IsLost past at word what entries
-lost past at word (Calls r) entries m = subst (λ cs. OnClient cs entries) m.1 m.2
-lost past at word (Observes path) entries m = subst (λ cs. OnClient cs entries) m.1 m.2
 lost past at word (Cancels number) entries m = let e = m.1.1 in cc e
 lost past at word (Forgets number) entries m = let e = m.1.1 in cc e
 lost past at word (Sets path format body) entries m = subst (λ cs. OnServer cs entries) m.1 m.2
 lost past at word (Removes path) entries m = let e = m.1.1 in cc e
 lost past at word TickClient entries m = m
 lost past at word TickServer entries m = m
-lost past at word (StrangerToClient from bytes) entries m = subst (λ cs. OnClient cs entries) m.1 m.2
 lost past at word (StrangerToServer from bytes) entries m = subst (λ cs. OnServer cs entries) m.1 m.2
 lost past at word (Deliver number) entries m = (
   m.0,
@@ -79,6 +76,7 @@ lost past at word (Deliver number) entries m = (
     | inr d ↦ inr (d.0, subst (λ cs. OnClient cs entries) d.2 d.3)
   ],
 )
+lost past at word _ entries m = subst (λ cs. OnClient cs entries) m.1 m.2
 
 each_lost : (turns : List Turn)
     → Always (λ past t. Makes past t.event.at t.event.word t.event.what t.refused t.entries) turns

@@ -2,7 +2,7 @@
 -- arrives is of bytes (RFC 7252, sections 3 and 5.2).
 use Rattle.std.proofs.Common.{ℕ, Bool, true, false, Option, Some, None, List, [], ◌∷◌, ◌++◌, refl, sym, subst, cond}
 use Rattle.coap_types.specs.declared.message.Kind.{Kind}
-use Rattle.coap_types.specs.declared.message.Kind.TheVariants.{Con, Non, Ack, Rst}
+use Rattle.coap_types.specs.declared.message.Kind.TheVariants.{Con, Ack}
 use Rattle.coap_types.specs.Bytes.{AreBytes}
 use Rattle.coap_codec.specs.Message.{Message, Spells, header, marked}
 use Rattle.coap_codec.specs.Spelling.{message_bytes}
@@ -45,9 +45,7 @@ answering_are s Con a r is h k = λ low.
     let m : Message = with_head Ack a.id.0 (P.content_of a r) in
     let spells : Spells (message_bytes m) m = is.spelled Ack a.id.0 low in
     message_are m spells.code spells.token (record { token = h; values = k.values; payload = k.payload })
-answering_are s Non a r is h k = record { token = h; values = k.values; payload = k.payload }
-answering_are s Ack a r is h k = record { token = h; values = k.values; payload = k.payload }
-answering_are s Rst a r is h k = record { token = h; values = k.values; payload = k.payload }
+answering_are s _ a r is h k = record { token = h; values = k.values; payload = k.payload }
 
 reject_are : (up : L.Answer) → ReplyAre (R.id_in up) (P.reject_by up)
 reject_are (L.Becomes (L.Response m)) = by (is_kept m.kind)
@@ -55,16 +53,7 @@ reject_are (L.Becomes (L.Response m)) = by (is_kept m.kind)
     by : (b : Bool) → ReplyAre m.id (cond b (Some (reset_bytes m.id)) None)
     by true = reset_are m.id
     by false = tt
-reject_are (L.Becomes u) = tt
-reject_are L.Nothing = tt
-reject_are (L.Is holds) = tt
-reject_are (L.Sent id) = tt
-reject_are L.Busied = tt
-reject_are L.NoIds = tt
-reject_are L.Idle = tt
-reject_are (L.Copied to id) = tt
-reject_are (L.Expired to id) = tt
-reject_are (L.Gives packet) = tt
+reject_are _ = tt
 
 deferring_are : (b : Bool) (a : Asked) → EachAre (P.deferring b a)
 deferring_are true a = (ack_are a.id.0, tt)
@@ -109,15 +98,7 @@ ReceivedAre c = Unit {0}
 
 may_are : (s : S.State) (call : L.Call) → S.May s call → ReceivedAre call
 may_are s (L.Receive from bytes) h = h
-may_are s (L.Reply to id bytes) h = tt
-may_are s (L.Confirm to content word) h = tt
-may_are s (L.Plain to content) h = tt
-may_are s (L.Settle to id) h = tt
-may_are s L.Ticks h = tt
-may_are s L.Take h = tt
-may_are s (L.Room to) h = tt
-may_are s L.AsksFree h = tt
-may_are s L.Pass h = tt
+may_are s _ h = tt
 
 pub steps_are : (old new : S.State) (calls : List Below) → Steps old calls new
     → Each (λ (a : Below). ReceivedAre a.call) calls
@@ -149,21 +130,13 @@ IncomingAre c = Unit {0}
 
 incoming_are : (s : E.Own) (c : E.Call) → CameIn c → Each (λ (a : Below). ReceivedAre a.call) (P.lower s c)
     → IncomingAre c
-incoming_are s (E.Incoming now from bytes up None) r h = tt
 incoming_are s (E.Incoming now from bytes up (Some p)) r h =
     let are = last_of (λ (a : Below). ReceivedAre a.call) (R.replying from (R.id_in up) (P.reject_by up))
     (asked now (L.Receive from bytes) up) h in
     let k = r.came now from bytes up p.0 p.1 refl in
     let parts = parts_are bytes p.1 are k.1 in
     (subst (λ (a : Asked). AreBytes a.token) (sym k.0) parts.0, parts.1)
-incoming_are s (E.Answers a r below) c h = tt
-incoming_are s (E.Defers now a delay answer) c h = tt
-incoming_are s (E.Ticks now below room d) c h = tt
-incoming_are s (E.Responds now a r word id) c h = tt
-incoming_are s (E.Ready now to answer) c h = tt
-incoming_are s (E.Notifies now to token r word id) c h = tt
-incoming_are s (E.NotifiesPlain now to token r id) c h = tt
-incoming_are s (E.Take answer) c h = tt
+incoming_are s _ _ h = tt
 
 pub all_incoming : (t : List E.Call) → AreRequests t → Each (λ (a : Below). ReceivedAre a.call) (W.lower_of t)
     → Each IncomingAre t

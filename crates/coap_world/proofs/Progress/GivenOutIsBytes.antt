@@ -37,11 +37,11 @@ module _ (config : Config) (events : List Event) (turns : List Turn) (made : Rec
       let here : Ever (λ h. h ≡ g) (all_of given_in turns) =
       Ever_of_Sometime _ (λ h. h ≡ g) (λ before h k. inl k.0) (all_of given_in turns) is in
       elim ((run config events turns made legal.events).sent g here) [
-        | inl k ↦ client_are server_end config.client_sizes config.client_word
+        | inl k ↦ client_are server_end config.client_sizes config.client_setup
             (client_of all) legal.range.client_szx legal.range.client_limit.1 made.client (calls_in config turns made.made legal.events) g.packet
             (subst (Ever Sends) (near_is config all) (Ever_map (SendsAt g.at g.packet) Sends sends_it (near_of hops)
             (near_ever (SendsAt g.at g.packet) hops k.1)))
-        | inr k ↦ server_are config.limits config.server_szx legal.range.server_szx config.server_word
+        | inr k ↦ server_are config.limits config.server_szx legal.range.server_szx config.server_setup
             (server_trace config all) made.server (changes_in config turns made.made legal.events) g.packet
             (subst (Ever Sends) (far_is config all) (Ever_map (SendsAt g.at g.packet) Sends sends_it (far_of hops)
             (far_ever (SendsAt g.at g.packet) hops k.1)))

@@ -26,8 +26,7 @@ use Rattle.coap_codec.specs.Message.{Message}
 use Rattle.coap_block.specs.AssemblyState.{Key, PartialBody, AssemblyState, same_key, partial_of, without_key, put}
 use Rattle.coap_block.specs.AssemblyState.{bytes_of, joined_before, body_with}
 use Rattle.coap_block.specs.AssemblyStep.{there_at, moment_at, with_block, partials_by, verdict_at}
-use Rattle.coap_block.specs.declared.assembly_step.AssemblyRefusal.TheVariants.{BadRequest, EntityIncomplete}
-use Rattle.coap_block.specs.declared.assembly_step.AssemblyRefusal.TheVariants.{EntityTooLarge, Unavailable}
+use Rattle.coap_block.specs.declared.assembly_step.AssemblyRefusal.TheVariants.{EntityTooLarge}
 use Rattle.coap_block.specs.declared.block_verdict.BlockVerdict.{BlockVerdict}
 use Rattle.coap_block.specs.declared.block_verdict.BlockVerdict.TheVariants.{Refuse, Join, Done}
 use Rattle.coap_observe.specs.Observers.{Observer, changed_at, marked_by, noted_by, noted_to, registered, rejected}
@@ -40,7 +39,7 @@ use Rattle.coap_exchange.specs.declared.answerer.Asked.{Asked}
 use Rattle.coap_exchange.specs.declared.answerer.Ended.{Ended}
 use Rattle.coap_exchange.specs.AnswererFollows.{same_asked}
 use Rattle.coap_server.specs.Trace.{Waiting, Handling, Silent, Replies, Serves, Waits, Notifies}
-use Rattle.coap_server.specs.Checks.{Verdict, Ignored, Refused, Asks, Uploads, bad_by, bad_request}
+use Rattle.coap_server.specs.Checks.{Verdict, Refused, Asks, Uploads, bad_by, bad_request}
 use Rattle.coap_server.specs.Checks.{proxying_not_supported, asks, is_reserved}
 use Rattle.coap_server.specs.Checks.{asked_by, uploading, question, verdict_on}
 use Rattle.coap_server.specs.Deferring.{question_of, without_waiting, waiting_with}
@@ -155,21 +154,17 @@ joined_are s at key b payload h p = append_are (joined_before key b.num (there_a
 
 partials_are : (v : BlockVerdict) (new : PartialBody) (ps : List PartialBody) → PartialAre new → Each PartialAre ps
     → Each PartialAre (partials_by v new ps)
-partials_are (Refuse BadRequest) new ps n h = h
-partials_are (Refuse EntityIncomplete) new ps n h = h
 partials_are (Refuse EntityTooLarge) new ps n h = without_are new.key ps h
-partials_are (Refuse Unavailable) new ps n h = h
 partials_are (Join szx) new ps n h = put_are new ps n h
 partials_are Done new ps n h = without_are new.key ps h
+partials_are _ new ps n h = h
 
 pub uploads_are : (at : ℕ) (a : Asked) (v : Verdict) (s : AssemblyState) → VerdictAre v → Each PartialAre s.partials
     → Each PartialAre (uploads_after at a v s).partials
-uploads_are at a Ignored s k h = h
-uploads_are at a (Refused code) s k h = h
-uploads_are at a (Asks q) s k h = h
 uploads_are at a (Uploads q b) s k h = partials_are (verdict_at s at _ b (length q.body))
     (body_with _ b.num q.body (moment_at s at) (there_at s at)) (there_at s at) (joined_are s at _ b q.body h k.0.body)
     (there_are s at h)
+uploads_are at a _ s k h = h
 
 -- what becomes of a request, and of an observer
 
@@ -289,22 +284,11 @@ pub observers_are : (at : ℕ) (old : Content) (a : Option Asked) (h : Handling)
     → Each WatcherAre (observers_after at old a h os)
 observers_are at old (Some a) (Serves q reply left) os t h k =
     marked_are at q.path old left (observers_with at a q reply os) (with_observer_are at a q reply os t h.0 k)
-observers_are at old (Some a) (Notifies o reply) os t h k = k
-observers_are at old (Some a) Silent os t h k = k
-observers_are at old (Some a) (Replies response) os t h k = k
-observers_are at old (Some a) (Waits q delay) os t h k = k
-observers_are at old None (Notifies o reply) os t h k = k
-observers_are at old None (Serves q reply left) os t h k = k
-observers_are at old None Silent os t h k = k
-observers_are at old None (Replies response) os t h k = k
-observers_are at old None (Waits q delay) os t h k = k
+observers_are at old _ _ os t h k = k
 
 pub store_are : (h : Handling) (old : Content) → HandlingAre h → StoreAre old → StoreAre (store_after h old)
-store_are Silent old h b = b
-store_are (Replies response) old h b = b
 store_are (Serves q reply left) old h b = h.2
-store_are (Waits q delay) old h b = b
-store_are (Notifies o reply) old h b = b
+store_are _ old h b = b
 
 -- what waits
 
@@ -321,12 +305,9 @@ waited_are at a (w ∷ ws) h = by (defer.is_of at a w) (waited_are at a ws h.1)
 
 pub waits_are : (at : ℕ) (a : Asked) (h : Handling) (ws : List Waiting) → AreBytes a.token → HandlingAre h
     → Each OneAre ws → Each OneAre (waiting_with at a h ws)
-waits_are at a Silent ws t h k = k
-waits_are at a (Replies response) ws t h k = k
-waits_are at a (Serves q reply left) ws t h k = k
-waits_are at a (Notifies o reply) ws t h k = k
 waits_are at a (Waits q delay) ws t h k = each_join OneAre ws
     (record { asked = a; at = at; delay = delay; question = q } ∷ []) k ((t, h), tt)
+waits_are at a _ ws t h k = k
 
 pub question_are : (at : ℕ) (a : Asked) (ws : List Waiting) (q : Question) → Each OneAre ws
     → question_of at a ws ≡ Some q → AreBytes a.token × QuestionAre q

@@ -13,6 +13,7 @@ use Rattle.coap_codec.specs.Message.{Message}
 use Rattle.coap_layer.specs.Machine.State as layer
 use Rattle.coap_layer.specs.Sends.{IsIn}
 use Rattle.coap_layer.specs.Trace as L
+use Rattle.coap_layer.specs.declared.setup.Setup.{Setup}
 use Rattle.coap_block.specs.AssemblyState.{AssemblyState, reached, without_key}
 use Rattle.coap_block.specs.AssemblyStep.{fills, goes_on, answered_szx, there_at}
 use Rattle.coap_block.specs.declared.assembly_judging.TheConstants.{MAX_PARTIALS as max_partials}
@@ -32,7 +33,7 @@ use Rattle.coap_exchange.specs.AnswererLaw as W
 use Rattle.coap_exchange.specs.AnswererSteps.{may_defer}
 use Rattle.coap_exchange.proofs.Facts.ServerSide.{came_in, layer_stands}
 use Rattle.coap_server.specs.Trace.{Waiting, Own, Handling, Silent, Replies, Serves, Waits, Notifies}
-use Rattle.coap_server.specs.Trace.{Call, Sets, Removes, Delays, Plains, Feeds}
+use Rattle.coap_server.specs.Trace.{Call, Sets, Removes, Feeds}
 use Rattle.coap_server.specs.Trace.{Ticks, NextOut, Gets, TellsApplied}
 use Rattle.coap_server.specs.Checks.{Verdict, Ignored, Refused, Asks, Uploads, verdict_on}
 use Rattle.coap_server.specs.Deferring.{question_of, deferral_by, delay_for, WaitsBy, AnswersWaiting}
@@ -147,8 +148,6 @@ deferral_are (Some delay) place at a = (tt, tt)
 
 answering_are : (s : Own) (came : Option (Asked × Message)) (h : Handling) (below : L.Answer) → CameAre came
     → HandlingAre h → Each RespondAre (answering s came h below)
-answering_are s None h below c k = tt
-answering_are s (Some p) Silent below c k = tt
 answering_are s (Some p) (Replies response) below c k = ((c.0, k), tt)
 answering_are s (Some p) (Serves q reply left) below c k = (
   (c.0, response_to_are s p.0 q reply k.1),
@@ -157,7 +156,7 @@ answering_are s (Some p) (Serves q reply left) below c k = (
 )
 answering_are s (Some p) (Waits q delay) below c k =
     deferral_are (delay_for p.0.kind q.path s.delays) (may_defer s.exchanges.deferred) s.clock p.0
-answering_are s (Some p) (Notifies o reply) below c k = tt
+answering_are s _ _ below c k = tt
 
 -- time passes
 
@@ -212,10 +211,6 @@ responding_are : (s : Own) (d : Due) (passed : ℕ) (h : Handling) (word id : �
     → HandlingAre h → Each RespondAre (responding s d passed h word id)
 responding_are s (due.Ready a) passed (Serves q reply left) word id own k is =
     ((ready_are s a q reply left own k, response_to_are s a q reply is.1), tt)
-responding_are s (due.Ready a) passed Silent word id own k is = tt
-responding_are s (due.Ready a) passed (Replies response) word id own k is = tt
-responding_are s (due.Ready a) passed (Waits q delay) word id own k is = tt
-responding_are s (due.Ready a) passed (Notifies o reply) word id own k is = tt
 responding_are s due.Idle passed (Notifies o reply) word id own k is = (
   notice_are (by_plain s o) s.clock o (notification s.store o reply) word id
       (is.0.0, response_are reply _ None is.1 (sequence_small (s.store.holds o.path)) tt),
@@ -226,8 +221,7 @@ responding_are s due.Idle passed (Replies response) word id own k is = readies_a
 responding_are s due.Idle passed (Serves q reply left) word id own k is =
     readies_are s.clock passed (marked s.observers)
 responding_are s due.Idle passed (Waits q delay) word id own k is = readies_are s.clock passed (marked s.observers)
-responding_are s due.Copied passed h word id own k is = tt
-responding_are s due.Expired passed h word id own k is = tt
+responding_are s _ passed _ word id own k is = tt
 
 -- a call
 
@@ -257,9 +251,7 @@ waiting_left at (Some p) h ws c is k = waits_are at p.0 h ws c.0 is k
 
 waiting_then : (at : ℕ) (d : Due) (ws : List Waiting) → Each OneAre ws → Each OneAre (waiting_due at (ready_in d) ws)
 waiting_then at (due.Ready a) ws k = waited_are at a ws k
-waiting_then at due.Idle ws k = k
-waiting_then at due.Copied ws k = k
-waiting_then at due.Expired ws k = k
+waiting_then at _ ws k = k
 
 token_in : (came : Option (Asked × Message)) → CameAre came
     → IfSome (Rattle.coap_exchange.specs.AnswererSteps.asked_in came) (λ x. AreBytes x.token)
@@ -273,9 +265,6 @@ observers_then s d passed (Notifies o reply) id own k is =
     notified_are (by_plain s o) s.clock id (s.store.holds o.path) o s.observers own.observers
 observers_then s (due.Ready a) passed (Serves q reply left) id own k is =
     observers_are s.clock s.store (Some a) (Serves q reply left) s.observers (ready_are s a q reply left own k) is own.observers
-observers_then s due.Idle passed (Serves q reply left) id own k is = own.observers
-observers_then s due.Copied passed (Serves q reply left) id own k is = own.observers
-observers_then s due.Expired passed (Serves q reply left) id own k is = own.observers
 observers_then s d passed Silent id own k is = quiet_observers d
   where
     quiet_observers : (e : Due) → Each WatcherAre (observers_due s e Silent id)
@@ -297,6 +286,7 @@ observers_then s d passed (Waits q delay) id own k is = quiet_observers d
     quiet_observers due.Idle = own.observers
     quiet_observers due.Copied = own.observers
     quiet_observers due.Expired = own.observers
+observers_then s _ passed (Serves q reply left) id own k is = own.observers
 
 abbrev Leaves : Own → List E.Call → Type 0
 Leaves new calls = OwnAre new × Each RespondAre calls
@@ -327,26 +317,6 @@ call_are s (Removes now path answer left) own right range h =
       },
       tt,
     )
-call_are s (Delays path ms answer) own right range h = (
-  record {
-    szx = own.szx;
-    store = own.store;
-    uploads = own.uploads;
-    observers = own.observers;
-    waiting = own.waiting;
-  },
-  tt,
-)
-call_are s (Plains path answer) own right range h = (
-  record {
-    szx = own.szx;
-    store = own.store;
-    uploads = own.uploads;
-    observers = own.observers;
-    waiting = own.waiting;
-  },
-  tt,
-)
 call_are s (NextOut answer) own right range h = (
   record {
     szx = own.szx;
@@ -390,6 +360,17 @@ call_are s (Ticks now word below room d passed k id answer) own right range h =
       each_join RespondAre (responding t d passed k word id) (first ∷ [])
           (responding_are t d passed k word id o right.0 x) (tt, tt),
     )
+call_are s _ own right range h = (
+  record {
+    szx = own.szx;
+    store = own.store;
+    uploads = own.uploads;
+    observers = own.observers;
+    waiting =
+        own.waiting;
+  },
+  tt,
+)
 
 -- all calls
 
@@ -412,12 +393,12 @@ module _ (limits : Limits) (szx : ℕ) (small : szx ≤ 6) where
       let j = call_are s c k.0 rows.0 range.0 (each_front IncomingAre (lower s c) (lower_of limits szx t) h) in
       (j.0, each_join RespondAre (lower s c) (lower_of limits szx t) j.1 k.1)
 
-  pub server_are : (word : ℕ) (t : List Call) → ServerLaw limits szx word t → Each ChangeInRange t → (p : L.Packet)
-      → Ever (λ e. IsIn p e.out) (layer_of limits szx word t) → AreBytes p.bytes
-  server_are word t law range p h =
+  pub server_are : (setup : Setup) (t : List Call) → ServerLaw limits szx setup t → Each ChangeInRange t → (p : L.Packet)
+      → Ever (λ e. IsIn p e.out) (layer_of limits szx setup t) → AreBytes p.bytes
+  server_are setup t law range p h =
       let calls : List E.Call = lower_of limits szx t in
       let under = law.exchanges in
-      let came = all_incoming calls (came_in word calls under.rows under.left under.layer)
-      (steps_are (layer.start (layer.usual word)) under.left (W.lower_of calls) under.layer) in
+      let came = all_incoming calls (came_in setup calls under.rows under.left under.layer)
+      (steps_are (layer.start setup) under.left (W.lower_of calls) under.layer) in
       let k = all_are t law.rows range came in
-      sent_are p (layer.usual word) (W.lower_of calls) (layer_stands word calls under) (each_are calls under.rows k.1) h
+      sent_are p setup (W.lower_of calls) (layer_stands setup calls under) (each_are calls under.rows k.1) h

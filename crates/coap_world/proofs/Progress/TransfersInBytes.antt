@@ -1,10 +1,9 @@
 -- The Block options and the payloads of a client's transfers are of bytes, where the body is (RFC 7959, sections 2.2,
 -- 2.4 and 2.5).
-use Rattle.std.proofs.Common.{◌≡◌, ◌≤◌, ◌<◌, inl, inr, ℕ, ◌+◌, ◌*◌, ◌/◌, ◌^◌, min, Bool, true, false, not, ◌&&◌, nat_lt}
-use Rattle.std.proofs.Common.{nat_le, Option, Some, None, List, []}
+use Rattle.std.proofs.Common.{◌≡◌, ◌≤◌, ◌<◌, inl, inr, ℕ, ◌+◌, ◌*◌, ◌/◌, ◌^◌, min, Bool, true, false, ◌&&◌}
+use Rattle.std.proofs.Common.{nat_le, Option, Some, None, []}
 use Rattle.std.proofs.Common.{◌∷◌, length, refl, subst, cond, arith}
 use Rattle.std.specs.Prelude.{◌==◌}
-use Rattle.std.proofs.lemmas.Bool.{and_parts}
 use Rattle.std.proofs.lemmas.Bool.Decides.{nat_tests}
 use Rattle.std.proofs.Math.Nat.{div-le_self}
 use Rattle.std.proofs.Math.Pow.{pow_mono}
@@ -18,11 +17,9 @@ use Rattle.coap_types.specs.declared.option_number.TheConstants.{BLOCK1 as block
 use Rattle.coap_types.proofs.Facts.Bytes.{AreBytes-drop, AreBytes-take}
 use Rattle.coap_types.proofs.Facts.Uints.{uint_spells}
 use Rattle.coap_codec.specs.Message.{Message}
-use Rattle.coap_block.specs.declared.fetch_step.FetchRefusal.TheVariants as refusal
-use Rattle.coap_block.specs.declared.fetch_judging.TheConstants.{MAX_RESTARTS as max_restarts}
 use Rattle.coap_block.specs.declared.fetch_verdict.Verdict.{Verdict}
 use Rattle.coap_block.specs.declared.fetch_verdict.Verdict.TheVariants as verdict
-use Rattle.coap_block.specs.FetchStep.{FetchState, fits, is_sized, lacks_tag, differs, next_num, next_szx}
+use Rattle.coap_block.specs.FetchStep.{FetchState}
 use Rattle.coap_block.specs.FetchStep as F
 use Rattle.coap_block.specs.UploadStep.{UploadState, KeepsSize, block_to_send, more_follows, continues, moved}
 use Rattle.coap_client.specs.Trace.{Request, BadBlock, Valid, Failed}
@@ -34,62 +31,13 @@ use Rattle.coap_client.specs.Calls.{Next, Asks, Ends, has_tags, fetched, got, co
 use Rattle.coap_client.specs.Calls.{is_below_errors, answer}
 use Rattle.coap_client.specs.Fetching.{rest}
 use Rattle.coap_client.proofs.Facts.EachCall.{part_asks}
-use Rattle.coap_client.proofs.Facts.EachCall.{lt_not}
-use Rattle.coap_client.proofs.Facts.EachCall.{same_number}
+use Rattle.coap_client.proofs.Facts.EachCall.{AsksMore, asks_more}
 use Rattle.coap_client.proofs.Facts.EachCall.{continues_is}
 use Rattle.coap_world.proofs.Progress.SpelledInBytes.{ValuesAre, none_are}
 
 -- a number of 32 bits
 pub uint_are : (n : ℕ) → n < 2 ^ 32 → AreBytes (uint n)
 uint_are n low = (uint_spells n low).are_bytes
-
--- the block that is asked for next
-
-record AsksSmall (f : FetchState) (b : Block) (len num size : ℕ) : Type 0 where
-  full : len ≡ size_of b.szx
-  small : offset_of b.num b.szx + len ≤ f.limit
-  num_is : next_num f b ≡ num
-  size_is : next_szx f b ≡ size
-
-module _ (f : FetchState) (b : Block) (tag : Option (List ℕ)) (len : ℕ) where
-  abbrev chosen : (sized large none other more : Bool) → Verdict
-  chosen sized large none other more =
-      cond (not sized) (verdict.Refuse refusal.BadBlock)
-      (cond large (verdict.Refuse refusal.TooLarge)
-      (cond none (verdict.Refuse refusal.NoTag) (cond other (F.changed f.restarts)
-      (cond more (verdict.Ask (next_num f b) (next_szx f b)) verdict.Done))))
-
-  changed_asks : (num size : ℕ) → F.changed f.restarts ≡ verdict.Ask num size → ⊥
-  changed_asks num size h = by (nat_le max_restarts f.restarts) h
-    where
-      by : (c : Bool) → cond c (verdict.Refuse refusal.Changed) verdict.Again ≡ verdict.Ask num size → ⊥
-      by true h = cc h
-      by false h = cc h
-
-  full_by : (more : Bool) → more ≡ true → is_sized more b.num b.szx len ≡ true → len ≡ size_of b.szx
-  full_by true is h = same_number len (size_of b.szx) h
-  full_by false is h = absurd (cc is)
-
-  asks_small : (num size : ℕ) → F.verdict f (Some b) tag len ≡ verdict.Ask num size → AsksSmall f b len num size
-  asks_small num size h = by (fits f.asked b.num b.szx && is_sized b.more b.num b.szx len) refl
-      (nat_lt f.limit (offset_of b.num b.szx + len)) refl (lacks_tag b tag) (differs f tag) b.more refl h
-    where
-      by : (s : Bool) → (fits f.asked b.num b.szx && is_sized b.more b.num b.szx len) ≡ s → (l : Bool)
-          → nat_lt f.limit (offset_of b.num b.szx + len) ≡ l → (n d m : Bool) → b.more ≡ m
-          → chosen s l n d m ≡ verdict.Ask num size → AsksSmall f b len num size
-      by false a l c n d m e h = absurd (cc h)
-      by true a true c n d m e h = absurd (cc h)
-      by true a false c true d m e h = absurd (cc h)
-      by true a false c false true m e h = absurd (changed_asks num size h)
-      by true a false c false false false e h = absurd (cc h)
-      by true a false c false false true e h =
-          let k = and_parts (fits f.asked b.num b.szx) (is_sized b.more b.num b.szx len) a in
-          record {
-            full = full_by b.more e k.1;
-            small = lt_not f.limit (offset_of b.num b.szx + len) c;
-            num_is = cc h;
-            size_is = cc h;
-          }
 
 -- a block of a body has a small size
 size_small : (szx : ℕ) → size_of szx ≤ max_limit → szx ≤ 16
@@ -105,7 +53,7 @@ size_small szx h = by (nat_le szx 16) refl
 value_small : (num more szx : ℕ) → num ≤ 2097152 → more ≤ 8 → szx ≤ 16 → num * 16 + more + szx < 2 ^ 32
 value_small num more szx h m k = omega (arith, h, m, k)
 
-asked_small : (f : FetchState) (b : Block) (len num size : ℕ) → f.limit ≤ max_limit → AsksSmall f b len num size
+asked_small : (f : FetchState) (b : Block) (len num size : ℕ) → f.limit ≤ max_limit → AsksMore f b len num size
     → block_value (record { num = num; more = false; szx = size }) < 2 ^ 32
 asked_small f b len num size limit a =
     let full = a.full in
@@ -138,7 +86,7 @@ after_ask : (f : FetchState) (m : Message) (num size : ℕ) → f.limit ≤ max_
     → FetchAre (F.after f (tag_in m) m.payload (verdict.Ask num size))
 after_ask f m num size limit h =
     let k = part_asks f m num size h in
-    let a = asks_small f k.0 (tag_in m) (length m.payload) num size k.2 in
+    let a = asks_more f k.0 (tag_in m) (length m.payload) num size k.2 in
     record { limit = limit; asked = (uint_are _ (asked_small f k.0 (length m.payload) num size limit a), tt) }
 
 abbrev NextAre : Next → Type 0
@@ -224,7 +172,5 @@ RestAre (Some n) = FetchAre n.fetch
 
 pub rest_are : (sequence : ℕ) (f : FetchState) (m : Message) (v : Verdict) → f.limit ≤ max_limit → part f m ≡ v
     → RestAre (rest sequence f m v)
-rest_are sequence f m (verdict.Refuse why) limit is = tt
-rest_are sequence f m verdict.Again limit is = tt
-rest_are sequence f m verdict.Done limit is = tt
 rest_are sequence f m (verdict.Ask num size) limit is = after_ask f m num size limit is
+rest_are sequence f m _ limit is = tt

@@ -87,13 +87,7 @@ served_by s (S.Ticks now word below room due.Copied passed w id answer) h =
     none_served s (S.Ticks now word below room due.Copied passed w id answer) refl refl refl
 served_by s (S.Ticks now word below room due.Expired passed w id answer) h =
     none_served s (S.Ticks now word below room due.Expired passed w id answer) refl refl refl
-served_by s (S.Sets now path format body answer left) h = absurd h
-served_by s (S.Removes now path answer left) h = absurd h
-served_by s (S.Delays path ms answer) h = absurd h
-served_by s (S.Plains path answer) h = absurd h
-served_by s (S.Gets path answer) h = absurd h
-served_by s (S.TellsApplied answer) h = absurd h
-served_by s (S.NextOut answer) h = absurd h
+served_by s _ h = absurd h
 
 -- What is told is what was applied, and its change.
 

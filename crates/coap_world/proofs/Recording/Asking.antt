@@ -54,13 +54,7 @@ asked_is s (C.Feeds now from bytes word up settled event sent token kept) h =
     let e = effect s (C.Feeds now from bytes word up settled event sent token kept) in asked_so e e.deed token
 asked_is s (C.Ticks now word below turn sent token kept answer) h =
     let e = effect s (C.Ticks now word below turn sent token kept answer) in asked_so e e.deed token
-asked_is s (C.Calls now r answer) h = absurd h
-asked_is s (C.Observes now path answer) h = absurd h
-asked_is s (C.Cancels now number answer) h = absurd h
-asked_is s (C.Forgets number kept answer) h = absurd h
-asked_is s (C.NextOut answer) h = absurd h
-asked_is s (C.NextReport answer) h = absurd h
-asked_is s (C.Asked answer) h = absurd h
+asked_is s _ h = absurd h
 
 module _ {A : Type 0} where
   -- a datagram or a tick, and then what it sent is noted
@@ -71,8 +65,8 @@ module _ {A : Type 0} where
       ≡ noted token mid.client.own.asked (sender_in mid.senders token)) → Moves ClientLed old (c ∷ []) new
   input_moves c old mid new input step same client_is notes config t h =
       record {
-        led = subst (client.Led server_end config.client_sizes config.client_word (c ∷ t)) (sym client_is)
-            (led_client server_end config.client_sizes config.client_word t c old.client mid.client h.led step);
+        led = subst (client.Led server_end config.client_sizes config.client_setup (c ∷ t)) (sym client_is)
+            (led_client server_end config.client_sizes config.client_setup t c old.client mid.client h.led step);
         senders = λ token.
             notes token
             ∙ ap (λ (s : Senders A). noted token mid.client.own.asked (sender_in s token)) same
@@ -88,7 +82,7 @@ module _ {A : Type 0} where
       → new.senders ≡ old.senders → Moves ClientLed old (c ∷ []) new
   still_moves c old new none step same config t h =
       record {
-        led = led_client server_end config.client_sizes config.client_word t c old.client new.client h.led step;
+        led = led_client server_end config.client_sizes config.client_setup t c old.client new.client h.led step;
         senders = λ token.
             ap (λ (s : Senders A). sender_in s token) same
             ∙ h.senders token

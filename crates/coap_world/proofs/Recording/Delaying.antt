@@ -5,6 +5,7 @@ use Rattle.std.proofs.lemmas.Bool.{ltb-true}
 use Rattle.std.proofs.lemmas.List.{length-append}
 use Rattle.std.proofs.lemmas.List.Elements.{All-filter, All-push}
 use Rattle.coap_types.specs.Path.{IsPath, same_path}
+use Rattle.coap_layer.specs.declared.setup.Setup.{Setup}
 use Rattle.coap_block.specs.Sizes.{Sizes}
 use Rattle.coap_resource.specs.Limits.{Limits}
 use Rattle.coap_server.specs.Trace as T
@@ -16,21 +17,21 @@ use Rattle.coap_world.specs.Legal.{IsConfig, IsDelay}
 use Rattle.coap_world.specs.Run.Configs.{config_of}
 
 pub still_config :
-    {A X : Type 0} (client_word : ℕ) (client_sizes : Sizes) (server_word server_szx : ℕ) (limits : Limits)
+    {A X : Type 0} (client_setup : Setup) (client_sizes : Sizes) (server_setup : Setup) (server_szx : ℕ) (limits : Limits)
     (old new : List (PathDelay A))
     (plains : List (List (List ℕ))) (path : List (List ℕ)) (ms : ℕ) (r : Result Bool X)
-    → IsConfig (config_of client_word client_sizes server_word server_szx limits old plains) → IsPath path → ms < 2 ^ 64
+    → IsConfig (config_of client_setup client_sizes server_setup server_szx limits old plains) → IsPath path → ms < 2 ^ 64
     → IfOk r (λ given. (given ≡ may_delay path (delays_as old))
     × (delays_as new ≡ delays_with path ms given (delays_as old))) → OnErr r (new ≡ old)
-    → IsConfig (config_of client_word client_sizes server_word server_szx limits new plains)
+    → IsConfig (config_of client_setup client_sizes server_setup server_szx limits new plains)
 still_config cw cs sw ss limits old new plains path ms (Ok true) is p small given err =
     let room : length (others path (delays_as old)) < max_delays = ltb-true _ _ (sym given.0) in
     let long = length-append (others path (delays_as old)) (record { path = path; ms = ms } ∷ []) in
     record {
-      client_word = is.client_word;
+      client_setup = is.client_setup;
       client_szx = is.client_szx;
       client_limit = is.client_limit;
-      server_word = is.server_word;
+      server_setup = is.server_setup;
       server_szx = is.server_szx;
       some = is.some;
       limit = is.limit;
@@ -46,7 +47,7 @@ still_config cw cs sw ss limits old new plains path ms (Ok true) is p small give
     }
 still_config cw cs sw ss limits old new plains path ms (Ok false) is p small given err =
     subst (λ (ds : List T.Delay). IsConfig (record
-    { client_word = cw; client_sizes = cs; server_word = sw; server_szx = ss; limits = limits; delays = ds; plains = plains }))
+    { client_setup = cw; client_sizes = cs; server_setup = sw; server_szx = ss; limits = limits; delays = ds; plains = plains }))
     (sym given.1) is
 still_config cw cs sw ss limits old new plains path ms (Err e) is p small given err =
     subst (λ ds. IsConfig (config_of cw cs sw ss limits ds plains)) (sym err) is

@@ -12,7 +12,7 @@ use Rattle.coap_block.specs.Sizes.{Sizes}
 use Rattle.coap_client.specs.Follows.Begins.{WasSent}
 use Rattle.coap_client.specs.Law.{own_of}
 use Rattle.coap_client.specs.Follows.Order.{call_of}
-use Rattle.coap_client.specs.Own.{Operation, Calling, Registering, Fetching, Cancelling, Dropped}
+use Rattle.coap_client.specs.Own.{Operation, Calling}
 use Rattle.coap_client.specs.Own.{operation_number}
 use Rattle.coap_client.specs.Follows.Tokens.{Deregisters}
 use Rattle.coap_client.specs.Trace as C
@@ -34,10 +34,7 @@ use Rattle.coap_world.proofs.Requests.Traced.{traced, brought_in}
 
 number_of_call : (op : Operation) (k : ℕ) → call_of op ≡ Some k → operation_number op ≡ Some k
 number_of_call (Calling number r t) k is = is
-number_of_call (Registering number path) k is = cc is
-number_of_call (Fetching number) k is = cc is
-number_of_call (Cancelling number) k is = cc is
-number_of_call Dropped k is = cc is
+number_of_call _ k is = cc is
 
 noted_other : (token mine : List ℕ) (o before : Option ℕ) → same_token mine token ≡ false
     → noted token (option_map (λ (n : ℕ). record { number = n; token = mine }) o) before ≡ before
@@ -55,7 +52,7 @@ module _ (config : Config) (all : List Entry) (whole : Lawful config all) where
   one_of :
       (x y : Sending) (k : ℕ) → WasSent config.client_sizes x (client_of all)
       → WasSent config.client_sizes y (client_of all) → call_of y.operation ≡ Some k → x.token ≡ y.token → x ≡ y
-  one_of x y k sent there of token = by (client_facts.tokens server_end config.client_sizes config.client_word
+  one_of x y k sent there of token = by (client_facts.tokens server_end config.client_sizes config.client_setup
       (client_of all) whole.client x y sent there token)
     where
       by : (x ≡ y) ⊎ (Deregisters x y ⊎ Deregisters y x) → x ≡ y
@@ -111,7 +108,7 @@ module _ (config : Config) (all : List Entry) (whole : Lawful config all) where
         → sender_of config.client_sizes x.asked.token (client_of past) ≡ Some m
     is_sent m z from =
         let w : List Entry = OfServer c ∷ past in
-        let brings = (server_facts.handed config.limits config.server_szx config.server_word
+        let brings = (server_facts.handed config.limits config.server_szx config.server_setup
         (server_trace config w) law.server).0 x here in
         let k = traced config x.asked x.question w law.came from (brought_in config x.asked x.question w brings) in
         let s : Sending = k.came.sending in

@@ -5,6 +5,7 @@ use Rattle.std.proofs.lemmas.Bool.{lt-ltb, ltb-true}
 use Rattle.std.proofs.lemmas.List.{drop_more, drop_all, length-append, length-drop}
 use Rattle.std.proofs.lemmas.List.Elements.{All-push}
 use Rattle.coap_types.specs.Path.{IsPath}
+use Rattle.coap_layer.specs.declared.setup.Setup.{Setup}
 use Rattle.coap_block.specs.Sizes.{Sizes}
 use Rattle.coap_resource.specs.Limits.{Limits}
 use Rattle.coap_server.specs.Law.{own_of}
@@ -72,14 +73,14 @@ few_left ps left some within few = let long = length-drop left ps in omega (arit
 
 -- a path in range leaves the configuration in range
 
-module _ {A : Type 0} (cw : ℕ) (cs : Sizes) (sw ss : ℕ) (limits : Limits) (ds : List (PathDelay A)) where
+module _ {A : Type 0} (cw : Setup) (cs : Sizes) (sw : Setup) (ss : ℕ) (limits : Limits) (ds : List (PathDelay A)) where
   with_paths : (old new : List (List (List ℕ))) → IsConfig (config_of cw cs sw ss limits ds old) → All IsPath new
       → length new ≤ max_plains → IsConfig (config_of cw cs sw ss limits ds new)
   with_paths old new is all few = record {
-    client_word = is.client_word;
+    client_setup = is.client_setup;
     client_szx = is.client_szx;
     client_limit = is.client_limit;
-    server_word = is.server_word;
+    server_setup = is.server_setup;
     server_szx = is.server_szx;
     some = is.some;
     limit = is.limit;

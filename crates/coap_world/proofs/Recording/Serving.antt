@@ -41,10 +41,10 @@ module _ {K A : Type 0} (holding : K → Content) where
   led_on :
       (config : Config) (t : List S.Call) (c : S.Call) (old mid new : ServerEnd K A) → ServerLed holding config t old
       → server.Step (state old) c (state mid) → new.server ≡ mid.server
-      → server.Led config.limits config.server_szx config.server_word (c ∷ t) (state new)
+      → server.Led config.limits config.server_szx config.server_setup (c ∷ t) (state new)
   led_on config t c old mid new h step same =
-      subst (λ k. server.Led config.limits config.server_szx config.server_word (c ∷ t) (state_of holding k)) (sym same)
-      (led_further config.limits config.server_szx config.server_word t c (state old) (state mid) h.led step)
+      subst (λ k. server.Led config.limits config.server_szx config.server_setup (c ∷ t) (state_of holding k)) (sym same)
+      (led_further config.limits config.server_szx config.server_setup t c (state old) (state mid) h.led step)
 
   -- a call that changes nothing
   still_moves :
@@ -126,7 +126,7 @@ module _ {K A : Type 0} (holding : K → Content) where
         )
 
     pub server_told :
-        (word time : ℕ) (from : Endpoint) (bytes : List ℕ) (old mid new : ServerEnd K A) (log left : Log)
+        (word : ℕ) (time : ℕ) (from : Endpoint) (bytes : List ℕ) (old mid new : ServerEnd K A) (log left : Log)
         → IsFed holding (FeedsServer time word from bytes) false old mid
         → new.server ≡ mid.server → left ≡ lines_put
         (applied_told sender mid.server.applied (holding mid.server.store).holds) log
@@ -142,7 +142,7 @@ module _ {K A : Type 0} (holding : K → Content) where
         (input_acts d old mid new log left tt refl refl right kept same told version)
 
     pub server_untold :
-        (word time : ℕ) (from : Endpoint) (bytes : List ℕ) (old new : ServerEnd K A) (log : Log)
+        (word : ℕ) (time : ℕ) (from : Endpoint) (bytes : List ℕ) (old new : ServerEnd K A) (log : Log)
         → IsFed holding (FeedsServer time word from bytes) true old new
         → Taken (ServerLed holding) OfServer (server_lines sender) at
         (FeedsServer time word from bytes) true old log new log
@@ -340,8 +340,8 @@ module _ {K A : Type 0} (holding : K → Content) (sender : List ℕ → Option 
       let led = led_on holding config t c old mid mid h step refl in
       let change_is = changed_so holding sender at path c old mid new log said left (Removes answer) refl refl
       (λ s. refl) (λ s. refl) step says next (own_of config.limits config.server_szx t) h.led.own_is in
-      let small = (server_facts.stamped config.limits config.server_szx config.server_word (c ∷ t)
-      (led_lawful config.limits config.server_szx config.server_word (c ∷ t) (of mid) led)).0.version _ change_is in
+      let small = (server_facts.stamped config.limits config.server_szx config.server_setup (c ∷ t)
+      (led_lawful config.limits config.server_szx config.server_setup (c ∷ t) (of mid) led)).0.version _ change_is in
       let before : old.version ≡ (of old).own.store.tally.version = h.version
       ∙ sym (ap (λ (o : S.Own). o.store.tally.version) h.led.own_is
       ∙ version_is config.limits config.server_szx t h.led.rows) in

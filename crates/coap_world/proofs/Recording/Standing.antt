@@ -101,7 +101,7 @@ module _ {A K : Type 0} (content : K → Content) (config : Config) where
       record {
         events_are = st.events_are;
         made = st.made;
-        client = client_stands server_end config.client_sizes config.client_word _ a.client st.client_led.led;
-        server = led_lawful config.limits config.server_szx config.server_word _
+        client = client_stands server_end config.client_sizes config.client_setup _ a.client st.client_led.led;
+        server = led_lawful config.limits config.server_szx config.server_setup _
             (state_of content s.server) st.server_led.led;
       }

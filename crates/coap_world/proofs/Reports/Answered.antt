@@ -10,7 +10,6 @@ use Rattle.coap_codec.proofs.Facts.EveryDatagram.{one_message}
 use Rattle.coap_layer.specs.Trace as T
 use Rattle.coap_layer.specs.Trace.{with_head}
 use Rattle.coap_layer.proofs.Facts.Hops.{far_ever}
-use Rattle.coap_layer.specs.Machine.State.{usual}
 use Rattle.coap_observe.specs.Observers.{Observer}
 use Rattle.coap_exchange.specs.AnswererSteps.{content_with}
 use Rattle.coap_exchange.specs.AnswererTrace as R
@@ -35,7 +34,7 @@ module _ (config : Config) where
   -- the response that a datagram carries was made here
   abbrev CarriesAt : T.Packet → List Entry → Entry → Type 0
   CarriesAt p past (OfClient c) = ⊥
-  CarriesAt p past (OfServer c) = CarriesResponse config.limits config.server_szx config.server_word p
+  CarriesAt p past (OfServer c) = CarriesResponse config.limits config.server_szx config.server_setup p
       (server_trace config past) c
 
   none_made : (o : Observer) (ss : List Setting) → WasMade config.limits config.server_szx (map gives_it ss) o → ⊥
@@ -45,7 +44,7 @@ module _ (config : Config) where
   none_made o (PlainOf p ∷ ss) (inl h) = let here = h.made.here in cc here
 
   none_begun : (p : T.Packet) (ss : List Setting)
-      → Sometime (λ past c. CarriesResponse config.limits config.server_szx config.server_word p past c) (map gives_it ss)
+      → Sometime (λ past c. CarriesResponse config.limits config.server_szx config.server_setup p past c) (map gives_it ss)
       → ⊥
   none_begun p [] h = h
   none_begun p (s ∷ ss) (inr h) = none_begun p ss h
@@ -58,7 +57,7 @@ module _ (config : Config) where
   none_begun p (s ∷ ss) (inl (inr (inr (inr k)))) = none_made k.observer ss k.made
 
   in_entries : (p : T.Packet) (all : List Entry)
-      → Sometime (λ past c. CarriesResponse config.limits config.server_szx config.server_word p past c)
+      → Sometime (λ past c. CarriesResponse config.limits config.server_szx config.server_setup p past c)
       (server_trace config all) → Sometime (CarriesAt p) all
   in_entries p [] h = absurd (none_begun p (settings config) h)
   in_entries p (OfClient c ∷ past) h = inr (in_entries p past h)
@@ -113,12 +112,12 @@ module _ (config : Config) where
       (Ever_front (Hears server_end m) (client_adds config (client_of past) c)
       (client_layer config (client_of past)) heard) in
       let near = subst (Ever (Hears server_end m)) (sym (near_is config (e ∷ past))) layer in
-      let g = was_given (usual config.client_word) (usual config.server_word) client_end server_end m
+      let g = was_given config.client_setup config.server_setup client_end server_end m
       (hops_in config (e ∷ past)) law.channel near in
       let p : T.Packet = record { to = client_end; bytes = g.bytes } in
       let far = subst (Ever (SendsTo client_end g.bytes)) (far_is config (e ∷ past))
       (far_ever (SendsTo client_end g.bytes) (hops_in config (e ∷ past)) g.sent) in
-      elim (server_facts.gives config.limits config.server_szx config.server_word
+      elim (server_facts.gives config.limits config.server_szx config.server_setup
       (server_trace config past) law.server p far) [
         | inl none ↦ absurd (not_empty m p g.reads refl none)
         | inr made ↦ answers_in m p g.reads refl past (in_entries p past made)
@@ -128,7 +127,7 @@ module _ (config : Config) where
   answered : (past : List Entry) (c : C.Call) → Lawful config (OfClient c ∷ past) → (m : Message) → hears c ≡ Some m
       → Sometime (AnswersAt config m) past
   answered past c law m is = came_answered past c law m
-      ((client_facts.handed_up server_end config.client_sizes config.client_word
+      ((client_facts.handed_up server_end config.client_sizes config.client_setup
       (client_of (OfClient c ∷ past)) law.client).0 m is)
 
   pub all_answered : (all : List Entry) → Lawful config all → AllAnswered config all

@@ -2,7 +2,6 @@
 use Rattle.std.proofs.Common.{◌≡◌, ◌≤◌, inl, inr, ℕ, true, Some, List, [], ◌∷◌, refl, ap, sym, subst, ◌∙◌, arith}
 use Rattle.coap_types.specs.Past.{Sometime}
 use Rattle.coap_layer.specs.Channel.{near_of}
-use Rattle.coap_layer.specs.Machine.State.{usual}
 use Rattle.coap_exchange.specs.declared.answerer.Asked.{Asked}
 use Rattle.coap_exchange.specs.AnswererSteps.{asked_of}
 use Rattle.coap_client.specs.Follows.Sendings.{NoNons}
@@ -75,13 +74,13 @@ module _ (config : Config) (number : ℕ) (all : List Entry) (small : config.cli
         λ p q i j m n pb qb pm qn pi qi tp tq. one_con config number all small whole in_range k sent of p q i j m n
         pb qb pm qn pi qi (tp ∙ token) (tq ∙ token) in
         let nons = subst NoNons (sym (near_is config all))
-        (client_facts.nons server_end config.client_sizes config.client_word (client_of all)) in
+        (client_facts.nons server_end config.client_sizes config.client_setup (client_of all)) in
         let few = once_counted a (hops_in config all)
-        (up_once (usual config.client_word) (usual config.server_word) client_end server_end a from
+        (up_once config.client_setup config.server_setup client_end server_end a from
         (hops_in config all) whole.channel nons cons) in
         let same = ap (ups a) (far_is config all) in
-        let counted = counted_in config.limits config.server_szx a config.server_word t
-        (server_facts.counts config.limits config.server_szx config.server_word t whole.server) in
+        let counted = counted_in config.limits config.server_szx a config.server_setup t
+        (server_facts.counts config.limits config.server_szx config.server_setup t whole.server) in
         omega (arith, few, same, counted)
 
   -- one that is applied
@@ -103,7 +102,7 @@ module _ (config : Config) (number : ℕ) (all : List Entry) (small : config.cli
   applied_here w c later law a =
       let t : List Entry = OfServer c ∷ w in
       let b = brought_served config number all small whole in_range w c later law a.request a.here a.from in
-      let table = (server_facts.right config.limits config.server_szx config.server_word
+      let table = (server_facts.right config.limits config.server_szx config.server_setup
       (server_trace config t) law.server).0.serves a.request a.here in
       record {
         request = a.request;

@@ -68,7 +68,7 @@ module _ (config : Config) where
   asked_by past c law x here from =
       let t : List S.Call = server_trace config past in
       let w : List Entry = OfServer c ∷ past in
-      let brings = (server_facts.handed config.limits config.server_szx config.server_word (c ∷ t) law.server).0 x here
+      let brings = (server_facts.handed config.limits config.server_szx config.server_setup (c ∷ t) law.server).0 x here
       in
       let k = traced config x.asked x.question w law.came from (brought_in config x.asked x.question w brings) in
       let s : Sending = k.came.sending in

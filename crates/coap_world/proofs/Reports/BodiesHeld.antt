@@ -30,7 +30,7 @@ module _ (config : Config) (small : config.server_szx ≤ 6) where
       → (m : Message) → hears c ≡ Some m
       → m.code ≡ content → Sometime (ShownAt config m) past
   heard_shown past c law formats m heard code =
-      shown_in config m code (heard_understood server_end config.client_sizes config.client_word
+      shown_in config m code (heard_understood server_end config.client_sizes config.client_setup
       (client_of past) c law.client m heard) small past (lawful_back config past (OfClient c) law) formats
       ((all_answered config (OfClient c ∷ past) law).0 m heard)
 
@@ -73,7 +73,7 @@ module _ (config : Config) (small : config.server_szx ≤ 6) where
         let of = one_of_call config all law k.sending f.heard.sending number
         (before.sent k.sending k.sent) f.heard.sent f.heard.of_call (k.token ∙ sym f.heard.token) in
         let g = of_call config number k.sending past k.sent of in
-        let tags = server_facts.tags config.limits config.server_szx config.server_word
+        let tags = server_facts.tags config.limits config.server_szx config.server_setup
         (server_trace config all) law.server in
         let body_is : body ≡ k.held.body = body_held config.limits config.server_szx
         (server_trace config all) tags path k.held was f.parts f.message f.block body parts k.shown f.last f.whole
@@ -118,7 +118,7 @@ module _ (config : Config) (small : config.server_szx ≤ 6) where
       go (OfClient c ∷ past) law formats = (
         λ made. (
             let before = lawful_back config past (OfClient c) law in
-            let f = (client_facts.bodies server_end config.client_sizes config.client_word
+            let f = (client_facts.bodies server_end config.client_sizes config.client_setup
             (c ∷ client_of past) law.client).0 number tag format body made in
             since number tag format body past before c f (each_took number past before formats f.parts f.took) past
             (within_self config past) (heard_shown past c law formats f.message f.heard.heard f.code)),

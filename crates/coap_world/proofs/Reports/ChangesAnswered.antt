@@ -54,15 +54,7 @@ taken_here sizes t (R.Calls now r (Ok number)) law x is =
     (are_long (block_option_number r.method) (options_of r)) sizes.limit (length r.body) number (next_number sizes t) refl
     (law.0.calls now r (Ok number) refl) in
     subst (λ (z : Taken). length z.request.body ≤ sizes.limit) same short
-taken_here sizes t (R.Calls now r (Err why)) law x is = absurd (cc is)
-taken_here sizes t (R.Observes now path answer) law x is = absurd (cc is)
-taken_here sizes t (R.Cancels now number answer) law x is = absurd (cc is)
-taken_here sizes t (R.Forgets number kept answer) law x is = absurd (cc is)
-taken_here sizes t (R.Feeds now from bytes word up settled event sent token kept) law x is = absurd (cc is)
-taken_here sizes t (R.Ticks now word below turn sent token kept answer) law x is = absurd (cc is)
-taken_here sizes t (R.NextOut answer) law x is = absurd (cc is)
-taken_here sizes t (R.NextReport answer) law x is = absurd (cc is)
-taken_here sizes t (R.Asked answer) law x is = absurd (cc is)
+taken_here sizes t _ law x is = absurd (cc is)
 
 pub taken_short : (sizes : Sizes) (t : List Call) → AllTaken sizes t → (x : Taken) → WasTaken x t
     → length x.request.body ≤ sizes.limit
@@ -74,9 +66,7 @@ taken_short sizes (c ∷ t) law x (inr h) = taken_short sizes t law.1 x h
 
 no_get : (sizes : Sizes) (m : Method) (body : List ℕ) (f : _) → m ≢ Get → CarriesBody sizes m body (Fetches f) → ⊥
 no_get sizes Get body f other h = other refl
-no_get sizes Post body f other h = h
-no_get sizes Put body f other h = h
-no_get sizes Delete body f other h = h
+no_get sizes _ body f other h = h
 
 module _ (m : Message) (tr : Transfer) (gets : (f : _) → tr ≡ Fetches f → ⊥) (bad : (u : UploadState) → tr ≡ Uploads u → IsBadFor u m → ⊥) where
   none_else : (o : Transfer) → tr ≡ o → (report : Report) → is_by_answer report ≡ true
@@ -102,13 +92,7 @@ module _ (m : Message) (tr : Transfer) (gets : (f : _) → tr ≡ Fetches f → 
       by (Fetches f) e h = absurd (gets f e)
       by (Uploads u) e h = absurd (bad u e h)
       by Single e h = absurd h
-  says_code (R.Value sequence tag format body) is may = absurd (cc is)
-  says_code (R.Ended code) is may = absurd (cc is)
-  says_code R.Cancelled is may = absurd (cc is)
-  says_code R.Timeout is may = absurd (cc is)
-  says_code R.Reset is may = absurd (cc is)
-  says_code R.NoResponse is may = absurd (cc is)
-  says_code R.NoIds is may = absurd (cc is)
+  says_code _ is may = absurd (cc is)
 
 -- where a call that sends a body is
 
@@ -136,7 +120,7 @@ module _ (config : Config) (range : IsConfig config) (all : List Entry) (whole :
         let g = of_call_at config.client_sizes (client_of w)
         (client_facts.of_calls config.client_sizes (client_of w)) h.sending number h.sent h.of in
         let same : r ≡ g.request = one_request number r g.request (client_of w)
-        (client_facts.numbers server_end config.client_sizes config.client_word (client_of w) earlier.client) called g.taken in
+        (client_facts.numbers server_end config.client_sizes config.client_setup (client_of w) earlier.client) called g.taken in
         let method : g.request.method ≢ Get = subst (λ (z : R.Request). z.method ≢ Get) same other in
         let calling : Calling number h.request h.transfer ≡ Calling number (record g.request { body = [] }) g.transfer =
         sym h.operation ∙ g.operation in
@@ -155,14 +139,14 @@ module _ (config : Config) (range : IsConfig config) (all : List Entry) (whole :
         let low = range.client_szx in
         let most = range.client_limit.1 in
         let limit = taken_short config.client_sizes (client_of w)
-        (all_taken server_end config.client_sizes config.client_word (client_of w) earlier.client)
+        (all_taken server_end config.client_sizes config.client_setup (client_of w) earlier.client)
         (record { number = number; request = g.request }) g.taken in
         let body : length u.body ≤ length g.request.body = subst (λ (b : List ℕ). length u.body ≤ length b) sends.body_is
         (omega arith) in
         none_bad config number all range.client_szx whole in_range h.message h.sending (before.0 h.sending h.sent) h.token
         h.request u (h.operation ∙ ap (Calling number h.request) e) r taken (changes_of r.method other)
         (omega (arith, body, limit, most))
-        (heard_understood server_end config.client_sizes config.client_word (client_of w) c law.client h.message h.heard)
+        (heard_understood server_end config.client_sizes config.client_setup (client_of w) c law.client h.message h.heard)
         w before earlier range.server_szx sends.num (omega (arith, szx, low)) answered
         in
         record {

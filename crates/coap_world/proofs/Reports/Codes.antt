@@ -18,8 +18,7 @@ use Rattle.coap_resource.specs.declared.refusal.StoreRefusal.TheVariants as why
 use Rattle.coap_exchange.specs.AnswererTrace as E
 use Rattle.coap_client.specs.Follows.OfCalls.{CarriesBody}
 use Rattle.coap_client.specs.Follows.Order.{is_last}
-use Rattle.coap_client.specs.Own.{Transfer, Fetches, Uploads, Single, Operation, Calling, Registering}
-use Rattle.coap_client.specs.Own.{Fetching, Cancelling, Dropped}
+use Rattle.coap_client.specs.Own.{Transfer, Fetches, Uploads, Single, Operation, Calling}
 use Rattle.coap_client.specs.Reports.{is_success}
 use Rattle.coap_client.specs.Responses.{created, deleted, changed}
 use Rattle.coap_client.specs.Trace as C
@@ -44,11 +43,7 @@ applied_by Delete code = is_success Delete code
 pub succeeds_applied : (op : Operation) (code : ℕ) → Succeeds op code → is_applied code ≡ true
 succeeds_applied (Calling k r Single) code h = ap is_applied h
 succeeds_applied (Calling k r (Uploads u)) code h = elim h.1 [ inl a ↦ ap is_applied a | inr b ↦ ap is_applied b ]
-succeeds_applied (Calling k r (Fetches f)) code h = absurd h
-succeeds_applied (Registering k path) code h = absurd h
-succeeds_applied (Fetching k) code h = absurd h
-succeeds_applied (Cancelling k) code h = absurd h
-succeeds_applied Dropped code h = absurd h
+succeeds_applied _ code h = absurd h
 
 -- .. and failure of the last request of a call is not
 module _ (sizes : Sizes) (k : ℕ) (r : C.Request) (body : List ℕ) (code : ℕ) where
@@ -74,9 +69,7 @@ module _ (sizes : Sizes) (k : ℕ) (r : C.Request) (body : List ℕ) (code : ℕ
 
   of_fetch : (method : Method) (f : _) → CarriesBody sizes method body (Fetches f) → applied_by method code ≡ false
   of_fetch Get f carries = refl
-  of_fetch Post f carries = absurd carries
-  of_fetch Put f carries = absurd carries
-  of_fetch Delete f carries = absurd carries
+  of_fetch _ f carries = absurd carries
 
   pub fails_none : (method : Method) (tr : Transfer) → CarriesBody sizes method body tr → is_last (Calling k r tr) ≡ true
       → Fails (Calling k r tr) code → applied_by method code ≡ false
@@ -92,10 +85,7 @@ Right method code = is_applied code ≡ applied_by method code
 refusal_right : (method : Method) (w : StoreRefusal) → Right method codes.REQUEST_ENTITY_TOO_LARGE.0
     → Right method codes.SERVICE_UNAVAILABLE.0 → Right method (R.refusal_code w)
 refusal_right method why.TooLarge large other = large
-refusal_right method why.Memory large other = other
-refusal_right method why.TooManyPaths large other = other
-refusal_right method why.RateExceeded large other = other
-refusal_right method why.VersionsSpent large other = other
+refusal_right method _ large other = other
 
 bare_right : (method : Method) (code offset : ℕ) (r : Reply) → Right method code → r ≡ R.bare code offset
     → Right method r.code
@@ -104,10 +94,8 @@ bare_right method code offset r k is = subst (Right method) (sym (ap (λ (x : Re
 got_right : (o t : ℕ) (a b c : Bool) (tag : Option (List ℕ)) (r : Reply) → is_applied r.code ≡ false
     → is_applied (cond a (R.bare codes.NOT_ACCEPTABLE.0 o)
     (cond b (record (R.bare codes.VALID.0 o) { tag = tag }) (cond c (R.bare codes.BAD_REQUEST.0 o) r))).code ≡ false
-got_right o t true b c tag r k = refl
-got_right o t false true c tag r k = refl
-got_right o t false false true tag r k = refl
 got_right o t false false false tag r k = k
+got_right o t _ _ _ tag r k = refl
 
 module _ (old : Content) (at : ℕ) (q : Question) (reply : Reply) (left : Content) where
   get_right : (o : Option Held) → is_applied (R.got o q).code ≡ false

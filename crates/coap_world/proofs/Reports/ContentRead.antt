@@ -7,7 +7,7 @@ use Rattle.std.specs.Option.{option_map}
 use Rattle.std.proofs.Math.Nat.{div-le_of_le-mul}
 use Rattle.std.proofs.lemmas.Bool.{le-leb}
 use Rattle.std.proofs.lemmas.Nat.{pow_below}
-use Rattle.coap_types.specs.BlockValue.{block_by, block_in, block_value, more_bit}
+use Rattle.coap_types.specs.BlockValue.{block_by, block_in, block_value}
 use Rattle.coap_types.specs.OptionValues.{value_of}
 use Rattle.coap_types.specs.Piece.{size_of, Piece}
 use Rattle.coap_types.specs.Recognised.{lacks_critical, recognised}
@@ -32,6 +32,7 @@ use Rattle.coap_server.specs.Observers.{sequence_if}
 use Rattle.coap_server.specs.Responses.{response_with}
 use Rattle.coap_world.proofs.Reports.ResponseRead.{written, all_read, sequence_read, format_read, block_read}
 use Rattle.coap_world.proofs.Reports.ResponseRead.{same_block}
+use Rattle.coap_world.proofs.Progress.BlocksInRange.{bit_small}
 
 -- the payload is a part of the body: all of it without Block2, else the piece that Block2 says
 pub record IsPartOf (body : List ℕ) (m : Message) : Type 0 where
@@ -125,10 +126,6 @@ content_read m held by offset szx b more options payload part small format none 
 abbrev IsSmallBlock : Option (ℕ × Bool × ℕ) → Type 0
 IsSmallBlock o = IfSome o (λ b. (b.0 ≤ 1048575) × (b.2 ≤ 6))
 
-bit_small : (b : Bool) → more_bit b ≤ 8
-bit_small true = omega arith
-bit_small false = omega arith
-
 small_value : (num szx : ℕ) (more : Bool) → num ≤ 1048575 → szx ≤ 6
     → block_value (record { num = num; more = more; szx = szx }) < 16777216
 small_value num szx more n s = let b = bit_small more in omega (arith, n, s, b)
@@ -184,6 +181,33 @@ content_says m held by offset szx b more code options payload small low format n
       tag = ap (value_of etag) all;
       format = ap format_of all ∙ format_read tag (sequence_if b (Some held)) held.format block more format;
       part = payload;
+    }
+
+-- a notification of what is held
+pub record IsNoticeOf (held : Held) (m : Message) : Type 0 where
+  pub notification : is_notification m ≡ true
+  pub sequence : sequence_in m ≡ sequence_number held.version
+  pub tag : tag_in m ≡ Some (tag_of held.version)
+
+pub notice_read : (m : Message) (held : Held) (by : Bool) (offset szx : ℕ) → m.code ≡ content
+    → m.options ≡ (response_with (content_reply held by offset szx) (sequence_if true (Some held)) None).options
+    → IfSome held.format (λ f. f < 65536) → lacks_critical Response m.options ≡ false → IsNoticeOf held m
+notice_read m held by offset szx code options format none =
+    let block : Option ℕ = block_number (content_reply held by offset szx).block2 in
+    let tag : List ℕ = tag_of held.version in
+    let all : said m ≡ written (Some tag) (sequence_if true (Some held)) held.format block None =
+    ap (recognised Response) options ∙ all_read tag (sequence_if true (Some held)) held.format block None refl
+    (low_if true held) format (ap (lacks_critical Response) (sym options) ∙ none)
+    in
+    let observes : value_of observe (said m) ≡ Some (uint (sequence_number held.version)) =
+    ap (value_of observe) all ∙ sequence_read tag (sequence_if true (Some held)) held.format block None in
+    let note : is_notification m ≡ true =
+    ap (λ c. (c == content) && is_some (value_of observe (said m))) code
+    ∙ ap (λ v. (content == content) && is_some v) observes in
+    record {
+      notification = note;
+      sequence = numbered m true held observes note;
+      tag = ap (value_of etag) all;
     }
 
 -- the tag of a 2.03

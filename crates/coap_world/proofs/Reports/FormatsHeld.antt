@@ -110,15 +110,11 @@ module _ (limits : Limits) (szx : ℕ) where
       subst IsSmall (change_held path s.store left x h)
       (removes_small t rows.1 small (s.store.holds path) (rate_refusal s.store.tally (max s.clock now))
       (max s.clock now) path answer left rows.0)
-  change_small t (S.Delays path ms answer) rows f small x h = absurd (cc h)
-  change_small t (S.Plains path answer) rows f small x h = absurd (cc h)
   change_small t (S.Feeds now from bytes word up came w below) rows f small x h =
       serving_small t (S.Feeds now from bytes word up came w below) rows small x _ refl h h
   change_small t (S.Ticks now word below room d passed w id answer) rows f small x h =
       serving_small t (S.Ticks now word below room d passed w id answer) rows small x _ refl h h
-  change_small t (S.NextOut answer) rows f small x h = absurd (cc h)
-  change_small t (S.Gets path answer) rows f small x h = absurd (cc h)
-  change_small t (S.TellsApplied answer) rows f small x h = absurd (cc h)
+  change_small t _ rows f small x h = absurd (cc h)
 
   small_step : (t : List S.Call) (c : S.Call) → ServerRows limits szx (c ∷ t) → FormatIn c → AllSmall t
       → AllSmall (c ∷ t)

@@ -5,8 +5,8 @@ use Rattle.coap_types.specs.Past.{Always}
 use Rattle.coap_layer.specs.Trace.{Packet}
 use Rattle.coap_client.specs.Trace as C
 use Rattle.coap_server.specs.Trace as S
-use Rattle.coap_world.specs.Events.{What, Calls, Observes, Cancels, Forgets, Sets, Removes, TickClient, TickServer}
-use Rattle.coap_world.specs.Events.{Deliver, StrangerToClient}
+use Rattle.coap_world.specs.Events.{What, Sets, Removes, TickServer}
+use Rattle.coap_world.specs.Events.{Deliver}
 use Rattle.coap_world.specs.Events.{StrangerToServer}
 use Rattle.coap_world.specs.Legal.{InRange, AllLegal}
 use Rattle.coap_world.specs.Record.{Entry, OfClient, OfServer, Turn, OnClient, OnServer, IsOne, AreTicks, Makes}
@@ -70,12 +70,6 @@ ticks_in at word false (c ∷ calls) h = (tick_in at word false c h.0, each_tick
 
 module _ (past : List Turn) (at word : ℕ) (refused : Bool) (entries : List Entry) where
   in_turn : (what : What) → Makes past at word what refused entries → InRange what → FormatsIn entries
-  in_turn (Calls r) m range = on_client m.0 entries m.2
-  in_turn (Observes path) m range = on_client m.0 entries m.2
-  in_turn (Cancels number) m range = on_client m.0 entries m.2
-  in_turn (Forgets number) m range = on_client m.0 entries m.2
-  in_turn TickClient m range = on_client m.0 entries m.2
-  in_turn (StrangerToClient from bytes) m range = on_client m.0 entries m.2
   in_turn (Sets path format body) m range = on_server m.0 entries m.2
       (one_in _ refused m.0 (λ c h. subst FormatIn (sym h.2) range.1) m.1)
   in_turn (Removes path) m range = on_server m.0 entries m.2
@@ -87,6 +81,7 @@ module _ (past : List Turn) (at word : ℕ) (refused : Bool) (entries : List Ent
     | inl d ↦ on_server d.1 entries d.3 (one_in _ refused d.1 (λ c h. subst FormatIn (sym h.4) tt) d.2)
     | inr d ↦ on_client d.1 entries d.3
   ]
+  in_turn _ m range = on_client m.0 entries m.2
 
 behind : (t more : List Entry) → FormatsIn t → FormatsIn more → FormatsIn (t ++ more)
 behind [] more h k = k

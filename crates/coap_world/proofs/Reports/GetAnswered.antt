@@ -135,7 +135,7 @@ module _ (config : Config) (low : config.server_szx ≤ 6) (number : ℕ) (all :
         let t : List S.Call = server_trace config w in
         let own : S.Own = own_of config.limits config.server_szx t in
         let k = served w c later law y is r.to_client r.token_is in
-        let right = (server_facts.right config.limits config.server_szx config.server_word (c ∷ t) law.server).0.serves y
+        let right = (server_facts.right config.limits config.server_szx config.server_setup (c ∷ t) law.server).0.serves y
         is in
         let l = leaves own c y is in
         let stays : y.left ≡ y.old = get_stays (precondition_fails (y.old.holds y.question.path) y.question.options)
@@ -156,13 +156,13 @@ module _ (config : Config) (low : config.server_szx ≤ 6) (number : ℕ) (all :
         (r.payload ∙ ap (λ (z : Reply). z.part) reply)
         (szx_least (block_asked asked) config.server_szx 6 low) (starts_low asked held below short) format clear
     says_part w c later law there (continues y size is more asks r) =
-        let comes = (server_facts.blocks config.limits config.server_szx config.server_word
+        let comes = (server_facts.blocks config.limits config.server_szx config.server_setup
         (c ∷ server_trace config w) law.server).0 y is in
         let v = comes_to w c later law y.asked _ (law.came.0 y.asked _ comes.comes r.to_client) r.token_is in
         let e : Uploads comes.question comes.block ≡ Asks v.0 = v.1 in
         absurd (cc e)
     says_part w c later law there (refuses a v n comes handed none is r) =
-        let f = refused_in config.limits config.server_szx config.server_word (server_trace config w) c a n law.server handed
+        let f = refused_in config.limits config.server_szx config.server_setup (server_trace config w) c a n law.server handed
         is in
         let k = comes_to w c later law a f.verdict (law.came.0 a f.verdict f.comes r.to_client) r.token_is in
         absurd (not_refused f.uploads f.at a f.verdict k.0 f.code k.1 f.refuses_so)
@@ -180,7 +180,7 @@ module _ (config : Config) (low : config.server_szx ≤ 6) (number : ℕ) (all :
         (sym (ap (λ (a : Asked). a.token) b.origin.asked) ∙ r.token_is) in
         subst (λ z. WasSent config.client_sizes z (client_of w)) same b.before
     sent_here w c later law (continues y size is more asks r) =
-        let comes = (server_facts.blocks config.limits config.server_szx config.server_word
+        let comes = (server_facts.blocks config.limits config.server_szx config.server_setup
         (c ∷ server_trace config w) law.server).0 y is in
         came_behind w c later y.asked _ (law.came.0 y.asked _ comes.comes r.to_client) r.token_is
     sent_here w c later law (refuses a v n comes handed none is r) =

@@ -10,7 +10,7 @@ use Rattle.coap_types.specs.Past.{Sometime, Always}
 use Rattle.coap_types.specs.Path.{HoldsAtMost}
 use Rattle.coap_types.specs.Piece.{offset_of, size_of}
 use Rattle.coap_types.specs.declared.request.Method.{Method}
-use Rattle.coap_types.specs.declared.request.Method.TheVariants.{Get, Post, Put, Delete}
+use Rattle.coap_types.specs.declared.request.Method.TheVariants.{Get}
 use Rattle.coap_codec.specs.Message.{Message}
 use Rattle.coap_block.specs.FetchStep.{FetchState}
 use Rattle.coap_block.specs.Sizes.{Sizes}
@@ -79,9 +79,7 @@ fetches_it : (sizes : Sizes) (m : Method) (body : List ℕ) (t : Transfer) → m
 fetches_it sizes Get body (Fetches f) is h = (f, refl)
 fetches_it sizes Get body (Uploads u) is h = absurd h
 fetches_it sizes Get body Single is h = absurd h
-fetches_it sizes Post body t is h = absurd (cc is)
-fetches_it sizes Put body t is h = absurd (cc is)
-fetches_it sizes Delete body t is h = absurd (cc is)
+fetches_it sizes _ body t is h = absurd (cc is)
 
 module _ (config : Config) (range : IsConfig config) (all : List Entry) (whole : Lawful config all)
     (in_range : (x : Taken) → WasTaken x (client_of all) → IsRequest x.request) (x : Taken)
@@ -103,7 +101,7 @@ module _ (config : Config) (range : IsConfig config) (all : List Entry) (whole :
   -- the call is taken once
   not_again : (e : Entry) (t : List Entry) → Lawful config (e ∷ t) → TakesAt config x e → WasTaken x (client_of t) → ⊥
   not_again (OfClient c) t law here before =
-      (client_facts.numbers server_end config.client_sizes config.client_word (c ∷ client_of t) law.client).0 x.number
+      (client_facts.numbers server_end config.client_sizes config.client_setup (c ∷ client_of t) law.client).0 x.number
       (given_by x c here) (ever_given x (client_of t) before)
   not_again (OfServer c) t law here before = here
 
@@ -122,7 +120,7 @@ module _ (config : Config) (range : IsConfig config) (all : List Entry) (whole :
       let g = of_call_at config.client_sizes (client_of t)
       (client_facts.of_calls config.client_sizes (client_of t)) s x.number sent of in
       let is = one_request x.number g.request x.request (client_of all)
-      (client_facts.numbers server_end config.client_sizes config.client_word (client_of all) whole.client)
+      (client_facts.numbers server_end config.client_sizes config.client_setup (client_of all) whole.client)
       (later.2 (record { number = x.number; request = g.request }) g.taken) was in
       subst (λ (r : C.Request). WasTaken (record { number = x.number; request = r }) (client_of t)) is g.taken
 
@@ -140,8 +138,8 @@ module _ (config : Config) (range : IsConfig config) (all : List Entry) (whole :
       → (own_of config.client_sizes (client_of t)).running ≡ Some (Calling x.number r (Fetches f)) → hears c ≡ Some m
       → Asks t f m
   asks_so t c later law r f m runs heard =
-      let open_one : IsOfOpen server_end config.client_sizes config.client_word (client_of t) m =
-      (hears_of_open server_end config.client_sizes config.client_word (c ∷ client_of t) law.client).0 m heard in
+      let open_one : IsOfOpen server_end config.client_sizes config.client_setup (client_of t) m =
+      (hears_of_open server_end config.client_sizes config.client_setup (c ∷ client_of t) law.client).0 m heard in
       let k = open_one.runs in
       let s : Sending = k.sending in
       let both : Some k.operation ≡ Some (Calling x.number r (Fetches f)) = sym k.operates ∙ runs in
@@ -153,7 +151,7 @@ module _ (config : Config) (range : IsConfig config) (all : List Entry) (whole :
       let g = of_call_at config.client_sizes (client_of t)
       (client_facts.of_calls config.client_sizes (client_of t)) s x.number sent of in
       let is : g.request ≡ x.request = one_request x.number g.request x.request (client_of all)
-      (client_facts.numbers server_end config.client_sizes config.client_word (client_of all) whole.client)
+      (client_facts.numbers server_end config.client_sizes config.client_setup (client_of all) whole.client)
       ((back (OfClient c) t later).2 (record { number = x.number; request = g.request }) g.taken) was in
       let ops : Calling x.number (record g.request { body = [] }) g.transfer ≡ Calling x.number r (Fetches f) =
       sym g.operation ∙ operation in
@@ -211,10 +209,10 @@ module _ (config : Config) (range : IsConfig config) (all : List Entry) (whole :
   is_short : length held.body ≤ config.client_sizes.limit
   is_short = omega (arith, short, limits)
 
-  unchanged : (t : List C.Call) → Rattle.coap_client.specs.Law.ClientLaw server_end config.client_sizes config.client_word t
+  unchanged : (t : List C.Call) → Rattle.coap_client.specs.Law.ClientLaw server_end config.client_sizes config.client_setup t
       → HearsReplies config.client_sizes held config.server_szx x.number t
       → IsUnchanged config.client_sizes held config.server_szx x.number t
-  unchanged t law all_say = are_unchanged server_end config.client_sizes config.client_word t law held config.server_szx
+  unchanged t law all_say = are_unchanged server_end config.client_sizes config.client_setup t law held config.server_szx
       x.number is_short all_say
 
   says_here : (t : List Entry) (c : C.Call) → Later (OfClient c ∷ t) → Lawful config (OfClient c ∷ t) → Since t
@@ -228,7 +226,7 @@ module _ (config : Config) (range : IsConfig config) (all : List Entry) (whole :
       let fetches = (unchanged (client_of t) earlier.client before).fetches r f runs in
       let may = may_ask held config.server_szx f range.server_szx short_all fetches in
       answer_in f m may t k (from.0 k.sending k.sent)
-      (heard_understood server_end config.client_sizes config.client_word (client_of t) c law.client m heard) t from earlier
+      (heard_understood server_end config.client_sizes config.client_setup (client_of t) c law.client m heard) t from earlier
       (there since (taken_then t from k.sending k.sent k.of))
       ((all_answered config (OfClient c ∷ t) law).0 m heard)
     where
@@ -259,7 +257,7 @@ module _ (config : Config) (range : IsConfig config) (all : List Entry) (whole :
       let g = of_call_at config.client_sizes (client_of t)
       (client_facts.of_calls config.client_sizes (client_of t)) h.sending x.number h.sent h.of in
       let is : g.request ≡ x.request = one_request x.number g.request x.request (client_of all)
-      (client_facts.numbers server_end config.client_sizes config.client_word (client_of all) whole.client)
+      (client_facts.numbers server_end config.client_sizes config.client_setup (client_of all) whole.client)
       (from.2 (record { number = x.number; request = g.request }) g.taken) was in
       let ops : Calling x.number h.request h.transfer ≡ Calling x.number (record g.request { body = [] }) g.transfer =
       sym h.operation ∙ g.operation in
@@ -319,7 +317,7 @@ gets_held config range all whole formats in_range answering limits =
           let small = subst IsSmall (sym (last_is config t earlier.server.rows x.request.path) ∙ now)
           (formats_held config t earlier.server.rows formats x.request.path) in
           get_held config range all whole in_range x (before.2 x (since_taken config x held t since)) plain held
-          (server_facts.short config.limits config.server_szx config.server_word (server_trace config t) earlier.server
+          (server_facts.short config.limits config.server_szx config.server_setup (server_trace config t) earlier.server
           x.request.path held now) small limits t c (later x.number) law k report made since),
       go t (λ n. later_back config n all range.client_szx whole in_range (OfClient c) t (later n))
           (lawful_back config t (OfClient c) law) formats (answering_back config (client_of t) c k),

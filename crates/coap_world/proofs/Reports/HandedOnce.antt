@@ -2,6 +2,7 @@
 use Rattle.std.proofs.Common.{◌≡◌, ◌⊎◌, ◌≤◌, inl, inr, ℕ, Option, Some, List, [], ◌∷◌, ap, ◌∙◌, arith}
 use Rattle.coap_types.specs.Past.{Sometime, Always}
 use Rattle.coap_types.proofs.Facts.Traces.{Sometime_map}
+use Rattle.coap_layer.specs.declared.setup.Setup.{Setup}
 use Rattle.coap_resource.specs.Limits.{Limits}
 use Rattle.coap_exchange.specs.declared.answerer.Asked.{Asked}
 use Rattle.coap_exchange.specs.AnswererFollows.{hits, same_asked}
@@ -63,10 +64,10 @@ module _ (limits : Limits) (szx : ℕ) (a : Asked) where
   times_at_store (c ∷ t) (inl h) = let e = served_hit t c h in omega (arith, e)
   times_at_store (c ∷ t) (inr h) = let k = times_at_store t h in omega (arith, k)
 
-  pub counted_in : (word : ℕ) (t : List Call) → Counted limits szx word t
-      → times_handed limits szx a t ≤ ups a (layer_of limits szx word t)
-  counted_in word [] h = omega arith
-  counted_in word (c ∷ t) h = h.0 a
+  pub counted_in : (setup : Setup) (t : List Call) → Counted limits szx setup t
+      → times_handed limits szx a t ≤ ups a (layer_of limits szx setup t)
+  counted_in setup [] h = omega arith
+  counted_in setup (c ∷ t) h = h.0 a
 
   pub handed_once : (t : List Call) → times_handed limits szx a t ≤ 1
       → Always (λ past c. HandsIt past c → Sometime HandsIt past → ⊥) t

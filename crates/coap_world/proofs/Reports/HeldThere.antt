@@ -98,7 +98,7 @@ module _ (config : Config) where
       → call_of y.operation ≡ Some number
       → x.token ≡ y.token → call_of x.operation ≡ Some number
   one_of_call all law x y number sent there of token =
-      by (client_facts.tokens server_end config.client_sizes config.client_word
+      by (client_facts.tokens server_end config.client_sizes config.client_setup
       (client_of all) law.client x y sent there token)
     where
       by : (x ≡ y) ⊎ (Deregisters x y ⊎ Deregisters y x) → call_of x.operation ≡ Some number

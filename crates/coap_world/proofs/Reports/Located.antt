@@ -1,5 +1,5 @@
 -- Which request of the client it is that the server hands up, serves, or asks of its store.
-use Rattle.std.proofs.Common.{◌≡◌, ◌≤◌, inl, inr, ℕ, Some, None, List, [], ◌∷◌, ap, subst}
+use Rattle.std.proofs.Common.{◌≡◌, ◌≤◌, inl, inr, ℕ, Some, List, [], ◌∷◌, ap, subst}
 use Rattle.coap_types.specs.Bytes.{AreBytes}
 use Rattle.coap_types.specs.MethodCode.{method_of}
 use Rattle.coap_types.specs.Past.{Sometime}
@@ -17,7 +17,7 @@ use Rattle.coap_server.specs.Follows.Takes.{Took, took, took_by, taken_by, takes
 use Rattle.coap_block.specs.declared.block_verdict.BlockVerdict.{BlockVerdict}
 use Rattle.coap_block.specs.declared.block_verdict.BlockVerdict.TheVariants.{Refuse, Join, Done}
 use Rattle.coap_block.specs.AssemblyState.{AssemblyState}
-use Rattle.coap_server.specs.Checks.{Verdict, Ignored, Refused, Asks, Uploads, verdict_on}
+use Rattle.coap_server.specs.Checks.{Verdict, Uploads, verdict_on}
 use Rattle.coap_server.specs.Handling.{incoming, heard}
 use Rattle.coap_server.specs.Law.{own_of}
 use Rattle.coap_server.specs.Trace as S
@@ -40,24 +40,14 @@ ruled_asked Done x y h = let e : x ≡ y = cc h in ap (λ (z : Took). z.asked) e
 
 taken_asked : (uploads : AssemblyState) (at : ℕ) (a : Asked) (v : Verdict) (y : Took) → taken_by uploads at a v ≡ Some y
     → a ≡ y.asked
-taken_asked uploads at a Ignored y h = absurd (cc h)
-taken_asked uploads at a (Refused code) y h = absurd (cc h)
-taken_asked uploads at a (Asks q) y h = absurd (cc h)
 taken_asked uploads at a (Uploads q b) y h = ruled_asked (ruling_of uploads at a q b) (took a q b) y h
+taken_asked uploads at a _ y h = absurd (cc h)
 
 pub takes_handed : (s : S.Own) (c : S.Call) (y : Took) → takes_block s c ≡ Some y → hands c ≡ Some y.asked
 takes_handed s (S.Feeds now from bytes word up (Some p) h below) y is =
     ap (λ a. Some a) (taken_asked s.uploads (heard s now (incoming s now from bytes up (Some p))).clock p.0
     (verdict_on s.szx p.1) y is)
-takes_handed s (S.Feeds now from bytes word up None h below) y is = absurd (cc is)
-takes_handed s (S.Sets now path format body answer left) y is = absurd (cc is)
-takes_handed s (S.Removes now path answer left) y is = absurd (cc is)
-takes_handed s (S.Delays path ms answer) y is = absurd (cc is)
-takes_handed s (S.Plains path answer) y is = absurd (cc is)
-takes_handed s (S.Gets path answer) y is = absurd (cc is)
-takes_handed s (S.TellsApplied answer) y is = absurd (cc is)
-takes_handed s (S.Ticks now word below room d passed h id answer) y is = absurd (cc is)
-takes_handed s (S.NextOut answer) y is = absurd (cc is)
+takes_handed s _ y is = absurd (cc is)
 
 -- here the request is handed up, and its block is taken
 abbrev pub TakesIn : Config → Asked → List S.Call → S.Call → Type 0
@@ -169,6 +159,6 @@ module _ (config : Config) (number : ℕ) (all : List Entry) (small : config.cli
       → Brought x.asked x.question (OfServer c ∷ w)
   brought_served w c later law x here from =
       let t : List Entry = OfServer c ∷ w in
-      let brings = (server_facts.handed config.limits config.server_szx config.server_word
+      let brings = (server_facts.handed config.limits config.server_szx config.server_setup
       (server_trace config t) law.server).0 x here in
       brought_by x.asked x.question t later law.came from (brought_in config x.asked x.question t brings)

@@ -1,11 +1,12 @@
 -- Where another response than a success is reported, no request of the call is applied, before or after.
-use Rattle.std.proofs.Common.{◌≡◌, ◌⊎◌, ◌≤◌, inl, inr, ℕ, max, Bool, true, false, ◌&&◌, Some, None, List, [], ◌∷◌}
+use Rattle.std.proofs.Common.{◌≡◌, ◌⊎◌, ◌≤◌, inl, inr, ℕ, max, Bool, true, false, ◌&&◌, Some, List, [], ◌∷◌}
 use Rattle.std.proofs.Common.{refl, ap, sym, subst, ◌∙◌}
 use Rattle.coap_types.specs.MethodCode.{method_code, method_of}
 use Rattle.coap_types.specs.Past.{Sometime}
 use Rattle.coap_types.specs.declared.request.Method.{Method}
-use Rattle.coap_types.specs.declared.request.Method.TheVariants.{Get, Post, Put, Delete}
+use Rattle.coap_types.specs.declared.request.Method.TheVariants.{Get}
 use Rattle.coap_types.proofs.Facts.Traces.{Sometime_map}
+use Rattle.coap_layer.specs.declared.setup.Setup.{Setup}
 use Rattle.coap_resource.specs.Limits.{Limits}
 use Rattle.coap_block.specs.AssemblyState.{AssemblyState}
 use Rattle.coap_block.specs.declared.block_verdict.BlockVerdict.{BlockVerdict}
@@ -59,49 +60,37 @@ ruled ruling.Done x y code h k = cc k
 
 judged : (uploads : AssemblyState) (at : ℕ) (a : Asked) (v : Verdict) (y : Took) (code : ℕ)
     → taken_by uploads at a v ≡ Some y → refusal_of uploads at a v ≡ Some code → ⊥
-judged uploads at a Ignored y code h k = cc h
-judged uploads at a (Refused n) y code h k = cc h
-judged uploads at a (Asks q) y code h k = cc h
 judged uploads at a (Uploads q b) y code h k = ruled (ruling_of uploads at a q b) (took a q b) y code h k
+judged uploads at a _ y code h k = cc h
 
 not_both : (s : S.Own) (c : S.Call) (y : Took) (code : ℕ) → takes_block s c ≡ Some y → refusal_in s c ≡ Some code → ⊥
 not_both s (S.Feeds now from bytes word up (Some p) h below) y code t r =
     judged s.uploads (max s.clock now) p.0 (verdict_on s.szx p.1) y code t r
-not_both s (S.Feeds now from bytes word up None h below) y code t r = cc t
-not_both s (S.Sets now path format body answer left) y code t r = cc t
-not_both s (S.Removes now path answer left) y code t r = cc t
-not_both s (S.Delays path ms answer) y code t r = cc t
-not_both s (S.Plains path answer) y code t r = cc t
-not_both s (S.Gets path answer) y code t r = cc t
-not_both s (S.TellsApplied answer) y code t r = cc t
-not_both s (S.Ticks now word below room d passed h id answer) y code t r = cc t
-not_both s (S.NextOut answer) y code t r = cc t
+not_both s _ y code t r = cc t
 
 pub get_is : (m : Method) (b : Bool) → (is_get m && b) ≡ true → m ≡ Get
 get_is Get b h = refl
-get_is Post b h = absurd (cc h)
-get_is Put b h = absurd (cc h)
-get_is Delete b h = absurd (cc h)
+get_is _ b h = absurd (cc h)
 
 -- the request that is refused in a call, and what it comes to
-pub record RefusedIn (limits : Limits) (szx word : ℕ) (past : List S.Call) (c : S.Call) (a : Asked) : Type 0 where
+pub record RefusedIn (limits : Limits) (szx : ℕ) (setup : Setup) (past : List S.Call) (c : S.Call) (a : Asked) : Type 0 where
   pub verdict : Verdict
-  pub comes : Comes limits szx word past c a verdict
+  pub comes : Comes limits szx setup past c a verdict
   pub uploads : AssemblyState
   pub at : ℕ
   pub code : ℕ
   pub refuses_so : refusal_of uploads at a verdict ≡ Some code
 
-pub refused_in : (limits : Limits) (szx word : ℕ) (past : List S.Call) (c : S.Call) (a : Asked) (code : ℕ)
-    → Rattle.coap_server.specs.Law.ServerLaw limits szx word (c ∷ past)
-    → hands c ≡ Some a → refusal_in (own_of limits szx past) c ≡ Some code → RefusedIn limits szx word past c a
-refused_in limits szx word past (S.Feeds now from bytes w up (Some p) h below) a code law is refuses_so =
+pub refused_in : (limits : Limits) (szx : ℕ) (setup : Setup) (past : List S.Call) (c : S.Call) (a : Asked) (code : ℕ)
+    → Rattle.coap_server.specs.Law.ServerLaw limits szx setup (c ∷ past)
+    → hands c ≡ Some a → refusal_in (own_of limits szx past) c ≡ Some code → RefusedIn limits szx setup past c a
+refused_in limits szx setup past (S.Feeds now from bytes w up (Some p) h below) a code law is refuses_so =
     let s : S.Own = own_of limits szx past in
     let same : p.0 ≡ a = cc is in
     record {
       verdict = verdict_on szx p.1;
-      comes = subst (λ z. Comes limits szx word past (S.Feeds now from bytes w up (Some p) h below) z
-          (verdict_on szx p.1)) same (comes_here limits szx word past now from bytes w up p h below law);
+      comes = subst (λ z. Comes limits szx setup past (S.Feeds now from bytes w up (Some p) h below) z
+          (verdict_on szx p.1)) same (comes_here limits szx setup past now from bytes w up p h below law);
       uploads = s.uploads;
       at = max s.clock now;
       code = code;
@@ -109,15 +98,7 @@ refused_in limits szx word past (S.Feeds now from bytes w up (Some p) h below) a
           ∙ (ap (λ n. refusal_of s.uploads (max s.clock now) p.0 (verdict_on n p.1)) (sym (szx_is limits szx past))
           ∙ refuses_so);
     }
-refused_in limits szx word past (S.Feeds now from bytes w up None h below) a code law is refuses_so = absurd (cc is)
-refused_in limits szx word past (S.Sets now path format body answer left) a code law is refuses_so = absurd (cc is)
-refused_in limits szx word past (S.Removes now path answer left) a code law is refuses_so = absurd (cc is)
-refused_in limits szx word past (S.Delays path ms answer) a code law is refuses_so = absurd (cc is)
-refused_in limits szx word past (S.Plains path answer) a code law is refuses_so = absurd (cc is)
-refused_in limits szx word past (S.Gets path answer) a code law is refuses_so = absurd (cc is)
-refused_in limits szx word past (S.TellsApplied answer) a code law is refuses_so = absurd (cc is)
-refused_in limits szx word past (S.Ticks now w below room d passed h id answer) a code law is refuses_so = absurd (cc is)
-refused_in limits szx word past (S.NextOut answer) a code law is refuses_so = absurd (cc is)
+refused_in limits szx setup past _ a code law is refuses_so = absurd (cc is)
 
 -- what is known wherever it happens
 known_so : {E : Type 0} (P : List E → E → Type 0) (X : Type 0) → (t : List E) → Sometime (λ past e. P past e × X) t → X
@@ -154,7 +135,7 @@ module _ (config : Config) (number : ℕ) (all : List Entry) (small : config.cli
       → FailsSo code (OfClient c ∷ w)
   fails_here code w c law made =
       let t : List Entry = OfClient c ∷ w in
-      let r = (reports_codes server_end config.client_sizes config.client_word (client_of t) law.client).0.failed number
+      let r = (reports_codes server_end config.client_sizes config.client_setup (client_of t) law.client).0.failed number
       code made in
       record {
         message = r.message;
@@ -248,7 +229,7 @@ module _ (config : Config) (number : ℕ) (all : List Entry) (small : config.cli
         inl ((x, is, is_it x.asked b.verdict b.origin r.token_is), (x, is, sym r.code))
     outcome_here w c later law (continues x size is more asks r) =
         let t : List Entry = OfServer c ∷ w in
-        let k = (server_facts.blocks config.limits config.server_szx config.server_word
+        let k = (server_facts.blocks config.limits config.server_szx config.server_setup
         (server_trace config t) law.server).0 x is in
         let v : Verdict = Uploads k.question k.block in
         let o = origin_of config number all small whole in_range w (OfServer c) later x.asked v
@@ -258,7 +239,7 @@ module _ (config : Config) (number : ℕ) (all : List Entry) (small : config.cli
         absurd (cc (more, not_more))
     outcome_here w c later law (refuses b v code comes handed none is r) =
         let t : List Entry = OfServer c ∷ w in
-        let k = refused_in config.limits config.server_szx config.server_word
+        let k = refused_in config.limits config.server_szx config.server_setup
         (server_trace config w) c b code law.server handed is in
         let o = origin_of config number all small whole in_range w (OfServer c) later b k.verdict
         (law.came.0 b k.verdict k.comes r.to_client) in
@@ -310,7 +291,7 @@ module _ (config : Config) (number : ℕ) (all : List Entry) (small : config.cli
       none_served h =
           let S1 = ServesIt config.limits config.server_szx it in
           let once = served_once config.limits config.server_szx it t
-          (server_facts.served config.limits config.server_szx config.server_word t whole.server) few in
+          (server_facts.served config.limits config.server_szx config.server_setup t whole.server) few in
           let applied = Sometime_map AppliedSo (λ past c. S1 past c × AppliedSo past c)
           (λ past c k. ((a.request, k, refl), k)) t a.served in
           never (λ past c. ServedSo past c × AppliedSo past c) served_both t
@@ -343,10 +324,10 @@ module _ (config : Config) (number : ℕ) (all : List Entry) (small : config.cli
   fails_not : (code : ℕ) → FailsSo code all → Applied config number all small whole in_range all → ⊥
   fails_not code f a =
       let y : Sending = a.known.sending in
-      let same : y ≡ f.sending = same_last config.client_sizes server_end config.client_word number code f.sending y f.of
+      let same : y ≡ f.sending = same_last config.client_sizes server_end config.client_setup number code f.sending y f.of
       a.known.of_call a.known.last (client_of all)
-      (client_facts.order server_end config.client_sizes config.client_word (client_of all) whole.client)
-      (client_facts.none_after server_end config.client_sizes config.client_word (client_of all) whole.client) f.there
+      (client_facts.order server_end config.client_sizes config.client_setup (client_of all) whole.client)
+      (client_facts.none_after server_end config.client_sizes config.client_setup (client_of all) whole.client) f.there
       a.known.sent
       in
       let token : a.request.asked.token ≡ f.message.token = ap (λ (z : Asked). z.token) a.known.asked

@@ -16,7 +16,7 @@ use Rattle.coap_types.specs.declared.block.Block.{Block}
 use Rattle.coap_types.specs.declared.direction.Direction.TheVariants.{Response}
 use Rattle.coap_types.specs.declared.option_number.TheConstants.{BLOCK1 as block1}
 use Rattle.coap_types.specs.declared.request.Method.{Method}
-use Rattle.coap_types.specs.declared.request.Method.TheVariants.{Get, Post, Put, Delete}
+use Rattle.coap_types.specs.declared.request.Method.TheVariants.{Get}
 use Rattle.coap_codec.specs.Message.{Message}
 use Rattle.coap_block.specs.UploadStep.{UploadState, more_follows, block_to_send, Continues, KeepsSize, number_after}
 use Rattle.coap_exchange.specs.declared.answerer.Asked.{Asked}
@@ -54,9 +54,7 @@ use Rattle.coap_world.proofs.Uploads.Pieces.{one_request}
 
 pub changes_of : (m : Method) → m ≢ Get → Changes m
 changes_of Get h = absurd (h refl)
-changes_of Post h = tt
-changes_of Put h = tt
-changes_of Delete h = tt
+changes_of _ h = tt
 
 -- a 2.31 says its block
 
@@ -112,7 +110,7 @@ module _ (config : Config) (number : ℕ) (all : List Entry) (small : config.cli
         → Changes r.method
     same_method w later r h =
         let is = one_request number taken r (client_of all)
-        (client_facts.numbers server_end config.client_sizes config.client_word (client_of all) whole.client) was
+        (client_facts.numbers server_end config.client_sizes config.client_setup (client_of all) whole.client) was
         (later.2 (record { number = number; request = r }) h) in
         subst (λ (z : C.Request). Changes z.method) is change
 
@@ -163,7 +161,7 @@ module _ (config : Config) (number : ℕ) (all : List Entry) (small : config.cli
         → (b : Block) × (b ≡ record { num = y.part.num; more = true; szx = size }) × Continues u b
     fits w c later law y size is more asks from under =
         let before = later_back config number all small whole in_range (OfServer c) w later in
-        let comes = (server_facts.blocks config.limits config.server_szx config.server_word
+        let comes = (server_facts.blocks config.limits config.server_szx config.server_setup
         (c ∷ server_trace config w) law.server).0 y is in
         let k = law.came.0 y.asked _ comes.comes from in
         let z : Sending = k.sending in
@@ -189,7 +187,7 @@ module _ (config : Config) (number : ℕ) (all : List Entry) (small : config.cli
         ∙ ap (λ (x : Block). x.szx) block in
         let goes_on : more_follows u ≡ true = sym (ap (λ (x : Rattle.coap_block.specs.Whole.Part). x.more) part
         ∙ ap (λ (x : Block). x.more) block) ∙ more in
-        let sizes = (server_facts.continues_fits config.limits config.server_szx config.server_word
+        let sizes = (server_facts.continues_fits config.limits config.server_szx config.server_setup
         (c ∷ server_trace config w) law.server).0.sizes y size is asks in (
           record { num = y.part.num; more = true; szx = size },
           refl,
@@ -207,7 +205,7 @@ module _ (config : Config) (number : ℕ) (all : List Entry) (small : config.cli
     none_bad_here w c later law low num szx (replies y is r) (inr bad) =
         served_last w c later law y is r.to_client r.token_is bad.0
     none_bad_here w c later law low num szx (replies y is r) (inl bad) =
-        (server_facts.continues config.limits config.server_szx config.server_word (c ∷ server_trace config w)
+        (server_facts.continues config.limits config.server_szx config.server_setup (c ∷ server_trace config w)
         law.server).0 y is (sym r.code ∙ bad.0)
     none_bad_here w c later law low num szx (continues y size is more asks r) (inr bad) = bad.2 r.code
     none_bad_here w c later law low num szx (continues y size is more asks r) (inl bad) =

@@ -6,7 +6,7 @@ use Rattle.std.proofs.lemmas.Nat.{pow-add}
 use Rattle.coap_types.specs.Past.{Sometime}
 use Rattle.coap_types.specs.Piece.{size_of, offset_of, Piece}
 use Rattle.coap_types.specs.declared.request.Method.{Method}
-use Rattle.coap_types.specs.declared.request.Method.TheVariants.{Get, Post, Put, Delete}
+use Rattle.coap_types.specs.declared.request.Method.TheVariants.{Get}
 use Rattle.coap_client.specs.Follows.Bounds.{max_blocks, most_requests, requests}
 use Rattle.coap_client.specs.Trace as C
 use Rattle.coap_client.specs.Trace.{Request}
@@ -62,8 +62,7 @@ module _ (config : Config) (small : config.server_szx ≤ 6) (some : 1 ≤ confi
       let k = some_shown config m past (heard_shown config small past c law formats m h.heard.heard h.code) in
       let ends = ends_before k.held.body g.block.num g.block.szx g.block.more m.payload
       (k.shown.part.piece g.block g.says) g.more in
-      let short = was_short config.limits config.server_szx k.path k.held
-      (server_trace config past) before.server.rows k.was in
+      let short = was_short config k.path k.held (server_trace config past) before.server k.was in
       let beyond = g.beyond in
       let place = in_blocks g.block.num g.block.szx in
       let same = place.1 in
@@ -85,9 +84,7 @@ module _ (config : Config) (small : config.server_szx ≤ 6) (some : 1 ≤ confi
       → (n ≤ most_requests config.client_sizes r Get → n ≤ most_exchanges config r Get)
       → n ≤ most_exchanges config r method
   by_method r Get n few passes = passes few
-  by_method r Post n few passes = few
-  by_method r Put n few passes = few
-  by_method r Delete n few passes = few
+  by_method r _ n few passes = few
 
   within : (r : Request) (n : ℕ) → n ≤ all_passes config.client_sizes.limit → n ≤ most_exchanges config r Get
   within r n few =
@@ -105,8 +102,8 @@ module _ (config : Config) (small : config.server_szx ≤ 6) (some : 1 ≤ confi
   bounded all law formats x was =
       let t : List C.Call = client_of all in
       let n = requests config.client_sizes x.number t in
-      let few = are_bounded server_end config.client_sizes config.client_word t law.client x was in
-      elim (within_or_beyond server_end config.client_sizes config.client_word t law.client x.number) [
+      let few = are_bounded server_end config.client_sizes config.client_setup t law.client x was in
+      elim (within_or_beyond server_end config.client_sizes config.client_setup t law.client x.number) [
         | inl passes ↦ by_method x.request x.request.method n few (λ k. within x.request n passes)
         | inr more ↦ by_method x.request x.request.method n few
             (beyond x.request n (more_beyond x.number all law formats more))

@@ -16,7 +16,7 @@ module _ (config : Config) where
   pub noticed : (past : List Entry) (c : C.Call) → Lawful config (OfClient c ∷ past) → (m : Message) → notes c ≡ Some m
       → Sometime (AnswersAt config m) past
   noticed past c law m is = came_answered config past c law m
-      ((are_noted server_end config.client_sizes config.client_word (client_of (OfClient c ∷ past)) law.client).0 m is)
+      ((are_noted server_end config.client_sizes config.client_setup (client_of (OfClient c ∷ past)) law.client).0 m is)
 
   pub all_noticed : (all : List Entry) → Lawful config all → AllNoticed config all
   all_noticed [] law = tt

@@ -62,7 +62,7 @@ module _ (config : Config) where
       → WasSent config.client_sizes x (client_of w) → observation_for x.operation ≡ Some number → OfObservation number x w
   of_observation number x w law sent is =
       let k = of_at config.client_sizes (client_of w)
-      (are_of_observations config.client_sizes server_end config.client_word (client_of w) law.client) x number sent
+      (are_of_observations config.client_sizes server_end config.client_setup (client_of w) law.client) x number sent
       is in
       record { path = k.path; observed = k.taken; asks = k.asks }
 
@@ -71,7 +71,7 @@ module _ (config : Config) where
       → WasSent config.client_sizes x (client_of all) → WasSent config.client_sizes y (client_of all)
       → observation_for y.operation ≡ Some number → x.token ≡ y.token → observation_for x.operation ≡ Some number
   one_of_observation all law x y number sent there is token =
-      by (client_facts.tokens server_end config.client_sizes config.client_word
+      by (client_facts.tokens server_end config.client_sizes config.client_setup
       (client_of all) law.client x y sent there token)
     where
       by : (x ≡ y) ⊎ (Deregisters x y ⊎ Deregisters y x) → observation_for x.operation ≡ Some number

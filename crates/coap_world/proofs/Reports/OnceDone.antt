@@ -78,7 +78,7 @@ module _ (config : Config) (number : ℕ) (all : List Entry) (small : config.cli
         → Sometime (AppliesSince config number all) w
     done_here w c later law made =
         let t : List Entry = OfClient c ∷ w in
-        let r = (reports_codes server_end config.client_sizes config.client_word (client_of t) law.client).0.done number
+        let r = (reports_codes server_end config.client_sizes config.client_setup (client_of t) law.client).0.done number
         code made in
         let before = later_back config number all small whole in_range (OfClient c) w later in
         applies_in r.message r.heard.sending (before.0 r.heard.sending r.heard.sent) r.heard.of_call r.heard.token

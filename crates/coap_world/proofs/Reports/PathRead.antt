@@ -24,17 +24,13 @@ use Rattle.coap_client.specs.Own.{Transfer, Fetches, Uploads, Single}
 use Rattle.coap_client.specs.Requests.{flag_option, path_options, before_path, after_path, options_of}
 use Rattle.coap_client.specs.Requests.{block2_option, is_longer, block_option}
 use Rattle.coap_client.specs.Trace as C
+use Rattle.coap_world.proofs.Requests.OptionsKept.{rest_of}
 
 abbrev kept : List CoapOption → List CoapOption → List CoapOption
 kept before os = map (λ p. p.1) (filter (λ p. is_recognised Request p.0 p.1) (placed before os))
 
 abbrev lacking : List CoapOption → List CoapOption → Bool
 lacking before os = list_any (λ p. is_critical p.1 && not (is_recognised Request p.0 p.1)) (placed before os)
-
-rest_of : (c r k : Bool) → ((c && not r) || k) ≡ false → k ≡ false
-rest_of true true k h = h
-rest_of true false k h = absurd (cc h)
-rest_of false r k h = h
 
 not_critical : (c k : Bool) → ((c && not false) || k) ≡ false → c ≡ false
 not_critical true k h = absurd (cc h)
@@ -119,14 +115,9 @@ no_path_flag false = refl
 
 no_path_before : (m : Method) (r : C.Request) → path_of (before_path m r) ≡ []
 no_path_before Get r = no_path_run etag r.etags refl
-no_path_before Post r = path_join (map (option if_match) r.if_match) (flag_option if_none_match r.if_none_match)
-    ∙ (ap (λ l. l ++ path_of (flag_option if_none_match r.if_none_match)) (no_path_run if_match r.if_match refl)
-    ∙ no_path_flag r.if_none_match)
-no_path_before Put r = path_join (map (option if_match) r.if_match) (flag_option if_none_match r.if_none_match)
-    ∙ (ap (λ l. l ++ path_of (flag_option if_none_match r.if_none_match)) (no_path_run if_match r.if_match refl)
-    ∙ no_path_flag r.if_none_match)
-no_path_before Delete r = path_join (map (option if_match) r.if_match) (flag_option if_none_match r.if_none_match)
-    ∙ (ap (λ l. l ++ path_of (flag_option if_none_match r.if_none_match)) (no_path_run if_match r.if_match refl)
+no_path_before _ r =
+    path_join (map (option if_match) r.if_match) (flag_option if_none_match r.if_none_match) ∙ (ap
+    (λ l. l ++ path_of (flag_option if_none_match r.if_none_match)) (no_path_run if_match r.if_match refl)
     ∙ no_path_flag r.if_none_match)
 
 no_path_after : (m : Method) (r : C.Request) → path_of (after_path m r) ≡ []

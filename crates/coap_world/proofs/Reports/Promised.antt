@@ -105,19 +105,19 @@ module _ (config : Config) (events : List Event) (turns : List Turn) (run : Reco
         changes_owned = owned;
         local_right = local_right config (entries_of turns) run.server.rows;
         served_right = served config events turns run legal;
-        served_once = server_facts.served config.limits config.server_szx config.server_word s run.server;
-        attended = server_facts.attended config.limits config.server_szx config.server_word s run.server;
-        ready_served = server_facts.ready config.limits config.server_szx config.server_word s run.server;
-        first_answered = server_facts.answered config.limits config.server_szx config.server_word s run.server;
+        served_once = server_facts.served config.limits config.server_szx config.server_setup s run.server;
+        attended = server_facts.attended config.limits config.server_szx config.server_setup s run.server;
+        ready_served = server_facts.ready config.limits config.server_szx config.server_setup s run.server;
+        first_answered = server_facts.answered config.limits config.server_szx config.server_setup s run.server;
         answered = all_answered config (entries_of turns) law;
         noticed = all_noticed config (entries_of turns) law;
-        calls_taken = all_taken server_end config.client_sizes config.client_word c run.client;
-        in_order = client_facts.order server_end config.client_sizes config.client_word c run.client;
-        codes_reported = reports_codes server_end config.client_sizes config.client_word c run.client;
-        ends_reported = all_ends server_end config.client_sizes config.client_word c run.client;
-        one_number = client_facts.numbers server_end config.client_sizes config.client_word c run.client;
-        one_report = client_facts.once server_end config.client_sizes config.client_word c run.client;
-        none_after = client_facts.none_after server_end config.client_sizes config.client_word c run.client;
+        calls_taken = all_taken server_end config.client_sizes config.client_setup c run.client;
+        in_order = client_facts.order server_end config.client_sizes config.client_setup c run.client;
+        codes_reported = reports_codes server_end config.client_sizes config.client_setup c run.client;
+        ends_reported = all_ends server_end config.client_sizes config.client_setup c run.client;
+        one_number = client_facts.numbers server_end config.client_sizes config.client_setup c run.client;
+        one_report = client_facts.once server_end config.client_sizes config.client_setup c run.client;
+        none_after = client_facts.none_after server_end config.client_sizes config.client_setup c run.client;
         all_given = all_given config turns run.made run.client.rows;
       }
 

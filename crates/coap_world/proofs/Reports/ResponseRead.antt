@@ -1,16 +1,15 @@
 -- What a client reads from the options of a response is what the server wrote.
 use Rattle.std.proofs.Common.{◌≡◌, ◌<◌, ◌≤◌, ℕ, ◌+◌, ◌*◌, ◌/◌, ◌%◌, ◌^◌, ◌==◌, nat_le, nat_lt, Bool, true, false, ◌&&◌}
-use Rattle.std.proofs.Common.{◌||◌, not, Option, Some, None, List}
-use Rattle.std.proofs.Common.{[], ◌∷◌, ◌++◌, length, map, refl, ap, sym, ◌∙◌, cond, arith}
+use Rattle.std.proofs.Common.{◌||◌, Option, Some, None, List}
+use Rattle.std.proofs.Common.{[], ◌∷◌, ◌++◌, length, refl, ap, sym, ◌∙◌, cond, arith}
 use Rattle.std.specs.Prelude.{IfSome}
-use Rattle.std.specs.List.{filter, list_any}
 use Rattle.std.specs.Cmp.{unsigned_Decides}
 use Rattle.std.specs.Option.{option_map}
 use Rattle.std.proofs.lemmas.Bool.{le-leb, lt-ltb, ltb-true}
 use Rattle.coap_types.specs.BlockValue.{block_by, block_in, block_value, more_bit}
 use Rattle.coap_types.specs.CoapOption.{CoapOption}
 use Rattle.coap_types.specs.OptionValues.{option_with, uint_option, value_of}
-use Rattle.coap_types.specs.Recognised.{placed, is_recognised, is_critical, lacks_critical, recognised}
+use Rattle.coap_types.specs.Recognised.{lacks_critical, recognised}
 use Rattle.coap_types.specs.Uint.{uint, uint_value, number_of}
 use Rattle.coap_types.specs.declared.block.Block.{Block}
 use Rattle.coap_types.specs.declared.direction.Direction.TheVariants.{Response}
@@ -20,6 +19,7 @@ use Rattle.coap_types.specs.declared.option_number.TheConstants.{BLOCK2 as block
 use Rattle.coap_types.proofs.Facts.Blocks.{block_reads_back}
 use Rattle.coap_types.proofs.Facts.Uints.{few_bytes, uint_spells, uint_read}
 use Rattle.coap_resource.specs.RequestOptions.{format_of, within_16}
+use Rattle.coap_world.proofs.Requests.OptionsKept as O
 
 -- the options of a response of the store, in their order
 abbrev pub written : Option (List ℕ) → Option ℕ → Option ℕ → Option ℕ → Option ℕ → List CoapOption
@@ -27,42 +27,8 @@ written tag sequence format block more = option_with etag tag
     ++ (uint_option observe sequence ++ (uint_option content_format format
     ++ (uint_option block2 block ++ uint_option block1 more)))
 
-abbrev kept : List CoapOption → List CoapOption → List CoapOption
-kept before os = map (λ p. p.1) (filter (λ p. is_recognised Response p.0 p.1) (placed before os))
-
-abbrev lacking : List CoapOption → List CoapOption → Bool
-lacking before os = list_any (λ p. is_critical p.1 && not (is_recognised Response p.0 p.1)) (placed before os)
-
--- each elective option is recognised
 abbrev KnownElective : List CoapOption → List CoapOption → Type 0
-KnownElective before [] = Unit {0}
-KnownElective before (o ∷ os) = (is_critical o ≡ false → is_recognised Response before o ≡ true)
-    × KnownElective (before ++ o ∷ []) os
-
-rest_of : (c r k : Bool) → ((c && not r) || k) ≡ false → k ≡ false
-rest_of true true k h = h
-rest_of true false k h = absurd (cc h)
-rest_of false r k h = h
-
-known_here : (c r k : Bool) → ((c && not r) || k) ≡ false → (c ≡ false → r ≡ true) → r ≡ true
-known_here true true k h f = refl
-known_here true false k h f = absurd (cc h)
-known_here false r k h f = f refl
-
-all_kept : (before os : List CoapOption) → lacking before os ≡ false → KnownElective before os → kept before os ≡ os
-all_kept before [] none known = refl
-all_kept before (o ∷ os) none known =
-    by (is_recognised Response before o) (known_here (is_critical o) (is_recognised Response before o)
-    (lacking (before ++ o ∷ []) os) none known.0)
-    (all_kept (before ++ o ∷ []) os (rest_of (is_critical o) (is_recognised Response before o)
-    (lacking (before ++ o ∷ []) os) none) known.1)
-  where
-    by : (r : Bool) → r ≡ true → kept (before ++ o ∷ []) os ≡ os
-        → map (λ p. p.1) (cond r ((before, o) ∷ filter (λ p. is_recognised Response p.0 p.1)
-        (placed (before ++ o ∷ []) os)) (filter (λ p. is_recognised Response p.0 p.1)
-        (placed (before ++ o ∷ []) os))) ≡ o ∷ os
-    by true is ih = ap (λ l. o ∷ l) ih
-    by false is ih = absurd (cc is)
+KnownElective = O.KnownElective Response
 
 -- the elective ones have the lengths that are allowed
 
@@ -107,7 +73,7 @@ module _ (tag : List ℕ) (sequence format block more : Option ℕ) (long : leng
   os = written (Some tag) sequence format block more
 
   pub all_read : lacks_critical Response os ≡ false → recognised Response os ≡ os
-  all_read none = all_kept [] os none (all_known tag sequence format block more long low small)
+  all_read none = O.all_recognised Response os none (all_known tag sequence format block more long low small)
 
 value_behind : (number : ℕ) (block more : Option ℕ) → (block2 == number) ≡ false → (block1 == number) ≡ false
     → value_of number (uint_option block2 block ++ uint_option block1 more) ≡ None

@@ -26,8 +26,8 @@ use Rattle.coap_server.specs.Notifying.{notification, told, asks_for}
 use Rattle.coap_server.specs.Observers.{sequence_if}
 use Rattle.coap_server.specs.Responses.{response_with}
 use Rattle.coap_server.specs.Steps.{after}
-use Rattle.coap_server.specs.Trace.{Own, Silent, Replies, Serves, Waits, Notifies, Call, Sets, Removes}
-use Rattle.coap_server.specs.Trace.{Delays, Plains, Feeds, Ticks, NextOut, Gets, TellsApplied}
+use Rattle.coap_server.specs.Trace.{Own, Serves, Notifies, Call}
+use Rattle.coap_server.specs.Trace.{Feeds, Ticks}
 use Rattle.coap_server.specs.Trace as S
 use Rattle.coap_server.specs.Uploads.{last_block}
 use Rattle.coap_server.specs.Follows.Gives.{NoticeOf}
@@ -62,41 +62,12 @@ numbered s (Feeds now from bytes word up (Some p) (Serves q reply left) below) x
     of_it s _ x (record { told_it = _; is = refl }) h
 numbered s (Ticks now word below room (due.Ready a) passed (Serves q reply left) id answer) x h =
     of_it s _ x (record { told_it = _; is = refl }) h
-numbered s (Feeds now from bytes word up None h below) x e = absurd (cc e)
-numbered s (Feeds now from bytes word up (Some p) Silent below) x e = absurd (cc e)
-numbered s (Feeds now from bytes word up (Some p) (Replies r) below) x e = absurd (cc e)
-numbered s (Feeds now from bytes word up (Some p) (Waits q d) below) x e = absurd (cc e)
-numbered s (Feeds now from bytes word up (Some p) (Notifies o r) below) x e = absurd (cc e)
-numbered s (Ticks now word below room due.Idle passed h id answer) x e = absurd (cc e)
-numbered s (Ticks now word below room due.Copied passed h id answer) x e = absurd (cc e)
-numbered s (Ticks now word below room due.Expired passed h id answer) x e = absurd (cc e)
-numbered s (Ticks now word below room (due.Ready a) passed Silent id answer) x e = absurd (cc e)
-numbered s (Ticks now word below room (due.Ready a) passed (Replies r) id answer) x e = absurd (cc e)
-numbered s (Ticks now word below room (due.Ready a) passed (Waits q d) id answer) x e = absurd (cc e)
-numbered s (Ticks now word below room (due.Ready a) passed (Notifies o r) id answer) x e = absurd (cc e)
-numbered s (Sets now path format body answer left) x e = absurd (cc e)
-numbered s (Removes now path answer left) x e = absurd (cc e)
-numbered s (Delays path ms answer) x e = absurd (cc e)
-numbered s (Plains path answer) x e = absurd (cc e)
-numbered s (NextOut answer) x e = absurd (cc e)
-numbered s (Gets path answer) x e = absurd (cc e)
-numbered s (TellsApplied answer) x e = absurd (cc e)
+numbered s _ x e = absurd (cc e)
 
 -- a notification leaves what is held
 told_leaves : (s : Own) (c : Call) (p : Observer × Reply) → notice_in c ≡ Some p → (after s c).store ≡ s.store
 told_leaves s (Ticks now word below room d passed (Notifies o r) id answer) p h = refl
-told_leaves s (Ticks now word below room d passed Silent id answer) p h = absurd (cc h)
-told_leaves s (Ticks now word below room d passed (Replies r) id answer) p h = absurd (cc h)
-told_leaves s (Ticks now word below room d passed (Serves q reply left) id answer) p h = absurd (cc h)
-told_leaves s (Ticks now word below room d passed (Waits q e) id answer) p h = absurd (cc h)
-told_leaves s (Feeds now from bytes word up came h below) p e = absurd (cc e)
-told_leaves s (Sets now path format body answer left) p e = absurd (cc e)
-told_leaves s (Removes now path answer left) p e = absurd (cc e)
-told_leaves s (Delays path ms answer) p e = absurd (cc e)
-told_leaves s (Plains path answer) p e = absurd (cc e)
-told_leaves s (NextOut answer) p e = absurd (cc e)
-told_leaves s (Gets path answer) p e = absurd (cc e)
-told_leaves s (TellsApplied answer) p e = absurd (cc e)
+told_leaves s _ p h = absurd (cc h)
 
 -- the part that a notification carries
 told_part : (store : Content) (o : Observer) (held : Held) → store.holds o.path ≡ Some held
@@ -143,7 +114,7 @@ module _ (config : Config) where
         → IsResponse m x.asked.from x.asked.token (response_with x.reply x.sequence (last_block x.question))
         → ShownAt m past (OfServer c)
     by_reply x here r =
-        let right = (server_facts.right config.limits config.server_szx config.server_word (c ∷ t) law.server).0.serves x
+        let right = (server_facts.right config.limits config.server_szx config.server_setup (c ∷ t) law.server).0.serves x
         here in
         let replied : x.reply.code ≡ content = sym r.code ∙ code in
         let w = content_law x.old x.left right.0 x.question x.reply right.1 replied in

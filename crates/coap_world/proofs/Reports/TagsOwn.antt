@@ -121,9 +121,7 @@ one_of v (t ∷ ts) h = by (is_tag_of v t) refl h (one_of v ts)
 of_method : (v : ℕ) (m : Method) (r : C.Request) → etag_names v (before_path m r) ≡ true
     → Ever (λ t. t ≡ tag_of v) r.etags
 of_method v Get r h = one_of v r.etags h
-of_method v Post r h = absurd (let none = none_conditions v r in cc (h, none))
-of_method v Put r h = absurd (let none = none_conditions v r in cc (h, none))
-of_method v Delete r h = absurd (let none = none_conditions v r in cc (h, none))
+of_method v _ r h = absurd (let none = none_conditions v r in cc (h, none))
 
 pub own_tag : (v : ℕ) (r : C.Request) (t : Transfer) → etag_names v (options_of r ++ block_option t) ≡ true
     → Ever (λ t. t ≡ tag_of v) r.etags

@@ -58,10 +58,10 @@ module _ (config : Config) where
       go (OfClient c ∷ past) law = (
         λ made. (
             let before = lawful_back config past (OfClient c) law in
-            let f = (client_facts.valid server_end config.client_sizes config.client_word
+            let f = (client_facts.valid server_end config.client_sizes config.client_setup
             (c ∷ client_of past) law.client).0 number tag made in
             since number tag past before c f past (within_self config past)
-            (named_in config f.message f.code (heard_understood server_end config.client_sizes config.client_word
+            (named_in config f.message f.code (heard_understood server_end config.client_sizes config.client_setup
             (client_of past) c law.client f.message f.heard.heard) past before
             ((all_answered config (OfClient c ∷ past) law).0 f.message f.heard.heard))),
         go past (lawful_back config past (OfClient c) law),

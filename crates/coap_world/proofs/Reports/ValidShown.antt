@@ -64,7 +64,7 @@ module _ (config : Config) where
         → IsResponse m x.asked.from x.asked.token (response_with x.reply x.sequence (last_block x.question))
         → NamedAt m past (OfServer c)
     by_reply x here r =
-        let right = (server_facts.right config.limits config.server_szx config.server_word (c ∷ t) law.server).0.serves x
+        let right = (server_facts.right config.limits config.server_szx config.server_setup (c ∷ t) law.server).0.serves x
         here in
         let w = valid_law x.old x.left right.0 x.question x.reply right.1 (sym r.code ∙ code) in
         let l = leaves own c x here in

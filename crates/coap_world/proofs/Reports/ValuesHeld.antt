@@ -99,7 +99,7 @@ module _ (config : Config) (small : config.server_szx ≤ 6) where
         let mine = one_of_observation config all law k.sending x number (before.sent k.sending k.sent) sent of
         (k.token ∙ sym token) in
         let g = of_observation config number k.sending past (lawful_back config past e here) k.sent mine in
-        let tags = server_facts.tags config.limits config.server_szx config.server_word
+        let tags = server_facts.tags config.limits config.server_szx config.server_setup
         (server_trace config all) law.server in
         let body_is : body ≡ k.held.body = body_held config.limits config.server_szx
         (server_trace config all) tags path k.held was f.parts f.last f.block body parts k.shown f.comes_last
@@ -156,7 +156,7 @@ module _ (config : Config) (small : config.server_szx ≤ 6) where
         → Sometime (ValueSince config number sequence tag format body) past
     by_more b =
         let t = server_trace config past in
-        let tags = server_facts.tags config.limits config.server_szx config.server_word t before.server in
+        let tags = server_facts.tags config.limits config.server_szx config.server_setup t before.server in
         let k = first_shown number f.first (OfClient c ∷ past) taken in
         let begins = part_held config.limits config.server_szx t b.part f.first.message k.path k.held b.begins k.was
         k.shown in
@@ -193,7 +193,7 @@ module _ (config : Config) (small : config.server_szx ≤ 6) where
       )
       go (OfClient c ∷ past) law formats = (
         λ made. value_held number sequence tag format body past c law formats
-            ((values_are_whole config.client_sizes server_end config.client_word (c ∷ client_of past) law.client).0 number
+            ((values_are_whole config.client_sizes server_end config.client_setup (c ∷ client_of past) law.client).0 number
             sequence tag format body made),
         go past (lawful_back config past (OfClient c) law) formats,
       )

@@ -30,7 +30,7 @@ notification_code m h = by (m.code == content) refl h
     by true e h = (unsigned_Decides m.code content).0 e
     by false e h = absurd (cc h)
 
-newly_number : (number : ℕ) (n : Newly) (o : Option Newly) → o ≡ Some n → is_newly_of number o ≡ true
+pub newly_number : (number : ℕ) (n : Newly) (o : Option Newly) → o ≡ Some n → is_newly_of number o ≡ true
     → n.number ≡ number
 newly_number number n None is h = absurd (cc is)
 newly_number number n (Some x) is h = let same : x
@@ -53,7 +53,7 @@ module _ (config : Config) (small : config.server_szx ≤ 6) where
   noted_shown : (past : List Entry) (c : C.Call) → Lawful config (OfClient c ∷ past) → FormatsIn past → (m : Message)
       → notes c ≡ Some m → m.code ≡ content → Sometime (ShownAt config m) past
   noted_shown past c law formats m noted code =
-      shown_in config m code (noted_understood server_end config.client_sizes config.client_word
+      shown_in config m code (noted_understood server_end config.client_sizes config.client_setup
       (client_of past) c law.client m noted) small past (lawful_back config past (OfClient c) law) formats
       (noticed config past c law m noted)
 
@@ -61,7 +61,7 @@ module _ (config : Config) (small : config.server_szx ≤ 6) where
       → FormatsIn past → notifies (own_of config.client_sizes (client_of past)) c ≡ Some n → n.number ≡ number
       → TakesFirst number n past c
   taken_shown number n past c law formats is of =
-      let k = (are_taken server_end config.client_sizes config.client_word (client_of (OfClient c ∷ past)) law.client).0 n
+      let k = (are_taken server_end config.client_sizes config.client_setup (client_of (OfClient c ∷ past)) law.client).0 n
       is in
       let code = notification_code n.message k.notification in
       record {

@@ -1,59 +1,20 @@
--- A server that ignores or refuses a request with an option that is critical and not recognised reads all options of
--- the request of a PUT, a POST or a DELETE.
+-- A server recognises each elective option of a PUT, a POST or a DELETE.
 use Rattle.std.proofs.Common.{◌≡◌, ◌<◌, ℕ, ◌%◌, ◌==◌, nat_le, Bool, true, false, ◌&&◌, ◌||◌, not, Option, Some, None}
-use Rattle.std.proofs.Common.{List, [], ◌∷◌, ◌++◌, length, map, refl, ap, cond, arith}
+use Rattle.std.proofs.Common.{List, [], ◌∷◌, ◌++◌, length, map, refl, ap, arith}
 use Rattle.std.specs.Prelude.{IfSome}
-use Rattle.std.specs.List.{filter, list_any}
 use Rattle.std.proofs.lemmas.Bool.{le-leb}
 use Rattle.std.proofs.lemmas.Bool.Decides.{nat_tests}
 use Rattle.coap_types.specs.CoapOption.{CoapOption, option}
 use Rattle.coap_types.specs.OptionValues.{uint_option}
-use Rattle.coap_types.specs.Recognised.{placed, is_recognised, is_critical, has_number, lacks_critical, recognised}
+use Rattle.coap_types.specs.Recognised.{is_critical, has_number}
 use Rattle.coap_types.specs.Uint.{uint}
 use Rattle.coap_types.specs.declared.direction.Direction.TheVariants.{Request}
 use Rattle.coap_types.specs.declared.option_number.TheConstants.{CONTENT_FORMAT as content_format}
 use Rattle.coap_types.proofs.Facts.Uints.{few_bytes, uint_spells}
+use Rattle.coap_world.proofs.Requests.OptionsKept as O
 
-abbrev kept : List CoapOption → List CoapOption → List CoapOption
-kept before os = map (λ p. p.1) (filter (λ p. is_recognised Request p.0 p.1) (placed before os))
-
-abbrev pub lacking : List CoapOption → List CoapOption → Bool
-lacking before os = list_any (λ p. is_critical p.1 && not (is_recognised Request p.0 p.1)) (placed before os)
-
--- each elective option is recognised
 abbrev pub KnownElective : List CoapOption → List CoapOption → Type 0
-KnownElective before [] = Unit {0}
-KnownElective before (o ∷ os) = (is_critical o ≡ false → is_recognised Request before o ≡ true)
-    × KnownElective (before ++ o ∷ []) os
-
-rest_of : (c r k : Bool) → ((c && not r) || k) ≡ false → k ≡ false
-rest_of true true k h = h
-rest_of true false k h = absurd (cc h)
-rest_of false r k h = h
-
-known_here : (c r k : Bool) → ((c && not r) || k) ≡ false → (c ≡ false → r ≡ true) → r ≡ true
-known_here true true k h f = refl
-known_here true false k h f = absurd (cc h)
-known_here false r k h f = f refl
-
-all_kept : (before os : List CoapOption) → lacking before os ≡ false → KnownElective before os → kept before os ≡ os
-all_kept before [] none known = refl
-all_kept before (o ∷ os) none known =
-    by (is_recognised Request before o) (known_here (is_critical o) (is_recognised Request before o)
-    (lacking (before ++ o ∷ []) os) none known.0)
-    (all_kept (before ++ o ∷ []) os (rest_of (is_critical o) (is_recognised Request before o)
-    (lacking (before ++ o ∷ []) os) none) known.1)
-  where
-    by : (r : Bool) → r ≡ true → kept (before ++ o ∷ []) os ≡ os
-        → map (λ p. p.1) (cond r ((before, o) ∷ filter (λ p. is_recognised Request p.0 p.1)
-        (placed (before ++ o ∷ []) os)) (filter (λ p. is_recognised Request p.0 p.1)
-        (placed (before ++ o ∷ []) os))) ≡ o ∷ os
-    by true is ih = ap (λ l. o ∷ l) ih
-    by false is ih = absurd (cc is)
-
-pub all_recognised : (os : List CoapOption) → lacks_critical Request os ≡ false → KnownElective [] os
-    → recognised Request os ≡ os
-all_recognised os none known = all_kept [] os none known
+KnownElective = O.KnownElective Request
 
 -- options one behind the other
 

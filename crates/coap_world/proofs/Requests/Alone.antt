@@ -10,7 +10,7 @@ use Rattle.coap_types.specs.Piece.{size_of, part_of, Begins}
 use Rattle.coap_types.specs.Uint.{uint}
 use Rattle.coap_types.specs.declared.option_number.TheConstants.{BLOCK1 as block1}
 use Rattle.coap_types.specs.declared.request.Method.{Method}
-use Rattle.coap_types.specs.declared.request.Method.TheVariants.{Get, Post, Put, Delete}
+use Rattle.coap_types.specs.declared.request.Method.TheVariants.{Delete}
 use Rattle.coap_types.proofs.Facts.Uints.{uint_read}
 use Rattle.coap_block.specs.Sizes.{Sizes}
 use Rattle.coap_codec.specs.Message.{Message}
@@ -92,10 +92,8 @@ fits : (s l : ℕ) → nat_lt s l ≡ false → l ≤ s
 fits s l h = grind (arith, nat_tests, h)
 
 single_is : (sizes : Sizes) (m : Method) (body : List ℕ) → CarriesBody sizes m body Single → m ≡ Delete
-single_is sizes Get body h = absurd h
-single_is sizes Post body h = absurd h
-single_is sizes Put body h = absurd h
 single_is sizes Delete body h = refl
+single_is sizes _ body h = absurd h
 
 module _ (config : Config) (number : ℕ) (all : List Entry) (small : config.client_sizes.szx ≤ 6) (whole : Lawful config all)
     (in_range : (x : Taken) → WasTaken x (client_of all) → IsRequest x.request) (w : List Entry)
@@ -152,7 +150,7 @@ module _ (config : Config) (number : ℕ) (all : List Entry) (small : config.cli
           (subst (CarriesBody config.client_sizes k.request.method k.request.body) e k.carries) in
           let few = fits (size_of u.szx) (length u.body) short in
           let begins = begins_at config.client_sizes (client_of all)
-          (client_facts.pieces server_end config.client_sizes config.client_word (client_of all) whole.client)
+          (client_facts.pieces server_end config.client_sizes config.client_setup (client_of all) whole.client)
           k.sending number u k.sent
           (ap carried k.operation ∙ ap (λ t. carried (Calling number (record k.request { body = [] }) t)) e)
           in

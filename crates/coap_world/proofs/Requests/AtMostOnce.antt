@@ -6,7 +6,6 @@ use Rattle.coap_types.specs.Past.{Ever, Sometime, Always}
 use Rattle.coap_codec.specs.Message.{Message, Spells}
 use Rattle.coap_layer.specs.Channel.{near_of}
 use Rattle.coap_layer.specs.Words.{Open, begun}
-use Rattle.coap_layer.specs.Machine.State.{usual}
 use Rattle.coap_exchange.specs.declared.answerer.Asked.{Asked}
 use Rattle.coap_exchange.specs.AnswererFollows.{hits, same_asked}
 use Rattle.coap_exchange.specs.AnswererSteps.{asked_of}
@@ -55,7 +54,7 @@ module _ (config : Config) (number : ℕ) (all : List Entry) (small : config.cli
       → OneConBy k.token (near_of (hops_in config all))
   one_con k sent of a b i j x y ab bb sa sb ia ib ta tb =
       let near = near_is config all in
-      by (client_facts.one_con server_end config.client_sizes config.client_word (client_of all) whole.client a b
+      by (client_facts.one_con server_end config.client_sizes config.client_setup (client_of all) whole.client a b
       (subst (Ever (λ e. begun e ≡ Some a)) near i) (subst (Ever (λ e. begun e ≡ Some b)) near j) x y ab bb sa sb
       (ta ∙ sym tb))
     where
@@ -68,7 +67,7 @@ module _ (config : Config) (number : ℕ) (all : List Entry) (small : config.cli
   -- so two are one request: only the last of a call can be applied
   same_asked_by : (v w : List Entry) (x y : Serving) → Knows v x → Knows w y → x.asked ≡ y.asked
   same_asked_by v w x y k l =
-      let s : k.sending ≡ l.sending = client_facts.one_last server_end config.client_sizes config.client_word
+      let s : k.sending ≡ l.sending = client_facts.one_last server_end config.client_sizes config.client_setup
       (client_of all) whole.client k.sending l.sending number k.sent l.sent k.of_call l.of_call k.last l.last in
       let c : k.con ≡ l.con =
       one_con l.sending l.sent l.of_call k.con l.con k.begun_there l.begun_there (request_of k.con.id k.sending)
@@ -116,16 +115,16 @@ module _ (config : Config) (number : ℕ) (all : List Entry) (small : config.cli
       let k : Knows (e ∷ past) x = known config number all small whole in_range past c later law a in
       let before = served_before (e ∷ past) x k past (later_back config number all small whole in_range e past later)
       (lawful_back config past e law) h in
-      let fewer = (server_facts.served config.limits config.server_szx config.server_word t law.server).0 x a.here in
-      let counted = (server_facts.counts config.limits config.server_szx config.server_word t law.server).0 x.asked in
+      let fewer = (server_facts.served config.limits config.server_szx config.server_setup t law.server).0 x a.here in
+      let counted = (server_facts.counts config.limits config.server_szx config.server_setup t law.server).0 x.asked in
       let token : x.asked.token ≡ k.sending.token = ap (λ (z : Asked). z.token) k.asked in
       let cons : OneConBy x.asked.token (near_of (hops_in config (e ∷ past))) = λ p q i j m n pb qb pm qn pi qi tp tq.
       one_con k.sending k.sent k.of_call p q (later.1 p i) (later.1 q j) m n pb qb pm qn pi qi (tp ∙ token) (tq ∙ token)
       in
       let nons = subst NoNons (sym (near_is config (e ∷ past)))
-      (client_facts.nons server_end config.client_sizes config.client_word (client_of past)) in
+      (client_facts.nons server_end config.client_sizes config.client_setup (client_of past)) in
       let few = once_counted x.asked (hops_in config (e ∷ past))
-      (up_once (usual config.client_word) (usual config.server_word) client_end server_end x.asked a.from
+      (up_once config.client_setup config.server_setup client_end server_end x.asked a.from
       (hops_in config (e ∷ past)) law.channel nons cons) in
       let same = ap (ups x.asked) (far_is config (e ∷ past)) in
       omega (arith, before, fewer, counted, few, same)

@@ -28,7 +28,7 @@ use Rattle.coap_world.proofs.Requests.OfACall.{method_asked, Lawful, lawful_back
 use Rattle.coap_world.proofs.Requests.Traced.{Traced, traced, brought_in}
 
 -- what is sent for no call is a GET
-get_at : (sizes : Sizes) (t : List C.Call) → OthersAreGets sizes t → (x : Sending) → WasSent sizes x t
+pub get_at : (sizes : Sizes) (t : List C.Call) → OthersAreGets sizes t → (x : Sending) → WasSent sizes x t
     → call_of x.operation ≡ None → x.request.code ≡ (method_code Get).0
 get_at sizes [] law x h none = absurd h
 get_at sizes (c ∷ t) law x (inl h) none = law.0 x h none
@@ -56,7 +56,7 @@ module _ (config : Config) (all : List Entry) where
         (client_facts.others config.client_sizes (client_of past)) s k.sent none in
         let methods : Some x.question.method ≡ Some Get = sym method ∙ (ap method_of code ∙ method_is Get) in
         let get : x.question.method ≡ Get = cc methods in
-        let right = (server_facts.right config.limits config.server_szx config.server_word
+        let right = (server_facts.right config.limits config.server_szx config.server_setup
         (server_trace config (OfServer c ∷ past)) law.server).0.applied x here applied in
         subst (λ n. Does n x.question x.old x.left) get right.does
 
@@ -75,7 +75,7 @@ module _ (config : Config) (all : List Entry) where
   belongs_in (OfServer c ∷ past) later law = (
     λ x here applied from. (
         let w : List Entry = OfServer c ∷ past in
-        let brings = (server_facts.handed config.limits config.server_szx config.server_word
+        let brings = (server_facts.handed config.limits config.server_szx config.server_setup
         (server_trace config w) law.server).0 x here in
         let k = traced config x.asked x.question w law.came from (brought_in config x.asked x.question w brings) in
         belongs_by past c later law x here applied k (call_of k.came.sending.operation) refl),

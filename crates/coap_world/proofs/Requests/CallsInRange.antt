@@ -9,8 +9,8 @@ use Rattle.coap_client.specs.Trace as C
 use Rattle.coap_client.specs.Trace.{Request}
 use Rattle.coap_client.specs.Follows.Words.{Taken, takes, WasTaken}
 use Rattle.coap_server.specs.Trace as S
-use Rattle.coap_world.specs.Events.{What, Calls, Observes, Cancels, Forgets, Sets, Removes, TickClient, TickServer}
-use Rattle.coap_world.specs.Events.{Deliver, StrangerToClient, StrangerToServer}
+use Rattle.coap_world.specs.Events.{What, Calls, Observes, Cancels, Forgets, TickClient}
+use Rattle.coap_world.specs.Events.{Deliver, StrangerToClient}
 use Rattle.coap_world.specs.Legal.{IsRequest, InRange, AllLegal}
 use Rattle.coap_world.specs.Record.{Entry, OfClient, OfServer, Turn, OnClient, OnServer, Makes, ClientTick, client_of}
 use Rattle.coap_world.specs.Record.{entries_of}
@@ -98,10 +98,7 @@ module _ (past : List Turn) (at word : ℕ) (refused : Bool) (entries : List Ent
     | inr d ↦ (let k = one_call _ _ refused d.1 d.2 (in_calls op d.1 entries d.3 h) in absurd
         (cc (ap takes k.1.6, k.2)))
   ]
-  in_turn (Sets path format body) m range h = absurd (never_there op m.0 entries m.2 h)
-  in_turn (Removes path) m range h = absurd (never_there op m.0 entries m.2 h)
-  in_turn TickServer m range h = absurd (never_there op m.0 entries m.2 h)
-  in_turn (StrangerToServer from b) m range h = absurd (never_there op m.0 entries m.2 h)
+  in_turn _ m range h = absurd (never_there op m.0 entries m.2 h)
 
 taken_in : (op : Taken) (turns : List Turn) → Always
     (λ past t. Makes past t.event.at t.event.word t.event.what t.refused t.entries) turns → AllLegal turns

@@ -29,7 +29,6 @@ use Rattle.coap_world.specs.Record.{Entry, OfClient, OfServer, client_of, server
 use Rattle.coap_world.proofs.Delivery.HopsAreEntries.{near_far, near_is, server_next}
 use Rattle.coap_layer.specs.Trace as T
 use Rattle.coap_layer.specs.declared.setup.Setup.{Setup}
-use Rattle.coap_layer.specs.Machine.State.{usual}
 use Rattle.coap_server.specs.Trace as S
 use Rattle.coap_client.proofs.Facts.Laws as client_facts
 
@@ -177,11 +176,11 @@ same_request con m x r are s id =
 
 module _ (config : Config) where
   abbrev pub FromClient : List Entry → Type 0
-  FromClient t = ClientLaw server_end config.client_sizes config.client_word (client_of t)
+  FromClient t = ClientLaw server_end config.client_sizes config.client_setup (client_of t)
 
   -- what a call of the server hands up is in the entries that it adds
   pub handed_there : (past : List S.Call) (c : S.Call) (a : Asked) (v : Verdict)
-      → Comes config.limits config.server_szx config.server_word past c a v
+      → Comes config.limits config.server_szx config.server_setup past c a v
       → Ever (HandsUp config.server_szx a v) (server_adds config past c)
   handed_there past c a v k = subst (Ever (HandsUp config.server_szx a v))
       (same_front k.news (server_adds config past c) _ (sym k.is ∙ server_next config past c)) k.here
@@ -191,7 +190,7 @@ module _ (config : Config) where
 
   pub came_here : (past : List Entry) (c : S.Call) → IsChannel config (OfServer c ∷ past) → FromClient past
       → (a : Asked) (v : Verdict)
-      → Comes config.limits config.server_szx config.server_word (server_trace config past) c a v → a.from ≡ client_end
+      → Comes config.limits config.server_szx config.server_setup (server_trace config past) c a v → a.from ≡ client_end
       → CameFrom config past (OfServer c) a v
   came_here past c law own a v up from =
       let adds : List T.Entry = server_adds config (server_trace config past) c in
@@ -206,13 +205,13 @@ module _ (config : Config) where
       }) adds
       (handed_there (server_trace config past) c a v up)
       in
-      let nons_past = client_facts.nons server_end config.client_sizes config.client_word (client_of past) in
+      let nons_past = client_facts.nons server_end config.client_sizes config.client_setup (client_of past) in
       let none = subst NoNons (sym (near_far adds (hops_in config past) ∙ near_is config past)) nons_past in
-      let k = find_at (usual config.client_word) (usual config.server_word) client_end server_end (Says v) a from adds
+      let k = find_at config.client_setup config.server_setup client_end server_end (Says v) a from adds
       (hops_in config past) law none ups in
       let f = k.0 in
       let there = subst (Ever (λ b. begun b ≡ Some f.con)) (near_far adds (hops_in config past)) f.begun_before in
-      let r = client_facts.begins server_end config.client_sizes config.client_word (client_of past) own f.con
+      let r = client_facts.begins server_end config.client_sizes config.client_setup (client_of past) own f.con
       (subst (Ever (λ b. begun b ≡ Some f.con)) (near_is config past) there) in
       let same = same_request f.con f.message r.0 r.2 f.are_bytes f.spells f.id in
       record {
@@ -232,12 +231,12 @@ module _ (config : Config) where
   came_from [] law own = tt
   came_from (OfClient c ∷ past) law own = (
     λ a v comes from. absurd comes,
-    came_from past (channel_back (usual config.client_word) (usual config.server_word) client_end server_end
+    came_from past (channel_back config.client_setup config.server_setup client_end server_end
         (hops_at config past (OfClient c)) (hops_in config past) law)
-        (client_facts.back server_end config.client_sizes config.client_word (c ∷ []) (client_of past) own),
+        (client_facts.back server_end config.client_sizes config.client_setup (c ∷ []) (client_of past) own),
   )
   came_from (OfServer c ∷ past) law own = (
     λ a v comes from. came_here past c law own a v comes from,
-    came_from past (channel_back (usual config.client_word) (usual config.server_word) client_end server_end
+    came_from past (channel_back config.client_setup config.server_setup client_end server_end
         (hops_at config past (OfServer c)) (hops_in config past) law) own,
   )

@@ -42,8 +42,9 @@ use Rattle.coap_server.specs.Follows.Table.{HasNoFault}
 use Rattle.coap_server.specs.Observers.{is_get, is_number, observes}
 use Rattle.coap_server.proofs.Facts.Laws as server_facts
 use Rattle.coap_world.proofs.Reports.PathRead.{path_of_fetch}
-use Rattle.coap_world.proofs.Requests.AllRecognised.{KnownElective, all_recognised, critical_known, has_more}
-use Rattle.coap_world.proofs.Requests.AllRecognised.{lacking, run_known, zero_least}
+use Rattle.coap_world.proofs.Requests.AllRecognised.{KnownElective, critical_known, has_more}
+use Rattle.coap_world.proofs.Requests.AllRecognised.{run_known, zero_least}
+use Rattle.coap_world.proofs.Requests.OptionsKept.{lacking, all_recognised}
 use Rattle.coap_world.proofs.Requests.ReadBack.{value_over}
 
 -- the options of such a GET
@@ -103,16 +104,16 @@ block_known a h before none =
     (le-leb (length (uint n)) 3 (few_bytes (uint n) n 3 (uint_spells n (omega (arith, low))) low))
 
 block_fits : (asked : Option Asked) → IsAskable asked → (before : List CoapOption) → has_number block2 before ≡ false
-    → lacking before (block2_option asked) ≡ false
+    → lacking Request before (block2_option asked) ≡ false
 block_fits None h before none = refl
 block_fits (Some a) h before none = ap (λ r. not r || false) (block_known a h before none)
 
 all_fit : (path : List (List ℕ)) → All (λ s. length s ≤ 255) path → (asked : Option Asked) → IsAskable asked
     → (before : List CoapOption) → has_number block2 before ≡ false
-    → lacking before (path_options path ++ block2_option asked) ≡ false
+    → lacking Request before (path_options path ++ block2_option asked) ≡ false
 all_fit [] short asked h before none = block_fits asked h before none
 all_fit (s ∷ path) short asked h before none =
-    ap (λ r. not r || lacking (before ++ option uri_path s ∷ []) (path_options path ++ block2_option asked))
+    ap (λ r. not r || lacking Request (before ++ option uri_path s ∷ []) (path_options path ++ block2_option asked))
     (segment_known s (All-head (λ x. length x ≤ 255) s path short) before)
     ∙ all_fit path (All-tail (λ x. length x ≤ 255) s path short) asked h (before ++ option uri_path s ∷ []) (has_more block2 before (option uri_path s) none refl)
 
@@ -173,7 +174,7 @@ module _ (path : List (List ℕ)) (fits : HoldsAtMost 16 255 path) (asked : Opti
   lacks_none = all_fit path fits.short asked good [] refl
 
   pub reads_all : recognised Request os ≡ os
-  reads_all = all_recognised os lacks_none (run_known uri_path path (block2_option asked) refl refl [] refl
+  reads_all = all_recognised Request os lacks_none (run_known uri_path path (block2_option asked) refl refl [] refl
       (λ b none. elective asked b))
 
   pub none_there : (k : ℕ) → (uri_path == k) ≡ false → (block2 == k) ≡ false → value_of k os ≡ None

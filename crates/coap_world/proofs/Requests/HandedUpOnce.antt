@@ -36,28 +36,11 @@ up_in a from bytes e (T.Becomes (T.Request m true)) call is h =
       asked_is = sym same ∙ ap (λ f. asked_of f m) from_is;
       verdict = tt;
     }
-up_in a from bytes e (T.Becomes u) call is h = absurd (cc h)
-up_in a from bytes e T.Nothing call is h = absurd (cc h)
-up_in a from bytes e (T.Is holds) call is h = absurd (cc h)
-up_in a from bytes e (T.Sent id) call is h = absurd (cc h)
-up_in a from bytes e T.Busied call is h = absurd (cc h)
-up_in a from bytes e T.NoIds call is h = absurd (cc h)
-up_in a from bytes e T.Idle call is h = absurd (cc h)
-up_in a from bytes e (T.Copied to id) call is h = absurd (cc h)
-up_in a from bytes e (T.Expired to id) call is h = absurd (cc h)
-up_in a from bytes e (T.Gives packet) call is h = absurd (cc h)
+up_in a from bytes e _ call is h = absurd (cc h)
 
 up_by : (a : Asked) (e : T.Entry) (call : T.Call) → e.call ≡ call → asked_at call e.answer ≡ Some a → UpOf Any a e
 up_by a e (T.Receive from bytes) is h = up_in a from bytes e e.answer is refl h
-up_by a e (T.Reply to id bytes) is h = absurd (cc h)
-up_by a e (T.Confirm to content word) is h = absurd (cc h)
-up_by a e (T.Plain to content) is h = absurd (cc h)
-up_by a e (T.Settle to id) is h = absurd (cc h)
-up_by a e T.Ticks is h = absurd (cc h)
-up_by a e T.Take is h = absurd (cc h)
-up_by a e (T.Room to) is h = absurd (cc h)
-up_by a e T.AsksFree is h = absurd (cc h)
-up_by a e T.Pass is h = absurd (cc h)
+up_by a e _ is h = absurd (cc h)
 
 -- an entry counts once where it hands it up, and else not
 data Counts (a : Asked) (e : T.Entry) (n : ℕ) : Type 0 where

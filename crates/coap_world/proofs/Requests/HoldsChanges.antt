@@ -71,11 +71,11 @@ module _ (config : Config) where
     each_holds past (rows_back e past rows) (stamped_back e past h),
   )
 
-  pub changes_held : (all : List Entry) → ServerLaw config.limits config.server_szx config.server_word
+  pub changes_held : (all : List Entry) → ServerLaw config.limits config.server_szx config.server_setup
       (server_trace config all) → HoldsChanges config all
   changes_held all law =
       record {
         first = begun_empty config.limits config.server_szx (settings config);
-        each = each_holds all law.rows (stamped config.limits config.server_szx config.server_word
+        each = each_holds all law.rows (stamped config.limits config.server_szx config.server_setup
             (server_trace config all) law);
       }

@@ -3,7 +3,7 @@ use Rattle.std.proofs.Common.{◌≡◌, ◌≤◌, ◌<◌, inl, inr, ℕ, ◌+
 use Rattle.std.proofs.Common.{None, List, [], ◌∷◌, length, refl, ap, sym, subst, ◌∙◌, cond, arith}
 use Rattle.std.specs.Prelude.{IfSome}
 use Rattle.std.proofs.lemmas.Bool.Decides.{nat_tests}
-use Rattle.coap_types.specs.BlockValue.{block_by, block_value, more_bit}
+use Rattle.coap_types.specs.BlockValue.{block_by, block_value}
 use Rattle.coap_types.specs.CoapOption.{option}
 use Rattle.coap_types.specs.MethodCode.{method_code, method_of}
 use Rattle.coap_types.specs.OptionValues.{uint_at, uint_in, value_of}
@@ -34,6 +34,7 @@ use Rattle.coap_server.specs.Checks.{verdict_on}
 use Rattle.coap_server.proofs.Facts.Laws as server_facts
 use Rattle.coap_world.specs.CameFrom.{request_of}
 use Rattle.coap_world.proofs.Requests.ReadBack.{Changes, options_in, in_order, bare_options, reads_all, block_back}
+use Rattle.coap_world.proofs.Progress.BlocksInRange.{bit_small}
 
 -- what was sent for a call, of the whole of its calls so far
 pub of_call_at : (sizes : Sizes) (t : List C.Call) → AreOfCalls sizes t → (x : Sending) (k : ℕ) → WasSent sizes x t
@@ -75,9 +76,7 @@ Final (UploadsBlock q b) = b.more ≡ false
 
 pub no_fetch : (sizes : Sizes) (m : Method) (body : List ℕ) (f : _) → Changes m → CarriesBody sizes m body (Fetches f) → ⊥
 no_fetch sizes Get body f change h = change
-no_fetch sizes Post body f change h = h
-no_fetch sizes Put body f change h = h
-no_fetch sizes Delete body f change h = h
+no_fetch sizes _ body f change h = h
 
 pub sends_body : (sizes : Sizes) (m : Method) (body : List ℕ) (u : UploadState) → Changes m
     → CarriesBody sizes m body (Uploads u) → SendsBody sizes body u
@@ -94,10 +93,6 @@ no_more u short = by (offset_of u.num u.szx) (size_of u.szx) (length u.body) sho
     by o s l h = grind (arith, nat_tests, h)
 
 -- the number of a block is small
-bit_small : (b : Bool) → more_bit b ≤ 8
-bit_small true = omega arith
-bit_small false = omega arith
-
 pub small_value : (num szx : ℕ) (more : Bool) → num ≤ 1048575 → szx ≤ 6
     → block_value (record { num = num; more = more; szx = szx }) < 2 ^ 32
 small_value num szx more n s = let b = bit_small more in omega (arith, n, s, b)

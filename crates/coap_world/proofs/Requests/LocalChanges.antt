@@ -10,7 +10,7 @@ use Rattle.coap_server.specs.Law.{own_of}
 use Rattle.coap_server.proofs.Facts.Laws.{version_is}
 use Rattle.coap_world.specs.Events.{Config}
 use Rattle.coap_world.specs.Local.{IsSame, SetsRight, RemovesRight, IsLocalRight, LocalRight}
-use Rattle.coap_world.specs.Record.{Entry, OfClient, OfServer, server_trace}
+use Rattle.coap_world.specs.Record.{Entry, OfServer, server_trace}
 use Rattle.coap_world.specs.Words.{holds_at, changes_in}
 use Rattle.coap_world.proofs.Requests.HoldsChanges.{Rows, rows_back}
 
@@ -115,14 +115,7 @@ right_here config past (OfServer (S.Sets now path format body answer left)) rows
     rows.0
 right_here config past (OfServer (S.Removes now path answer left)) rows =
     removes_by config past (S.Removes now path answer left) left refl rows now path answer _ _ refl refl rows.0
-right_here config past (OfServer (S.Delays path ms answer)) rows = tt
-right_here config past (OfServer (S.Plains path answer)) rows = tt
-right_here config past (OfServer (S.Feeds now from bytes word up came w below)) rows = tt
-right_here config past (OfServer (S.Ticks now word below room d passed w id answer)) rows = tt
-right_here config past (OfServer (S.Gets path answer)) rows = tt
-right_here config past (OfServer (S.TellsApplied answer)) rows = tt
-right_here config past (OfServer (S.NextOut answer)) rows = tt
-right_here config past (OfClient c) rows = tt
+right_here config past _ rows = tt
 
 pub local_right : (config : Config) (all : List Entry) → Rows config all → LocalRight config all
 local_right config [] rows = tt

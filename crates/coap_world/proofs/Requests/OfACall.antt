@@ -6,12 +6,11 @@ use Rattle.coap_types.specs.Bytes.{AreBytes}
 use Rattle.coap_types.specs.Past.{Ever}
 use Rattle.coap_types.specs.RequestPath.{path_of}
 use Rattle.coap_types.specs.declared.request.Method.{Method}
-use Rattle.coap_types.specs.declared.request.Method.TheVariants.{Get, Post, Put, Delete}
+use Rattle.coap_types.specs.declared.request.Method.TheVariants.{Get}
 use Rattle.coap_resource.specs.Limits.{Limits}
 use Rattle.coap_codec.specs.Message.{Message, Spells}
 use Rattle.coap_layer.specs.Channel.{near_of}
 use Rattle.coap_layer.specs.Words.{Open, begun}
-use Rattle.coap_layer.specs.Machine.State.{usual}
 use Rattle.coap_resource.specs.Content.{Content}
 use Rattle.coap_resource.specs.Serves.{Question}
 use Rattle.coap_exchange.specs.declared.answerer.Asked.{Asked}
@@ -49,9 +48,7 @@ use Rattle.coap_world.proofs.Requests.Traced.{near_later, sent_later, traced, br
 -- what is applied changes something
 pub changes_by : (m : Method) (q : Question) (old left : Content) → Does m q old left → Changes m
 changes_by Get q old left h = h
-changes_by Post q old left h = tt
-changes_by Put q old left h = tt
-changes_by Delete q old left h = tt
+changes_by _ q old left h = tt
 
 -- what is asked of the store is of the request that was handed up
 pub final_of : (limits : Limits) (szx : ℕ) (past : List S.Call) (c : S.Call) (a : Asked) (q : Question) (v : Verdict)
@@ -89,7 +86,7 @@ no_call x y k of d = let e : None ≡ Some k = sym (ap call_of d.registers) ∙ 
 pub no_call_behind : (x y : Sending) (k : ℕ) → call_of y.operation ≡ Some k → Deregisters x y → ⊥
 no_call_behind x y k of d = let e : None ≡ Some k = sym (ap call_of d.cancels) ∙ of in cc e
 
-taken_later : (x : Taken) (past : List Entry) (e : Entry) → WasTaken x (client_of past)
+pub taken_later : (x : Taken) (past : List Entry) (e : Entry) → WasTaken x (client_of past)
     → WasTaken x (client_of (e ∷ past))
 taken_later x past (OfClient c) h = inr h
 taken_later x past (OfServer c) h = h
@@ -97,25 +94,25 @@ taken_later x past (OfServer c) h = h
 -- the laws of a record
 pub record Lawful (config : Config) (t : List Entry) : Type 0 where
   pub channel : IsChannel config t
-  pub client : ClientLaw server_end config.client_sizes config.client_word (client_of t)
-  pub server : ServerLaw config.limits config.server_szx config.server_word (server_trace config t)
+  pub client : ClientLaw server_end config.client_sizes config.client_setup (client_of t)
+  pub server : ServerLaw config.limits config.server_szx config.server_setup (server_trace config t)
   pub came : CamesFrom config t
 
 pub lawful_back : (config : Config) (past : List Entry) (e : Entry) → Lawful config (e ∷ past) → Lawful config past
 lawful_back config past (OfClient c) law =
     record {
-      channel = channel_back (usual config.client_word) (usual config.server_word) client_end server_end
+      channel = channel_back config.client_setup config.server_setup client_end server_end
           (hops_at config past (OfClient c)) (hops_in config past) law.channel;
-      client = client_facts.back server_end config.client_sizes config.client_word (c ∷ []) (client_of past) law.client;
+      client = client_facts.back server_end config.client_sizes config.client_setup (c ∷ []) (client_of past) law.client;
       server = law.server;
       came = law.came.1;
     }
 lawful_back config past (OfServer c) law =
     record {
-      channel = channel_back (usual config.client_word) (usual config.server_word) client_end server_end
+      channel = channel_back config.client_setup config.server_setup client_end server_end
           (hops_at config past (OfServer c)) (hops_in config past) law.channel;
       client = law.client;
-      server = server_facts.back config.limits config.server_szx config.server_word (c ∷ [])
+      server = server_facts.back config.limits config.server_szx config.server_setup (c ∷ [])
           (server_trace config past) law.server;
       came = law.came.1;
     }
@@ -166,7 +163,7 @@ module _ (config : Config) (number : ℕ) (all : List Entry) (small : config.cli
   -- a token of the call is of that request alone
   pub one_sending : (x y : Sending) → Sent x all → Sent y all → call_of y.operation ≡ Some number → x.token ≡ y.token
       → x ≡ y
-  one_sending x y sent there of token = by (client_facts.tokens server_end config.client_sizes config.client_word
+  one_sending x y sent there of token = by (client_facts.tokens server_end config.client_sizes config.client_setup
       (client_of all) whole.client x y sent there token)
     where
       by : (x ≡ y) ⊎ (Deregisters x y ⊎ Deregisters y x) → x ≡ y
@@ -180,7 +177,7 @@ module _ (config : Config) (number : ℕ) (all : List Entry) (small : config.cli
       let x : Serving = a.request in
       let t : List S.Call = server_trace config past in
       let w : List Entry = OfServer c ∷ past in
-      let brings = (server_facts.handed config.limits config.server_szx config.server_word (c ∷ t) law.server).0 x a.here
+      let brings = (server_facts.handed config.limits config.server_szx config.server_setup (c ∷ t) law.server).0 x a.here
       in
       let k = traced config x.asked x.question w law.came a.from (brought_in config x.asked x.question w brings) in
       let s : Sending = k.came.sending in
@@ -203,7 +200,7 @@ module _ (config : Config) (number : ℕ) (all : List Entry) (small : config.cli
       let methods : Some x.question.method ≡ Some g.request.method = sym method
       ∙ (ap method_of code ∙ method_is g.request.method) in
       let method_same : x.question.method ≡ g.request.method = cc methods in
-      let right = (server_facts.right config.limits config.server_szx config.server_word (c ∷ t) law.server).0.applied x
+      let right = (server_facts.right config.limits config.server_szx config.server_setup (c ∷ t) law.server).0.applied x
       a.here a.applied in
       let change = subst Changes method_same (changes_by x.question.method x.question x.old x.left right.does) in
       let faultless = good config.client_sizes config.server_szx k.came.con.id number small s

@@ -24,7 +24,8 @@ use Rattle.coap_client.specs.Own.{Transfer, Fetches, Uploads, Single}
 use Rattle.coap_client.specs.Requests.{flag_option, path_options, before_path, after_path, options_of}
 use Rattle.coap_client.specs.Requests.{block2_option, is_longer, block_option}
 use Rattle.coap_client.specs.Trace as C
-use Rattle.coap_world.proofs.Requests.AllRecognised.{KnownElective, NoFormat, all_recognised, run_known, one_known}
+use Rattle.coap_world.proofs.Requests.AllRecognised.{KnownElective, NoFormat, run_known, one_known}
+use Rattle.coap_world.proofs.Requests.OptionsKept.{all_recognised}
 use Rattle.coap_world.proofs.Requests.AllRecognised.{format_known, critical_known}
 
 -- a request that changes something
@@ -138,7 +139,7 @@ known_in r m t small =
 -- so what is read is what was sent
 pub reads_all : (r : C.Request) (t : Transfer) → Changes r.method → IfSome r.format (λ f. f < 65536)
     → lacks_critical Request (options_in r t) ≡ false → recognised Request (options_in r t) ≡ in_order r r.method t
-reads_all r t h small none = all_recognised (options_in r t) none
+reads_all r t h small none = all_recognised Request (options_in r t) none
     (subst (KnownElective []) (sym (ordered r t h)) (known_in r r.method t small)) ∙ ordered r t h
 
 -- the path

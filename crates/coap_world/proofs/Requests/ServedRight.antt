@@ -19,16 +19,16 @@ module _ (config : Config) where
   served_here past c law =
       let t : List S.Call = server_trace config past in
       let s : S.Own = own_of config.limits config.server_szx t in
-      let right = (server_facts.right config.limits config.server_szx config.server_word (c ∷ t) law.server).0 in
+      let right = (server_facts.right config.limits config.server_szx config.server_setup (c ∷ t) law.server).0 in
       record {
         brought = λ x here. brought_in config x.asked x.question (OfServer c ∷ past)
-            ((server_facts.handed config.limits config.server_szx config.server_word (c ∷ t) law.server).0 x here);
+            ((server_facts.handed config.limits config.server_szx config.server_setup (c ∷ t) law.server).0 x here);
         table = λ x here. served_now s c law.server.rows.0 x here;
         preconditions = λ x here applied.
             ap (λ (o : Content). precondition_fails (o.holds x.question.path) x.question.options)
             (sym (leaves s c x here).found) ∙ (right.applied x here applied).preconditions;
-        methods = (server_facts.methods config.limits config.server_szx config.server_word (c ∷ t) law.server).0;
-        uploads = (server_facts.uploads config.limits config.server_szx config.server_word (c ∷ t) law.server).0;
+        methods = (server_facts.methods config.limits config.server_szx config.server_setup (c ∷ t) law.server).0;
+        uploads = (server_facts.uploads config.limits config.server_szx config.server_setup (c ∷ t) law.server).0;
       }
 
   pub served_right : (all : List Entry) → Lawful config all → AllServed config all

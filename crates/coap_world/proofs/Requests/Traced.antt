@@ -34,7 +34,7 @@ module _ (config : Config) where
   sent_later x past (OfServer c) h = h
 
   none_brought : (a : Asked) (q : Question) (ss : List Setting)
-      → Sometime (λ old b. Brings config.limits config.server_szx config.server_word old b a q) (map gives_it ss)
+      → Sometime (λ old b. Brings config.limits config.server_szx config.server_setup old b a q) (map gives_it ss)
       → ⊥
   none_brought a q [] h = h
   none_brought a q (s ∷ ss) (inr h) = none_brought a q ss h
@@ -46,7 +46,7 @@ module _ (config : Config) where
       subst (Ever (HandsUp config.server_szx a k.verdict)) (sym none) k.comes.here
 
   pub brought_in : (a : Asked) (q : Question) (w : List Entry)
-      → Sometime (λ old b. Brings config.limits config.server_szx config.server_word old b a q) (server_trace config w)
+      → Sometime (λ old b. Brings config.limits config.server_szx config.server_setup old b a q) (server_trace config w)
       → Sometime (BroughtAt config a q) w
   brought_in a q [] h = absurd (none_brought a q (settings config) h)
   brought_in a q (OfClient c ∷ past) h = inr (brought_in a q past h)

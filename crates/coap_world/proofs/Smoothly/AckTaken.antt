@@ -6,11 +6,12 @@ use Rattle.coap_types.proofs.Facts.Endpoints.{same_endpoint_is}
 use Rattle.coap_types.proofs.Facts.Traces.{Always_back, Sometime_back}
 use Rattle.coap_types.specs.declared.endpoint.Endpoint.{Endpoint}
 use Rattle.coap_layer.specs.Channel.{HearsAck}
-use Rattle.coap_layer.specs.Machine.State.{State, start, made, usual}
+use Rattle.coap_layer.specs.Machine.State.{State, start, made}
 use Rattle.coap_layer.specs.Machine.Steps.{Steps, left_after}
 use Rattle.coap_layer.specs.Sends.{as_begun, IsOpen}
 use Rattle.coap_layer.specs.Trace as L
 use Rattle.coap_layer.specs.Words.{Open}
+use Rattle.coap_layer.specs.declared.setup.Setup.{Setup}
 use Rattle.coap_block.specs.Sizes.{Sizes}
 use Rattle.coap_exchange.specs.AskerArrivals.{verdict_on, running_after, running_unless}
 use Rattle.coap_exchange.specs.AskerLaw as X
@@ -21,8 +22,8 @@ use Rattle.coap_exchange.specs.declared.asker.Exchange.{Exchange}
 use Rattle.coap_exchange.specs.declared.asker.Turn.{Turn}
 use Rattle.coap_exchange.specs.declared.asker.Turn.TheVariants as turn_is
 use Rattle.coap_exchange.specs.declared.matching.Verdict.{Verdict}
-use Rattle.coap_exchange.specs.declared.matching.Verdict.TheVariants.{Ignore, Reject, Acknowledge, AnswerCon, Answer}
-use Rattle.coap_exchange.specs.declared.matching.Verdict.TheVariants.{NoticeCon, Notice, Await, EndByReset}
+use Rattle.coap_exchange.specs.declared.matching.Verdict.TheVariants.{AnswerCon, Answer}
+use Rattle.coap_exchange.specs.declared.matching.Verdict.TheVariants.{Await, EndByReset}
 use Rattle.coap_exchange.proofs.Facts.ClientSide.{server_is}
 use Rattle.coap_exchange.proofs.Facts.Moves as move
 use Rattle.coap_exchange.proofs.Facts.Moves.{opened_none, ask_row}
@@ -32,8 +33,7 @@ use Rattle.coap_client.specs.Effects.{Deed, Rests, Asks, Keeps, Releases, Effect
 use Rattle.coap_client.specs.Events.{closed}
 use Rattle.coap_client.specs.Follows.Words.{Sending, sends, sent_by}
 use Rattle.coap_client.specs.Law.{ClientLaw, own_of, lower_of, layer_of}
-use Rattle.coap_client.specs.Observing.{releases}
-use Rattle.coap_client.specs.Own.{Operation, Observation, Own}
+use Rattle.coap_client.specs.Own.{Operation, Own}
 use Rattle.coap_client.specs.Requests.{message_of}
 use Rattle.coap_client.specs.Trace as C
 use Rattle.coap_client.proofs.Facts.Laws.{back, layer_next}
@@ -45,27 +45,26 @@ use Rattle.coap_world.proofs.Smoothly.ExchangeOpen.{OpenOf, Runs, runs_of, Lonel
 use Rattle.coap_world.proofs.Smoothly.FewArrive.{last_answer, newer, parts}
 use Rattle.coap_world.proofs.Smoothly.OthersTakeNone.{client_feeds}
 use Rattle.coap_world.proofs.Smoothly.RequestOpen.{Alone, alone_now, fresh}
+use Rattle.coap_client.proofs.Facts.EachMove.{releases_none}
 
-module _ (server : Endpoint) (word : ℕ) where
+module _ (server : Endpoint) (setup : Setup) where
   abbrev running : List E.Call → Option Exchange
-  running t = (X.own_of server word t).running
+  running t = (X.own_of server setup t).running
 
   -- what asks for no request leaves what runs
   quiet_runs : (d : Deed) (o : Own) (m w : ℕ) (sent : L.Answer) (token : Result (List ℕ) AskRefusal) (kept : Bool)
       (past : List E.Call) → ((op : Operation) → d ≡ Asks op → ⊥)
       → running (deeds d o m w sent token kept ++ past) ≡ running past
-  quiet_runs Rests o m w sent token kept past f = refl
-  quiet_runs (Keeps t) o m w sent token kept past f = refl
-  quiet_runs (Releases t) o m w sent token kept past f = refl
   quiet_runs (Asks op) o m w sent token kept past f = absurd (f op refl)
+  quiet_runs _ o m w sent token kept past f = refl
 
   refused_runs : (past : List E.Call) (now w : ℕ) (r : E.Request) (below : L.Answer) (why : AskRefusal)
-      → X.AskerLaw server word (E.Ask now r w below (Err why) ∷ past)
+      → X.AskerLaw server setup (E.Ask now r w below (Err why) ∷ past)
       → running (E.Ask now r w below (Err why) ∷ past) ≡ running past
   refused_runs past now w r below why law = by (ask_row s r below (Err why) law.0)
     where
       s : E.Own
-      s = X.own_of server word past
+      s = X.own_of server setup past
 
       by : move.AskRow s r below (Err why) → running (E.Ask now r w below (Err why) ∷ past) ≡ running past
       by (move.refused e is none) = ap (λ (o : E.Own). o.running) (opened_none s r below none)
@@ -78,7 +77,7 @@ module _ (server : Endpoint) (word : ℕ) where
 
     -- .. so does what is not sent
     unsent_runs : (d : Deed) (token : Result (List ℕ) AskRefusal) → e.deed ≡ d → sent_by e d token ≡ None
-        → X.AskerLaw server word (behind d token) → running (behind d token) ≡ running (input ∷ past)
+        → X.AskerLaw server setup (behind d token) → running (behind d token) ≡ running (input ∷ past)
     unsent_runs Rests token is none law =
         ap running (append_assoc (deeds e.deed e.own m w sent token kept) (input ∷ []) past)
         ∙ quiet_runs e.deed e.own m w sent token kept (input ∷ past) (λ op h. cc (h, is))
@@ -94,7 +93,7 @@ module _ (server : Endpoint) (word : ℕ) where
         ap running parts
         ∙ quiet_runs c.deed c.own m w sent (Err why) kept (ask ∷ input ∷ past) (failed_quiet has_sent e.own (Some op))
         ∙ refused_runs (input ∷ past) m w (message_of e.own.observations op) sent why
-        (Always_back _ front (ask ∷ input ∷ past) (subst (X.AskerLaw server word) parts law))
+        (Always_back _ front (ask ∷ input ∷ past) (subst (X.AskerLaw server setup) parts law))
 
 -- what is acknowledged by an arrival
 record ByAck (from : Endpoint) (up : L.Answer) (s : E.Own) : Type 0 where
@@ -108,16 +107,8 @@ awaited s from up at y z Await f is none acked = record { id = f.0; is = f.1; of
 awaited s from up at y z AnswerCon f is none acked = absurd (cc is)
 awaited s from up at y z Answer f is none acked = absurd (cc is)
 awaited s from up at y z EndByReset f is none acked = absurd (cc is)
-awaited s from up at y z Ignore f is none acked = let k : y ≡ z = cc is in
-    absurd (acked (ap (λ (e : Exchange). e.acked) (sym k) ∙ none))
-awaited s from up at y z Reject f is none acked = let k : y ≡ z = cc is in
-    absurd (acked (ap (λ (e : Exchange). e.acked) (sym k) ∙ none))
-awaited s from up at y z Acknowledge f is none acked = let k : y ≡ z = cc is in
-    absurd (acked (ap (λ (e : Exchange). e.acked) (sym k) ∙ none))
-awaited s from up at y z NoticeCon f is none acked = let k : y ≡ z = cc is in
-    absurd (acked (ap (λ (e : Exchange). e.acked) (sym k) ∙ none))
-awaited s from up at y z Notice f is none acked = let k : y ≡ z = cc is in
-    absurd (acked (ap (λ (e : Exchange). e.acked) (sym k) ∙ none))
+awaited s from up at y z _ f is none acked =
+    let k : y ≡ z = cc is in absurd (acked (ap (λ (e : Exchange). e.acked) (sym k) ∙ none))
 
 same_acked : (y z : Exchange) (o : Option Exchange) → o ≡ Some y → o ≡ Some z → y.acked ≡ None → (z.acked ≡ None → ⊥) → ⊥
 same_acked y z o a b none acked =
@@ -131,16 +122,11 @@ none_ended turn_is.Copied y z h = h
 none_ended (turn_is.End e) y z h = absurd (cc h)
 
 -- a forgetting asks for no request
-
-no_release : (o : Option Observation) (op : Operation) → releases o ≡ Asks op → ⊥
-no_release None op h = cc h
-no_release (Some o) op h = cc h
-
 no_forget : (answer : Bool) (number : ℕ) (s : Own) (op : Operation) → forgets answer number s ≡ Asks op → ⊥
-no_forget true number s op h = no_release _ op h
+no_forget true number s op h = releases_none _ op h
 no_forget false number s op h = cc h
 
-module _ (server : Endpoint) (sizes : Sizes) (word : ℕ) where
+module _ (server : Endpoint) (sizes : Sizes) (setup : Setup) where
   -- the Empty acknowledgement of this exchange's request is taken
   pub record IsAckFed (y : Exchange) (c : C.Call) : Type 0 where
     pub now : ℕ
@@ -157,22 +143,22 @@ module _ (server : Endpoint) (sizes : Sizes) (word : ℕ) where
     pub there : from ≡ server
     pub id_is : id ≡ y.id.0
 
-  module _ (t : List C.Call) (y z : Exchange) (runs : running server word (lower_of sizes t) ≡ Some y)
+  module _ (t : List C.Call) (y z : Exchange) (runs : running server setup (lower_of sizes t) ≡ Some y)
       (unheard : y.acked ≡ None) (acked : z.acked ≡ None → ⊥) where
     abbrev here : E.Own
-    here = X.own_of server word (lower_of sizes t)
+    here = X.own_of server setup (lower_of sizes t)
 
-    same_runs : (c : C.Call) → running server word (lower_of sizes t) ≡ Some z → IsAckFed y c
-    same_runs c h = absurd (same_acked y z (running server word (lower_of sizes t)) runs h unheard acked)
+    same_runs : (c : C.Call) → running server setup (lower_of sizes t) ≡ Some z → IsAckFed y c
+    same_runs c h = absurd (same_acked y z (running server setup (lower_of sizes t)) runs h unheard acked)
 
-    pub ack_fed : (c : C.Call) → ClientLaw server sizes word (c ∷ t) → sends (own_of sizes t) c ≡ None
-        → running server word (lower_of sizes (c ∷ t)) ≡ Some z → IsAckFed y c
+    pub ack_fed : (c : C.Call) → ClientLaw server sizes setup (c ∷ t) → sends (own_of sizes t) c ≡ None
+        → running server setup (lower_of sizes (c ∷ t)) ≡ Some z → IsAckFed y c
     ack_fed (C.Feeds now from bytes w up settled event sent token kept) law none h =
         let c : C.Call = C.Feeds now from bytes w up settled event sent token kept in
         let m : ℕ = max (own_of sizes t).clock now in
         let e = effect (own_of sizes t) c in
         let input : E.Call = E.Receive m from bytes up settled event in
-        let same = unsent_runs server word e m w sent kept input (lower_of sizes t) e.deed token refl none
+        let same = unsent_runs server setup e m w sent kept input (lower_of sizes t) e.deed token refl none
         law.exchanges.rows in
         let at : ℕ = max here.clock m in
         let left : running_after at (verdict_on here from up) (Some y) ≡ Some z =
@@ -192,7 +178,7 @@ module _ (server : Endpoint) (sizes : Sizes) (word : ℕ) where
           token = token;
           kept = kept;
           is = ap (λ u. C.Feeds now from bytes w u settled event sent token kept) k.is;
-          there = same_endpoint_is from here.server k.of.there ∙ server_is server word (lower_of sizes t);
+          there = same_endpoint_is from here.server k.of.there ∙ server_is server setup (lower_of sizes t);
           id_is = k.of.id_is ∙ ap (λ (e : Exchange). e.id.0) alike;
         }
     ack_fed (C.Ticks now w below turn sent token kept answer) law none h =
@@ -200,7 +186,7 @@ module _ (server : Endpoint) (sizes : Sizes) (word : ℕ) where
         let m : ℕ = max (own_of sizes t).clock now in
         let e = effect (own_of sizes t) c in
         let input : E.Call = E.Ticks m below turn in
-        let same = unsent_runs server word e m w sent kept input (lower_of sizes t) e.deed token refl none
+        let same = unsent_runs server setup e m w sent kept input (lower_of sizes t) e.deed token refl none
         law.exchanges.rows in
         let left : running_unless turn (Some y) ≡ Some z =
         subst (λ o. running_unless turn o ≡ Some z) runs (sym same ∙ h) in
@@ -208,7 +194,7 @@ module _ (server : Endpoint) (sizes : Sizes) (word : ℕ) where
     ack_fed (C.Forgets number kept answer) law none h =
         let s = own_of sizes t in
         same_runs (C.Forgets number kept answer)
-        (sym (quiet_runs server word (forgets answer number s) s 0 0 L.Nothing _ kept (lower_of sizes t)
+        (sym (quiet_runs server setup (forgets answer number s) s 0 0 L.Nothing _ kept (lower_of sizes t)
         (no_forget answer number s)) ∙ h)
     ack_fed (C.Calls now r a) law none h = same_runs (C.Calls now r a) h
     ack_fed (C.Observes now path a) law none h = same_runs (C.Observes now path a) h
@@ -224,10 +210,10 @@ pub record TakesEmpty (con : Open) (past : List L.Entry) (e : L.Entry) : Type 0 
 
 module _ (config : Config) where
   abbrev Law : List C.Call → Type 0
-  Law t = ClientLaw server_end config.client_sizes config.client_word t
+  Law t = ClientLaw server_end config.client_sizes config.client_setup t
 
   abbrev layer : List C.Call → List L.Entry
-  layer t = layer_of server_end config.client_sizes config.client_word t
+  layer t = layer_of server_end config.client_sizes config.client_setup t
 
   -- .. of the CON that began so
   pub record AckIn (request : Open) (t : List C.Call) : Type 0 where
@@ -237,7 +223,7 @@ module _ (config : Config) where
 
   pub lifted : (request : Open) (c : C.Call) (t : List C.Call) → AckIn request t → AckIn request (c ∷ t)
   lifted request c t k =
-      let next = layer_next server_end config.client_sizes config.client_word t c in
+      let next = layer_next server_end config.client_sizes config.client_setup t c in
       record {
         con = k.con;
         is = k.is;
@@ -247,8 +233,8 @@ module _ (config : Config) where
   -- the arrival is the oldest of what the call adds
   taken_here : (request : Open) (at : ℕ) (x : Sending) (c : C.Call) (t : List C.Call) → Law (c ∷ t) → (y : Exchange)
       → ((z : Open) → IsOpen (layer t) z → z ≡ request) → request.to ≡ server_end
-      → Lonely server_end config.client_sizes config.client_word at x y t
-      → IsAckFed server_end config.client_sizes config.client_word y c → AckIn request (c ∷ t)
+      → Lonely server_end config.client_sizes config.client_setup at x y t
+      → IsAckFed server_end config.client_sizes config.client_setup y c → AckIn request (c ∷ t)
   taken_here request at x c t law y only to k f =
       let con : Open = k.con in
       let stays : IsOpen (layer t) (as_begun con) =
@@ -259,19 +245,19 @@ module _ (config : Config) where
       in
       let b = client_feeds config t f.now f.from f.bytes f.w (L.Becomes (L.Acked f.id)) f.settled f.event f.sent f.token
       f.kept in
-      let first : State = left_after (start (usual config.client_word)) (client_asked config t) in
+      let first : State = left_after (start config.client_setup) (client_asked config t) in
       let e : L.Entry = made first b.now (L.Receive f.from f.bytes) in
-      let steps = subst (λ d. Steps (start (usual config.client_word)) (client_asks config t d ++ client_asked config t)
-      law.exchanges.left) f.is (subst (λ a. Steps (start (usual config.client_word)) a law.exchanges.left)
+      let steps = subst (λ d. Steps (start config.client_setup) (client_asks config t d ++ client_asked config t)
+      law.exchanges.left) f.is (subst (λ a. Steps (start config.client_setup) a law.exchanges.left)
       (client_asked_next config t c) law.exchanges.layer) in
-      let answer : e.answer ≡ L.Becomes (L.Acked f.id) = last_answer (start (usual config.client_word))
+      let answer : e.answer ≡ L.Becomes (L.Acked f.id) = last_answer (start config.client_setup)
       (client_asks config t fed) (client_asked config t) law.exchanges.left steps (L.Receive f.from f.bytes)
       (L.Becomes (L.Acked f.id)) b in
       let adds : client_adds config t c ≡ newer first (client_asks config t fed) (L.Receive f.from f.bytes)
       (L.Becomes (L.Acked f.id)) b ++ e ∷ [] =
       ap (client_adds config t) f.is ∙ parts first (client_asks config t fed) (L.Receive f.from f.bytes)
       (L.Becomes (L.Acked f.id)) b in
-      let next = layer_next server_end config.client_sizes config.client_word t c in
+      let next = layer_next server_end config.client_sizes config.client_setup t c in
       let id : f.id ≡ con.id = f.id_is ∙ sym k.id in
       let empty : e.answer ≡ L.Becomes (L.Acked con.id) = answer ∙ ap (λ n. L.Becomes (L.Acked n)) id in
       let takes : TakesEmpty con (layer t) e =
@@ -294,20 +280,20 @@ module _ (config : Config) where
       }
 
   pub ack_in : (request : Open) → request.to ≡ server_end → (at : ℕ) (x : Sending) (t : List C.Call) → Law t
-      → (o : OpenOf server_end config.client_sizes config.client_word at x t)
-      → Alone server_end config.client_sizes config.client_word request at x t o
-      → (r : Runs server_end config.client_sizes config.client_word at x t)
-      → Waited server_end config.client_sizes config.client_word r.exchange t → AckIn request t
+      → (o : OpenOf server_end config.client_sizes config.client_setup at x t)
+      → Alone server_end config.client_sizes config.client_setup request at x t o
+      → (r : Runs server_end config.client_sizes config.client_setup at x t)
+      → Waited server_end config.client_sizes config.client_setup r.exchange t → AckIn request t
   ack_in request to at x [] law o a r w = absurd o
   ack_in request to at x (c ∷ t) law (inl o) a r w = absurd (w.acked
-      (fresh server_end config.client_sizes config.client_word t c law x o.0 r.exchange r.runs))
+      (fresh server_end config.client_sizes config.client_setup t c law x o.0 r.exchange r.runs))
   ack_in request to at x (c ∷ t) law (inr o) a r w =
-      let old = back server_end config.client_sizes config.client_word (c ∷ []) t law in
-      let q = runs_of server_end config.client_sizes config.client_word at x t old o.3 in
+      let old = back server_end config.client_sizes config.client_setup (c ∷ []) t law in
+      let q = runs_of server_end config.client_sizes config.client_setup at x t old o.3 in
       ⊎_elim
       (λ k. taken_here request at x c t law q.exchange
-      (alone_now server_end config.client_sizes config.client_word request at x t o.3 a.1) to k
-      (ack_fed server_end config.client_sizes config.client_word t q.exchange r.exchange q.runs k.unheard w.acked c law
+      (alone_now server_end config.client_sizes config.client_setup request at x t o.3 a.1) to k
+      (ack_fed server_end config.client_sizes config.client_setup t q.exchange r.exchange q.runs k.unheard w.acked c law
       o.0 r.runs))
       (λ k. lifted request c t (ack_in request to at x t old o.3 a.1 q k))
-      (lonely server_end config.client_sizes config.client_word at x t old q)
+      (lonely server_end config.client_sizes config.client_setup at x t old q)

@@ -65,9 +65,9 @@ module _ (config : Config) (u : ℕ) where
 
 pub all_sent : (config : Config) (events : List Event) (turns : List Turn) → RecordOf config events turns
     → Legal config turns → Smooth config turns → NoneObserved turns
-    → ((t : List C.Call) → ClientLaw server_end config.client_sizes config.client_word t
+    → ((t : List C.Call) → ClientLaw server_end config.client_sizes config.client_setup t
     → OwnTokens config.client_sizes t)
-    → ((t : List C.Call) → ClientLaw server_end config.client_sizes config.client_word t
+    → ((t : List C.Call) → ClientLaw server_end config.client_sizes config.client_setup t
     → CallsAlone config.client_sizes t)
     → SentWhereAnswered config.client_sizes (client_of (entries_of turns)) → SentByAnswers config turns
 all_sent config events turns run legal smooth none own alone sent by_answers =
@@ -77,6 +77,6 @@ all_sent config events turns run legal smooth none own alone sent by_answers =
     sent 4097 (omega arith) by_answers
     (λ u. (let a = same_count config u (client_of (entries_of turns)) t.clock in
     let b = few_heard u (entries_of turns) between t.rises in
-    let c = smooth.few_to_server u in
+    let c = (smooth.few_to_server u).1 in
     omega (arith, a, b, c)))
     (clock_small config turns s)

@@ -1,23 +1,23 @@
 -- At each event of a smooth run the Confirmable messages were taken in time.
-use Rattle.std.proofs.Common.{◌≤◌, ℕ, ◌+◌, List, [], ◌∷◌, ◌++◌, arith, Bool, true, false, cond}
+use Rattle.std.proofs.Common.{◌≤◌, ◌<◌, ℕ, ◌+◌, List, [], ◌∷◌, ◌++◌, arith, Bool, true, false, cond}
 use Rattle.coap_types.specs.declared.endpoint.Endpoint.{Endpoint}
 use Rattle.coap_layer.specs.Channel.{Hop, ChannelLaw}
-use Rattle.coap_layer.specs.Machine.State.{usual}
 use Rattle.coap_layer.specs.Taking.{ConsTakenWithin, OverWithin}
 use Rattle.coap_layer.specs.declared.setup.Setup.{Setup}
 use Rattle.coap_block.specs.Sizes.{Sizes}
 use Rattle.coap_client.specs.Follows.Replied.{RepliesToCons}
 use Rattle.coap_client.specs.Law.{ClientLaw}
 use Rattle.coap_client.specs.Trace as C
-use Rattle.coap_world.specs.Events.{client_end, server_end, Config}
+use Rattle.coap_world.specs.Events.{client_end, server_end, Config, Event}
 use Rattle.coap_world.specs.Hops.{hops_of, across}
-use Rattle.coap_world.specs.Record.{Entry, OfClient, OfServer, Turn, entries_of, client_of, server_of}
-use Rattle.coap_world.specs.Smooth.{FewCome, to_client, to_server, count_came, is_then}
+use Rattle.coap_world.specs.Record.{Entry, OfClient, OfServer, Turn, entries_of, client_of, server_of, RecordOf}
+use Rattle.coap_world.specs.Legal.{Legal}
+use Rattle.coap_world.specs.Smooth.{Smooth, FewCome, to_client, to_server, count_came, is_then}
 use Rattle.coap_world.specs.TakenInTime.{TakenInTime, AllTakenInTime}
 use Rattle.coap_world.proofs.Delivery.ChannelAcross.{channel_across}
 use Rattle.coap_world.proofs.Delivery.HopsAreAChannel as joined
 use Rattle.coap_world.proofs.Smoothly.FewArrive.{few_arrive}
-use Rattle.coap_world.proofs.Smoothly.Standing.{Stands, before, record_of}
+use Rattle.coap_world.proofs.Smoothly.Standing.{Stands, stands, before, record_of}
 use Rattle.coap_world.proofs.Smoothly.TakenInTime.{taken_in_time}
 
 -- what the laws beneath say
@@ -26,8 +26,8 @@ pub record Beneath : Type 0 where
       → ConsTakenWithin other.remembered near far all
   pub ended : (one other : Setup) (near far : Endpoint) (all : List Hop) → ChannelLaw one other near far all
       → OverWithin near far all
-  pub replies : (server : Endpoint) (sizes : Sizes) (word : ℕ) (t : List C.Call) → ClientLaw server sizes word t
-      → RepliesToCons server sizes word t
+  pub replies : (server : Endpoint) (sizes : Sizes) (setup : Setup) (t : List C.Call) → ClientLaw server sizes setup t
+      → RepliesToCons server sizes setup t
 
 -- few come in all, so few come before
 
@@ -49,20 +49,31 @@ server_less since (OfClient c ∷ later) es = server_less since later es
 server_less since (OfServer c ∷ later) es =
     more (is_then since (to_server c)) _ _ (server_less since later es)
 
+few_still : (m n a b : ℕ) → m ≤ n → (n < a) × (n < b) → (m < a) × (m < b)
+few_still m n a b le few = (let k = few.0 in omega (arith, le, k), let k = few.1 in omega (arith, le, k))
+
 -- it goes on smoothly, and few come
 pub record Goes (config : Config) (turns : List Turn) : Type 0 where
   pub stands : Stands config turns
-  pub few_client : FewCome to_client (client_of (entries_of turns))
-  pub few_server : FewCome to_server (server_of (entries_of turns))
+  pub few_client : FewCome config.client_setup to_client (client_of (entries_of turns))
+  pub few_server : FewCome config.server_setup to_server (server_of (entries_of turns))
+
+pub goes_in : (config : Config) (events : List Event) (turns : List Turn) → RecordOf config events turns
+    → Legal config turns → Smooth config turns → Goes config turns
+goes_in config events turns run legal smooth = record {
+  stands = stands config events turns run legal smooth;
+  few_client = smooth.few_to_client;
+  few_server = smooth.few_to_server;
+}
 
 pub goes_before : (config : Config) (turn : Turn) (past : List Turn) → Goes config (turn ∷ past) → Goes config past
 goes_before config turn past g =
     record {
       stands = before config turn past g.stands;
       few_client = λ since. (let a = g.few_client since in
-          let b = client_less since turn.entries (entries_of past) in omega (arith, a, b));
+          let b = client_less since turn.entries (entries_of past) in few_still _ _ _ _ b a);
       few_server = λ since. (let a = g.few_server since in
-          let b = server_less since turn.entries (entries_of past) in omega (arith, a, b));
+          let b = server_less since turn.entries (entries_of past) in few_still _ _ _ _ b a);
     }
 
 module _ (config : Config) (beneath : Beneath) where
@@ -70,16 +81,16 @@ module _ (config : Config) (beneath : Beneath) where
   taken_here turn past g =
       let old = goes_before config turn past g in
       let channel = joined.channel config _ past (record_of config past old.stands) old.stands.legal in
-      let back = channel_across (usual config.client_word) (usual config.server_word) client_end server_end
+      let back = channel_across config.client_setup config.server_setup client_end server_end
       (hops_of config past) channel in
       taken_in_time config past turn g.stands (few_arrive config past old.stands old.few_client old.few_server)
-      (beneath.within (usual config.client_word) (usual config.server_word) client_end server_end (hops_of config past)
+      (beneath.within config.client_setup config.server_setup client_end server_end (hops_of config past)
       channel)
-      (beneath.within (usual config.server_word) (usual config.client_word) server_end client_end
+      (beneath.within config.server_setup config.client_setup server_end client_end
       (across (hops_of config past)) back)
-      (beneath.ended (usual config.server_word) (usual config.client_word) server_end client_end
+      (beneath.ended config.server_setup config.client_setup server_end client_end
       (across (hops_of config past)) back)
-      (beneath.replies server_end config.client_sizes config.client_word (client_of (entries_of past)) old.stands.client)
+      (beneath.replies server_end config.client_sizes config.client_setup (client_of (entries_of past)) old.stands.client)
 
   pub all_taken : (turns : List Turn) → Goes config turns → AllTakenInTime config turns
   all_taken [] g = tt

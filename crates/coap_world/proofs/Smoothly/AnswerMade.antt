@@ -49,7 +49,6 @@ pub serves_answer : (s : S.Own) (c : S.Call) (x : Serving) → serving s c ≡ S
     → Ever (λ b. responds b ≡ Some x.asked) (lower s c)
 serves_answer s (S.Feeds now from bytes word up (Some p) (S.Serves q reply left) below) x is =
     inl (ap (λ (o : Option Serving). elim o as (λ w. Option Asked) [ Some y ↦ Some y.asked | None ↦ None ]) is)
-serves_answer s (S.Feeds now from bytes word up None (S.Serves q reply left) below) x is = absurd (cc is)
 serves_answer s (S.Feeds now from bytes word up came S.Silent below) x is = absurd (none came is)
   where
     none : (o : Option (Asked × Message)) → serving s (S.Feeds now from bytes word up o S.Silent below) ≡ Some x → ⊥
@@ -74,20 +73,7 @@ serves_answer s (S.Feeds now from bytes word up came (S.Notifies o reply) below)
     none (Some p) h = cc h
 serves_answer s (S.Ticks now word below room (due.Ready a) passed (S.Serves q reply left) id answer) x is =
     inl (ap (λ (o : Option Serving). elim o as (λ w. Option Asked) [ Some y ↦ Some y.asked | None ↦ None ]) is)
-serves_answer s (S.Ticks now word below room (due.Ready a) passed S.Silent id answer) x is = absurd (cc is)
-serves_answer s (S.Ticks now word below room (due.Ready a) passed (S.Replies r) id answer) x is = absurd (cc is)
-serves_answer s (S.Ticks now word below room (due.Ready a) passed (S.Waits q delay) id answer) x is = absurd (cc is)
-serves_answer s (S.Ticks now word below room (due.Ready a) passed (S.Notifies o reply) id answer) x is = absurd (cc is)
-serves_answer s (S.Ticks now word below room due.Idle passed h id answer) x is = absurd (cc is)
-serves_answer s (S.Ticks now word below room due.Copied passed h id answer) x is = absurd (cc is)
-serves_answer s (S.Ticks now word below room due.Expired passed h id answer) x is = absurd (cc is)
-serves_answer s (S.Sets now path format body answer left) x is = absurd (cc is)
-serves_answer s (S.Removes now path answer left) x is = absurd (cc is)
-serves_answer s (S.Delays path ms answer) x is = absurd (cc is)
-serves_answer s (S.Plains path answer) x is = absurd (cc is)
-serves_answer s (S.NextOut answer) x is = absurd (cc is)
-serves_answer s (S.Gets path answer) x is = absurd (cc is)
-serves_answer s (S.TellsApplied answer) x is = absurd (cc is)
+serves_answer s _ x is = absurd (cc is)
 
 module _ (limits : Limits) (szx : ℕ) (past : List S.Call) (c : S.Call) where
   abbrev own : S.Own
@@ -157,14 +143,14 @@ module _ (config : Config) where
     abbrev feed : S.Call
     feed = S.Feeds now from bytes w up (Some p) h below
 
-    server_law : ServerLaw config.limits config.server_szx config.server_word (feed ∷ t)
-    server_law = subst (λ d. ServerLaw config.limits config.server_szx config.server_word (d ∷ t)) is law.server
+    server_law : ServerLaw config.limits config.server_szx config.server_setup (feed ∷ t)
+    server_law = subst (λ d. ServerLaw config.limits config.server_szx config.server_setup (d ∷ t)) is law.server
 
     came : CameFrom config past (OfServer c) p.0 (verdict_on config.server_szx p.1)
     came = law.came.0 p.0 (verdict_on config.server_szx p.1)
-        (subst (λ d. Rattle.coap_server.specs.Follows.Brings.Comes config.limits config.server_szx config.server_word t d p.0
+        (subst (λ d. Rattle.coap_server.specs.Follows.Brings.Comes config.limits config.server_szx config.server_setup t d p.0
         (verdict_on config.server_szx p.1)) (sym is)
-        (comes_here config.limits config.server_szx config.server_word t now from bytes w up p h below server_law)) client
+        (comes_here config.limits config.server_szx config.server_setup t now from bytes w up p h below server_law)) client
 
     kind : p.1.kind ≡ Con
     kind =
@@ -172,7 +158,7 @@ module _ (config : Config) where
         let first : R.Call = incoming s now from bytes up (Some p) in
         let newer : List R.Call = answering (heard s now first) (Some p) h below in
         let older : List R.Call = lower_of config.limits config.server_szx t in
-        let all = came_in config.server_word (lower_of config.limits config.server_szx (feed ∷ t))
+        let all = came_in config.server_setup (lower_of config.limits config.server_szx (feed ∷ t))
         server_law.exchanges.rows server_law.exchanges.left server_law.exchanges.layer in
         let here = (Always_back (λ q d. CameIn d) newer (first ∷ older)
         (subst AreRequests (append_assoc newer (first ∷ []) older) all)).0 in
@@ -180,7 +166,7 @@ module _ (config : Config) where
         sym (ap (λ (z : Asked). z.kind) k.0) ∙ ap (λ (z : Asked). z.kind) came.asked
 
     answered : AnswersIt config.limits config.server_szx t c p.0
-    answered = by ((server_facts.attended config.limits config.server_szx config.server_word (c ∷ t) law.server).0 p
+    answered = by ((server_facts.attended config.limits config.server_szx config.server_setup (c ∷ t) law.server).0 p
         (ap attended.came_in is))
       where
         by : AnswersIt config.limits config.server_szx t c p.0
@@ -213,16 +199,7 @@ module _ (config : Config) where
       (ap (λ n. refusal_of s.uploads (max s.clock now) p.0 (verdict_on n p.1)) (sym szx) ∙ refuses_it)
       (ap (λ n. taken_by s.uploads (max s.clock now) p.0 (verdict_on n p.1)) szx) asks)
       token (ap (λ (z : Asked). z.token) is ∙ same)
-  refused token past (S.Feeds now from bytes w up None h below) law a code hands_it r client same = absurd (cc hands_it)
-  refused token past (S.Sets now path format body answer left) law a code hands_it r client same = absurd (cc hands_it)
-  refused token past (S.Removes now path answer left) law a code hands_it r client same = absurd (cc hands_it)
-  refused token past (S.Delays path ms answer) law a code hands_it r client same = absurd (cc hands_it)
-  refused token past (S.Plains path answer) law a code hands_it r client same = absurd (cc hands_it)
-  refused token past (S.Ticks now w below room d passed h id answer) law a code hands_it r client same =
-      absurd (cc hands_it)
-  refused token past (S.NextOut answer) law a code hands_it r client same = absurd (cc hands_it)
-  refused token past (S.Gets path answer) law a code hands_it r client same = absurd (cc hands_it)
-  refused token past (S.TellsApplied answer) law a code hands_it r client same = absurd (cc hands_it)
+  refused token past _ law a code hands_it r client same = absurd (cc hands_it)
 
   none_taken : (uploads : AssemblyState) (at : ℕ) (a : Asked) (v : Verdict) (p : Question) → v ≡ Asks p
       → taken_by uploads at a v ≡ None
@@ -231,15 +208,13 @@ module _ (config : Config) where
   -- the asked of a block that is taken is what came
   took_of : (uploads : AssemblyState) (at : ℕ) (a : Asked) (v : Verdict) (x : Took) → taken_by uploads at a v ≡ Some x
       → x.asked ≡ a
-  took_of uploads at a Ignored x h = absurd (cc h)
-  took_of uploads at a (Refused n) x h = absurd (cc h)
-  took_of uploads at a (Asks p) x h = absurd (cc h)
   took_of uploads at a (Uploads p b) x h = by (ruling_of uploads at a p b) h
     where
       by : (r : BlockVerdict) → took_by r (took a p b) ≡ Some x → x.asked ≡ a
       by (ruling.Refuse why) t = absurd (cc t)
       by (ruling.Join size) t = let same : took a p b ≡ x = cc t in sym (ap (λ (z : Took). z.asked) same)
       by ruling.Done t = let same : took a p b ≡ x = cc t in sym (ap (λ (z : Took). z.asked) same)
+  took_of uploads at a _ x h = absurd (cc h)
 
   continued : (token : List ℕ) (past : List Entry) (c : S.Call) → Lawful config (OfServer c ∷ past) → (x : Took)
       → takes_block (own_of config.limits config.server_szx (trace past)) c ≡ Some x → x.part.more ≡ true
@@ -254,22 +229,14 @@ module _ (config : Config) where
       takes more (λ asked is_asked. ap (λ n. taken_by s.uploads (max s.clock now) p.0 (verdict_on n p.1)) szx
       ∙ none_taken s.uploads (max s.clock now) p.0 (verdict_on config.server_szx p.1) asked is_asked) asks)
       token (sym (ap (λ (z : Asked). z.token) is) ∙ same)
-  continued token past (S.Feeds now from bytes w up None h below) law x takes more client same = absurd (cc takes)
-  continued token past (S.Sets now path format body answer left) law x takes more client same = absurd (cc takes)
-  continued token past (S.Removes now path answer left) law x takes more client same = absurd (cc takes)
-  continued token past (S.Delays path ms answer) law x takes more client same = absurd (cc takes)
-  continued token past (S.Plains path answer) law x takes more client same = absurd (cc takes)
-  continued token past (S.Ticks now w below room d passed h id answer) law x takes more client same = absurd (cc takes)
-  continued token past (S.NextOut answer) law x takes more client same = absurd (cc takes)
-  continued token past (S.Gets path answer) law x takes more client same = absurd (cc takes)
-  continued token past (S.TellsApplied answer) law x takes more client same = absurd (cc takes)
+  continued token past _ law x takes more client same = absurd (cc takes)
 
   pub served_origin : (past : List Entry) (c : S.Call) → Lawful config (OfServer c ∷ past) → (x : Serving)
       → serving (own_of config.limits config.server_szx (trace past)) c ≡ Some x → x.asked.from ≡ client_end
       → Origin config x.asked (OfServer c ∷ past)
   served_origin past c law x here from =
       let es : List Entry = OfServer c ∷ past in
-      let brings = (server_facts.handed config.limits config.server_szx config.server_word (trace es) law.server).0 x here
+      let brings = (server_facts.handed config.limits config.server_szx config.server_setup (trace es) law.server).0 x here
       in
       let k = traced config x.asked x.question es law.came from (brought_in config x.asked x.question es brings) in
       record {

@@ -49,10 +49,10 @@ pub record IsAckWith (request : Open) (x : Sending) (bytes : List ℕ) (m : Mess
 module _ (config : Config) (request : Open) (x : Sending) (bytes : List ℕ) (m : Message)
     (ack : IsAckWith request x bytes m) where
   abbrev Law : List C.Call → Type 0
-  Law t = ClientLaw server_end config.client_sizes config.client_word t
+  Law t = ClientLaw server_end config.client_sizes config.client_setup t
 
   abbrev layer : List C.Call → List L.Entry
-  layer t = layer_of server_end config.client_sizes config.client_word t
+  layer t = layer_of server_end config.client_sizes config.client_setup t
 
   -- it comes here, behind a request with its token, and is taken if its CON is outstanding
   pub record AckComes (t : List C.Call) (c : C.Call) : Type 0 where
@@ -69,17 +69,17 @@ module _ (config : Config) (request : Open) (x : Sending) (bytes : List ℕ) (m 
   sent_in (c ∷ t) (inr h) = let k = sent_in t h in (k.0, inr k.1, k.2)
 
   -- the CON that is outstanding is that
-  outstanding_is : (at : ℕ) (t : List C.Call) (o : OpenOf server_end config.client_sizes config.client_word at x t)
-      → Alone server_end config.client_sizes config.client_word request at x t o → request.to ≡ server_end
-      → (r : Runs server_end config.client_sizes config.client_word at x t)
-      → Lonely server_end config.client_sizes config.client_word at x r.exchange t
+  outstanding_is : (at : ℕ) (t : List C.Call) (o : OpenOf server_end config.client_sizes config.client_setup at x t)
+      → Alone server_end config.client_sizes config.client_setup request at x t o → request.to ≡ server_end
+      → (r : Runs server_end config.client_sizes config.client_setup at x t)
+      → Lonely server_end config.client_sizes config.client_setup at x r.exchange t
       → Outstanding (layer t) server_end m.id
   outstanding_is at t o alone to r k =
       let con : Open = k.con in
       let stays : IsOpen (layer t) (as_begun con) =
       subst (Ever (λ z. as_begun z ≡ as_begun con)) (sym k.only) (inl refl) in
       let same : as_begun con ≡ request =
-      alone_now server_end config.client_sizes config.client_word request at x t o alone (as_begun con) stays in
+      alone_now server_end config.client_sizes config.client_setup request at x t o alone (as_begun con) stays in
       let there : con.to ≡ server_end = ap (λ (z : Open). z.to) same ∙ to in
       let id : con.id ≡ m.id = ap (λ (z : Open). z.id) same ∙ sym ack.id in
       let place : same_endpoint con.to server_end ≡ true =
@@ -88,10 +88,10 @@ module _ (config : Config) (request : Open) (x : Sending) (bytes : List ℕ) (m 
       let is : is_to server_end m.id con ≡ true = cc (place, number) in
       subst (Ever (λ c. is_to server_end m.id c ≡ true)) (sym k.only) (inl is)
 
-  pub acked_before : (at : ℕ) (t : List C.Call) → Law t → AnswersAreHeard server_end config.client_sizes config.client_word t
+  pub acked_before : (at : ℕ) (t : List C.Call) → Law t → AnswersAreHeard server_end config.client_sizes config.client_setup t
       → OwnTokens config.client_sizes t → IsPlain x → request.to ≡ server_end
-      → (o : OpenOf server_end config.client_sizes config.client_word at x t)
-      → Alone server_end config.client_sizes config.client_word request at x t o
+      → (o : OpenOf server_end config.client_sizes config.client_setup at x t)
+      → Alone server_end config.client_sizes config.client_setup request at x t o
       → Sometime AckComes t → AckIn config request t
   acked_before at [] law heard own plain to o alone h = absurd h
   acked_before at (c ∷ t) law heard own plain to (inl o) alone (inl k) =
@@ -101,24 +101,24 @@ module _ (config : Config) (request : Open) (x : Sending) (bytes : List ℕ) (m 
       let d = own.0 x z.0 o.0 z.1 z.2 in absurd (plain.no_cancel d.number d.cancels)
   acked_before at (c ∷ t) law heard own plain to (inr o) alone (inr h) =
       lifted config request c t
-      (acked_before at t (client_facts.back server_end config.client_sizes config.client_word (c ∷ []) t law) heard.1 own.1
+      (acked_before at t (client_facts.back server_end config.client_sizes config.client_setup (c ∷ []) t law) heard.1 own.1
       plain to o.3 alone.1 h)
   acked_before at (c ∷ t) law heard own plain to (inr o) alone (inl k) =
-      let old = client_facts.back server_end config.client_sizes config.client_word (c ∷ []) t law in
-      let r = runs_of server_end config.client_sizes config.client_word at x t old o.3 in
+      let old = client_facts.back server_end config.client_sizes config.client_setup (c ∷ []) t law in
+      let r = runs_of server_end config.client_sizes config.client_setup at x t old o.3 in
       ⊎_elim
-      (λ (z : Lonely server_end config.client_sizes config.client_word at x r.exchange t). absurd (up r z))
-      (λ (z : Waited server_end config.client_sizes config.client_word r.exchange t).
+      (λ (z : Lonely server_end config.client_sizes config.client_setup at x r.exchange t). absurd (up r z))
+      (λ (z : Waited server_end config.client_sizes config.client_setup r.exchange t).
       lifted config request c t (ack_in config request to at x t old o.3 alone.1 r z))
-      (lonely server_end config.client_sizes config.client_word at x t old r)
+      (lonely server_end config.client_sizes config.client_setup at x t old r)
     where
-      up : (r : Runs server_end config.client_sizes config.client_word at x t)
-          → Lonely server_end config.client_sizes config.client_word at x r.exchange t → ⊥
+      up : (r : Runs server_end config.client_sizes config.client_setup at x t)
+          → Lonely server_end config.client_sizes config.client_setup at x r.exchange t → ⊥
       up r z =
           let f = k.fed in
           let there = outstanding_is at t o.3 alone.1 to r z in
           let response = k.taken there in
-          let comes : ComesUp server_end config.client_sizes config.client_word x t c =
+          let comes : ComesUp server_end config.client_sizes config.client_setup x t c =
           record {
             now = f.now;
             from = server_end;
@@ -138,7 +138,7 @@ module _ (config : Config) (request : Open) (x : Sending) (bytes : List ℕ) (m 
             asked_before = k.sent;
             asked_same = k.same ∙ sym ack.token;
           } in
-          never_answered server_end config.client_sizes config.client_word at x (c ∷ t) law heard own plain (inr o)
+          never_answered server_end config.client_sizes config.client_setup at x (c ∷ t) law heard own plain (inr o)
           (inl comes)
 
   -- .. where it arrives

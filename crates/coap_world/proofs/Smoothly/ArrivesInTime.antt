@@ -1,8 +1,6 @@
 -- In a smooth run what a message layer sends comes to the other's within 1,000 ms, behind its sending.
-use Rattle.std.proofs.Common.{◌≡◌, ◌⊎◌, inl, inr, ⊎_elim, ◌≤◌, ◌<◌, ℕ, ◌+◌, nat_le, Bool, true, false, Some, None, List}
+use Rattle.std.proofs.Common.{◌≡◌, ◌⊎◌, inl, inr, ⊎_elim, ◌≤◌, ◌<◌, ℕ, ◌+◌, false, Some, None, List}
 use Rattle.std.proofs.Common.{[], ◌∷◌, ◌++◌, map, length, refl, ap, sym, subst, ◌∙◌, arith}
-use Rattle.std.proofs.lemmas.Bool.{leb-true}
-use Rattle.std.proofs.lemmas.Bool.Decides.{nat_tests}
 use Rattle.std.proofs.lemmas.List.{length-append}
 use Rattle.coap_types.specs.Past.{Ever, Sometime, all_of}
 use Rattle.coap_types.proofs.Facts.Traces.{Ever_front, Ever_back, Ever_of_Sometime, Sometime_back}
@@ -25,16 +23,7 @@ use Rattle.coap_world.proofs.Delivery.GivenOutBefore.{number_unique, not_later}
 use Rattle.coap_world.proofs.Delivery.Received.{are_received}
 use Rattle.coap_world.proofs.Smoothly.SentIsGivenOut.{front, front_is, numbered_in, near_given, far_given}
 use Rattle.coap_world.proofs.Smoothly.Standing.{AllMade, Stands, before, record_of, turned, side_of}
-
-pub in_or_late : (a b : ℕ) → (a ≤ b) ⊎ (b < a)
-in_or_late a b = by (nat_le a b) refl
-  where
-    by : (x : Bool) → nat_le a b ≡ x → (a ≤ b) ⊎ (b < a)
-    by true e = inl (leb-true a b e)
-    by false e = inr (grind (arith, nat_tests, e))
-
-apart : client_end ≡ server_end → ⊥
-apart h = let k : 40001 ≡ 5683 = ap (λ (e : Endpoint). e.port) h in absurd (omega (arith, k))
+pub use Rattle.coap_world.proofs.Delivery.FedInTime.{in_or_late, apart}
 
 -- two lists in one, parted at an element
 parted : {X : Type 0} (a b later : List X) (h : X) (before : List X) → a ++ b ≡ later ++ h ∷ before

@@ -31,7 +31,7 @@ module _ (config : Config) where
   later m e es k = record { sending = k.sending; sent = sent_later config k.sending es e k.sent; token = k.token }
 
   came : (m : Message) (past : List Entry) (c : S.Call) → Lawful config (OfServer c ∷ past) → (a : Asked) (v : Verdict)
-      → Comes config.limits config.server_szx config.server_word (server_trace config past) c a v → a.from ≡ client_end
+      → Comes config.limits config.server_szx config.server_setup (server_trace config past) c a v → a.from ≡ client_end
       → a.token ≡ m.token → AskedIn m past
   came m past c law a v comes from token =
       let k = law.came.0 a v comes from in
@@ -47,7 +47,7 @@ module _ (config : Config) where
       let k = asked_by config past c law x here is.to_client in
       record { sending = k.sending; sent = k.sent; token = k.token ∙ is.token_is }
   answer m past c law (continues x size takes more asks is) =
-      let b = (server_facts.blocks config.limits config.server_szx config.server_word (c ∷ server_trace config past)
+      let b = (server_facts.blocks config.limits config.server_szx config.server_setup (c ∷ server_trace config past)
       law.server).0 x takes in
       came m past c law x.asked (Uploads b.question b.block) b.comes is.to_client is.token_is
   answer m past c law (refuses a v code comes hands unserved refuses_it is) =

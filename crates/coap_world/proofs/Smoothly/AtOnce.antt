@@ -7,7 +7,6 @@ use Rattle.coap_types.specs.Past.{Ever, Sometime, Always}
 use Rattle.coap_types.proofs.Facts.Traces.{Ever_append, Sometime_back}
 use Rattle.coap_types.specs.declared.endpoint.Endpoint.{Endpoint}
 use Rattle.coap_layer.specs.Channel.{Hop, Far, near_of, OnNear, OnFarThen, RepliesTo, ChannelLaw, AcksReplied}
-use Rattle.coap_layer.specs.Machine.State.{usual}
 use Rattle.coap_layer.specs.Rows.{LayerLaw}
 use Rattle.coap_layer.specs.Sends.{IsIn}
 use Rattle.coap_layer.specs.Taking.{AllTakeAcks, ArrivesWithin, RepliedOnce}
@@ -62,14 +61,14 @@ pub record Laws : Type 0 where
       → AcksReplied near far all
   pub replied_once : (one other : Setup) (near far : Endpoint) (all : List Hop) → ChannelLaw one other near far all
       → RepliedOnce near all
-  pub heard : (server : Endpoint) (sizes : Sizes) (word : ℕ) (t : List C.Call) → ClientLaw server sizes word t
-      → AnswersAreHeard server sizes word t
-  pub own : (server : Endpoint) (sizes : Sizes) (word : ℕ) (t : List C.Call) → ClientLaw server sizes word t
+  pub heard : (server : Endpoint) (sizes : Sizes) (setup : Setup) (t : List C.Call) → ClientLaw server sizes setup t
+      → AnswersAreHeard server sizes setup t
+  pub own : (server : Endpoint) (sizes : Sizes) (setup : Setup) (t : List C.Call) → ClientLaw server sizes setup t
       → OwnTokens sizes t
-  pub observed : (server : Endpoint) (sizes : Sizes) (word : ℕ) (t : List C.Call) → ClientLaw server sizes word t
+  pub observed : (server : Endpoint) (sizes : Sizes) (setup : Setup) (t : List C.Call) → ClientLaw server sizes setup t
       → AreOfObservations sizes t
-  pub handed_on : (limits : Limits) (szx word : ℕ) (t : List S.Call) → ServerLaw limits szx word t
-      → AllHandedOn limits szx word t
+  pub handed_on : (limits : Limits) (szx : ℕ) (setup : Setup) (t : List S.Call) → ServerLaw limits szx setup t
+      → AllHandedOn limits szx setup t
 
 module _ (config : Config) (con : Open) (x : Sending) where
   -- it waits, or is answered somewhere
@@ -123,11 +122,11 @@ module _ (config : Config) where
     calls : List C.Call
     calls = client_of (entries_of past)
 
-    channel : ChannelLaw (usual config.client_word) (usual config.server_word) client_end server_end (hops_of config past)
+    channel : ChannelLaw config.client_setup config.server_setup client_end server_end (hops_of config past)
     channel = joined.channel config _ past (record_of config past old.stands) old.stands.legal
 
-    module _ (x : Sending) (o : OpenOf server_end config.client_sizes config.client_word at x (client_of (entries_of past)))
-        (h : HasCon server_end config.client_sizes config.client_word at x (client_of (entries_of past)) o) where
+    module _ (x : Sending) (o : OpenOf server_end config.client_sizes config.client_setup at x (client_of (entries_of past)))
+        (h : HasCon server_end config.client_sizes config.client_setup at x (client_of (entries_of past)) o) where
       abbrev es : List Entry
       es = entries_of past
 
@@ -135,7 +134,7 @@ module _ (config : Config) where
       con = h.con
 
       sent : WasSent config.client_sizes x (client_of (entries_of past))
-      sent = was_sent server_end config.client_sizes config.client_word at x (client_of (entries_of past)) o
+      sent = was_sent server_end config.client_sizes config.client_setup at x (client_of (entries_of past)) o
 
       begun_there : Ever (λ b. begun b ≡ Some con) (near_of (hops_of config past))
       begun_there = subst (Ever (λ b. begun b ≡ Some con)) (sym (near_is config es)) h.begun_before
@@ -144,10 +143,10 @@ module _ (config : Config) where
       comes =
           let first = h.first in
           let taken = (taken_here config laws.beneath turn past g).by_server con begun_there (omega (arith, first, late)) in
-          let spells = request_spelled (usual config.client_word) (near_of (hops_of config past)) con x channel.near_law
+          let spells = request_spelled config.client_setup (near_of (hops_of config past)) con x channel.near_law
           begun_there h.is in
           request_taken config old.stands.range
-          (λ t law. laws.handed_on config.limits config.server_szx config.server_word t law) con x spells
+          (λ t law. laws.handed_on config.limits config.server_szx config.server_setup t law) con x spells
           (is_request x (was_message config.client_sizes x (client_of (entries_of past)) sent)) (entries_of past)
           (lawful config _ past (record_of config past old.stands)
           (record { range = old.stands.range; events = old.stands.legal })) (on_time config past old.stands) taken
@@ -186,19 +185,19 @@ module _ (config : Config) where
             understood = r.understood;
           } in
           let there = subst (Sometime (ArrivesBehind config con x r.bytes r.message ack max_age r.reply.at r.sending r.same
-          (λ t law. laws.acks (usual config.client_word) _
-          (client_facts.layer server_end config.client_sizes config.client_word t law)))) (sym k.is)
+          (λ t law. laws.acks config.client_setup _
+          (client_facts.layer server_end config.client_sizes config.client_setup t law)))) (sym k.is)
           (in_front P r.sending k.newer (OfServer k.call ∷ k.past) r.sent newer) in
           let called = to_calls config con x r.bytes r.message ack max_age r.reply.at r.sending r.same
-          (λ t law. laws.acks (usual config.client_word) _
-          (client_facts.layer server_end config.client_sizes config.client_word t law)) (entries_of past)
+          (λ t law. laws.acks config.client_setup _
+          (client_facts.layer server_end config.client_sizes config.client_setup t law)) (entries_of past)
           old.stands.client there in
           let plain = was_plain config.client_sizes x (client_of (entries_of past))
-          (laws.observed server_end config.client_sizes config.client_word (client_of (entries_of past)) old.stands.client)
+          (laws.observed server_end config.client_sizes config.client_setup (client_of (entries_of past)) old.stands.client)
           none sent in
           let acked = acked_before config con x r.bytes r.message ack at (client_of (entries_of past)) old.stands.client
-          (laws.heard server_end config.client_sizes config.client_word (client_of (entries_of past)) old.stands.client)
-          (laws.own server_end config.client_sizes config.client_word (client_of (entries_of past)) old.stands.client)
+          (laws.heard server_end config.client_sizes config.client_setup (client_of (entries_of past)) old.stands.client)
+          (laws.own server_end config.client_sizes config.client_setup (client_of (entries_of past)) old.stands.client)
           plain h.is.to o h.alone called in
           let given : Sometime (OnFarThen (RepliesTo client_end con r.bytes)) (hops_of config past) =
           subst (Sometime (OnFarThen (RepliesTo client_end con r.bytes))) (sym all)
@@ -206,11 +205,11 @@ module _ (config : Config) where
           (inl (subst (λ l. RepliesTo client_end con r.bytes l r.reply)
           (ap (λ l. r.older ++ l) (sym (far_is config k.past)) ∙ sym (far_far r.older (hops_in config k.past)))
           r.replies))) in
-          one_reply (usual config.client_word) con acked.con r.bytes r.message (hops_of config past) acked.is h.is.to
+          one_reply config.client_setup con acked.con r.bytes r.message (hops_of config past) acked.is h.is.to
           begun_there channel.near_law
-          (laws.acks_replied (usual config.client_word) (usual config.server_word) client_end server_end
+          (laws.acks_replied config.client_setup config.server_setup client_end server_end
           (hops_of config past) channel)
-          (laws.replied_once (usual config.client_word) (usual config.server_word) client_end server_end
+          (laws.replied_once config.client_setup config.server_setup client_end server_end
           (hops_of config past) channel)
           r.spells r.class given
           (subst (Sometime _) (sym (near_is config es)) acked.taken)
@@ -218,7 +217,7 @@ module _ (config : Config) where
       waits : LastWaits config at past
       waits = record {
         sending = x;
-        last = last_of server_end config.client_sizes config.client_word at x (client_of (entries_of past)) o;
+        last = last_of server_end config.client_sizes config.client_setup at x (client_of (entries_of past)) o;
         waiting = now.waiting;
         from = now.from;
         token = now.token;
@@ -233,9 +232,9 @@ module _ (config : Config) where
 
     pub last_waits : LastWaits config at past
     last_waits =
-        let k = open_of server_end config.client_sizes config.client_word at (client_of (entries_of past))
+        let k = open_of server_end config.client_sizes config.client_setup at (client_of (entries_of past))
         old.stands.client is_open in
-        waits k.0 k.1 (has_con server_end config.client_sizes config.client_word at k.0 (client_of (entries_of past))
+        waits k.0 k.1 (has_con server_end config.client_sizes config.client_setup at k.0 (client_of (entries_of past))
         old.stands.client k.1)
 
 -- nothing was observed before either

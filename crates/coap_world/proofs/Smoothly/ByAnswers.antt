@@ -20,25 +20,9 @@ use Rattle.coap_world.proofs.Smoothly.YoungCalls.{young_calls}
 none_left : (c : C.Call) → ends_as c ≢ Some Timeout → ends_as c ≢ Some NoResponse → ends_as c ≢ Some Reset
     → ends_as c ≡ None
 none_left (C.Feeds now from bytes w up settled (Some event_is.Reset) sent token kept) t n r = absurd (r refl)
-none_left (C.Feeds now from bytes w up settled None sent token kept) t n r = refl
-none_left (C.Feeds now from bytes w up settled (Some (event_is.Answer m)) sent token kept) t n r = refl
-none_left (C.Feeds now from bytes w up settled (Some (event_is.Notice m)) sent token kept) t n r = refl
-none_left (C.Feeds now from bytes w up settled (Some event_is.Timeout) sent token kept) t n r = refl
-none_left (C.Feeds now from bytes w up settled (Some event_is.NoResponse) sent token kept) t n r = refl
 none_left (C.Ticks now w below (turn_is.End event_is.Timeout) sent token kept answer) t n r = absurd (t refl)
 none_left (C.Ticks now w below (turn_is.End event_is.NoResponse) sent token kept answer) t n r = absurd (n refl)
-none_left (C.Ticks now w below turn_is.Idle sent token kept answer) t n r = refl
-none_left (C.Ticks now w below turn_is.Copied sent token kept answer) t n r = refl
-none_left (C.Ticks now w below (turn_is.End event_is.Reset) sent token kept answer) t n r = refl
-none_left (C.Ticks now w below (turn_is.End (event_is.Answer m)) sent token kept answer) t n r = refl
-none_left (C.Ticks now w below (turn_is.End (event_is.Notice m)) sent token kept answer) t n r = refl
-none_left (C.Calls now q a) t n r = refl
-none_left (C.Observes now path a) t n r = refl
-none_left (C.Cancels now number a) t n r = refl
-none_left (C.Forgets number kept a) t n r = refl
-none_left (C.NextOut a) t n r = refl
-none_left (C.NextReport a) t n r = refl
-none_left (C.Asked a) t n r = refl
+none_left _ t n r = refl
 
 module _ (config : Config) where
   each : (t : List C.Call) → Always (NotLate config) t → Always (λ past c. ends_as c ≢ Some Reset) t

@@ -3,7 +3,7 @@ use Rattle.std.proofs.Common.{◌≡◌, inl, inr, ℕ, Bool, true, false, Optio
 use Rattle.coap_types.specs.Past.{Ever}
 use Rattle.coap_types.specs.declared.endpoint.Endpoint.{Endpoint}
 use Rattle.coap_types.specs.declared.message.Kind.{Kind}
-use Rattle.coap_types.specs.declared.message.Kind.TheVariants.{Con, Non, Ack, Rst}
+use Rattle.coap_types.specs.declared.message.Kind.TheVariants.{Con}
 use Rattle.coap_layer.specs.Machine.State.{State}
 use Rattle.coap_layer.specs.Machine.Steps.{Asked, entries}
 use Rattle.coap_layer.specs.Trace as L
@@ -73,9 +73,7 @@ module _ (Q N : Endpoint → L.Content → Type 0) where
   answering_so : (s : R.Own) (kind : Kind) (a : request.Asked) (r : R.Response) → N a.from (P.content_of a r)
       → IsSo (P.answering s kind a r)
   answering_so s Con a r n = of_reply a.from _ _
-  answering_so s Non a r n = in_non a.from (P.content_of a r) n
-  answering_so s Ack a r n = in_non a.from (P.content_of a r) n
-  answering_so s Rst a r n = in_non a.from (P.content_of a r) n
+  answering_so s _ a r n = in_non a.from (P.content_of a r) n
 
   deferring_so : (b : Bool) (a : request.Asked) → Every IsAskedSo (deferring b a)
   deferring_so true a = (of_reply _ _ _, tt)

@@ -5,10 +5,11 @@ use Rattle.coap_types.specs.Past.{Ever}
 use Rattle.coap_types.proofs.Facts.Traces.{Ever_append, Ever_front}
 use Rattle.coap_types.specs.declared.endpoint.Endpoint.{Endpoint}
 use Rattle.coap_codec.specs.Message.{Message}
-use Rattle.coap_layer.specs.Machine.State.{start, usual}
+use Rattle.coap_layer.specs.Machine.State.{start}
 use Rattle.coap_layer.specs.Machine.Steps.{left_after}
 use Rattle.coap_layer.specs.Trace as L
 use Rattle.coap_layer.specs.Words.{Open, begun}
+use Rattle.coap_layer.specs.declared.setup.Setup.{Setup}
 use Rattle.coap_resource.specs.Limits.{Limits}
 use Rattle.coap_observe.specs.Observers.{Observer}
 use Rattle.coap_exchange.specs.AnswererLaw as answerer
@@ -53,13 +54,9 @@ Plain calls to content = Ever (λ b. plain_to b ≡ Some to) calls
 itself : (b : R.Call) (later : List R.Call) → SendsSo (Confirms (b ∷ later)) (Plain (b ∷ later)) b
 itself (R.Responds now a r word id) later = inl refl
 itself (R.Notifies now to token r word id) later = inl refl
-itself (R.Incoming now from bytes up answer) later = tt
 itself (R.Answers a r below) later = inl refl
-itself (R.Defers now a delay answer) later = tt
-itself (R.Ticks now below room answer) later = tt
-itself (R.Ready now to answer) later = tt
 itself (R.NotifiesPlain now to token r id) later = inl refl
-itself (R.Take answer) later = tt
+itself _ later = tt
 
 all_send : (past later : List R.Call) → Every (IsAskedSo (Confirms later) (Plain later)) (asked_by_server past later)
 all_send past [] = tt
@@ -103,14 +100,12 @@ module _ (to : Endpoint) where
 
   none_answering : (s : S.Own) (came : Option (Asked × Message)) (h : S.Handling) (below : L.Answer)
       → Here (answering s came h below) → ⊥
-  none_answering s None h below k = k
   none_answering s (Some p) (S.Replies r) below (inl k) = cc k
   none_answering s (Some p) (S.Replies r) below (inr k) = k
   none_answering s (Some p) (S.Serves q reply left) below (inl k) = cc k
   none_answering s (Some p) (S.Serves q reply left) below (inr k) = none_deferred _ _ _ p.0 k
   none_answering s (Some p) (S.Waits q delay) below k = none_deferred _ _ _ p.0 k
-  none_answering s (Some p) S.Silent below k = k
-  none_answering s (Some p) (S.Notifies o reply) below k = k
+  none_answering s _ _ below k = k
 
   not_asked : (at : ℕ) (o : Observer) → Here (R.Ready at o.to false ∷ []) → ⊥
   not_asked at o (inl k) = cc k
@@ -142,10 +137,6 @@ module _ (to : Endpoint) where
       → Begins s d passed h word id
   begins s (due.Ready a) passed (S.Serves q reply left) word id (inl k) = answers a (inl refl) (some_is a.from k)
   begins s (due.Ready a) passed (S.Serves q reply left) word id (inr k) = absurd k
-  begins s (due.Ready a) passed S.Silent word id k = absurd k
-  begins s (due.Ready a) passed (S.Replies r) word id k = absurd k
-  begins s (due.Ready a) passed (S.Waits q delay) word id k = absurd k
-  begins s (due.Ready a) passed (S.Notifies o reply) word id k = absurd k
   begins s due.Idle passed (S.Notifies o reply) word id (inl k) = tells o reply refl
       (notice_to (by_plain s o) s.clock o (notification s.store o reply) word id k)
   begins s due.Idle passed (S.Notifies o reply) word id (inr k) = absurd (none_ready s.clock passed (marked s.observers) k)
@@ -154,8 +145,7 @@ module _ (to : Endpoint) where
   begins s due.Idle passed (S.Serves q reply left) word id k =
       absurd (none_ready s.clock passed (marked s.observers) k)
   begins s due.Idle passed (S.Waits q delay) word id k = absurd (none_ready s.clock passed (marked s.observers) k)
-  begins s due.Copied passed h word id k = absurd k
-  begins s due.Expired passed h word id k = absurd k
+  begins s _ passed _ word id k = absurd k
 
   begins_in : (s : S.Own) (c : S.Call) → Here (lower s c) → RespondsTo s c to ⊎ NotifiesTo c to
   begins_in s (S.Feeds now from bytes word up came h below) k =
@@ -201,26 +191,21 @@ module _ (to : Endpoint) where
       by (inl z) = so (begins (heard s now (ticking s now below room d)) d passed h word id z)
       by (inr (inl z)) = absurd (cc z)
       by (inr (inr z)) = absurd z
-  begins_in s (S.Sets now path format body answer left) k = absurd k
-  begins_in s (S.Removes now path answer left) k = absurd k
-  begins_in s (S.Delays path ms answer) k = absurd k
-  begins_in s (S.Plains path answer) k = absurd k
   begins_in s (S.NextOut answer) (inl k) = absurd (cc k)
   begins_in s (S.NextOut answer) (inr k) = absurd k
-  begins_in s (S.Gets path answer) k = absurd k
-  begins_in s (S.TellsApplied answer) k = absurd k
+  begins_in s _ k = absurd k
 
-module _ (limits : Limits) (szx word : ℕ) (t : List S.Call) (c : S.Call) where
+module _ (limits : Limits) (szx : ℕ) (setup : Setup) (t : List S.Call) (c : S.Call) where
   abbrev pub exchange_calls : List R.Call
   exchange_calls = lower (own_of limits szx t) c
 
-  pub adds_so : Every (IsEntrySo (Confirms exchange_calls) (Plain exchange_calls)) (call_adds limits szx word t c)
+  pub adds_so : Every (IsEntrySo (Confirms exchange_calls) (Plain exchange_calls)) (call_adds limits szx setup t c)
   adds_so = entries_so (Confirms exchange_calls) (Plain exchange_calls)
-      (left_after (start (usual word)) (all_asked limits szx t)) (call_asks limits szx t c)
+      (left_after (start setup) (all_asked limits szx t)) (call_asks limits szx t c)
       (all_send (lower_of limits szx t) exchange_calls)
 
-  pub con_of : (con : Open) → Ever (λ b. begun b ≡ Some con) (call_adds limits szx word t c)
+  pub con_of : (con : Open) → Ever (λ b. begun b ≡ Some con) (call_adds limits szx setup t c)
       → RespondsTo (own_of limits szx t) c con.to ⊎ NotifiesTo c con.to
   con_of con h =
-      let so = begun_so (Confirms exchange_calls) (Plain exchange_calls) (call_adds limits szx word t c) con adds_so h in
+      let so = begun_so (Confirms exchange_calls) (Plain exchange_calls) (call_adds limits szx setup t c) con adds_so h in
       begins_in con.to (own_of limits szx t) c so.is_so

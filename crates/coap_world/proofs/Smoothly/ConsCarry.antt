@@ -1,6 +1,6 @@
 -- Each Confirmable message of a client carries a request, and each of a server a response.
 use Rattle.std.proofs.Common.{◌≡◌, inl, inr, ℕ, ◌<◌, Some, List, [], ◌∷◌}
-use Rattle.std.proofs.Common.{Result, Ok, Err, refl, ap, sym, subst, ◌∙◌, arith}
+use Rattle.std.proofs.Common.{Result, Ok, refl, ap, sym, subst, ◌∙◌, arith}
 use Rattle.coap_types.specs.Past.{Ever}
 use Rattle.coap_types.specs.MethodCode.{method_code}
 use Rattle.coap_types.specs.Roles.{role_of}
@@ -11,7 +11,7 @@ use Rattle.coap_types.specs.declared.request.Method.TheVariants.{Get, Post, Put,
 use Rattle.coap_types.specs.declared.role.Role.TheVariants as role
 use Rattle.coap_codec.specs.Message.{Spells}
 use Rattle.coap_codec.specs.Spelling.{message_bytes}
-use Rattle.coap_layer.specs.Machine.State.{start, usual}
+use Rattle.coap_layer.specs.Machine.State.{start}
 use Rattle.coap_layer.specs.Rows.{LayerLaw, Row, IsSpelled, Confirms}
 use Rattle.coap_layer.specs.Sends.{SpellsCon}
 use Rattle.coap_layer.specs.Taking.{IsTold}
@@ -26,11 +26,11 @@ use Rattle.coap_exchange.specs.AnswererTrace as R
 use Rattle.coap_exchange.specs.AskerTrace as A
 use Rattle.coap_exchange.specs.declared.asker.AskRefusal.{AskRefusal}
 use Rattle.coap_client.specs.Deeds.{effect}
-use Rattle.coap_client.specs.Effects.{Deed, Rests, Asks, Keeps, Releases, Effect}
+use Rattle.coap_client.specs.Effects.{Deed, Asks, Effect}
 use Rattle.coap_client.specs.Follows.Begins.{WasSent, IsRequestOf}
 use Rattle.coap_client.specs.Follows.Words.{Sending, sends, sent_by}
 use Rattle.coap_client.specs.Law.{own_of}
-use Rattle.coap_client.specs.Own.{Operation, Calling, Registering, Fetching, Cancelling, Dropped, Observation, Own}
+use Rattle.coap_client.specs.Own.{Operation, Calling, Observation, Own}
 use Rattle.coap_client.specs.Requests.{message_of}
 use Rattle.coap_client.specs.Trace as C
 use Rattle.coap_block.specs.Sizes.{Sizes}
@@ -55,23 +55,14 @@ by_effect e (Asks op) (Ok token) x h =
       observations = os;
       is = sym (ap (λ (y : Sending). y.request) same) ∙ ap (λ (y : Sending). message_of os y.operation) same;
     }
-by_effect e (Asks op) (Err why) x h = absurd (cc h)
-by_effect e Rests token x h = absurd (cc h)
-by_effect e (Keeps t) token x h = absurd (cc h)
-by_effect e (Releases t) token x h = absurd (cc h)
+by_effect e _ _ x h = absurd (cc h)
 
 pub message_sent : (s : Own) (c : C.Call) (x : Sending) → sends s c ≡ Some x → IsMessage x
 message_sent s (C.Feeds now from bytes word up settled event sent token kept) x h =
     let e = effect s (C.Feeds now from bytes word up settled event sent token kept) in by_effect e e.deed token x h
 message_sent s (C.Ticks now word below t sent token kept answer) x h =
     let e = effect s (C.Ticks now word below t sent token kept answer) in by_effect e e.deed token x h
-message_sent s (C.Calls now r a) x h = absurd (cc h)
-message_sent s (C.Observes now path a) x h = absurd (cc h)
-message_sent s (C.Cancels now number a) x h = absurd (cc h)
-message_sent s (C.Forgets number kept a) x h = absurd (cc h)
-message_sent s (C.NextOut a) x h = absurd (cc h)
-message_sent s (C.NextReport a) x h = absurd (cc h)
-message_sent s (C.Asked a) x h = absurd (cc h)
+message_sent s _ x h = absurd (cc h)
 
 pub was_message : (sizes : Sizes) (x : Sending) (t : List C.Call) → WasSent sizes x t → IsMessage x
 was_message sizes x [] h = absurd h
@@ -88,10 +79,7 @@ method_asks Delete = refl
 
 asks_in : (os : List Observation) (op : Operation) → role_of (message_of os op).code ≡ role.Request
 asks_in os (Calling number r t) = method_asks r.method
-asks_in os (Registering number path) = method_asks Get
-asks_in os (Fetching number) = method_asks Get
-asks_in os (Cancelling number) = method_asks Get
-asks_in os Dropped = method_asks Get
+asks_in os _ = method_asks Get
 
 pub is_request : (x : Sending) → IsMessage x → role_of x.request.code ≡ role.Request
 is_request x k = ap (λ (r : A.Request). role_of r.code) k.is ∙ asks_in k.observations x.operation
@@ -125,13 +113,7 @@ Any to content = Unit {0}
 responds_so : (s : R.Own) (c : R.Call) → P.IsRight s c → SendsSo IsResponse Any c
 responds_so s (R.Responds now a r word id) right = right.1.code
 responds_so s (R.Notifies now to token r word id) right = right.code
-responds_so s (R.Incoming now from bytes up answer) right = tt
-responds_so s (R.Answers a r below) right = tt
-responds_so s (R.Defers now a delay answer) right = tt
-responds_so s (R.Ticks now below room answer) right = tt
-responds_so s (R.Ready now to answer) right = tt
-responds_so s (R.NotifiesPlain now to token r id) right = tt
-responds_so s (R.Take answer) right = tt
+responds_so s _ right = tt
 
 all_respond : (t : List R.Call) → answerer.AnswererLaw t → Every (IsAskedSo IsResponse Any) (answerer.lower_of t)
 all_respond [] law = tt
@@ -164,11 +146,11 @@ con_carries setup (e ∷ t) con law all (inl h) =
       small = low;
     }
 
-pub server_carries : (word : ℕ) (t : List R.Call) (con : Open) → answerer.AnswererLaw t
-    → LayerLaw (usual word) (answerer.below_of word t) → Ever (λ b. begun b ≡ Some con) (answerer.below_of word t)
+pub server_carries : (setup : Setup) (t : List R.Call) (con : Open) → answerer.AnswererLaw t
+    → LayerLaw setup (answerer.below_of setup t) → Ever (λ b. begun b ≡ Some con) (answerer.below_of setup t)
     → CarriesResponse con
-server_carries word t con rows law h = con_carries (usual word) (answerer.below_of word t) con law
-    (entries_so IsResponse Any (start (usual word)) (answerer.lower_of t) (all_respond t rows)) h
+server_carries setup t con rows law h = con_carries setup (answerer.below_of setup t) con law
+    (entries_so IsResponse Any (start setup) (answerer.lower_of t) (all_respond t rows)) h
 
 pub response_told : (con : Open) → CarriesResponse con → IsTold con.bytes
 response_told con k = record { message = with_head Con con.id k.content; spells = k.spells; class = inr k.response }

@@ -68,9 +68,9 @@ module _ (config : Config) (range : IsConfig config)
   pub record OpensAlone (at : ℕ) (x : Sending) (t : List C.Call) : Type 0 where
     pub observed : AreOfObservations config.client_sizes t
     pub none : Always (λ p c. TakesNoObservation c) t
-    pub of_open : HearsOfOpen server_end config.client_sizes config.client_word t
+    pub of_open : HearsOfOpen server_end config.client_sizes config.client_setup t
     pub ends : Always (λ p c. ends_as c ≡ None) t
-    pub is_open : OpenOf server_end config.client_sizes config.client_word at x t
+    pub is_open : OpenOf server_end config.client_sizes config.client_setup at x t
 
   module _ (at : ℕ) (x : Sending) (con : Open) (to : con.to ≡ client_end) where
     abbrev Begun : List L.Entry → Type 0
@@ -79,7 +79,7 @@ module _ (config : Config) (range : IsConfig config)
     carries_here : (past : List Entry) (c : S.Call) → Lawful config (OfServer c ∷ past) → OpensAlone at x (client_of past)
         → Begun (server_adds config (server_trace config past) c) → CarriesAnswer x con
     carries_here past c law o now =
-        by (con_of config.limits config.server_szx config.server_word (server_trace config past) c con now)
+        by (con_of config.limits config.server_szx config.server_setup (server_trace config past) c con now)
       where
         by : RespondsTo (own_of config.limits config.server_szx (server_trace config past)) c con.to ⊎ NotifiesTo c con.to → CarriesAnswer x con
         by (inl r) =
@@ -87,15 +87,15 @@ module _ (config : Config) (range : IsConfig config)
             r.answer r.tick r.asked r.answers (r.from ∙ to) in
             let k = (ticks_answer config range (OfServer c ∷ past) law.server).0 c r.now r.answer r.asked x refl r.tick
             r.answers (r.from ∙ to) token in
-            let one = (all_tell_sent config.limits config.server_szx config.server_word (c ∷ server_trace config past) law.server).0.one in
+            let one = (all_tell_sent config.limits config.server_szx config.server_setup (c ∷ server_trace config past) law.server).0.one in
             subst (CarriesAnswer x) (one k.0 con k.1 now) k.2
         by (inr n) =
-            let next : IsNextNotice config.limits config.server_szx config.server_word (server_trace config past) n.now n.notice_of.observer =
-            ((server_facts.begins config.limits config.server_szx config.server_word (c ∷ server_trace config past) law.server).0 n.now n.answer
+            let next : IsNextNotice config.limits config.server_szx config.server_setup (server_trace config past) n.now n.notice_of.observer =
+            ((server_facts.begins config.limits config.server_szx config.server_setup (c ∷ server_trace config past) law.server).0 n.now n.answer
             n.tick).notifies n.notice_of n.here in
             let o_first = Ever_of_Since (λ y. (y ≡ n.notice_of.observer)
-            × CanNotify config.limits config.server_szx config.server_word (server_trace config past) y)
-            (λ y. CanNotify config.limits config.server_szx config.server_word (server_trace config past) y → ⊥)
+            × CanNotify config.limits config.server_szx config.server_setup (server_trace config past) y)
+            (λ y. CanNotify config.limits config.server_szx config.server_setup (server_trace config past) y → ⊥)
             (own_of config.limits config.server_szx (server_trace config past)).observers next.first in
             let made = of_each (WasMade config.limits config.server_szx (server_trace config past)) n.notice_of.observer
             (own_of config.limits config.server_szx (server_trace config past)).observers (observers (server_trace config past)).made
@@ -143,12 +143,12 @@ module _ (config : Config) (range : IsConfig config)
   -- what is open at a turn was open before it, where it began before
   pub opened_before : (turn : Turn) (past : List Turn) → Stands config (turn ∷ past) → (at : ℕ) (x : Sending)
       → at < turn.event.at
-      → OpenOf server_end config.client_sizes config.client_word at x (client_of (turn.entries ++ entries_of past))
-      → OpenOf server_end config.client_sizes config.client_word at x (client_of (entries_of past))
+      → OpenOf server_end config.client_sizes config.client_setup at x (client_of (turn.entries ++ entries_of past))
+      → OpenOf server_end config.client_sizes config.client_setup at x (client_of (entries_of past))
   opened_before turn past s at x earlier o = by (side_of config turn past s)
     where
-      behind : (cs t : List C.Call) → Every (client.IsAt turn.event.at) cs → OpenOf server_end config.client_sizes config.client_word at x (cs ++ t)
-          → OpenOf server_end config.client_sizes config.client_word at x t
+      behind : (cs t : List C.Call) → Every (client.IsAt turn.event.at) cs → OpenOf server_end config.client_sizes config.client_setup at x (cs ++ t)
+          → OpenOf server_end config.client_sizes config.client_setup at x t
       behind [] t is_at k = k
       behind (c ∷ cs) t is_at (inl k) =
           let late = began_at config.client_sizes turn.event.at at (cs ++ t) c is_at.0
@@ -157,16 +157,16 @@ module _ (config : Config) (range : IsConfig config)
       behind (c ∷ cs) t is_at (inr k) = behind cs t is_at.1 k.3
 
       by : ClientTurn turn.event.at turn.entries ⊎ ServerTurn turn.event.at turn.entries
-          → OpenOf server_end config.client_sizes config.client_word at x (client_of (entries_of past))
+          → OpenOf server_end config.client_sizes config.client_setup at x (client_of (entries_of past))
       by (inr on) =
           let cs : List S.Call = S.NextOut None ∷ (map (λ p. S.NextOut (Some p)) on.on.outs ++ on.calls) in
-          subst (OpenOf server_end config.client_sizes config.client_word at x) (ap (λ z. client_of (z ++ entries_of past)) on.on.is ∙ client_server cs (entries_of past)) o
+          subst (OpenOf server_end config.client_sizes config.client_setup at x) (ap (λ z. client_of (z ++ entries_of past)) on.on.is ∙ client_server cs (entries_of past)) o
       by (inl on) =
           let cs : List C.Call = C.NextReport None ∷ (map (λ r. C.NextReport (Some r)) on.on.reports
           ++ C.NextOut None ∷ (map (λ p. C.NextOut (Some p)) on.on.outs ++ on.calls)) in
           behind cs (client_of (entries_of past))
           (client_at turn.event.at on.on.outs on.on.reports on.calls on.at)
-          (subst (OpenOf server_end config.client_sizes config.client_word at x) (ap (λ z. client_of (z ++ entries_of past)) on.on.is ∙ client_client cs (entries_of past)) o)
+          (subst (OpenOf server_end config.client_sizes config.client_setup at x) (ap (λ z. client_of (z ++ entries_of past)) on.on.is ∙ client_client cs (entries_of past)) o)
 
   pub alone_before : (turn : Turn) (past : List Turn) → Stands config (turn ∷ past) → (at : ℕ) (x : Sending)
       → at < turn.event.at → OpensAlone at x (client_of (turn.entries ++ entries_of past))

@@ -9,8 +9,8 @@ use Rattle.coap_client.specs.Trace as C
 use Rattle.coap_server.specs.Follows.Delayed.{sets_delay}
 use Rattle.coap_server.specs.Trace as S
 use Rattle.coap_server.specs.Trace.{Delay}
-use Rattle.coap_world.specs.Events.{Config, What, Calls, Observes, Cancels, Forgets, Sets, Removes, TickClient, TickServer}
-use Rattle.coap_world.specs.Events.{Deliver, StrangerToClient, StrangerToServer}
+use Rattle.coap_world.specs.Events.{Config, What, Sets, Removes, TickServer}
+use Rattle.coap_world.specs.Events.{Deliver, StrangerToServer}
 use Rattle.coap_world.specs.Record.{Entry, OfClient, OfServer, Turn, OnClient, OnServer, ServerTick, Makes, entries_of}
 use Rattle.coap_world.specs.Record.{DelayOf, PlainOf, gives_it}
 use Rattle.coap_world.specs.Record.{server_trace}
@@ -53,14 +53,8 @@ on_server calls entries h on =
     (none_of_server (S.NextOut None ∷ (map (λ p. S.NextOut (Some p)) on.outs ++ calls))
     (refl, outs_set_none on.outs calls h))
 
-module _ (past : List Turn) (t word : ℕ) (refused : Bool) (entries : List Entry) where
+module _ (past : List Turn) (t : ℕ) (word : ℕ) (refused : Bool) (entries : List Entry) where
   made_none : (what : What) → Makes past t word what refused entries → Every SetsNone entries
-  made_none (Calls r) m = on_client m.0 entries m.2
-  made_none (Observes path) m = on_client m.0 entries m.2
-  made_none (Cancels number) m = on_client m.0 entries m.2
-  made_none (Forgets number) m = on_client m.0 entries m.2
-  made_none TickClient m = on_client m.0 entries m.2
-  made_none (StrangerToClient from bytes) m = on_client m.0 entries m.2
   made_none (Sets path format body) m =
       on_server m.0 entries (each_one _ NotSet (λ c h. subst NotSet (sym h.2) refl) refused m.0 m.1) m.2
   made_none (Removes path) m =
@@ -74,6 +68,7 @@ module _ (past : List Turn) (t word : ℕ) (refused : Bool) (entries : List Entr
     | inl d ↦ on_server d.1 entries (each_one _ NotSet (λ c h. subst NotSet (sym h.4) refl) refused d.1 d.2) d.3
     | inr d ↦ on_client d.1 entries d.3
   ]
+  made_none _ m = on_client m.0 entries m.2
 
 pub none_set : (turns : List Turn) → AllMade turns → Every SetsNone (entries_of turns)
 none_set [] made = tt

@@ -5,6 +5,7 @@ use Rattle.coap_types.specs.Past.{Always}
 use Rattle.coap_types.proofs.Facts.Traces.{Always_back}
 use Rattle.coap_types.specs.declared.endpoint.Endpoint.{Endpoint}
 use Rattle.coap_layer.specs.Trace as L
+use Rattle.coap_layer.specs.declared.setup.Setup.{Setup}
 use Rattle.coap_block.specs.Sizes.{Sizes}
 use Rattle.coap_exchange.specs.AskerFollows as A
 use Rattle.coap_exchange.specs.AskerLaw as X
@@ -43,58 +44,41 @@ at_input P later first input rest h =
 abbrev pub IsLate : Report → Type 0
 IsLate r = (r ≡ Timeout) ⊎ (r ≡ NoResponse)
 
-module _ (server : Endpoint) (sizes : Sizes) (word : ℕ) where
+module _ (server : Endpoint) (sizes : Sizes) (setup : Setup) where
   -- an exchange runs where one ends
-  pub ends_running : (t : List E.Call) (c : E.Call) → Always A.Exchanges (c ∷ t) → X.AskerLaw server word t
+  pub ends_running : (t : List E.Call) (c : E.Call) → Always A.Exchanges (c ∷ t) → X.AskerLaw server setup t
       → A.ends c ≡ true
-      → (x : Exchange) × ((X.own_of server word t).running ≡ Some x)
+      → (x : Exchange) × ((X.own_of server setup t).running ≡ Some x)
   ends_running t c all law ends =
       let k = all.0.of_open ends in
-      some_in (X.own_of server word t).running k.0 (runs_it server word t law k.0 k.1)
+      some_in (X.own_of server setup t).running k.0 (runs_it server setup t law k.0 k.1)
 
   ticked : (t : List C.Call) (now w : ℕ) (below : L.Answer) (e : Event) (sent : L.Answer)
       (token : Result (List ℕ) AskRefusal) (kept answer : Bool)
-      → ClientLaw server sizes word (C.Ticks now w below (turn_is.End e) sent token kept answer ∷ t)
+      → ClientLaw server sizes setup (C.Ticks now w below (turn_is.End e) sent token kept answer ∷ t)
       → (at : ℕ) × IsOpenSince sizes at t
   ticked t now w below e sent token kept answer law =
       let c : C.Call = C.Ticks now w below (turn_is.End e) sent token kept answer in
       let m : ℕ = max (own_of sizes t).clock now in
       let f = effect (own_of sizes t) c in
-      let old = back server sizes word (c ∷ []) t law in
+      let old = back server sizes setup (c ∷ []) t law in
       let input : E.Call = E.Ticks m below (turn_is.End e) in
       let all = at_input A.Exchanges (deeds (close m f token).deed (close m f token).own m w sent token kept)
       (deeds f.deed f.own m w sent token kept) input (lower_of sizes t)
-      (are_exchanges server word (lower_of sizes (c ∷ t)) law.exchanges.rows) in
+      (are_exchanges server setup (lower_of sizes (c ∷ t)) law.exchanges.rows) in
       let x = ends_running (lower_of sizes t) input all old.exchanges.rows refl in
-      let k = (open_runs server sizes word t old).is_open x.0 x.1 in
+      let k = (open_runs server sizes setup t old).is_open x.0 x.1 in
       (k.0, k.1)
 
-  pub open_at_end : (t : List C.Call) (c : C.Call) → ClientLaw server sizes word (c ∷ t) → (r : Report) → ends_as c ≡ Some r
+  pub open_at_end : (t : List C.Call) (c : C.Call) → ClientLaw server sizes setup (c ∷ t) → (r : Report) → ends_as c ≡ Some r
       → IsLate r → (at : ℕ) × IsOpenSince sizes at t
   open_at_end t (C.Ticks now w below (turn_is.End e) sent token kept answer) law r is late =
       ticked t now w below e sent token kept answer law
-  open_at_end t (C.Ticks now w below turn_is.Idle sent token kept answer) law r is late = absurd (cc is)
-  open_at_end t (C.Ticks now w below turn_is.Copied sent token kept answer) law r is late = absurd (cc is)
   open_at_end t (C.Feeds now from bytes w up settled (Some event_is.Reset) sent token kept) law r is (inl late) =
       absurd (cc (is, late))
   open_at_end t (C.Feeds now from bytes w up settled (Some event_is.Reset) sent token kept) law r is (inr late) =
       absurd (cc (is, late))
-  open_at_end t (C.Feeds now from bytes w up settled None sent token kept) law r is late = absurd (cc is)
-  open_at_end t (C.Feeds now from bytes w up settled (Some (event_is.Answer m)) sent token kept) law r is late =
-      absurd (cc is)
-  open_at_end t (C.Feeds now from bytes w up settled (Some (event_is.Notice m)) sent token kept) law r is late =
-      absurd (cc is)
-  open_at_end t (C.Feeds now from bytes w up settled (Some event_is.Timeout) sent token kept) law r is late =
-      absurd (cc is)
-  open_at_end t (C.Feeds now from bytes w up settled (Some event_is.NoResponse) sent token kept) law r is late =
-      absurd (cc is)
-  open_at_end t (C.Calls now q a) law r is late = absurd (cc is)
-  open_at_end t (C.Observes now path a) law r is late = absurd (cc is)
-  open_at_end t (C.Cancels now number a) law r is late = absurd (cc is)
-  open_at_end t (C.Forgets number kept a) law r is late = absurd (cc is)
-  open_at_end t (C.NextOut a) law r is late = absurd (cc is)
-  open_at_end t (C.NextReport a) law r is late = absurd (cc is)
-  open_at_end t (C.Asked a) law r is late = absurd (cc is)
+  open_at_end t _ law r is late = absurd (cc is)
 
 -- By calls at which each exchange that is open is young, none ends so.
 module _ (config : Config) where
@@ -103,21 +87,21 @@ module _ (config : Config) where
   NotLate past c = (ends_as c ≢ Some Timeout) × (ends_as c ≢ Some NoResponse)
 
   abbrev Law : List C.Call → Type 0
-  Law t = ClientLaw server_end config.client_sizes config.client_word t
+  Law t = ClientLaw server_end config.client_sizes config.client_setup t
 
   pub never_late : (t : List C.Call) → Law t → AllEndInTime config.client_sizes t → Always (YoungAt config) t
       → Always NotLate t
   never_late [] law in_time young = tt
   never_late (c ∷ t) law in_time young = (
     (
-      λ is. (let k = open_at_end server_end config.client_sizes config.client_word t c law Timeout is (inl refl) in
+      λ is. (let k = open_at_end server_end config.client_sizes config.client_setup t c law Timeout is (inl refl) in
           let late = (in_time.0 k.0 k.1).timeout is in
           let old = young.0.moment k.0 k.1 in
           absurd (omega (arith, late, old))),
-      λ is. (let k = open_at_end server_end config.client_sizes config.client_word t c law NoResponse is (inr refl) in
+      λ is. (let k = open_at_end server_end config.client_sizes config.client_setup t c law NoResponse is (inr refl) in
           let late = (in_time.0 k.0 k.1).no_response is in
           let old = young.0.moment k.0 k.1 in
           absurd (omega (arith, late, old))),
     ),
-    never_late t (back server_end config.client_sizes config.client_word (c ∷ []) t law) in_time.1 young.1,
+    never_late t (back server_end config.client_sizes config.client_setup (c ∷ []) t law) in_time.1 young.1,
   )

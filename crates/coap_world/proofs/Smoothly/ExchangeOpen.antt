@@ -5,13 +5,14 @@ use Rattle.std.specs.List.{filter_map}
 use Rattle.coap_types.specs.Past.{Ever}
 use Rattle.coap_types.proofs.Facts.Traces.{Ever_append}
 use Rattle.coap_types.specs.declared.endpoint.Endpoint.{Endpoint}
-use Rattle.coap_layer.specs.Machine.State.{State, start, made, usual}
+use Rattle.coap_layer.specs.Machine.State.{State, start, made}
 use Rattle.coap_layer.specs.Machine.Steps.{Asked, left_after, entries}
 use Rattle.coap_layer.specs.Rows.{LayerLaw}
 use Rattle.coap_layer.specs.Sends.{IsOpen}
 use Rattle.coap_layer.specs.Trace as L
 use Rattle.coap_layer.specs.Words.{Open, begun, left_by, outstanding}
 use Rattle.coap_layer.proofs.Facts.Calls.{steps_left}
+use Rattle.coap_layer.specs.declared.setup.Setup.{Setup}
 use Rattle.coap_block.specs.Sizes.{Sizes}
 use Rattle.coap_exchange.specs.AskerLaw as X
 use Rattle.coap_exchange.specs.AskerFollows.{Begun, last_begun}
@@ -30,14 +31,14 @@ use Rattle.coap_client.proofs.Facts.Exchanges.{open_runs, sends_begin, BeginsTo,
 use Rattle.coap_client.proofs.Facts.Laws.{back, layer, layer_next, begins_now}
 
 -- what the layer's calls leave outstanding is what their entries say
-open_kept : (word : ℕ) (calls : List Asked) → (left_after (start (usual word)) calls).open_cons
-    ≡ outstanding (entries (start (usual word)) calls)
-open_kept word [] = refl
-open_kept word (a ∷ earlier) =
-    let e : L.Entry = made (left_after (start (usual word)) earlier) a.now a.call in
-    ap (λ cs. filter_map (left_by e) cs ++ option_to_list (begun e)) (open_kept word earlier)
+open_kept : (setup : Setup) (calls : List Asked) → (left_after (start setup) calls).open_cons
+    ≡ outstanding (entries (start setup) calls)
+open_kept setup [] = refl
+open_kept setup (a ∷ earlier) =
+    let e : L.Entry = made (left_after (start setup) earlier) a.now a.call in
+    ap (λ cs. filter_map (left_by e) cs ++ option_to_list (begun e)) (open_kept setup earlier)
 
-module _ (server : Endpoint) (sizes : Sizes) (word : ℕ) where
+module _ (server : Endpoint) (sizes : Sizes) (setup : Setup) where
   -- This request was sent at this moment, and since then no request was sent, no answer was heard, and nothing ended.
   abbrev pub OpenOf : ℕ → Sending → List Call → Type 0
   OpenOf at x [] = ⊥
@@ -50,21 +51,21 @@ module _ (server : Endpoint) (sizes : Sizes) (word : ℕ) where
   open_since at x (c ∷ t) (inr o) = inr (o.1, o.2, open_since at x t o.3)
 
   -- it began last
-  same_moment : (at other : ℕ) (t : List Call) → RunsSince server sizes word at t → RunsSince server sizes word other t
+  same_moment : (at other : ℕ) (t : List Call) → RunsSince server sizes setup at t → RunsSince server sizes setup other t
       → at ≡ other
   same_moment at other t r q =
       let both : Some r.begun ≡ Some q.begun = sym r.last_begun ∙ q.last_begun in
       let same : r.begun ≡ q.begun = cc both in
       sym r.moment ∙ ap (λ (b : Begun). b.at) same ∙ q.moment
 
-  pub open_of : (at : ℕ) (t : List Call) → ClientLaw server sizes word t → IsOpenSince sizes at t
+  pub open_of : (at : ℕ) (t : List Call) → ClientLaw server sizes setup t → IsOpenSince sizes at t
       → (x : Sending) × OpenOf at x t
   open_of at [] law o = absurd o
   open_of at (c ∷ t) law o =
-      by (λ k. open_of at t (back server sizes word (c ∷ []) t law) k) (sends (own_of sizes t) c) refl o
+      by (λ k. open_of at t (back server sizes setup (c ∷ []) t law) k) (sends (own_of sizes t) c) refl o
     where
-      runs : (when : ℕ) → IsOpenSince sizes when (c ∷ t) → RunsSince server sizes word when (c ∷ t)
-      runs when h = (open_runs server sizes word (c ∷ t) law).runs when h
+      runs : (when : ℕ) → IsOpenSince sizes when (c ∷ t) → RunsSince server sizes setup when (c ∷ t)
+      runs when h = (open_runs server sizes setup (c ∷ t) law).runs when h
 
       by : (IsOpenSince sizes at t → (x : Sending) × OpenOf at x t) → (s : Option Sending)
           → sends (own_of sizes t) c ≡ s → IsOpenSince sizes at (c ∷ t) → (x : Sending) × OpenOf at x (c ∷ t)
@@ -86,16 +87,16 @@ module _ (server : Endpoint) (sizes : Sizes) (word : ℕ) where
   -- what runs
   pub record Runs (at : ℕ) (x : Sending) (t : List Call) : Type 0 where
     pub exchange : Exchange
-    pub runs : (X.own_of server word (lower_of sizes t)).running ≡ Some exchange
+    pub runs : (X.own_of server setup (lower_of sizes t)).running ≡ Some exchange
     pub token : exchange.token ≡ x.token
     pub cancel : exchange.cancel ≡ is_some x.request.token
     pub begun : Begun
-    pub last : last_begun server word (lower_of sizes t) ≡ Some begun
+    pub last : last_begun server setup (lower_of sizes t) ≡ Some begun
     pub moment : begun.at ≡ at
 
-  pub runs_of : (at : ℕ) (x : Sending) (t : List Call) → ClientLaw server sizes word t → OpenOf at x t → Runs at x t
+  pub runs_of : (at : ℕ) (x : Sending) (t : List Call) → ClientLaw server sizes setup t → OpenOf at x t → Runs at x t
   runs_of at x t law o =
-      let r = (open_runs server sizes word t law).runs at (open_since at x t o) in
+      let r = (open_runs server sizes setup t law).runs at (open_since at x t o) in
       let both : Some r.sending ≡ Some x = sym r.last_sent ∙ last_of at x t o in
       let same : r.sending ≡ x = cc both in
       record {
@@ -111,28 +112,28 @@ module _ (server : Endpoint) (sizes : Sizes) (word : ℕ) where
   -- what is outstanding for it, or nothing where it was acknowledged
   pub record Lonely (at : ℕ) (x : Sending) (y : Exchange) (t : List Call) : Type 0 where
     pub con : Open
-    pub only : outstanding (layer_of server sizes word t) ≡ con ∷ []
+    pub only : outstanding (layer_of server sizes setup t) ≡ con ∷ []
     pub id : con.id ≡ y.id.0
     pub first : con.first ≡ at
     pub unheard : y.acked ≡ None
 
   pub record Waited (y : Exchange) (t : List Call) : Type 0 where
-    pub none : outstanding (layer_of server sizes word t) ≡ []
+    pub none : outstanding (layer_of server sizes setup t) ≡ []
     pub acked : (y.acked ≡ None) → ⊥
 
-  pub lonely : (at : ℕ) (x : Sending) (t : List Call) → ClientLaw server sizes word t → (r : Runs at x t)
+  pub lonely : (at : ℕ) (x : Sending) (t : List Call) → ClientLaw server sizes setup t → (r : Runs at x t)
       → Lonely at x r.exchange t ⊎ Waited r.exchange t
   lonely at x t law r =
       let calls = lower_of sizes t in
-      let f = fits server word calls law.exchanges.rows law.exchanges.left law.exchanges.layer in
-      let left = steps_left (start (usual word)) (all_asked server sizes word t) law.exchanges.left law.exchanges.layer in
-      let all : outstanding (layer_of server sizes word t) ≡ (law.exchanges.left).open_cons =
-      sym (open_kept word (all_asked server sizes word t)) ∙ ap (λ (s : State). s.open_cons) (sym left) in
-      by (X.own_of server word calls).server all (subst (λ o. Lone (X.own_of server word calls).server o (last_begun server word calls)
+      let f = fits server setup calls law.exchanges.rows law.exchanges.left law.exchanges.layer in
+      let left = steps_left (start setup) (all_asked server sizes setup t) law.exchanges.left law.exchanges.layer in
+      let all : outstanding (layer_of server sizes setup t) ≡ (law.exchanges.left).open_cons =
+      sym (open_kept setup (all_asked server sizes setup t)) ∙ ap (λ (s : State). s.open_cons) (sym left) in
+      by (X.own_of server setup calls).server all (subst (λ o. Lone (X.own_of server setup calls).server o (last_begun server setup calls)
       (law.exchanges.left).open_cons) r.runs f.lone)
     where
-      by : (s : Endpoint) → outstanding (layer_of server sizes word t) ≡ (law.exchanges.left).open_cons
-          → Lone s (Some r.exchange) (last_begun server word (lower_of sizes t)) (law.exchanges.left).open_cons
+      by : (s : Endpoint) → outstanding (layer_of server sizes setup t) ≡ (law.exchanges.left).open_cons
+          → Lone s (Some r.exchange) (last_begun server setup (lower_of sizes t)) (law.exchanges.left).open_cons
           → Lonely at x r.exchange t ⊎ Waited r.exchange t
       by s all (inl k) =
           let both : Some k.begun ≡ Some r.begun = sym k.last ∙ r.last in
@@ -155,14 +156,14 @@ module _ (server : Endpoint) (sizes : Sizes) (word : ℕ) where
     pub last : last_sent sizes t ≡ Some sending
     pub is : IsRequestOf server con sending
 
-  pub is_last : (con : Open) (t : List Call) → ClientLaw server sizes word t
-      → Ever (λ b. begun b ≡ Some con) (layer_of server sizes word t) → IsOpen (layer_of server sizes word t) con
+  pub is_last : (con : Open) (t : List Call) → ClientLaw server sizes setup t
+      → Ever (λ b. begun b ≡ Some con) (layer_of server sizes setup t) → IsOpen (layer_of server sizes setup t) con
       → IsLast con t
   is_last con [] law h o = absurd h
   is_last con (c ∷ t) law h o =
       elim (Ever_append (λ b. begun b ≡ Some con) adds past
-      (subst (Ever (λ b. begun b ≡ Some con)) (layer_next server sizes word t c) h)) [
-        | inl now ↦ (let k = (begins_now server sizes word (c ∷ t) law).0 con now in
+      (subst (Ever (λ b. begun b ≡ Some con)) (layer_next server sizes setup t c) h)) [
+        | inl now ↦ (let k = (begins_now server sizes setup (c ∷ t) law).0 con now in
             record {
               sending = k.sending;
               last = ap (λ (s : Option Sending). elim s as (λ w. Option Sending) [
@@ -171,27 +172,27 @@ module _ (server : Endpoint) (sizes : Sizes) (word : ℕ) where
               ]) k.sends_it;
               is = k.is;
             })
-        | inr before ↦ by (λ a b. is_last con t (back server sizes word (c ∷ []) t law) a b) before
+        | inr before ↦ by (λ a b. is_last con t (back server sizes setup (c ∷ []) t law) a b) before
             (sends (own_of sizes t) c) refl
       ]
     where
       adds : List L.Entry
-      adds = call_adds server sizes word t c
+      adds = call_adds server sizes setup t c
 
       past : List L.Entry
-      past = layer_of server sizes word t
+      past = layer_of server sizes setup t
 
-      law_here : LayerLaw (usual word) (adds ++ past)
-      law_here = subst (LayerLaw (usual word)) (layer_next server sizes word t c) (layer server sizes word (c ∷ t) law)
+      law_here : LayerLaw setup (adds ++ past)
+      law_here = subst (LayerLaw setup) (layer_next server sizes setup t c) (layer server sizes setup (c ∷ t) law)
 
       open_here : IsOpen (adds ++ past) con
-      open_here = subst (λ l. IsOpen l con) (layer_next server sizes word t c) o
+      open_here = subst (λ l. IsOpen l con) (layer_next server sizes setup t c) o
 
       by : (Ever (λ b. begun b ≡ Some con) past → IsOpen past con → IsLast con t)
           → Ever (λ b. begun b ≡ Some con) past → (s : Option Sending) → sends (own_of sizes t) c ≡ s
           → IsLast con (c ∷ t)
       by older before None is =
-          let k = older before (open_before (usual word) adds past con law_here before open_here) in
+          let k = older before (open_before setup adds past con law_here before open_here) in
           record {
             sending = k.sending;
             last = ap (λ (s : Option Sending). elim s as (λ w. Option Sending) [
@@ -201,6 +202,6 @@ module _ (server : Endpoint) (sizes : Sizes) (word : ℕ) where
             is = k.is;
           }
       by older before (Some x) is =
-          let k = older before (open_before (usual word) adds past con law_here before open_here) in
-          absurd (closed_by (usual word) adds past con law_here before
-          (subst (λ to. Ever (BeginsTo to) adds) (sym k.is.to) (sends_begin server sizes word t c law x is)) open_here)
+          let k = older before (open_before setup adds past con law_here before open_here) in
+          absurd (closed_by setup adds past con law_here before
+          (subst (λ to. Ever (BeginsTo to) adds) (sym k.is.to) (sends_begin server sizes setup t c law x is)) open_here)

@@ -4,7 +4,7 @@ use Rattle.std.proofs.Common.{◌∷◌, ◌++◌, map, refl, ap, sym, subst, �
 use Rattle.coap_types.proofs.Facts.Traces.{Always_back}
 use Rattle.coap_types.specs.declared.endpoint.Endpoint.{Endpoint}
 use Rattle.coap_codec.specs.Message.{Message}
-use Rattle.coap_layer.specs.Machine.State.{State, start, made, moment, answer_of, usual}
+use Rattle.coap_layer.specs.Machine.State.{State, start, made, moment, answer_of}
 use Rattle.coap_layer.specs.Machine.Steps.{Asked, Steps, left_after, entries}
 use Rattle.coap_layer.specs.Taking.{is_then, came}
 use Rattle.coap_layer.specs.Trace as L
@@ -125,21 +125,9 @@ module _ (config : Config) (since t : ℕ) where
       → came since (e ∷ rest) ≤ one (W.is_then since (to_server c)) + came since rest
   server_last (S.Feeds now from bytes word up came h below) e rest call answer at is =
       received_count since e rest from bytes up now call answer (at from bytes call ∙ sym is)
-  server_last (S.Sets now path format body a left) e rest call answer at is =
-      let k = none_count since e rest (ap (λ d. handed_in d e.answer) call) in omega (arith, k)
-  server_last (S.Removes now path a left) e rest call answer at is =
-      let k = none_count since e rest (ap (λ d. handed_in d e.answer) call) in omega (arith, k)
-  server_last (S.Delays path ms a) e rest call answer at is =
-      let k = none_count since e rest (ap (λ d. handed_in d e.answer) call) in omega (arith, k)
-  server_last (S.Plains path a) e rest call answer at is =
-      let k = none_count since e rest (ap (λ d. handed_in d e.answer) call) in omega (arith, k)
   server_last (S.Ticks now word below room d passed h id a) e rest call answer at is =
       let k = none_count since e rest (ap (λ d. handed_in d e.answer) call) in omega (arith, k)
-  server_last (S.NextOut a) e rest call answer at is =
-      let k = none_count since e rest (ap (λ d. handed_in d e.answer) call) in omega (arith, k)
-  server_last (S.Gets path a) e rest call answer at is =
-      let k = none_count since e rest (ap (λ d. handed_in d e.answer) call) in omega (arith, k)
-  server_last (S.TellsApplied a) e rest call answer at is =
+  server_last _ e rest call answer at is =
       let k = none_count since e rest (ap (λ d. handed_in d e.answer) call) in omega (arith, k)
 
   server_step : (past : List S.Call) (c : S.Call) → server_turns.IsGood config (c ∷ past) → server.IsBy config t past
@@ -154,7 +142,7 @@ module _ (config : Config) (since t : ℕ) where
       layer = server_layer config past
 
       old : State
-      old = left_after (start (usual config.server_word)) (server_asked config past)
+      old = left_after (start config.server_setup) (server_asked config past)
 
       go : Makes ((answer : _) × (c ≡ S.NextOut answer)) (server_call c) (server_up c) (server_asks config past c)
           → came since (server_adds config past c ++ layer) ≤ one (W.is_then since (to_server c)) + came since layer
@@ -169,8 +157,8 @@ module _ (config : Config) (since t : ℕ) where
           let same = front_count old (server_asks config past c) (server_call c) (server_up c) k since layer in
           let times = oldest old (server_asks config past c) (server_call c) (server_up c) k (Timely t (server.Fed c))
           (server.adds_timely config t past c by at) in
-          let answer = last_answer (start (usual config.server_word)) (server_asks config past c)
-          (server_asked config past) good.0 (subst (λ a. Steps (start (usual config.server_word)) a good.0)
+          let answer = last_answer (start config.server_setup) (server_asks config past c)
+          (server_asked config past) good.0 (subst (λ a. Steps (start config.server_setup) a good.0)
           (server_asked_next config past c) good.1) (server_call c) (server_up c) k in
           let less = server_last c e layer refl answer
           (λ from bytes is. (let a = (times.fed from bytes is).1 in let b = times.till in omega (arith, a, b))) at in
@@ -197,21 +185,7 @@ module _ (config : Config) (since t : ℕ) where
       → came since (e ∷ rest) ≤ one (W.is_then since (to_client c)) + came since rest
   client_last (C.Feeds now from bytes word up settled event sent token kept) e rest call answer at is =
       received_count since e rest from bytes up now call answer (at from bytes call ∙ sym is)
-  client_last (C.Calls now r a) e rest call answer at is =
-      let k = none_count since e rest (ap (λ d. handed_in d e.answer) call) in omega (arith, k)
-  client_last (C.Observes now path a) e rest call answer at is =
-      let k = none_count since e rest (ap (λ d. handed_in d e.answer) call) in omega (arith, k)
-  client_last (C.Cancels now number a) e rest call answer at is =
-      let k = none_count since e rest (ap (λ d. handed_in d e.answer) call) in omega (arith, k)
-  client_last (C.Forgets number kept a) e rest call answer at is =
-      let k = none_count since e rest (ap (λ d. handed_in d e.answer) call) in omega (arith, k)
-  client_last (C.Ticks now word below turn sent token kept a) e rest call answer at is =
-      let k = none_count since e rest (ap (λ d. handed_in d e.answer) call) in omega (arith, k)
-  client_last (C.NextOut a) e rest call answer at is =
-      let k = none_count since e rest (ap (λ d. handed_in d e.answer) call) in omega (arith, k)
-  client_last (C.NextReport a) e rest call answer at is =
-      let k = none_count since e rest (ap (λ d. handed_in d e.answer) call) in omega (arith, k)
-  client_last (C.Asked a) e rest call answer at is =
+  client_last _ e rest call answer at is =
       let k = none_count since e rest (ap (λ d. handed_in d e.answer) call) in omega (arith, k)
 
   client_step : (past : List C.Call) (c : C.Call) → client_turns.IsGood config (c ∷ past) → client.IsBy config t past
@@ -226,7 +200,7 @@ module _ (config : Config) (since t : ℕ) where
       layer = client_layer config past
 
       old : State
-      old = left_after (start (usual config.client_word)) (client_asked config past)
+      old = left_after (start config.client_setup) (client_asked config past)
 
       go : Makes ((answer : _) × (c ≡ C.NextOut answer)) (client_call c) (client_up c) (client_asks config past c)
           → came since (client_adds config past c ++ layer) ≤ one (W.is_then since (to_client c)) + came since layer
@@ -241,8 +215,8 @@ module _ (config : Config) (since t : ℕ) where
           let same = front_count old (client_asks config past c) (client_call c) (client_up c) k since layer in
           let times = oldest old (client_asks config past c) (client_call c) (client_up c) k (Timely t (client.Fed c))
           (client.adds_timely config t past c by at) in
-          let answer = last_answer (start (usual config.client_word)) (client_asks config past c)
-          (client_asked config past) good.0 (subst (λ a. Steps (start (usual config.client_word)) a good.0)
+          let answer = last_answer (start config.client_setup) (client_asks config past c)
+          (client_asked config past) good.0 (subst (λ a. Steps (start config.client_setup) a good.0)
           (client_asked_next config past c) good.1) (client_call c) (client_up c) k in
           let less = client_last c e layer refl answer
           (λ from bytes is. (let a = (times.fed from bytes is).1 in let b = times.till in omega (arith, a, b))) at in
@@ -267,24 +241,12 @@ module _ (config : Config) (since t : ℕ) where
 pub client_at : (t : ℕ) (outs : List L.Packet) (reports : List C.Reported) (calls : List C.Call) → Every (client.IsAt t) calls
     → Every (client.IsAt t) (C.NextReport None ∷ (map (λ r. C.NextReport (Some r)) reports
     ++ C.NextOut None ∷ (map (λ p. C.NextOut (Some p)) outs ++ calls)))
-client_at t outs reports calls h = (tt, told reports _ (tt, out outs))
-  where
-    out : (ps : List L.Packet) → Every (client.IsAt t) (map (λ p. C.NextOut (Some p)) ps ++ calls)
-    out [] = h
-    out (p ∷ ps) = (tt, out ps)
-
-    told : (rs : List C.Reported) (cs : List C.Call) → Every (client.IsAt t) cs
-        → Every (client.IsAt t) (map (λ r. C.NextReport (Some r)) rs ++ cs)
-    told [] cs k = k
-    told (r ∷ rs) cs k = (tt, told rs cs k)
+client_at t outs reports calls h =
+    (tt, client_turns.every_told t reports _ (tt, client_turns.every_out t outs calls h))
 
 pub server_at : (t : ℕ) (outs : List L.Packet) (calls : List S.Call) → Every (server.IsAt t) calls
     → Every (server.IsAt t) (S.NextOut None ∷ (map (λ p. S.NextOut (Some p)) outs ++ calls))
-server_at t outs calls h = (tt, out outs)
-  where
-    out : (ps : List L.Packet) → Every (server.IsAt t) (map (λ p. S.NextOut (Some p)) ps ++ calls)
-    out [] = h
-    out (p ∷ ps) = (tt, out ps)
+server_at t outs calls h = (tt, server_turns.every_out t outs calls h)
 
 module _ (config : Config) (since : ℕ) where
   abbrev ServerFew : List Entry → Type 0
@@ -351,18 +313,29 @@ module _ (config : Config) (since : ℕ) where
       (client_few past (before config turn past s))
 
 pub few_arrive : (config : Config) (turns : List Turn) → Stands config turns
-    → W.FewCome to_client (client_of (entries_of turns)) → W.FewCome to_server (server_of (entries_of turns))
+    → W.FewCome config.client_setup to_client (client_of (entries_of turns))
+    → W.FewCome config.server_setup to_server (server_of (entries_of turns))
     → FewArrive config turns
 few_arrive config turns s few_client few_server =
     record {
       at_server = λ since.
           (let a = server_few config since turns s in
-          let b = few_server since in
+          let b = (few_server since).0 in
           let c = ap (came since) (far_is config (entries_of turns)) in
           omega (arith, a, b, c));
       at_client = λ since.
           (let a = client_few config since turns s in
-          let b = few_client since in
+          let b = (few_client since).0 in
+          let c = ap (came since) (near_is config (entries_of turns)) in
+          omega (arith, a, b, c));
+      with_ids_at_server = λ since.
+          (let a = server_few config since turns s in
+          let b = (few_server since).1 in
+          let c = ap (came since) (far_is config (entries_of turns)) in
+          omega (arith, a, b, c));
+      with_ids_at_client = λ since.
+          (let a = client_few config since turns s in
+          let b = (few_client since).1 in
           let c = ap (came since) (near_is config (entries_of turns)) in
           omega (arith, a, b, c));
     }

@@ -181,23 +181,9 @@ module _ (u : ℕ) where
 -- when the calls of a turn are
 
 client_till : (t : ℕ) (c : C.Call) → client.IsAt t c → (m : ℕ) → answered_at c ≡ Some m → m ≡ t
-client_till t (C.Feeds now from bytes word up settled None sent token kept) at m is = absurd (cc is)
 client_till t (C.Feeds now from bytes word up settled (Some (event_of.Answer x)) sent token kept) at m is =
     let same : now ≡ m = cc is in sym same ∙ at
-client_till t (C.Feeds now from bytes word up settled (Some (event_of.Notice x)) sent token kept) at m is =
-    absurd (cc is)
-client_till t (C.Feeds now from bytes word up settled (Some event_of.Reset) sent token kept) at m is = absurd (cc is)
-client_till t (C.Feeds now from bytes word up settled (Some event_of.Timeout) sent token kept) at m is = absurd (cc is)
-client_till t (C.Feeds now from bytes word up settled (Some event_of.NoResponse) sent token kept) at m is =
-    absurd (cc is)
-client_till t (C.Calls now r a) at m is = absurd (cc is)
-client_till t (C.Observes now path a) at m is = absurd (cc is)
-client_till t (C.Cancels now number a) at m is = absurd (cc is)
-client_till t (C.Forgets number kept a) at m is = absurd (cc is)
-client_till t (C.Ticks now word below turn sent token kept a) at m is = absurd (cc is)
-client_till t (C.NextOut a) at m is = absurd (cc is)
-client_till t (C.NextReport a) at m is = absurd (cc is)
-client_till t (C.Asked a) at m is = absurd (cc is)
+client_till t _ at m is = absurd (cc is)
 
 came_when : (now : ℕ) (up : L.Answer) (m : ℕ) → came_at now up ≡ Some m → m ≡ now
 came_when now up m is = by (handed_by up) is
@@ -208,14 +194,7 @@ came_when now up m is = by (handed_by up) is
 
 server_till : (t : ℕ) (c : S.Call) → server.IsAt t c → (m : ℕ) → to_server c ≡ Some m → m ≡ t
 server_till t (S.Feeds now from bytes word up came h below) at m is = came_when now up m is ∙ at
-server_till t (S.Sets now path format body a left) at m is = absurd (cc is)
-server_till t (S.Removes now path a left) at m is = absurd (cc is)
-server_till t (S.Delays path ms a) at m is = absurd (cc is)
-server_till t (S.Plains path a) at m is = absurd (cc is)
-server_till t (S.Ticks now word below room d passed h id a) at m is = absurd (cc is)
-server_till t (S.NextOut a) at m is = absurd (cc is)
-server_till t (S.Gets path a) at m is = absurd (cc is)
-server_till t (S.TellsApplied a) at m is = absurd (cc is)
+server_till t _ at m is = absurd (cc is)
 
 -- so many at once rise
 record Timed (t : ℕ) (es : List Entry) : Type 0 where
@@ -271,14 +250,7 @@ module _ (config : Config) where
       let same = client_till t c at m is in
       let moment : max (own_clock past) now ≡ m = omega (arith, by, at, same) in
       k ∙ moment
-  at_clock t past (C.Calls now r a) by at m is = absurd (cc is)
-  at_clock t past (C.Observes now path a) by at m is = absurd (cc is)
-  at_clock t past (C.Cancels now number a) by at m is = absurd (cc is)
-  at_clock t past (C.Forgets number kept a) by at m is = absurd (cc is)
-  at_clock t past (C.Ticks now word below turn sent token kept a) by at m is = absurd (cc is)
-  at_clock t past (C.NextOut a) by at m is = absurd (cc is)
-  at_clock t past (C.NextReport a) by at m is = absurd (cc is)
-  at_clock t past (C.Asked a) by at m is = absurd (cc is)
+  at_clock t past _ by at m is = absurd (cc is)
 
   calls_at_clock : (t : ℕ) (cs past : List C.Call) → Every (client.IsAt t) cs → client.IsBy config t past
       → Always (AtClock config.client_sizes) past

@@ -4,11 +4,11 @@ use Rattle.std.proofs.Common.{◌∙◌}
 use Rattle.coap_types.specs.Bytes.{AreBytes}
 use Rattle.coap_types.specs.Roles.{role_of}
 use Rattle.coap_types.specs.declared.endpoint.Endpoint.{Endpoint}
-use Rattle.coap_types.specs.declared.message.Kind.TheVariants.{Con, Non, Ack, Rst}
+use Rattle.coap_types.specs.declared.message.Kind.TheVariants.{Con}
 use Rattle.coap_types.specs.declared.role.Role.TheVariants as role
 use Rattle.coap_codec.specs.Message.{Message, Spells}
 use Rattle.coap_codec.proofs.Facts.EveryDatagram.{one_message}
-use Rattle.coap_layer.specs.Arrivals.{Arrival, Unreadable, Faulted, Whole, Shows}
+use Rattle.coap_layer.specs.Arrivals.{Arrival, Faulted, Whole, Shows}
 use Rattle.coap_layer.specs.Rows.{Stands, Row, Sorts, HandedAs, Arrives, rejects, drops, takes_ack, takes_reset}
 use Rattle.coap_layer.specs.Rows.{passes_reset, takes_answer, replays, hands_over}
 use Rattle.coap_layer.specs.Trace as L
@@ -54,12 +54,9 @@ module _ (setup : Setup) (past : List L.Entry) (e : L.Entry) (from : Endpoint) (
       )
 
   arrived : AreBytes bytes → (what : Arrival) → Shows bytes what → Arrives setup past e from what → AsItIs n e.answer
-  arrived are Unreadable s r = absurd (not_up L.Dropped r.0 refl)
   arrived are (Faulted Con i) s r = absurd (not_up L.Rejected r.0 refl)
-  arrived are (Faulted Non i) s r = absurd (not_up L.Dropped r.0 refl)
-  arrived are (Faulted Ack i) s r = absurd (not_up L.Dropped r.0 refl)
-  arrived are (Faulted Rst i) s r = absurd (not_up L.Dropped r.0 refl)
   arrived are (Whole m) s r = whole m (one_message bytes m n are s spells) r
+  arrived are _ s r = absurd (not_up L.Dropped r.0 refl)
 
   handed_as : AsItIs n e.answer
   handed_as =

@@ -5,6 +5,7 @@ use Rattle.std.proofs.Common.{subst, ◌∙◌, is_some}
 use Rattle.coap_types.specs.Past.{Ever, Sometime, Always}
 use Rattle.coap_codec.specs.Message.{Message}
 use Rattle.coap_layer.specs.Trace as L
+use Rattle.coap_layer.specs.declared.setup.Setup.{Setup}
 use Rattle.coap_block.specs.Sizes.{Sizes}
 use Rattle.coap_observe.specs.Observers.{Observer}
 use Rattle.coap_resource.specs.Serves.{Question}
@@ -18,7 +19,7 @@ use Rattle.coap_client.specs.Follows.Open.{IsOfOpen}
 use Rattle.coap_client.specs.Follows.Tokens.{OwnTokens, Deregisters}
 use Rattle.coap_client.specs.Follows.Words.{Sending, hears}
 use Rattle.coap_client.specs.Law.{ClientLaw}
-use Rattle.coap_client.specs.Own.{Operation, Calling, Registering, Fetching, Cancelling, Dropped}
+use Rattle.coap_client.specs.Own.{Operation, Calling}
 use Rattle.coap_client.specs.Trace as C
 use Rattle.coap_client.proofs.Facts.Exchanges.{hears_of_open}
 use Rattle.coap_server.specs.Checks.{Verdict, Uploads}
@@ -66,38 +67,14 @@ abbrev pub AreBetween : List Entry → Type 0
 AreBetween es = Always (λ past e. is_some (heard_at e) ≡ true → CameSince past) es
 
 silent : (c : C.Call) → hears c ≡ None → answered_at c ≡ None
-silent (C.Feeds now from bytes word up settled None sent token kept) h = refl
 silent (C.Feeds now from bytes word up settled (Some (event_of.Answer m)) sent token kept) h = absurd (cc h)
-silent (C.Feeds now from bytes word up settled (Some (event_of.Notice m)) sent token kept) h = refl
-silent (C.Feeds now from bytes word up settled (Some event_of.Reset) sent token kept) h = refl
-silent (C.Feeds now from bytes word up settled (Some event_of.Timeout) sent token kept) h = refl
-silent (C.Feeds now from bytes word up settled (Some event_of.NoResponse) sent token kept) h = refl
-silent (C.Calls now r a) h = refl
-silent (C.Observes now path a) h = refl
-silent (C.Cancels now number a) h = refl
-silent (C.Forgets number kept a) h = refl
-silent (C.Ticks now word below turn sent token kept a) h = refl
-silent (C.NextOut a) h = refl
-silent (C.NextReport a) h = refl
-silent (C.Asked a) h = refl
+silent _ h = refl
 
 pub heard_some : (c : C.Call) → is_some (answered_at c) ≡ true → (m : Message) × (hears c ≡ Some m)
-heard_some (C.Feeds now from bytes word up settled None sent token kept) h = absurd (cc h)
 heard_some (C.Feeds now from bytes word up settled (Some (event_of.Answer m)) sent token kept) h = (m, refl)
-heard_some (C.Feeds now from bytes word up settled (Some (event_of.Notice m)) sent token kept) h = absurd (cc h)
-heard_some (C.Feeds now from bytes word up settled (Some event_of.Reset) sent token kept) h = absurd (cc h)
-heard_some (C.Feeds now from bytes word up settled (Some event_of.Timeout) sent token kept) h = absurd (cc h)
-heard_some (C.Feeds now from bytes word up settled (Some event_of.NoResponse) sent token kept) h = absurd (cc h)
-heard_some (C.Calls now r a) h = absurd (cc h)
-heard_some (C.Observes now path a) h = absurd (cc h)
-heard_some (C.Cancels now number a) h = absurd (cc h)
-heard_some (C.Forgets number kept a) h = absurd (cc h)
-heard_some (C.Ticks now word below turn sent token kept a) h = absurd (cc h)
-heard_some (C.NextOut a) h = absurd (cc h)
-heard_some (C.NextReport a) h = absurd (cc h)
-heard_some (C.Asked a) h = absurd (cc h)
+heard_some _ h = absurd (cc h)
 
-found : (P : L.Entry → Type 0) (xs : List L.Entry) → Ever P xs → (y : L.Entry) × Ever (λ z. z ≡ y) xs × P y
+pub found : (P : L.Entry → Type 0) (xs : List L.Entry) → Ever P xs → (y : L.Entry) × Ever (λ z. z ≡ y) xs × P y
 found P [] h = absurd h
 found P (y ∷ xs) (inl h) = (y, inl refl, h)
 found P (y ∷ xs) (inr h) = let k = found P xs h in (k.0, inr k.1, k.2)
@@ -105,10 +82,7 @@ found P (y ∷ xs) (inr h) = let k = found P xs h in (k.0, inr k.1, k.2)
 -- what is sent for a call cancels nothing
 not_cancelling : (op : Operation) (x : Sending) → is_call op ≡ true → IsSentFor op x → (y : Sending) → Deregisters y x → ⊥
 not_cancelling (Calling n r t) x h is y d = let k = d.cancels in cc (is, k)
-not_cancelling (Registering n path) x h is y d = cc h
-not_cancelling (Fetching n) x h is y d = cc h
-not_cancelling (Cancelling n) x h is y d = cc h
-not_cancelling Dropped x h is y d = cc h
+not_cancelling _ x h is y d = cc h
 
 module _ (config : Config) where
   abbrev trace : List Entry → List S.Call
@@ -122,7 +96,7 @@ module _ (config : Config) where
     arrives : is_some (arrived_at e) ≡ true
 
   comes_sent : (past : List Entry) (c : S.Call) (a : Asked) (v : Verdict) → Lawful config (OfServer c ∷ past)
-      → Comes config.limits config.server_szx config.server_word (trace past) c a v → a.from ≡ client_end
+      → Comes config.limits config.server_szx config.server_setup (trace past) c a v → a.from ≡ client_end
       → HandsSent a.token past (OfServer c)
   comes_sent past c a v law comes from =
       let k = law.came.0 a v comes from in
@@ -155,7 +129,7 @@ module _ (config : Config) where
   served_sent past c law x here from =
       brought_sent x.asked x.question (OfServer c ∷ past) law from
       (brought_in config x.asked x.question (OfServer c ∷ past)
-      ((server_facts.handed config.limits config.server_szx config.server_word (c ∷ trace past) law.server).0 x here))
+      ((server_facts.handed config.limits config.server_szx config.server_setup (c ∷ trace past) law.server).0 x here))
 
   none_made : (o : Observer) (ss : List Setting)
       → WasMade config.limits config.server_szx (map gives_it ss) o → ⊥
@@ -180,7 +154,7 @@ module _ (config : Config) where
       subst (λ token. Sometime (HandsSent token) (OfServer c ∷ past)) is.token_is
       (served_sent past c law x here is.to_client)
   answer_sent m past c law (continues x size takes more asks is) =
-      let b = (server_facts.blocks config.limits config.server_szx config.server_word (c ∷ trace past)
+      let b = (server_facts.blocks config.limits config.server_szx config.server_setup (c ∷ trace past)
       law.server).0 x takes in
       subst (λ token. Sometime (HandsSent token) (OfServer c ∷ past)) is.token_is
       (inl (comes_sent past c x.asked (Uploads b.question b.block) law b.comes is.to_client))
@@ -217,7 +191,7 @@ module _ (config : Config) where
   -- from now back to where the request of the exchange was handed up, no answer is heard
   back_to : (at : ℕ) (x : Sending) → ((y : Sending) → Deregisters y x → ⊥) → (es : List Entry)
       → OwnTokens config.client_sizes (client_of es)
-      → OpenOf server_end config.client_sizes config.client_word at x (client_of es)
+      → OpenOf server_end config.client_sizes config.client_setup at x (client_of es)
       → Sometime (HandsSent x.token) es → CameSince es
   back_to at x apart [] own o h = h
   back_to at x apart (OfServer c ∷ past) own o (inl h) = inl h.arrives
@@ -229,25 +203,25 @@ module _ (config : Config) where
   back_to at x apart (OfClient c ∷ past) own (inr o) (inr h) =
       inr (silent c o.1, back_to at x apart past own.1 o.3 h)
 
-  module _ (own_tokens : (t : List C.Call) → ClientLaw server_end config.client_sizes config.client_word t
+  module _ (own_tokens : (t : List C.Call) → ClientLaw server_end config.client_sizes config.client_setup t
       → OwnTokens config.client_sizes t)
-      (alone : (t : List C.Call) → ClientLaw server_end config.client_sizes config.client_word t
+      (alone : (t : List C.Call) → ClientLaw server_end config.client_sizes config.client_setup t
       → CallsAlone config.client_sizes t) where
     came_since : (past : List Entry) (c : C.Call) → Lawful config (OfClient c ∷ past)
         → NoneIsTaken (c ∷ client_of past) → (m : Message) → hears c ≡ Some m → CameSince past
     came_since past c law none m is =
         let before = lawful_back config past (OfClient c) law in
         let sizes : Sizes = config.client_sizes in
-        let word : ℕ = config.client_word in
-        let h : IsOfOpen server_end sizes word (client_of past) m =
-        (hears_of_open server_end sizes word (c ∷ client_of past) law.client).0 m is in
-        let o = open_of server_end sizes word h.since (client_of past) before.client h.is_open in
-        let r = runs_of server_end sizes word h.since o.0 (client_of past) before.client o.1 in
+        let setup : Setup = config.client_setup in
+        let h : IsOfOpen server_end sizes setup (client_of past) m =
+        (hears_of_open server_end sizes setup (c ∷ client_of past) law.client).0 m is in
+        let o = open_of server_end sizes setup h.since (client_of past) before.client h.is_open in
+        let r = runs_of server_end sizes setup h.since o.0 (client_of past) before.client o.1 in
         let both : Some h.runs.exchange ≡ Some r.exchange = sym h.runs.runs ∙ r.runs in
         let same : h.runs.exchange ≡ r.exchange = cc both in
         let token : m.token ≡ (o.0).token = h.token ∙ ap (λ (y : Exchange). y.token) same ∙ r.token in
         let lasts : Some h.runs.sending ≡ Some o.0 = sym h.runs.last_sent
-        ∙ last_of server_end sizes word h.since o.0 (client_of past) o.1 in
+        ∙ last_of server_end sizes setup h.since o.0 (client_of past) o.1 in
         let last : h.runs.sending ≡ o.0 = cc lasts in
         let calls : is_call h.runs.operation ≡ true =
         (alone (c ∷ client_of past) law.client none).0.runs h.runs.operation h.runs.operates in

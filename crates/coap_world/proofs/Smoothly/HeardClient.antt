@@ -8,8 +8,8 @@ use Rattle.coap_layer.specs.Trace as L
 use Rattle.coap_layer.proofs.Facts.Hops.{far_ever}
 use Rattle.coap_server.specs.Follows.Observes.{AreObservers}
 use Rattle.coap_server.specs.Trace as S
-use Rattle.coap_world.specs.Events.{client_end, server_end, Config, What, Calls, Observes, Cancels, Forgets, Sets, Removes}
-use Rattle.coap_world.specs.Events.{TickClient, TickServer, Deliver, StrangerToClient, StrangerToServer}
+use Rattle.coap_world.specs.Events.{client_end, server_end, Config, What, Sets, Removes}
+use Rattle.coap_world.specs.Events.{TickServer, Deliver, StrangerToClient, StrangerToServer}
 use Rattle.coap_world.specs.Hops.{server_adds, SendsAt, SentIn, hops_of}
 use Rattle.coap_client.specs.Trace as C
 use Rattle.coap_world.specs.Record.{Given, Entry, Turn, IsNumber, OnClient, OnServer, ServerTick, Makes, begun_with}
@@ -43,7 +43,7 @@ of_feed c now word source bytes up came h below is client from other f =
     let whose : source ≡ from = cc same in
     sym whose ∙ client
 
-module _ (past : List Turn) (t word : ℕ) (refused : _) (entries : List Entry)
+module _ (past : List Turn) (t : ℕ) (word : ℕ) (refused : _) (entries : List Entry)
     (given : (number : ℕ) (g : Given) → IsNumber number g past → g.packet.to ≡ server_end → g.from ≡ client_end) where
   of_one : (what : What) → Makes past t word what refused entries → IsOfAnEnd what
       → ((calls : List C.Call) × OnClient calls entries) ⊎ HearsTurn t entries
@@ -80,11 +80,7 @@ module _ (past : List Turn) (t word : ℕ) (refused : _) (entries : List Entry)
     })
     | inr d ↦ inl (d.1, d.3)
   ]
-  of_one (Calls r) m smooth = inl (m.0, m.2)
-  of_one (Observes path) m smooth = inl (m.0, m.2)
-  of_one (Cancels number) m smooth = inl (m.0, m.2)
-  of_one (Forgets number) m smooth = inl (m.0, m.2)
-  of_one TickClient m smooth = inl (m.0, m.2)
+  of_one _ m smooth = inl (m.0, m.2)
 
 module _ (config : Config) (observers : (t : List S.Call) → AreObservers config.limits config.server_szx t) where
   abbrev Heard : List Turn → Type 0

@@ -3,6 +3,7 @@ use Rattle.std.proofs.Common.{◌≡◌, ◌⊎◌, inl, inr, ℕ, max, Bool, tr
 use Rattle.std.proofs.Common.{Result, refl, ap, sym, ◌∙◌}
 use Rattle.coap_types.specs.Past.{Ever, Always}
 use Rattle.coap_types.specs.declared.endpoint.Endpoint.{Endpoint}
+use Rattle.coap_layer.specs.declared.setup.Setup.{Setup}
 use Rattle.coap_codec.specs.Message.{Message}
 use Rattle.coap_block.specs.Sizes.{Sizes}
 use Rattle.coap_exchange.specs.declared.asker.AskRefusal.{AskRefusal}
@@ -11,7 +12,7 @@ use Rattle.coap_exchange.specs.declared.asker.Event.TheVariants as event_is
 use Rattle.coap_exchange.specs.declared.asker.Turn.{Turn}
 use Rattle.coap_exchange.specs.declared.asker.Turn.TheVariants as turn_is
 use Rattle.coap_client.specs.Deeds.{at}
-use Rattle.coap_client.specs.Effects.{Deed, Rests, Asks, Keeps, Releases, Effect, stays}
+use Rattle.coap_client.specs.Effects.{Deed, Asks, Effect, stays}
 use Rattle.coap_client.specs.Events.{failed, happened, idle, passes}
 use Rattle.coap_client.specs.Follows.Begins.{WasSent}
 use Rattle.coap_client.specs.Follows.Clock.{moment_of}
@@ -25,7 +26,7 @@ use Rattle.coap_client.specs.Reports.{lapse}
 use Rattle.coap_client.specs.Responses.{is_notification, sequence_in}
 use Rattle.coap_observe.specs.Newer.{is_newer}
 use Rattle.coap_client.specs.Observing.{releases, is_over, renewed, passed, noticed_by}
-use Rattle.coap_client.specs.Own.{Operation, Calling, Registering, Fetching, Cancelling, Dropped, Observation, Own}
+use Rattle.coap_client.specs.Own.{Operation, Cancelling, Observation, Own}
 use Rattle.coap_client.specs.Own.{Transfer}
 use Rattle.coap_client.specs.Trace as C
 use Rattle.coap_client.proofs.Facts.Exchanges.{open_runs}
@@ -41,9 +42,7 @@ AsksNone d = Unit {0}
 none_sent : (e : Effect) (d : Deed) (token : Result (List ℕ) AskRefusal) (x : Sending) → AsksNone d
     → sent_by e d token ≡ Some x → ⊥
 none_sent e (Asks op) token x none h = none
-none_sent e Rests token x none h = cc h
-none_sent e (Keeps t) token x none h = cc h
-none_sent e (Releases t) token x none h = cc h
+none_sent e _ token x none h = cc h
 
 of_either : (b : Bool) (x y : Effect) → AsksNone x.deed → AsksNone y.deed → AsksNone (cond b x y).deed
 of_either true x y h k = h
@@ -54,12 +53,8 @@ of_release None = tt
 of_release (Some o) = tt
 
 of_failure : (u : Transfer → Bool) (report : C.Report) (s : Own) (o : Option Operation) → AsksNone (failed u report s o).deed
-of_failure u report s None = tt
-of_failure u report s (Some (Calling number r t)) = tt
-of_failure u report s (Some (Registering number path)) = tt
-of_failure u report s (Some (Fetching number)) = tt
 of_failure u report s (Some (Cancelling number)) = of_release (observation_of number s.observations)
-of_failure u report s (Some Dropped) = tt
+of_failure u report s _ = tt
 
 of_notice : (o : Option Observation) (s : Own) (now : ℕ) (m : Message) → AsksNone (noticed_by o s now m).deed
 of_notice None s now m = tt
@@ -110,51 +105,45 @@ sends_where s (C.Feeds now from bytes word up settled e sent token kept) x h non
     absurd (cc (none, there))
 sends_where s (C.Ticks now word below t sent token kept answer) x h none =
     with_turn (at now s) (max s.clock now) t token x h
-sends_where s (C.Calls now r answer) x h none = absurd (cc h)
-sends_where s (C.Observes now path answer) x h none = absurd (cc h)
-sends_where s (C.Cancels now number answer) x h none = absurd (cc h)
-sends_where s (C.Forgets number kept answer) x h none = absurd (cc h)
-sends_where s (C.NextOut answer) x h none = absurd (cc h)
-sends_where s (C.NextReport answer) x h none = absurd (cc h)
-sends_where s (C.Asked answer) x h none = absurd (cc h)
+sends_where s _ x h none = absurd (cc h)
 
-module _ (server : Endpoint) (sizes : Sizes) (word : ℕ) where
+module _ (server : Endpoint) (sizes : Sizes) (setup : Setup) where
   pub record IsOpenOf (x : Sending) (t : List C.Call) : Type 0 where
     pub at : ℕ
-    pub is_open : OpenOf server sizes word at x t
+    pub is_open : OpenOf server sizes setup at x t
 
   -- while one is open no other is sent, but where its answer is heard
-  none_beside : (t : List C.Call) (c : C.Call) → ClientLaw server sizes word t → (at : ℕ) (x y : Sending)
-      → OpenOf server sizes word at x t → sends (own_of sizes t) c ≡ Some y → hears c ≡ None → ⊥
+  none_beside : (t : List C.Call) (c : C.Call) → ClientLaw server sizes setup t → (at : ℕ) (x y : Sending)
+      → OpenOf server sizes setup at x t → sends (own_of sizes t) c ≡ Some y → hears c ≡ None → ⊥
   none_beside t c law at x y o is none =
-      let r = (open_runs server sizes word t law).runs at (open_since server sizes word at x t o) in
+      let r = (open_runs server sizes setup t law).runs at (open_since server sizes setup at x t o) in
       let idle_then = sym r.operates ∙ sends_where (own_of sizes t) c y is none in
       cc idle_then
 
-  heard_token : (t : List C.Call) (c : C.Call) → ClientLaw server sizes word t → HearsOfOpen server sizes word (c ∷ t)
-      → (at : ℕ) (x : Sending) → OpenOf server sizes word at x t → (m : Message) → hears c ≡ Some m
+  heard_token : (t : List C.Call) (c : C.Call) → ClientLaw server sizes setup t → HearsOfOpen server sizes setup (c ∷ t)
+      → (at : ℕ) (x : Sending) → OpenOf server sizes setup at x t → (m : Message) → hears c ≡ Some m
       → m.token ≡ x.token
   heard_token t c law of_open at x o m is =
       let k = of_open.0 m is in
-      let both : Some k.runs.sending ≡ Some x = sym k.runs.last_sent ∙ last_of server sizes word at x t o in
+      let both : Some k.runs.sending ≡ Some x = sym k.runs.last_sent ∙ last_of server sizes setup at x t o in
       let same : k.runs.sending ≡ x = cc both in
       k.token ∙ k.runs.token ∙ ap (λ (z : Sending). z.token) same
 
-  pub heard_or_open : (t : List C.Call) → ClientLaw server sizes word t → HearsOfOpen server sizes word t
+  pub heard_or_open : (t : List C.Call) → ClientLaw server sizes setup t → HearsOfOpen server sizes setup t
       → Always (λ past c. ends_as c ≡ None) t → (x : Sending) → WasSent sizes x t
       → IsOpenOf x t ⊎ Ever (HearsBy x.token) t
   heard_or_open [] law of_open ends x sent = absurd sent
   heard_or_open (c ∷ t) law of_open ends x (inl now) =
       inl (record { at = moment_of (own_of sizes t) c; is_open = inl (now, refl) })
   heard_or_open (c ∷ t) law of_open ends x (inr before) =
-      by (heard_or_open t (back server sizes word (c ∷ []) t law) of_open.1 ends.1 x before)
+      by (heard_or_open t (back server sizes setup (c ∷ []) t law) of_open.1 ends.1 x before)
     where
       still : IsOpenOf x t → (h : Option Message) → hears c ≡ h → (s : Option Sending) → sends (own_of sizes t) c ≡ s
           → IsOpenOf x (c ∷ t) ⊎ Ever (HearsBy x.token) (c ∷ t)
       still k (Some m) is s sends_it =
-          inr (inl (m, is, heard_token t c (back server sizes word (c ∷ []) t law) of_open k.at x k.is_open m is))
+          inr (inl (m, is, heard_token t c (back server sizes setup (c ∷ []) t law) of_open k.at x k.is_open m is))
       still k None is (Some y) sends_it =
-          absurd (none_beside t c (back server sizes word (c ∷ []) t law) k.at x y k.is_open sends_it is)
+          absurd (none_beside t c (back server sizes setup (c ∷ []) t law) k.at x y k.is_open sends_it is)
       still k None is None sends_it = inl (record { at = k.at; is_open = inr (sends_it, is, ends.0, k.is_open) })
 
       by : IsOpenOf x t ⊎ Ever (HearsBy x.token) t → IsOpenOf x (c ∷ t) ⊎ Ever (HearsBy x.token) (c ∷ t)

@@ -4,7 +4,6 @@ use Rattle.std.proofs.Common.{[], ◌∷◌, ◌++◌, map, refl, ap, subst, ◌
 use Rattle.coap_types.specs.Past.{Always}
 use Rattle.coap_types.proofs.Facts.Traces.{Always_back}
 use Rattle.coap_types.specs.declared.endpoint.Endpoint.{Endpoint}
-use Rattle.coap_types.specs.declared.remembered.TheConstants.{DEFAULT_REMEMBERED as max_remembered}
 use Rattle.coap_codec.specs.Message.{Message}
 use Rattle.coap_layer.specs.Taking.{is_then, came, FewCome}
 use Rattle.coap_layer.specs.Trace as L
@@ -32,7 +31,7 @@ use Rattle.coap_world.specs.Events.{Config}
 use Rattle.coap_world.specs.HasIds.{HasIds}
 use Rattle.coap_world.specs.Record.{Entry, OfClient, OfServer, Turn, entries_of, client_of, server_trace}
 use Rattle.coap_world.specs.Record.{Setting, DelayOf, PlainOf, gives_it, settings}
-use Rattle.coap_world.specs.Smooth.{TakesNoObservation}
+use Rattle.coap_world.specs.Smooth.{TakesNoObservation, most_that_come}
 use Rattle.coap_world.proofs.Delivery.EntriesInTime.{Every, every_join}
 use Rattle.coap_world.proofs.Delivery.HopsAreEntries.{server_layer, far_is}
 use Rattle.coap_world.proofs.Requests.OfACall.{Lawful, lawful_back}
@@ -62,7 +61,7 @@ none_then since (c ∷ t) none = by (notifies c) (is_then since (moment_of (c �
     by false b e h = h
     by true b e h = absurd (cc e)
 
-few_of_none : (t : List R.Call) → NoneNotified t → FewNotified max_remembered t
+few_of_none : (t : List R.Call) → NoneNotified t → FewNotified most_that_come t
 few_of_none t none since = let k = none_then since t none in omega (arith, k)
 
 abbrev IsOther : R.Call → Type 0
@@ -76,12 +75,10 @@ deferred (Some delay) place at a = (refl, tt)
 
 answered : (s : S.Own) (came : Option (Asked × Message)) (h : S.Handling) (below : L.Answer)
     → Every IsOther (answering s came h below)
-answered s None h below = tt
-answered s (Some p) S.Silent below = tt
 answered s (Some p) (S.Replies r) below = (refl, tt)
 answered s (Some p) (S.Serves q reply left) below = (refl, deferred _ _ _ p.0)
 answered s (Some p) (S.Waits q delay) below = deferred _ _ _ p.0
-answered s (Some p) (S.Notifies o reply) below = tt
+answered s _ _ below = tt
 
 ready : (at passed : ℕ) (os : List Observer) → Every IsOther (readies at passed os)
 ready at passed [] = tt
@@ -97,21 +94,11 @@ responded : (s : S.Own) (d : Due) (passed : ℕ) (h : S.Handling) (word id : ℕ
     → Every IsOther (responding s d passed h word id)
 responded s d passed (S.Notifies o reply) word id none = absurd none
 responded s (due.Ready a) passed (S.Serves q reply left) word id none = (refl, tt)
-responded s (due.Ready a) passed S.Silent word id none = tt
-responded s (due.Ready a) passed (S.Replies r) word id none = tt
-responded s (due.Ready a) passed (S.Waits q delay) word id none = tt
 responded s due.Idle passed S.Silent word id none = ready s.clock passed (marked s.observers)
 responded s due.Idle passed (S.Replies r) word id none = ready s.clock passed (marked s.observers)
 responded s due.Idle passed (S.Serves q reply left) word id none = ready s.clock passed (marked s.observers)
 responded s due.Idle passed (S.Waits q delay) word id none = ready s.clock passed (marked s.observers)
-responded s due.Copied passed (S.Serves q reply left) word id none = tt
-responded s due.Copied passed S.Silent word id none = tt
-responded s due.Copied passed (S.Replies r) word id none = tt
-responded s due.Copied passed (S.Waits q delay) word id none = tt
-responded s due.Expired passed (S.Serves q reply left) word id none = tt
-responded s due.Expired passed S.Silent word id none = tt
-responded s due.Expired passed (S.Replies r) word id none = tt
-responded s due.Expired passed (S.Waits q delay) word id none = tt
+responded s _ passed _ word id none = tt
 
 ticked : (s : S.Own) (d : Due) (passed : ℕ) (h : S.Handling) (word id : ℕ) (tick : R.Call) → notifies tick ≡ false
     → ((o : Observer) (reply : _) → h ≡ S.Notifies o reply → ⊥)
@@ -147,7 +134,7 @@ own_first : (a b c : ℕ) → a ≤ max a (max b c)
 own_first a b c = omega arith
 
 module _ (config : Config) (observers : (t : List S.Call) → AreObservers config.limits config.server_szx t)
-    (free : (t : List R.Call) → ResponseLaw config.server_word t → IdIsFree config.server_word t) where
+    (free : (t : List R.Call) → ResponseLaw config.server_setup t → IdIsFree config.server_setup t) where
   module _ (past : List Entry) (law : Lawful config past)
       (observed : AreOfObservations config.client_sizes (client_of past))
       (none : Always (λ p d. TakesNoObservation d) (client_of past))
@@ -178,13 +165,8 @@ module _ (config : Config) (observers : (t : List S.Call) → AreObservers confi
           here = ap (λ z. notice (S.Ticks now word below room d passed z id answer)) is;
           there = refl;
         }))
-    none_here (S.Sets now path format body answer left) whole = tt
-    none_here (S.Removes now path answer left) whole = tt
-    none_here (S.Delays path ms answer) whole = tt
-    none_here (S.Plains path answer) whole = tt
     none_here (S.NextOut answer) whole = (refl, tt)
-    none_here (S.Gets path answer) whole = tt
-    none_here (S.TellsApplied answer) whole = tt
+    none_here _ whole = tt
 
   at_first : (ss : List Setting)
       → NoneNotified (lower_of config.limits config.server_szx (map gives_it ss))
@@ -228,22 +210,22 @@ module _ (config : Config) (observers : (t : List S.Call) → AreObservers confi
     less h l = omega (arith, h, l)
 
     at_call : (later t : List S.Call) → server_trace config es ≡ later ++ t
-        → NoId config.limits config.server_szx config.server_word t turn.event.at → ⊥
+        → NoId config.limits config.server_szx config.server_setup t turn.event.at → ⊥
     at_call later t is no_id =
-        let law : ServerLaw config.limits config.server_szx config.server_word t =
-        server_facts.back config.limits config.server_szx config.server_word later t
-        (subst (ServerLaw config.limits config.server_szx config.server_word) is whole.server) in
+        let law : ServerLaw config.limits config.server_szx config.server_setup t =
+        server_facts.back config.limits config.server_szx config.server_setup later t
+        (subst (ServerLaw config.limits config.server_szx config.server_setup) is whole.server) in
         let none_t : NoneNotified (lower_of config.limits config.server_szx t) = exchanges_back later t
         (subst (λ z. NoneNotified (lower_of config.limits config.server_szx z)) is
         (none_notified es whole observed none (heard_client config observers (turn ∷ past) g.stands))) in
-        let few = (few_arrive config (turn ∷ past) g.stands g.few_client g.few_server).at_server in
+        let few = (few_arrive config (turn ∷ past) g.stands g.few_client g.few_server).with_ids_at_server in
         let k = front_of config later t in
         let all : server_layer config (server_trace config es) ≡ k.0 ++ server_layer config t =
         ap (server_layer config) is ∙ k.1 in
-        let few_t : FewCome max_remembered (server_layer config t) = λ since.
+        let few_t : FewCome most_that_come (server_layer config t) = λ since.
         less (came_more since k.0 (server_layer config t))
-        (subst (λ l. came since l < max_remembered) (far_is config es ∙ all) (few since)) in
-        free (lower_of config.limits config.server_szx t) law.exchanges max_remembered
+        (subst (λ l. came since l < most_that_come) (far_is config es ∙ all) (few since)) in
+        free (lower_of config.limits config.server_szx t) law.exchanges most_that_come
         (max (clock (server_layer config t)) (max (own_of config.limits config.server_szx t).clock turn.event.at))
         (omega arith) (few_of_none (lower_of config.limits config.server_szx t) none_t) few_t
         (own_first (clock (server_layer config t)) (own_of config.limits config.server_szx t).clock turn.event.at) no_id

@@ -56,9 +56,7 @@ of_uint n other (Some v) = (other, tt)
 
 before : (m : Method) (r : Request) → AreOther (before_path m r)
 before Get r = mapped _ refl r.etags
-before Post r = every_join IsOther _ _ (mapped _ refl r.if_match) (flagged _ refl r.if_none_match)
-before Put r = every_join IsOther _ _ (mapped _ refl r.if_match) (flagged _ refl r.if_none_match)
-before Delete r = every_join IsOther _ _ (mapped _ refl r.if_match) (flagged _ refl r.if_none_match)
+before _ r = every_join IsOther _ _ (mapped _ refl r.if_match) (flagged _ refl r.if_none_match)
 
 after : (m : Method) (r : Request) → AreOther (after_path m r)
 after Get r = of_uint _ refl r.accept

@@ -14,7 +14,7 @@ use Rattle.coap_codec.specs.Message.{Message, Spells}
 use Rattle.coap_codec.proofs.Facts.EveryDatagram.{one_message}
 use Rattle.coap_layer.specs.Arrivals.{Arrival, Unreadable, Faulted, Whole, Shows}
 use Rattle.coap_layer.specs.Channel.{Hop, Near, Far, near_of, far_of, OnFarThen, Takes, RepliesTo, IsLatest}
-use Rattle.coap_layer.specs.Machine.State.{State, start, made, usual}
+use Rattle.coap_layer.specs.Machine.State.{State, start, made}
 use Rattle.coap_layer.specs.Machine.Steps.{Steps, left_after}
 use Rattle.coap_layer.specs.Rows.{LayerLaw, Stands, Row, Sorts, HandedAs, Arrives, Outstanding, rejects, drops, takes_ack}
 use Rattle.coap_layer.specs.Rows.{takes_reset, passes_reset, takes_answer, replays, hands_over}
@@ -32,8 +32,8 @@ use Rattle.coap_exchange.specs.declared.asker.Event.TheVariants as event_is
 use Rattle.coap_exchange.specs.declared.asker.Exchange.{Exchange}
 use Rattle.coap_exchange.specs.declared.asker.Turn.TheVariants as turn_is
 use Rattle.coap_exchange.specs.declared.matching.Verdict.{Verdict}
-use Rattle.coap_exchange.specs.declared.matching.Verdict.TheVariants.{Ignore, Reject, Acknowledge, AnswerCon, Answer}
-use Rattle.coap_exchange.specs.declared.matching.Verdict.TheVariants.{NoticeCon, Notice, Await, EndByReset}
+use Rattle.coap_exchange.specs.declared.matching.Verdict.TheVariants.{AnswerCon, Answer}
+use Rattle.coap_exchange.specs.declared.matching.Verdict.TheVariants.{NoticeCon, Notice, EndByReset}
 use Rattle.coap_exchange.proofs.Facts.ClientSide.{server_is}
 use Rattle.coap_exchange.proofs.Facts.Verdicts.{Fits, OfRequest, verdict_fits}
 use Rattle.coap_client.specs.Deeds.{close, deeds, effect}
@@ -83,10 +83,7 @@ reset_by s from up NoticeCon f h =
     let k : Some event_is.Reset ≡ Some (event_is.Notice f.message) = h ∙ ap (told NoticeCon) f.is in absurd (cc k)
 reset_by s from up Notice f h =
     let k : Some event_is.Reset ≡ Some (event_is.Notice f.message) = h ∙ ap (told Notice) f.is in absurd (cc k)
-reset_by s from up Ignore f h = absurd (cc h)
-reset_by s from up Reject f h = absurd (cc h)
-reset_by s from up Acknowledge f h = absurd (cc h)
-reset_by s from up Await f h = absurd (cc h)
+reset_by s from up _ f h = absurd (cc h)
 
 -- .. and taken as an Empty message of what is outstanding
 record TakesIt (past : List L.Entry) (from : Endpoint) (bytes : List ℕ) (id : ℕ) : Type 0 where
@@ -171,10 +168,10 @@ module _ (setup : Setup) (con : Open) (n : Message) (spells : Spells con.bytes n
 
 module _ (config : Config) where
   abbrev Law : List C.Call → Type 0
-  Law t = ClientLaw server_end config.client_sizes config.client_word t
+  Law t = ClientLaw server_end config.client_sizes config.client_setup t
 
   abbrev layer : List C.Call → List L.Entry
-  layer t = layer_of server_end config.client_sizes config.client_word t
+  layer t = layer_of server_end config.client_sizes config.client_setup t
 
   abbrev Meant : List Entry → Type 0
   Meant es = ResetsMeant client_end server_end (hops_in config es)
@@ -188,7 +185,7 @@ module _ (config : Config) where
     t = client_of es
 
     abbrev here : E.Own
-    here = X.own_of server_end config.client_word (lower_of config.client_sizes t)
+    here = X.own_of server_end config.client_setup (lower_of config.client_sizes t)
 
     module _ (law : Law (c ∷ t)) where
       told_here : IsReset here from up
@@ -196,24 +193,24 @@ module _ (config : Config) where
           let m : ℕ = max (own_of config.client_sizes t).clock now in
           let f = effect (own_of config.client_sizes t) c in
           let input : E.Call = E.Receive m from bytes up settled (Some event_is.Reset) in
-          let right = at_input (λ p d. P.IsRight (X.own_of server_end config.client_word p) d)
+          let right = at_input (λ p d. P.IsRight (X.own_of server_end config.client_setup p) d)
           (deeds (close m f token).deed (close m f token).own m w sent token kept)
           (deeds f.deed f.own m w sent token kept) input (lower_of config.client_sizes t) law.exchanges.rows in
           reset_by here from up (verdict_on here from up) (verdict_fits here from up) right.0
 
       old : Law t
-      old = client_facts.back server_end config.client_sizes config.client_word (c ∷ []) t law
+      old = client_facts.back server_end config.client_sizes config.client_setup (c ∷ []) t law
 
       there : from ≡ server_end
       there = same_endpoint_is from here.server told_here.of.there
-          ∙ server_is server_end config.client_word (lower_of config.client_sizes t)
+          ∙ server_is server_end config.client_setup (lower_of config.client_sizes t)
 
       -- the arrival is the oldest of what the call adds
       b : Behind (L.Receive from bytes) up (client_asks config t c)
       b = client_feeds config t now from bytes w up settled (Some event_is.Reset) sent token kept
 
       abbrev first : State
-      first = left_after (start (usual config.client_word)) (client_asked config t)
+      first = left_after (start config.client_setup) (client_asked config t)
 
       abbrev e : L.Entry
       e = made first b.now (L.Receive from bytes)
@@ -222,24 +219,24 @@ module _ (config : Config) where
       newest = newer first (client_asks config t c) (L.Receive from bytes) up b
 
       answer : e.answer ≡ up
-      answer = last_answer (start (usual config.client_word)) (client_asks config t c) (client_asked config t)
+      answer = last_answer (start config.client_setup) (client_asks config t c) (client_asked config t)
           law.exchanges.left
-          (subst (λ a. Steps (start (usual config.client_word)) a law.exchanges.left) (client_asked_next config t c)
+          (subst (λ a. Steps (start config.client_setup) a law.exchanges.left) (client_asked_next config t c)
           law.exchanges.layer) (L.Receive from bytes) up b
 
       adds : client_adds config t c ≡ newest ++ e ∷ []
       adds = parts first (client_asks config t c) (L.Receive from bytes) up b
 
       whole : layer (c ∷ t) ≡ newest ++ (e ∷ layer t)
-      whole = client_facts.layer_next server_end config.client_sizes config.client_word t c ∙ ap (λ a. a ++ layer t) adds
+      whole = client_facts.layer_next server_end config.client_sizes config.client_setup t c ∙ ap (λ a. a ++ layer t) adds
           ∙ append_assoc newest (e ∷ []) (layer t)
 
       taken : TakesIt (layer t) from bytes told_here.id
       taken =
-          let stands = (Always_back (Stands (usual config.client_word)) newest (e ∷ layer t)
-          (subst (LayerLaw (usual config.client_word)) whole
-          (client_facts.layer server_end config.client_sizes config.client_word (c ∷ t) law))).0 in
-          takes_it (usual config.client_word) (layer t) e from bytes told_here.id stands refl (answer ∙ told_here.is)
+          let stands = (Always_back (Stands config.client_setup) newest (e ∷ layer t)
+          (subst (LayerLaw config.client_setup) whole
+          (client_facts.layer server_end config.client_sizes config.client_setup (c ∷ t) law))).0 in
+          takes_it config.client_setup (layer t) e from bytes told_here.id stands refl (answer ∙ told_here.is)
 
       hops : hops_in config (OfClient c ∷ es) ≡ map Near newest ++ (Near e ∷ hops_in config es)
       hops = ap (λ l. map Near l ++ hops_in config es) adds
@@ -248,31 +245,31 @@ module _ (config : Config) where
 
       module _ (server : ForServer config es) (young : YoungAt config t c) (meant : Meant (OfClient c ∷ es)) (at : ℕ)
           (is_open : IsOpenSince config.client_sizes at t) (x : Sending)
-          (o : OpenOf server_end config.client_sizes config.client_word at x t)
-          (r : Runs server_end config.client_sizes config.client_word at x t) where
+          (o : OpenOf server_end config.client_sizes config.client_setup at x t)
+          (r : Runs server_end config.client_sizes config.client_setup at x t) where
         soon : e.at ≤ at + max_open
         soon = every_last (λ (y : L.Entry). y.at ≤ at + max_open) newest e
             (subst (Every (λ (y : L.Entry). y.at ≤ at + max_open)) adds (young.adds at is_open))
 
-        by_wait : Waited server_end config.client_sizes config.client_word r.exchange t → ⊥
+        by_wait : Waited server_end config.client_sizes config.client_setup r.exchange t → ⊥
         by_wait k = subst (Ever (λ z. is_to from told_here.id z ≡ true)) k.none taken.matches
 
-        by_con : HasCon server_end config.client_sizes config.client_word at x t o
-            → Lonely server_end config.client_sizes config.client_word at x r.exchange t → ⊥
+        by_con : HasCon server_end config.client_sizes config.client_setup at x t o
+            → Lonely server_end config.client_sizes config.client_setup at x r.exchange t → ⊥
         by_con h k =
             let con : Open = k.con in
             let stays : IsOpen (layer t) (as_begun con) =
             subst (Ever (λ z. as_begun z ≡ as_begun con)) (sym k.only) (inl refl) in
             let same : as_begun con ≡ h.con =
-            alone_now server_end config.client_sizes config.client_word h.con at x t o h.alone (as_begun con) stays in
+            alone_now server_end config.client_sizes config.client_setup h.con at x t o h.alone (as_begun con) stays in
             let to : con.to ≡ server_end = ap (λ (z : Open). z.to) same ∙ h.is.to in
             let n : Message = request_of h.con.id x in
             let spells : Spells con.bytes n =
             subst (λ b. Spells b n) (sym (ap (λ (z : Open). z.bytes) same))
-            (request_spelled (usual config.client_word) (layer t) h.con x
-            (client_facts.layer server_end config.client_sizes config.client_word t old) h.begun_before h.is) in
+            (request_spelled config.client_setup (layer t) h.con x
+            (client_facts.layer server_end config.client_sizes config.client_setup t old) h.begun_before h.is) in
             let class : role_of n.code ≡ role.Request =
-            is_request x (was_message config.client_sizes x t (was_sent server_end config.client_sizes config.client_word at x t o)) in
+            is_request x (was_message config.client_sizes x t (was_sent server_end config.client_sizes config.client_setup at x t o)) in
             let is_told : IsTold con.bytes = record { message = n; spells = spells; class = inl class } in
             let both : Some told_here.of.exchange ≡ Some r.exchange = sym told_here.of.runs ∙ r.runs in
             let alike : told_here.of.exchange ≡ r.exchange = cc both in
@@ -294,25 +291,25 @@ module _ (config : Config) where
             (subst (Always (λ past z. (y : L.Entry) (d : Open) → z ≡ Near y → d.to ≡ server_end → IsTold d.bytes
             → (q : HearsReset d (near_of past) y) → Sometime (OnFarThen (RepliesTo client_end d q.bytes)) past)) hops
             meant)).0 e con refl to is_told hears in
-            never_rejected (usual config.server_word) con n spells refl class bytes taken.message taken.are taken.spells
+            never_rejected config.server_setup con n spells refl class bytes taken.message taken.are taken.spells
             taken.kind (hops_in config es)
-            (subst (LayerLaw (usual config.server_word)) (sym (far_is config es))
-            (server_facts.layer config.limits config.server_szx config.server_word (server_trace config es) server))
+            (subst (LayerLaw config.server_setup) (sym (far_is config es))
+            (server_facts.layer config.limits config.server_szx config.server_setup (server_trace config es) server))
             (subst (Always RejectsSo) (sym (far_is config es))
-            (server_facts.rejects_responses config.limits config.server_szx config.server_word (server_trace config es)
+            (server_facts.rejects_responses config.limits config.server_szx config.server_setup (server_trace config es)
             server)) given
 
         not_so : ⊥
         not_so = ⊎_elim
-            (by_con (has_con server_end config.client_sizes config.client_word at x t old o)) by_wait
-            (lonely server_end config.client_sizes config.client_word at x t old r)
+            (by_con (has_con server_end config.client_sizes config.client_setup at x t old o)) by_wait
+            (lonely server_end config.client_sizes config.client_setup at x t old r)
 
       never : ForServer config es → YoungAt config t c → Meant (OfClient c ∷ es) → ⊥
       never server young meant =
-          let k = (open_runs server_end config.client_sizes config.client_word t old).is_open told_here.of.exchange
+          let k = (open_runs server_end config.client_sizes config.client_setup t old).is_open told_here.of.exchange
           told_here.of.runs in
-          let o = open_of server_end config.client_sizes config.client_word k.0 t old k.1 in
-          let r = runs_of server_end config.client_sizes config.client_word k.0 o.0 t old o.1 in
+          let o = open_of server_end config.client_sizes config.client_setup k.0 t old k.1 in
+          let r = runs_of server_end config.client_sizes config.client_setup k.0 o.0 t old o.1 in
           not_so server young meant k.0 k.1 o.0 o.1 r
 
   no_reset : (es : List Entry) (c : C.Call) → Law (c ∷ client_of es) → ForServer config es → YoungAt config (client_of es) c

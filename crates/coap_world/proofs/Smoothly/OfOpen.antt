@@ -96,22 +96,22 @@ module _ (config : Config) where
   module _ (past : List Entry) (c : S.Call) (law : Lawful config (OfServer c ∷ past))
       (observed : AreOfObservations config.client_sizes (client_of past))
       (none : Always (λ p d. TakesNoObservation d) (client_of past))
-      (of_open : HearsOfOpen server_end config.client_sizes config.client_word (client_of past))
+      (of_open : HearsOfOpen server_end config.client_sizes config.client_setup (client_of past))
       (ends : Always (λ p d. ends_as d ≡ None) (client_of past)) (at : ℕ) (x : Sending)
-      (is_open : OpenOf server_end config.client_sizes config.client_word at x (client_of past)) where
+      (is_open : OpenOf server_end config.client_sizes config.client_setup at x (client_of past)) where
     -- what a tick answers has the token of the exchange that is open
     pub of_open_exchange : (now : ℕ) (answer : Bool) → IsTick now answer c → (a : Asked)
         → AnswersIt config.limits config.server_szx (server_trace config past) c a → a.from ≡ client_end
         → a.token ≡ x.token
     of_open_exchange now answer tick a answers from =
-        token (heard_or_open server_end config.client_sizes config.client_word (client_of past) before.client of_open ends
+        token (heard_or_open server_end config.client_sizes config.client_setup (client_of past) before.client of_open ends
         origin.sending origin.sent)
       where
         before : Lawful config past
         before = lawful_back config past (OfServer c) law
 
-        next : IsNextResponse config.limits config.server_szx config.server_word (server_trace config past) c now a
-        next = ((server_facts.begins config.limits config.server_szx config.server_word (c ∷ server_trace config past)
+        next : IsNextResponse config.limits config.server_szx config.server_setup (server_trace config past) c now a
+        next = ((server_facts.begins config.limits config.server_szx config.server_setup (c ∷ server_trace config past)
             law.server).0 now answer tick).responds a answers
 
         origin : Origin config a (OfServer c ∷ past)
@@ -121,12 +121,12 @@ module _ (config : Config) where
         tokens : origin.sending.token ≡ a.token
         tokens = sym (ap (λ (z : Asked). z.token) origin.asked)
 
-        token : IsOpenOf server_end config.client_sizes config.client_word origin.sending (client_of past)
+        token : IsOpenOf server_end config.client_sizes config.client_setup origin.sending (client_of past)
             ⊎ Ever (HearsBy origin.sending.token) (client_of past) → a.token ≡ x.token
         token (inl k) =
             let both : Some origin.sending ≡ Some x =
-            sym (last_of server_end config.client_sizes config.client_word k.at origin.sending (client_of past) k.is_open)
-            ∙ last_of server_end config.client_sizes config.client_word at x (client_of past) is_open in
+            sym (last_of server_end config.client_sizes config.client_setup k.at origin.sending (client_of past) k.is_open)
+            ∙ last_of server_end config.client_sizes config.client_setup at x (client_of past) is_open in
             let same : origin.sending ≡ x = cc both in
             sym tokens ∙ ap (λ (z : Sending). z.token) same
         token (inr heard) =

@@ -5,7 +5,6 @@ use Rattle.coap_types.specs.Bytes.{AreBytes}
 use Rattle.coap_types.specs.Past.{Ever, Sometime, Always}
 use Rattle.coap_codec.specs.Message.{Spells}
 use Rattle.coap_layer.specs.Channel.{near_of}
-use Rattle.coap_layer.specs.Machine.State.{usual}
 use Rattle.coap_layer.specs.Words.{Open, begun}
 use Rattle.coap_exchange.specs.declared.answerer.Asked.{Asked}
 use Rattle.coap_exchange.specs.AnswererFollows.{hits, same_asked, hands, responds, times_handed, times_answered, AreResponses}
@@ -95,7 +94,7 @@ module _ (config : Config) where
     pub one_con : (token : List ℕ) → OneConBy token (near_of (hops_in config es))
     one_con token a b i j x y ab bb sa sb ia ib ta tb =
         let near = near_is config es in
-        by (client_facts.one_con server_end config.client_sizes config.client_word (client_of es) law.client a b
+        by (client_facts.one_con server_end config.client_sizes config.client_setup (client_of es) law.client a b
         (subst (Ever (λ e. begun e ≡ Some a)) near i) (subst (Ever (λ e. begun e ≡ Some b)) near j) x y ab bb sa sb
         (ta ∙ sym tb))
       where
@@ -109,7 +108,7 @@ module _ (config : Config) where
     pub one_sending : (x y : Sending) → WasSent config.client_sizes x (client_of es)
         → WasSent config.client_sizes y (client_of es) → x.token ≡ y.token → x ≡ y
     one_sending x y i j same =
-        by (client_facts.tokens server_end config.client_sizes config.client_word (client_of es) law.client x y i j same)
+        by (client_facts.tokens server_end config.client_sizes config.client_setup (client_of es) law.client x y i j same)
       where
         by : (x ≡ y) ⊎ (Deregisters x y ⊎ Deregisters y x) → x ≡ y
         by (inl is) = is
@@ -153,12 +152,12 @@ module _ (config : Config) where
       (are_responses (lower_of config.limits config.server_szx t) law.server.exchanges.rows) now
       (answered_before a (server_trace config past) before) in
       let same = server_facts.handed_as_often config.limits config.server_szx a t in
-      let counted = counted_in config.limits config.server_szx a config.server_word t
-      (server_facts.counts config.limits config.server_szx config.server_word t law.server) in
+      let counted = counted_in config.limits config.server_szx a config.server_setup t
+      (server_facts.counts config.limits config.server_szx config.server_setup t law.server) in
       let nons = subst NoNons (sym (near_is config es))
-      (client_facts.nons server_end config.client_sizes config.client_word (client_of past)) in
+      (client_facts.nons server_end config.client_sizes config.client_setup (client_of past)) in
       let few = once_counted a (hops_in config es)
-      (up_once (usual config.client_word) (usual config.server_word) client_end server_end a from (hops_in config es)
+      (up_once config.client_setup config.server_setup client_end server_end a from (hops_in config es)
       law.channel nons (one_con es law observed none a.token)) in
       let far = ap (ups a) (far_is config es) in
       omega (arith, two, same, counted, few, far)

@@ -11,6 +11,7 @@ use Rattle.coap_layer.specs.Trace as L
 use Rattle.coap_layer.specs.Words.{handed, handed_in, takes_in}
 use Rattle.coap_layer.specs.Machine.State.{State, made}
 use Rattle.coap_layer.specs.Machine.Steps.{Asked, left_after, entries}
+use Rattle.coap_layer.specs.declared.setup.Setup.{Setup}
 use Rattle.coap_observe.specs.Observers.{Observer}
 use Rattle.coap_exchange.specs.declared.answerer.Asked as request
 use Rattle.coap_exchange.specs.declared.answerer.Due.{Due}
@@ -31,7 +32,7 @@ use Rattle.coap_exchange.specs.AskerSteps as asker_steps
 use Rattle.coap_exchange.specs.AskerTrace as A
 use Rattle.coap_common.specs.Adds.{asked_by_client, asked_by_server}
 use Rattle.coap_client.specs.Deeds.{deeds, done_for, close, effect, forgets}
-use Rattle.coap_client.specs.Effects.{Deed, Rests, Asks, Keeps, Releases, Effect}
+use Rattle.coap_client.specs.Effects.{Deed, Rests, Effect}
 use Rattle.coap_client.specs.Law as client_law
 use Rattle.coap_client.specs.Own as client_own
 use Rattle.coap_client.specs.Trace as C
@@ -110,7 +111,7 @@ quiet_beneath now Spent server content word sent = record { takes = refl; hands 
 quiet_beneath now Sends server content word sent = record { takes = refl; hands = λ answer. refl }
 
 -- it is no arrival, and takes nothing
-abbrev IsDeed : A.Call → Type 0
+abbrev pub IsDeed : A.Call → Type 0
 IsDeed (A.Ask now r word below answer) = Unit {0}
 IsDeed (A.Receive now from bytes up settled answer) = ⊥
 IsDeed (A.Ticks now below answer) = Unit {0}
@@ -127,40 +128,38 @@ quiet_deed s (A.Keep token answer) h = tt
 quiet_deed s (A.Release token answer) h = tt
 quiet_deed s (A.Take answer) h = absurd h
 
-quiet_deeds : (to : Endpoint) (word : ℕ) (past later : List A.Call) → Every IsDeed later
-    → Every IsQuiet (asked_by_client to word past later)
-quiet_deeds to word past [] h = tt
-quiet_deeds to word past (c ∷ later) h =
-    every_join IsQuiet (asker_steps.lower (asker.own_of to word (later ++ past)) c)
-    (asked_by_client to word past later) (quiet_deed (asker.own_of to word (later ++ past)) c h.0)
-    (quiet_deeds to word past later h.1)
+quiet_deeds : (to : Endpoint) (setup : Setup) (past later : List A.Call) → Every IsDeed later
+    → Every IsQuiet (asked_by_client to setup past later)
+quiet_deeds to setup past [] h = tt
+quiet_deeds to setup past (c ∷ later) h =
+    every_join IsQuiet (asker_steps.lower (asker.own_of to setup (later ++ past)) c)
+    (asked_by_client to setup past later) (quiet_deed (asker.own_of to setup (later ++ past)) c h.0)
+    (quiet_deeds to setup past later h.1)
 
-deed_deeds : (d : Deed) (s : client_own.Own) (now word : ℕ) (sent : L.Answer) (token : Result (List ℕ) AskRefusal)
+pub deed_deeds : (d : Deed) (s : client_own.Own) (now word : ℕ) (sent : L.Answer) (token : Result (List ℕ) AskRefusal)
     (kept : Bool) → Every IsDeed (deeds d s now word sent token kept)
 deed_deeds Rests s now word sent token kept = tt
-deed_deeds (Asks op) s now word sent token kept = (tt, tt)
-deed_deeds (Keeps key) s now word sent token kept = (tt, tt)
-deed_deeds (Releases key) s now word sent token kept = (tt, tt)
+deed_deeds _ s now word sent token kept = (tt, tt)
 
 -- an arrival, and what is done for it
-behind_arrival : (to : Endpoint) (word : ℕ) (past later : List A.Call) (now : ℕ) (from : Endpoint) (bytes : List ℕ)
+behind_arrival : (to : Endpoint) (setup : Setup) (past later : List A.Call) (now : ℕ) (from : Endpoint) (bytes : List ℕ)
     (up : L.Answer) (settled : Bool) (event : _) → Every IsDeed later
     → Behind (L.Receive from bytes) up
-    (asked_by_client to word past (later ++ A.Receive now from bytes up settled event ∷ []))
-behind_arrival to word past [] now from bytes up settled event h =
-    let s : A.Own = asker.own_of to word past in
+    (asked_by_client to setup past (later ++ A.Receive now from bytes up settled event ∷ []))
+behind_arrival to setup past [] now from bytes up settled event h =
+    let s : A.Own = asker.own_of to setup past in
     let v = verdict_on s from up in
     behind_last (L.Receive from bytes) up (acts s from up settled v) now refl
     (every_join IsQuiet (settling (settles v) s.server s.running settled) _
     (quiet_settle (settles v) s.server s.running settled) (quiet_reply from (id_in up) (reply_by v (id_in up))))
-behind_arrival to word past (d ∷ later) now from bytes up settled event h =
+behind_arrival to setup past (d ∷ later) now from bytes up settled event h =
     behind_more (L.Receive from bytes) up
-    (asker_steps.lower (asker.own_of to word ((later ++ A.Receive now from bytes up settled event ∷ []) ++ past)) d)
-    (asked_by_client to word past (later ++ A.Receive now from bytes up settled event ∷ []))
-    (quiet_deed (asker.own_of to word ((later ++ A.Receive now from bytes up settled event ∷ []) ++ past)) d h.0)
-    (behind_arrival to word past later now from bytes up settled event h.1)
+    (asker_steps.lower (asker.own_of to setup ((later ++ A.Receive now from bytes up settled event ∷ []) ++ past)) d)
+    (asked_by_client to setup past (later ++ A.Receive now from bytes up settled event ∷ []))
+    (quiet_deed (asker.own_of to setup ((later ++ A.Receive now from bytes up settled event ∷ []) ++ past)) d h.0)
+    (behind_arrival to setup past later now from bytes up settled event h.1)
 
-module _ (to : Endpoint) (w : ℕ) (past : List A.Call) (e : Effect) (now word : ℕ) (sent : L.Answer)
+module _ (to : Endpoint) (w : Setup) (past : List A.Call) (e : Effect) (now word : ℕ) (sent : L.Answer)
     (token : Result (List ℕ) AskRefusal) (kept : Bool) where
   abbrev later : List A.Call
   later = let c = close now e token in deeds c.deed c.own now word sent token kept
@@ -227,11 +226,9 @@ quiet_work s (R.Defers now a delay answer) h =
 quiet_work s (R.Ticks now below room answer) h =
     every_join IsQuiet (asking_room now (ready_if below (ready_at s now)) room) (asked now L.Ticks below ∷ [])
     (quiet_room now (ready_if below (ready_at s now)) room) (record { takes = refl; hands = λ x. refl }, tt)
-quiet_work s (R.Responds now a r word id) h = (record { takes = refl; hands = λ answer. refl }, tt)
 quiet_work s (R.Ready now to answer) h = (record { takes = refl; hands = λ x. refl }, tt)
-quiet_work s (R.Notifies now to token r word id) h = (record { takes = refl; hands = λ answer. refl }, tt)
-quiet_work s (R.NotifiesPlain now to token r id) h = (record { takes = refl; hands = λ answer. refl }, tt)
 quiet_work s (R.Take answer) h = absurd h
+quiet_work s _ h = (record { takes = refl; hands = λ answer. refl }, tt)
 
 quiet_works : (past later : List R.Call) → Every IsWork later → Every IsQuiet (asked_by_server past later)
 quiet_works past [] h = tt
@@ -260,12 +257,10 @@ work_deferral s a q = work_deferral_by _ _ s.clock a
 
 work_answering : (s : S.Own) (came : Option (request.Asked × Message)) (h : S.Handling) (below : L.Answer)
     → Every IsWork (answering s came h below)
-work_answering s None h below = tt
-work_answering s (Some p) S.Silent below = tt
 work_answering s (Some p) (S.Replies response) below = (tt, tt)
 work_answering s (Some p) (S.Serves q reply left) below = (tt, work_deferral s p.0 q)
 work_answering s (Some p) (S.Waits q delay) below = work_deferral s p.0 q
-work_answering s (Some p) (S.Notifies o reply) below = tt
+work_answering s _ _ below = tt
 
 work_readies : (at passed : ℕ) (os : List Observer) → Every IsWork (readies at passed os)
 work_readies at passed [] = tt
@@ -281,10 +276,6 @@ work_notice false at o r word id = tt
 work_responding : (s : S.Own) (d : Due) (passed : ℕ) (h : S.Handling) (word id : ℕ)
     → Every IsWork (responding s d passed h word id)
 work_responding s (due.Ready a) passed (S.Serves q reply left) word id = (tt, tt)
-work_responding s (due.Ready a) passed S.Silent word id = tt
-work_responding s (due.Ready a) passed (S.Replies response) word id = tt
-work_responding s (due.Ready a) passed (S.Waits q delay) word id = tt
-work_responding s (due.Ready a) passed (S.Notifies o reply) word id = tt
 work_responding s due.Idle passed (S.Notifies o reply) word id = (
   work_notice (by_plain s o) s.clock o (notification s.store o reply) word id,
   work_readies s.clock passed (marked s.observers),
@@ -293,8 +284,7 @@ work_responding s due.Idle passed (S.Serves q reply left) word id = work_readies
 work_responding s due.Idle passed S.Silent word id = work_readies s.clock passed (marked s.observers)
 work_responding s due.Idle passed (S.Replies response) word id = work_readies s.clock passed (marked s.observers)
 work_responding s due.Idle passed (S.Waits q delay) word id = work_readies s.clock passed (marked s.observers)
-work_responding s due.Copied passed h word id = tt
-work_responding s due.Expired passed h word id = tt
+work_responding s _ passed _ word id = tt
 
 -- what a call makes of its message layer: it takes, it is fed, or neither
 pub data Makes (Out : Type 0) (call : L.Call) (answer : L.Answer) (asks : List Asked) : Type 0 where
@@ -352,37 +342,27 @@ module _ (config : Config) where
   client_feeds past now from bytes word up settled event sent token kept =
       let c : C.Call = C.Feeds now from bytes word up settled event sent token kept in
       let s = client_law.own_of config.client_sizes past in
-      fed_behind server_end config.client_word (client_law.lower_of config.client_sizes past) (effect s c)
+      fed_behind server_end config.client_setup (client_law.lower_of config.client_sizes past) (effect s c)
       (max s.clock now) word sent token kept (max s.clock now) from bytes up settled event
 
   pub client_makes : (past : List C.Call) (c : C.Call)
       → Makes (ClientOut c) (client_call c) (client_up c) (client_asks config past c)
-  client_makes past (C.Calls now r answer) = makes_none tt
-  client_makes past (C.Observes now path answer) = makes_none tt
-  client_makes past (C.Cancels now number answer) = makes_none tt
   client_makes past (C.Forgets number kept answer) =
       let s = client_law.own_of config.client_sizes past in
-      makes_none (quiet_deeds server_end config.client_word (client_law.lower_of config.client_sizes past) _
+      makes_none (quiet_deeds server_end config.client_setup (client_law.lower_of config.client_sizes past) _
       (deed_deeds (forgets answer number s) s 0 0 L.Nothing _ kept))
-  client_makes past (C.Asked answer) = makes_none tt
-  client_makes past (C.NextReport answer) = makes_none tt
   client_makes past (C.NextOut answer) = makes_out (answer, refl)
   client_makes past (C.Feeds now from bytes word up settled event sent token kept) =
       makes_fed (client_feeds past now from bytes word up settled event sent token kept)
   client_makes past (C.Ticks now word below turn sent token kept answer) =
       let c : C.Call = C.Ticks now word below turn sent token kept answer in
       let s = client_law.own_of config.client_sizes past in
-      makes_none (ticked_quiet server_end config.client_word (client_law.lower_of config.client_sizes past) (effect s c)
+      makes_none (ticked_quiet server_end config.client_setup (client_law.lower_of config.client_sizes past) (effect s c)
       (max s.clock now) word sent token kept (max s.clock now) below turn)
+  client_makes past _ = makes_none tt
 
   pub server_makes : (past : List S.Call) (c : S.Call)
       → Makes (ServerOut c) (server_call c) (server_up c) (server_asks config past c)
-  server_makes past (S.Sets now path format body answer left) = makes_none tt
-  server_makes past (S.Removes now path answer left) = makes_none tt
-  server_makes past (S.Delays path ms answer) = makes_none tt
-  server_makes past (S.Plains path answer) = makes_none tt
-  server_makes past (S.Gets path answer) = makes_none tt
-  server_makes past (S.TellsApplied answer) = makes_none tt
   server_makes past (S.NextOut answer) = makes_out (answer, refl)
   server_makes past (S.Feeds now from bytes word up came h below) =
       let s = server_law.own_of config.limits config.server_szx past in
@@ -396,3 +376,4 @@ module _ (config : Config) where
       (responding z d passed h word id ++ ticking s now below room d ∷ [])
       (every_join IsWork (responding z d passed h word id) (ticking s now below room d ∷ [])
       (work_responding z d passed h word id) (tt, tt)))
+  server_makes past _ = makes_none tt

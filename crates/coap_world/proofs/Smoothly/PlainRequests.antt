@@ -1,12 +1,12 @@
 -- Where nothing is observed each request has a token of its own.
-use Rattle.std.proofs.Common.{◌≡◌, inl, inr, ℕ, Some, List, [], ◌∷◌, refl, ap, sym, ◌∙◌, Ok, Err}
+use Rattle.std.proofs.Common.{◌≡◌, inl, inr, ℕ, Some, List, [], ◌∷◌, refl, ap, sym, ◌∙◌, Ok}
 use Rattle.coap_types.specs.Past.{Always}
 use Rattle.coap_exchange.specs.AskerTrace as A
 use Rattle.coap_block.specs.Sizes.{Sizes}
 use Rattle.coap_client.specs.Follows.Begins.{WasSent}
 use Rattle.coap_client.specs.Follows.OfObservations.{Observed, observes, WasObserved, observation_for, AreOfObservations}
 use Rattle.coap_client.specs.Follows.Words.{Sending}
-use Rattle.coap_client.specs.Own.{Operation, Calling, Registering, Fetching, Cancelling, Dropped, Observation}
+use Rattle.coap_client.specs.Own.{Operation, Registering, Fetching, Cancelling, Observation}
 use Rattle.coap_client.specs.Requests.{message_of}
 use Rattle.coap_client.specs.Trace as C
 use Rattle.coap_world.specs.Smooth.{TakesNoObservation}
@@ -15,15 +15,7 @@ use Rattle.coap_world.proofs.Smoothly.ConsCarry.{was_message}
 
 none_here : (c : C.Call) (x : Observed) → TakesNoObservation c → observes c ≡ Some x → ⊥
 none_here (C.Observes now path (Ok number)) x none h = none
-none_here (C.Observes now path (Err why)) x none h = cc h
-none_here (C.Calls now r a) x none h = cc h
-none_here (C.Cancels now number a) x none h = cc h
-none_here (C.Forgets number kept a) x none h = cc h
-none_here (C.Feeds now from bytes w up settled event sent token kept) x none h = cc h
-none_here (C.Ticks now w below turn sent token kept a) x none h = cc h
-none_here (C.NextOut a) x none h = cc h
-none_here (C.NextReport a) x none h = cc h
-none_here (C.Asked a) x none h = cc h
+none_here _ x none h = cc h
 
 none_observed : (t : List C.Call) (x : Observed) → Always (λ past c. TakesNoObservation c) t → WasObserved x t → ⊥
 none_observed [] x all h = h
@@ -32,20 +24,14 @@ none_observed (c ∷ t) x all (inr h) = none_observed t x all.1 h
 
 plain_by : (x : Sending) (op : Operation) (os : List Observation) → x.operation ≡ op → x.request ≡ message_of os op
     → ((number : ℕ) → observation_for op ≡ Some number → ⊥) → IsPlain x
-plain_by x (Calling number r t) os is message f = record {
-  tokenless = ap (λ (q : A.Request). q.token) message;
-  no_cancel = λ n h. (let k = sym is ∙ h in cc k);
-}
-plain_by x Dropped os is message f = record {
-  tokenless = ap (λ (q : A.Request). q.token) message;
-  no_cancel = λ n h. (let k = sym is ∙ h in cc k);
-}
 plain_by x (Registering number path) os is message f = absurd (f number refl_some)
   where
     refl_some : Some number ≡ Some number
     refl_some = ap (λ (n : ℕ). Some n) (λ i. number)
 plain_by x (Fetching number) os is message f = absurd (f number (λ i. Some number))
 plain_by x (Cancelling number) os is message f = absurd (f number (λ i. Some number))
+plain_by x _ os is message f =
+    record { tokenless = ap (λ (q : A.Request). q.token) message; no_cancel = λ n h. (let k = sym is ∙ h in cc k) }
 
 -- what is sent is of no observation
 pub of_none : (sizes : Sizes) (x : Sending) (t : List C.Call) → AreOfObservations sizes t

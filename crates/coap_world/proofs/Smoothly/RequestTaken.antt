@@ -11,7 +11,6 @@ use Rattle.coap_types.specs.declared.message.Kind.TheVariants.{Ack}
 use Rattle.coap_types.specs.declared.role.Role.TheVariants as role
 use Rattle.coap_codec.specs.Message.{Message, Spells}
 use Rattle.coap_layer.specs.Channel.{OnFar, Takes, RepliesTo, RepliesSo}
-use Rattle.coap_layer.specs.Machine.State.{usual}
 use Rattle.coap_layer.specs.Rows.{Stands as Stands_in, LayerLaw}
 use Rattle.coap_layer.specs.Taking.{TakesWithin}
 use Rattle.coap_layer.specs.Trace as L
@@ -67,13 +66,7 @@ response_row s (R.Answers x y below) a r right h =
 response_row s (R.Responds now x y w id) a r right h =
     let k = same_pair x a y r h in
     subst (λ z. IsResponse a z) k.1 (subst (λ z. IsResponse z y) k.0 right.1)
-response_row s (R.Incoming now from bytes up came) a r right h = absurd (cc h)
-response_row s (R.Defers now x delay answer) a r right h = absurd (cc h)
-response_row s (R.Ticks now below room d) a r right h = absurd (cc h)
-response_row s (R.Ready now to answer) a r right h = absurd (cc h)
-response_row s (R.Notifies now to token y w id) a r right h = absurd (cc h)
-response_row s (R.NotifiesPlain now to token y id) a r right h = absurd (cc h)
-response_row s (R.Take answer) a r right h = absurd (cc h)
+response_row s _ a r right h = absurd (cc h)
 
 pub response_in : (later past : List R.Call) (a : Asked) (r : R.Response) → answerer.AnswererLaw (later ++ past)
     → Ever (λ b. responds_with b ≡ Some (a, r)) later → IsResponse a r
@@ -138,8 +131,8 @@ module _ (config : Config) where
   ComesTo con x past (OfServer c) = RepliedAt con x past c ⊎ WaitsAt config (con.first + max_age) x past c
 
   module _ (range : IsConfig config)
-      (handed_on : (t : List S.Call) → ServerLaw config.limits config.server_szx config.server_word t
-      → AllHandedOn config.limits config.server_szx config.server_word t)
+      (handed_on : (t : List S.Call) → ServerLaw config.limits config.server_szx config.server_setup t
+      → AllHandedOn config.limits config.server_szx config.server_setup t)
       (con : Open) (x : Sending) (spells : Spells con.bytes (request_of con.id x))
       (class : role_of (request_of con.id x).code ≡ role.Request) where
     abbrev n : Message
@@ -154,21 +147,21 @@ module _ (config : Config) where
       t = trace past
 
       abbrev Facts : Type 0
-      Facts = LayerLaw (usual config.server_word) (server_layer config (c ∷ t))
+      Facts = LayerLaw config.server_setup (server_layer config (c ∷ t))
 
       layer : Facts
-      layer = server_facts.layer config.limits config.server_szx config.server_word (c ∷ t) law.server
+      layer = server_facts.layer config.limits config.server_szx config.server_setup (c ∷ t) law.server
 
       parts : server_layer config (c ∷ t) ≡ at.later ++ (e ∷ server_layer config t)
       parts = server_next config t c ∙ ap (λ l. l ++ server_layer config t) at.adds
           ∙ append_assoc at.later (e ∷ []) (server_layer config t)
 
-      stands : Stands_in (usual config.server_word) (server_layer config t) e
+      stands : Stands_in config.server_setup (server_layer config t) e
       stands = (Always_back _ at.later (e ∷ server_layer config t)
-          (subst (LayerLaw (usual config.server_word)) parts layer)).0
+          (subst (LayerLaw config.server_setup) parts layer)).0
 
       answer : e.answer ≡ L.Becomes (L.Request n true)
-      answer = as_request (usual config.server_word) (server_layer config t) e client_end con.id con.bytes n stands
+      answer = as_request config.server_setup (server_layer config t) e client_end con.id con.bytes n stands
           takes.takes.call spells refl takes.takes.up class
 
       fed : c ≡ S.Feeds at.fed.now client_end con.bytes at.fed.word (L.Becomes (L.Request n true)) at.fed.came
@@ -194,7 +187,7 @@ module _ (config : Config) where
       is_handed none = let k = sym none ∙ handed_is in cc k
 
       -- it came from the client
-      comes : Comes config.limits config.server_szx config.server_word t c a (verdict_on config.server_szx n)
+      comes : Comes config.limits config.server_szx config.server_setup t c a (verdict_on config.server_szx n)
       comes = record {
         news = server_adds config t c;
         is = server_next config t c;
@@ -248,7 +241,7 @@ module _ (config : Config) where
         at_once =
             let so = (Always_back RepliesSo between.newer (reply ∷ (between.older ++ (e ∷ server_layer config t)))
             (subst (Always RepliesSo) all
-            (server_facts.replies config.limits config.server_szx config.server_word (c ∷ t) law.server))).0 in
+            (server_facts.replies config.limits config.server_szx config.server_setup (c ∷ t) law.server))).0 in
             let k = so a.from a.id.0 (ack_with a r) ack.call in
             sym (since_first (λ h. (handed h ≡ Some k.to_what) × (h.at ≡ reply.at)) between.older (server_layer config t) e
             silent (λ y z none. (let w = sym none ∙ z.0 in cc w)) is_handed k.latest).1
@@ -256,7 +249,7 @@ module _ (config : Config) where
         replied : Lawful config (OfServer c ∷ past) → RepliedAt con x past c
         replied same_law =
             let from = law.came.0 a (verdict_on config.server_szx n) comes refl in
-            let understood = (server_facts.recognised config.limits config.server_szx config.server_word (c ∷ t) law.server
+            let understood = (server_facts.recognised config.limits config.server_szx config.server_setup (c ∷ t) law.server
             range.server_szx range.server_limit.1).0.responses a r sends in
             let when = at_once in
             let soon = takes.soon in
@@ -302,7 +295,7 @@ module _ (config : Config) where
           omega (arith, till, soon)
 
       attended : OnTime config t c → ComesTo con x past (OfServer c)
-      attended on = by ((server_facts.attended config.limits config.server_szx config.server_word (c ∷ t) law.server).0
+      attended on = by ((server_facts.attended config.limits config.server_szx config.server_setup (c ∷ t) law.server).0
           (a, n) came_is)
         where
           found : (P : L.Entry → Type 0) (xs : List L.Entry) → Ever P xs → (y : L.Entry) × Ever (λ z. z ≡ y) xs × P y
@@ -313,10 +306,10 @@ module _ (config : Config) where
           by : AnswersIt config.limits config.server_szx t c a
               ⊎ (WaitsToAsk config.limits config.server_szx t c (a, n) ⊎ IsIgnored n) → ComesTo con x past (OfServer c)
           by (inl answers) =
-              let out = (server_facts.goes_out config.limits config.server_szx config.server_word (c ∷ t) law.server).0
+              let out = (server_facts.goes_out config.limits config.server_szx config.server_setup (c ∷ t) law.server).0
               in
               let r = out.answers a answers in
-              let sent = (server_facts.sent_as config.limits config.server_szx config.server_word (c ∷ t) law.server).0 in
+              let sent = (server_facts.sent_as config.limits config.server_szx config.server_setup (c ∷ t) law.server).0 in
               let w = found (InAck a r.0) (server_adds config t c) (sent.at_once a r.0 hands_it refl r.1) in
               inl (replied r.0 r.1 w.0 w.1 w.2 law)
           by (inr (inl waits)) = inr (record {

@@ -6,19 +6,16 @@ use Rattle.coap_types.specs.Past.{Ever, Sometime, all_of}
 use Rattle.coap_types.proofs.Facts.Traces.{Ever_append, Ever_front, Ever_back}
 use Rattle.coap_types.specs.declared.endpoint.Endpoint.{Endpoint}
 use Rattle.coap_layer.specs.Channel.{Hop, Near, Far, OnNear, OnFar}
-use Rattle.coap_layer.specs.Machine.State.{State, start, made, usual}
-use Rattle.coap_layer.specs.Machine.Steps.{left_after}
 use Rattle.coap_layer.specs.Rows.{LayerLaw, Row}
 use Rattle.coap_layer.specs.Sends.{IsIn}
 use Rattle.coap_layer.specs.Trace as L
 use Rattle.coap_layer.specs.Trace.{Packet}
 use Rattle.coap_layer.specs.Words.{waiting, takes_in}
 use Rattle.coap_layer.specs.declared.setup.Setup.{Setup}
-use Rattle.coap_layer.proofs.Facts.Calls.{steps_left, led_steps}
 use Rattle.coap_client.specs.Trace as C
 use Rattle.coap_server.specs.Trace as S
 use Rattle.coap_world.specs.Events.{client_end, server_end, Config}
-use Rattle.coap_world.specs.Hops.{client_asked, client_adds, server_asked, server_adds, hops_at, hops_in}
+use Rattle.coap_world.specs.Hops.{client_adds, server_adds, hops_at, hops_in}
 use Rattle.coap_world.specs.Record.{Given, Entry, OfClient, OfServer, client_of, server_trace, given_by}
 use Rattle.coap_world.proofs.Delivery.AfterATurn.{Still}
 use Rattle.coap_world.proofs.Delivery.ClientInTime as client
@@ -203,54 +200,6 @@ module _ (config : Config) where
     | makes_none k ↦ inr (quiet_taken _ _ k)
   ]
 
-  client_took : (answer : Option Packet) (past : List C.Call) → client_turns.IsGood config (C.NextOut answer ∷ past)
-      → Took answer (client_adds config past (C.NextOut answer))
-  client_took answer past good =
-      record {
-        entry = made (left_after (start (usual config.client_word)) (client_asked config past)) 0 L.Take;
-        is = refl;
-        call = refl;
-        answer_is = ap (λ (s : State). L.Gives (slice_get s.queue 0))
-            (sym (steps_left (start (usual config.client_word)) (client_asked config past) good.1.0 good.1.1))
-            ∙ sym good.1.2.right;
-        out = refl;
-      }
-
-  server_took : (answer : Option Packet) (past : List S.Call) → server_turns.IsGood config (S.NextOut answer ∷ past)
-      → Took answer (server_adds config past (S.NextOut answer))
-  server_took answer past good =
-      record {
-        entry = made (left_after (start (usual config.server_word)) (server_asked config past)) 0 L.Take;
-        is = refl;
-        call = refl;
-        answer_is = ap (λ (s : State). L.Gives (slice_get s.queue 0))
-            (sym (steps_left (start (usual config.server_word)) (server_asked config past) good.1.0 good.1.1))
-            ∙ sym good.1.2.right;
-        out = refl;
-      }
-
-  client_law : (past : List C.Call) → client_turns.IsGood config past
-      → LayerLaw (usual config.client_word) (client_layer config past)
-  client_law past good =
-      subst (LayerLaw (usual config.client_word)) (append_nil (client_layer config past))
-      (led_steps (usual config.client_word) [] (start (usual config.client_word)) good.0 (client_asked config past)
-      (record { law = tt; kept = refl }) good.1).law
-    where
-      append_nil : (xs : List L.Entry) → xs ++ [] ≡ xs
-      append_nil [] = refl
-      append_nil (x ∷ xs) = ap (λ l. x ∷ l) (append_nil xs)
-
-  server_law : (past : List S.Call) → server_turns.IsGood config past
-      → LayerLaw (usual config.server_word) (server_layer config past)
-  server_law past good =
-      subst (LayerLaw (usual config.server_word)) (append_nil (server_layer config past))
-      (led_steps (usual config.server_word) [] (start (usual config.server_word)) good.0 (server_asked config past)
-      (record { law = tt; kept = refl }) good.1).law
-    where
-      append_nil : (xs : List L.Entry) → xs ++ [] ≡ xs
-      append_nil [] = refl
-      append_nil (x ∷ xs) = ap (λ l. x ∷ l) (append_nil xs)
-
   -- what is taken is given out
 
   client_gives : (t : ℕ) (p : Packet) (cs : List C.Call) → Ever (λ c. c ≡ C.NextOut (Some p)) cs
@@ -282,21 +231,6 @@ module _ (config : Config) where
   GivesOut t from p entries =
       Ever (λ g. g ≡ record { at = t; from = from; packet = p }) (all_of (given_by t) entries)
 
-  each_out : (t : ℕ) (outs : List Packet) (calls : List C.Call) → Every (client.IsAt t) calls
-      → Every (client.IsAt t) (map (λ p. C.NextOut (Some p)) outs ++ calls)
-  each_out t [] calls h = h
-  each_out t (p ∷ outs) calls h = (tt, each_out t outs calls h)
-
-  each_told : (t : ℕ) (reports : List C.Reported) (calls : List C.Call) → Every (client.IsAt t) calls
-      → Every (client.IsAt t) (map (λ r. C.NextReport (Some r)) reports ++ calls)
-  each_told t [] calls h = h
-  each_told t (p ∷ reports) calls h = (tt, each_told t reports calls h)
-
-  each_sent : (t : ℕ) (outs : List Packet) (calls : List S.Call) → Every (server.IsAt t) calls
-      → Every (server.IsAt t) (map (λ p. S.NextOut (Some p)) outs ++ calls)
-  each_sent t [] calls h = h
-  each_sent t (p ∷ outs) calls h = (tt, each_sent t outs calls h)
-
   module _ (t : ℕ) (es : List Entry) (cs : List C.Call) (at : Every (client.IsAt t) cs) (still : Still config t es)
       (good : client_turns.IsGood config (cs ++ client_of es))
       (none : waiting (client_layer config (cs ++ client_of es)) ≡ []) where
@@ -312,8 +246,8 @@ module _ (config : Config) where
         (subst (Ever (OnNear (λ y. y ≡ x))) (client_front cs es) h) in
         let k = sent_when t G p x adds times there out in (
           k.0,
-          client_gives t p cs (found (kept (usual config.client_word) (client_layer config) (client_adds config)
-              (client_next config) (client_turns.IsGood config) (client_turns.down config) client_law C.NextOut client_took
+          client_gives t p cs (found (kept config.client_setup (client_layer config) (client_adds config)
+              (client_next config) (client_turns.IsGood config) (client_turns.down config) (client_turns.law config) C.NextOut (client_turns.took config)
               client_others p cs (client_of es) good (inr k.1))),
         )
       where
@@ -337,8 +271,8 @@ module _ (config : Config) where
         (subst (Ever (OnFar (λ y. y ≡ x))) (server_front cs es) h) in
         let k = sent_when t G p x adds times there out in (
           k.0,
-          server_gives t p cs (found (kept (usual config.server_word) (server_layer config) (server_adds config)
-              (server_next config) (server_turns.IsGood config) (server_turns.down config) server_law S.NextOut server_took
+          server_gives t p cs (found (kept config.server_setup (server_layer config) (server_adds config)
+              (server_next config) (server_turns.IsGood config) (server_turns.down config) (server_turns.law config) S.NextOut (server_turns.took config)
               server_others p cs (server_trace config es) good (inr k.1))),
         )
       where
@@ -373,7 +307,7 @@ module _ (config : Config) where
       let cs : List C.Call = C.NextReport None ∷ (map (λ r. C.NextReport (Some r)) turn.on.reports
       ++ C.NextOut None ∷ (map (λ p. C.NextOut (Some p)) turn.on.outs ++ turn.calls)) in
       let is : entries ≡ map OfClient cs = turn.on.is in
-      let at : Every (client.IsAt t) cs = (tt, each_told t turn.on.reports _ (tt, each_out t turn.on.outs turn.calls turn.at))
+      let at : Every (client.IsAt t) cs = (tt, client_turns.every_told t turn.on.reports _ (tt, client_turns.every_out t turn.on.outs turn.calls turn.at))
       in
       let calls : client_of (entries ++ es) ≡ cs ++ client_of es =
       ap (λ z. client_of (z ++ es)) is ∙ client_client cs es in
@@ -392,7 +326,7 @@ module _ (config : Config) where
   far_given t entries es turned (inr turn) x p h out =
       let cs : List S.Call = S.NextOut None ∷ (map (λ p. S.NextOut (Some p)) turn.on.outs ++ turn.calls) in
       let is : entries ≡ map OfServer cs = turn.on.is in
-      let at : Every (server.IsAt t) cs = (tt, each_sent t turn.on.outs turn.calls turn.at) in
+      let at : Every (server.IsAt t) cs = (tt, server_turns.every_out t turn.on.outs turn.calls turn.at) in
       let calls : server_trace config (entries ++ es) ≡ cs ++ server_trace config es =
       ap (λ z. server_trace config (z ++ es)) is ∙ trace_is config cs es in
       let k = server_sent t es cs at turned.still (subst (server_turns.IsGood config) calls turned.good_server)

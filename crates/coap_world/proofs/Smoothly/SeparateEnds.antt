@@ -5,7 +5,6 @@ use Rattle.coap_types.specs.Past.{Ever, Sometime, Always}
 use Rattle.coap_types.proofs.Facts.Endpoints.{same_endpoint_self}
 use Rattle.coap_types.proofs.Facts.Traces.{Ever_append, Always_back}
 use Rattle.coap_layer.specs.Channel.{far_of, OnNear}
-use Rattle.coap_layer.specs.Machine.State.{usual}
 use Rattle.coap_layer.specs.Rows.{LayerLaw, Stands as Stands_in}
 use Rattle.coap_layer.specs.Taking.{TakesWithin}
 use Rattle.coap_layer.specs.Trace as L
@@ -41,7 +40,7 @@ ever_at Q e (x ∷ xs) (inr h) q = inr (ever_at Q e xs h q)
 
 module _ (config : Config) (con : Open) (x : Sending) (s : CarriesAnswer x con) where
   abbrev Comes : List C.Call → C.Call → Type 0
-  Comes t c = ComesUp server_end config.client_sizes config.client_word x t c
+  Comes t c = ComesUp server_end config.client_sizes config.client_setup x t c
 
   abbrev IsTaken : L.Entry → Type 0
   IsTaken e = TakesWithin max_age server_end con e
@@ -55,11 +54,11 @@ module _ (config : Config) (con : Open) (x : Sending) (s : CarriesAnswer x con) 
       let parts : client_layer config (c ∷ t) ≡ at.later ++ (e ∷ client_layer config t) =
       client_next config t c ∙ ap (λ l. l ++ client_layer config t) at.adds
       ∙ append_assoc at.later (e ∷ []) (client_layer config t) in
-      let stands = (Always_back (Stands_in (usual config.client_word)) at.later (e ∷ client_layer config t)
-      (subst (LayerLaw (usual config.client_word)) parts
-      (client_facts.layer server_end config.client_sizes config.client_word (c ∷ t) law.client))).0 in
+      let stands = (Always_back (Stands_in config.client_setup) at.later (e ∷ client_layer config t)
+      (subst (LayerLaw config.client_setup) parts
+      (client_facts.layer server_end config.client_sizes config.client_setup (c ∷ t) law.client))).0 in
       let up : e.answer ≡ L.Becomes (L.Response s.message) =
-      as_response (usual config.client_word) (client_layer config t) e server_end con.id con.bytes s.message stands
+      as_response config.client_setup (client_layer config t) e server_end con.id con.bytes s.message stands
       takes.takes.call s.spells s.kind takes.takes.up s.class in
       let hears : Ever (Hears server_end s.message) (client_adds config t c) =
       ever_at (Hears server_end s.message) e (client_adds config t c) among
@@ -120,21 +119,21 @@ module _ (config : Config) (laws : Laws) where
   ends_here turn past g none at is_open x last con there s late =
       let t : List C.Call = client_of (entries_of past) in
       let old = goes_before config turn past g in
-      let k = open_of server_end config.client_sizes config.client_word at t old.stands.client is_open in
+      let k = open_of server_end config.client_sizes config.client_setup at t old.stands.client is_open in
       let both : Some k.0 ≡ Some x =
-      sym (last_of server_end config.client_sizes config.client_word at k.0 t k.1) ∙ last in
+      sym (last_of server_end config.client_sizes config.client_setup at k.0 t k.1) ∙ last in
       let same : k.0 ≡ x = cc both in
-      let o : OpenOf server_end config.client_sizes config.client_word at x t =
-      subst (λ z. OpenOf server_end config.client_sizes config.client_word at z t) same k.1 in
+      let o : OpenOf server_end config.client_sizes config.client_setup at x t =
+      subst (λ z. OpenOf server_end config.client_sizes config.client_setup at z t) same k.1 in
       let taken = (taken_here config laws.beneath turn past g).by_client con there s.to late in
       let up = comes config con x s (entries_of past) (lawful config _ past (record_of config past old.stands)
       (record { range = old.stands.range; events = old.stands.legal })) taken in
       let plain = was_plain config.client_sizes x t
-      (laws.observed server_end config.client_sizes config.client_word t old.stands.client) none
-      (was_sent server_end config.client_sizes config.client_word at x t o) in
-      never_answered server_end config.client_sizes config.client_word at x t old.stands.client
-      (laws.heard server_end config.client_sizes config.client_word t old.stands.client)
-      (laws.own server_end config.client_sizes config.client_word t old.stands.client) plain o up
+      (laws.observed server_end config.client_sizes config.client_setup t old.stands.client) none
+      (was_sent server_end config.client_sizes config.client_setup at x t o) in
+      never_answered server_end config.client_sizes config.client_setup at x t old.stands.client
+      (laws.heard server_end config.client_sizes config.client_setup t old.stands.client)
+      (laws.own server_end config.client_sizes config.client_setup t old.stands.client) plain o up
 
   pub separate_ends : (turns : List Turn) → Goes config turns
       → Always (λ p c. TakesNoObservation c) (client_of (entries_of turns)) → SeparateEnds config turns

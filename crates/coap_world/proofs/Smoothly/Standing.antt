@@ -20,22 +20,22 @@ AllMade turns = Always (λ past t. Makes past t.event.at t.event.word t.event.wh
 
 module _ (config : Config) where
   abbrev pub ForClient : List Entry → Type 0
-  ForClient t = ClientLaw server_end config.client_sizes config.client_word (client_of t)
+  ForClient t = ClientLaw server_end config.client_sizes config.client_setup (client_of t)
 
   abbrev pub ForServer : List Entry → Type 0
-  ForServer t = ServerLaw config.limits config.server_szx config.server_word (server_trace config t)
+  ForServer t = ServerLaw config.limits config.server_szx config.server_setup (server_trace config t)
 
   pub client_behind : (later past : List Entry) → ForClient (later ++ past) → ForClient past
   client_behind [] past law = law
   client_behind (OfClient c ∷ later) past law = client_behind later past
-      (client_facts.back server_end config.client_sizes config.client_word (c ∷ []) (client_of (later ++ past)) law)
+      (client_facts.back server_end config.client_sizes config.client_setup (c ∷ []) (client_of (later ++ past)) law)
   client_behind (OfServer c ∷ later) past law = client_behind later past law
 
   pub server_behind : (later past : List Entry) → ForServer (later ++ past) → ForServer past
   server_behind [] past law = law
   server_behind (OfClient c ∷ later) past law = server_behind later past law
   server_behind (OfServer c ∷ later) past law = server_behind later past
-      (server_facts.back config.limits config.server_szx config.server_word (c ∷ [])
+      (server_facts.back config.limits config.server_szx config.server_setup (c ∷ [])
       (server_trace config (later ++ past)) law)
 
   pub record Stands (turns : List Turn) : Type 0 where

@@ -4,11 +4,9 @@ use Rattle.std.proofs.Common.{ap, sym, subst, ◌∙◌, arith, append_assoc}
 use Rattle.coap_types.specs.Past.{Ever, Sometime}
 use Rattle.coap_types.proofs.Facts.Traces.{Ever_append, Always_back, Sometime_back}
 use Rattle.coap_types.specs.declared.message.Kind.TheVariants.{Con, Ack, Rst}
-use Rattle.coap_types.specs.declared.remembered.TheConstants.{DEFAULT_REMEMBERED as max_remembered}
 use Rattle.coap_codec.specs.Message.{Message, Spells}
 use Rattle.coap_layer.specs.Channel.{Hop, Near, Far, near_of, far_of, OnNear, OnFar, OnFarThen, Takes, ChannelLaw}
 use Rattle.coap_layer.specs.EmptyMessages.{ack_bytes, reset_bytes}
-use Rattle.coap_layer.specs.Machine.State.{usual}
 use Rattle.coap_layer.specs.Rows.{Stands as Stands_in, LayerLaw}
 use Rattle.coap_layer.specs.Sends.{IsOpen}
 use Rattle.coap_layer.specs.Taking.{ConsTakenWithin, OverWithin, TakesWithin, EndsIt, EndsWithin, came}
@@ -55,7 +53,7 @@ across_far : (xs : List L.Entry) (hs : List Hop) → across (map Far xs ++ hs) �
 across_far [] hs = refl
 across_far (x ∷ xs) hs = ap (λ l. Near x ∷ l) (across_far xs hs)
 
-near_back : (P : L.Entry → Type 0) (hs : List Hop) → Ever (OnFar P) (across hs) → Ever (OnNear P) hs
+pub near_back : (P : L.Entry → Type 0) (hs : List Hop) → Ever (OnFar P) (across hs) → Ever (OnNear P) hs
 near_back P [] h = h
 near_back P (Near e ∷ hs) (inl h) = inl h
 near_back P (Near e ∷ hs) (inr h) = inr (near_back P hs h)
@@ -94,11 +92,11 @@ module _ (config : Config) (con : Open) (carries : CarriesResponse con) where
 
   -- where it is taken, it is replied to
   replied_here : (past : List C.Call) (c : C.Call) (x : L.Entry) → TakesWithin max_age server_end con x
-      → AtClient config server_end con.bytes x past c → Stands_in (usual config.client_word) (client_layer config past) x
-      → RepliesToCons server_end config.client_sizes config.client_word (c ∷ past) → (hs : List Hop)
+      → AtClient config server_end con.bytes x past c → Stands_in config.client_setup (client_layer config past) x
+      → RepliesToCons server_end config.client_sizes config.client_setup (c ∷ past) → (hs : List Hop)
       → Sometime (OnFarThen Ends) (map Far (client_adds config past c) ++ hs)
   replied_here past c x takes at stands replies hs =
-      let answer = as_response (usual config.client_word) (client_layer config past) x server_end con.id con.bytes message
+      let answer = as_response config.client_setup (client_layer config past) x server_end con.id con.bytes message
       stands takes.takes.call carries.spells refl takes.takes.up carries.response in
       let f = at.fed in
       let is : c ≡ C.Feeds f.now server_end con.bytes f.word (L.Becomes (L.Response message)) f.settled f.event f.sent
@@ -122,7 +120,7 @@ module _ (config : Config) (con : Open) (carries : CarriesResponse con) where
       }))
 
   ends_in : (es : List Entry) → ForClient config es
-      → RepliesToCons server_end config.client_sizes config.client_word (client_of es)
+      → RepliesToCons server_end config.client_sizes config.client_setup (client_of es)
       → Ever (OnNear (TakesWithin max_age server_end con)) (hops_in config es)
       → Sometime (OnFarThen Ends) (across (hops_in config es))
   ends_in [] law replies h = absurd h
@@ -149,43 +147,43 @@ module _ (config : Config) (con : Open) (carries : CarriesResponse con) where
           let x = near_found (TakesWithin max_age server_end con) adds w in
           let at = at_client config (client_of past) c (law.exchanges.left, law.exchanges.layer) server_end con.bytes x.0
           x.1 x.2.takes.call in
-          let layer = client_facts.layer server_end config.client_sizes config.client_word (c ∷ client_of past) law in
+          let layer = client_facts.layer server_end config.client_sizes config.client_setup (c ∷ client_of past) law in
           let parts : client_layer config (c ∷ client_of past) ≡ at.later ++ (x.0 ∷ client_layer config (client_of past)) =
           client_next config (client_of past) c ∙ ap (λ l. l ++ client_layer config (client_of past)) at.adds
           ∙ append_assoc at.later (x.0 ∷ []) (client_layer config (client_of past)) in
           let stands = Always_back _ at.later (x.0 ∷ client_layer config (client_of past))
-          (subst (LayerLaw (usual config.client_word)) parts layer) in
+          (subst (LayerLaw config.client_setup) parts layer) in
           replied_here (client_of past) c x.0 x.2 at stands.0 replies (across (hops_in config past))
 
 module _ (config : Config) (past : List Turn) (turn : Turn) (s : Stands config (turn ∷ past))
     (few : FewArrive config past)
-    (within : ConsTakenWithin max_remembered client_end server_end (hops_of config past))
-    (back : ConsTakenWithin max_remembered server_end client_end (across (hops_of config past)))
+    (within : ConsTakenWithin config.server_setup.remembered client_end server_end (hops_of config past))
+    (back : ConsTakenWithin config.client_setup.remembered server_end client_end (across (hops_of config past)))
     (ended : OverWithin server_end client_end (across (hops_of config past)))
-    (replies : RepliesToCons server_end config.client_sizes config.client_word (client_of (entries_of past))) where
+    (replies : RepliesToCons server_end config.client_sizes config.client_setup (client_of (entries_of past))) where
   old : Stands config past
   old = before config turn past s
 
   arrive : ArriveInTime config past turn
   arrive = arrive_in_time config past turn s
 
-  channel : ChannelLaw (usual config.client_word) (usual config.server_word) client_end server_end (hops_of config past)
+  channel : ChannelLaw config.client_setup config.server_setup client_end server_end (hops_of config past)
   channel = joined.channel config _ past (record_of config past old) old.legal
 
   by_server : (con : Open) → Ever (λ b. begun b ≡ Some con) (near_of (hops_of config past))
       → con.first + max_age < turn.event.at → Ever (OnFar (TakesWithin max_age client_end con)) (hops_of config past)
   by_server con h late =
-      let r = client_facts.begins server_end config.client_sizes config.client_word (client_of (entries_of past)) old.client
+      let r = client_facts.begins server_end config.client_sizes config.client_setup (client_of (entries_of past)) old.client
       con (subst (Ever (λ b. begun b ≡ Some con)) (near_is config (entries_of past)) h) in
-      let told = request_told (usual config.client_word) (near_of (hops_of config past)) con r.0 channel.near_law h r.2
+      let told = request_told config.client_setup (near_of (hops_of config past)) con r.0 channel.near_law h r.2
       (was_message config.client_sizes r.0 (client_of (entries_of past)) r.1) in
       within max_age turn.event.at con (omega arith) arrive.to_server few.at_server h r.2.to told late
 
   carried : (con : Open) → Ever (λ b. begun b ≡ Some con) (far_of (hops_of config past)) → CarriesResponse con
   carried con h =
       let t = server_law.lower_of config.limits config.server_szx (server_trace config (entries_of past)) in
-      let law = subst (LayerLaw (usual config.server_word)) (far_is config (entries_of past)) channel.far_law in
-      server_carries config.server_word t con old.server.exchanges.rows law
+      let law = subst (LayerLaw config.server_setup) (far_is config (entries_of past)) channel.far_law in
+      server_carries config.server_setup t con old.server.exchanges.rows law
       (subst (Ever (λ b. begun b ≡ Some con)) (far_is config (entries_of past)) h)
 
   by_client : (con : Open) → Ever (λ b. begun b ≡ Some con) (far_of (hops_of config past)) → con.to ≡ client_end

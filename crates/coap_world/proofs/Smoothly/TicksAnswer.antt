@@ -1,12 +1,11 @@
 -- What a tick of the server answers goes out in a CON of its own.
-use Rattle.std.proofs.Common.{◌≡◌, inl, inr, ◌<◌, ℕ, ◌+◌, ◌%◌, Bool, Some, List, [], ◌∷◌, refl, ap, sym, subst, ◌∙◌, arith}
+use Rattle.std.proofs.Common.{◌≡◌, ◌<◌, ℕ, ◌+◌, ◌%◌, Bool, Some, List, [], ◌∷◌, refl, ap, sym, subst, ◌∙◌, arith}
 use Rattle.coap_types.specs.Past.{Ever}
 use Rattle.coap_types.proofs.Facts.Traces.{Ever_front}
 use Rattle.coap_types.specs.declared.message.Kind.TheVariants.{Con}
 use Rattle.coap_types.specs.declared.transmission.TheConstants.{ACK_TIMEOUT_MS as ack_timeout}
 use Rattle.coap_types.specs.declared.transmission.TheConstants.{TIMEOUT_VALUES as timeout_values}
 use Rattle.coap_codec.specs.Spelling.{message_bytes}
-use Rattle.coap_layer.specs.Machine.State.{usual}
 use Rattle.coap_layer.specs.Sends.{SpellsCon}
 use Rattle.coap_layer.specs.Trace as L
 use Rattle.coap_layer.specs.Trace.{with_head}
@@ -33,11 +32,7 @@ use Rattle.coap_world.proofs.Delivery.HopsAreEntries.{server_layer, server_next}
 use Rattle.coap_world.proofs.Smoothly.RequestTaken.{response_in}
 use Rattle.coap_world.proofs.Smoothly.SeparateEnds.{ever_at}
 use Rattle.coap_world.proofs.Smoothly.Standing.{ForServer, server_behind}
-
-found : (P : L.Entry → Type 0) (xs : List L.Entry) → Ever P xs → (y : L.Entry) × Ever (λ z. z ≡ y) xs × P y
-found P [] h = absurd h
-found P (y ∷ xs) (inl h) = (y, inl refl, h)
-found P (y ∷ xs) (inr h) = let k = found P xs h in (k.0, inr k.1, k.2)
+use Rattle.coap_world.proofs.Smoothly.HandedBetween.{found}
 
 module _ (config : Config) (range : IsConfig config) where
   module _ (past : List Entry) (c : S.Call) (law : ForServer config (OfServer c ∷ past)) (now : ℕ) (answer : Bool)
@@ -68,14 +63,14 @@ module _ (config : Config) (range : IsConfig config) where
         let there : Ever (λ b. begun b ≡ Some con) (server_layer config (c ∷ t)) =
         subst (Ever (λ b. begun b ≡ Some con)) (sym (server_next config t c))
         (Ever_front (λ b. begun b ≡ Some con) (server_adds config t c) (server_layer config t) here) in
-        let s : SpellsCon con = spelled_begun (usual config.server_word) (server_layer config (c ∷ t)) con
-        (server_facts.layer config.limits config.server_szx config.server_word (c ∷ t) law) there in
+        let s : SpellsCon con = spelled_begun config.server_setup (server_layer config (c ∷ t)) con
+        (server_facts.layer config.limits config.server_szx config.server_setup (c ∷ t) law) there in
         let i = s.1.id in
         let j = s.3 in
         let small : k.id < 65536 = omega (arith, i, j) in
         let response : IsResponse a r = response_in (lower (own_of config.limits config.server_szx t) c)
         (lower_of config.limits config.server_szx t) a r law.exchanges.rows sends in
-        let understood = (server_facts.recognised config.limits config.server_szx config.server_word (c ∷ t) law
+        let understood = (server_facts.recognised config.limits config.server_szx config.server_setup (c ∷ t) law
         range.server_szx range.server_limit.1).0.responses a r sends in (
           con,
           here,
@@ -92,9 +87,9 @@ module _ (config : Config) (range : IsConfig config) where
 
     in_con : (con : Open) × Ever (λ b. begun b ≡ Some con) (server_adds config t c) × CarriesAnswer x con
     in_con =
-        let out = (server_facts.goes_out config.limits config.server_szx config.server_word (c ∷ t) law).0 in
+        let out = (server_facts.goes_out config.limits config.server_szx config.server_setup (c ∷ t) law).0 in
         let r = out.answers a answers in
-        let sent = (server_facts.sent_as config.limits config.server_szx config.server_word (c ∷ t) law).0 in
+        let sent = (server_facts.sent_as config.limits config.server_szx config.server_setup (c ∷ t) law).0 in
         let w = found (InOwnCon a r.0) (server_adds config t c) (sent.later now answer a r.0 tick r.1) in
         carried r.0 r.1 w.0 w.1 w.2
 

@@ -44,8 +44,8 @@ module _ (config : Config) (past : List Entry) (entries : List Entry) (at word :
       let is : server_trace config (entries ++ past) ≡ outs ++ (c ∷ (earlier ++ t)) =
       ap (λ l. l ++ begun_with config) made ∙ append_assoc all (server_of past) (begun_with config)
       ∙ append_assoc outs (c ∷ earlier) t in
-      let left = (Always_back _ outs (c ∷ (earlier ++ t)) (subst (NoneLeft config.limits config.server_szx config.server_word) is
-      (server_facts.none_left config.limits config.server_szx config.server_word (server_trace config (entries ++ past))
+      let left = (Always_back _ outs (c ∷ (earlier ++ t)) (subst (NoneLeft config.limits config.server_szx config.server_setup) is
+      (server_facts.none_left config.limits config.server_szx config.server_setup (server_trace config (entries ++ past))
       law))).0 at
       (word, ticks.0.0, ticks.0.1, ticks.0.2, ticks.0.3, ticks.0.4, ticks.0.5, ticks.0.6) in
       record {

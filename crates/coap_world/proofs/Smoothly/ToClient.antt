@@ -5,7 +5,6 @@ use Rattle.coap_types.specs.Past.{Ever, Sometime}
 use Rattle.coap_types.proofs.Facts.Traces.{Ever_append, Ever_map, Ever_of_Since, Always_back}
 use Rattle.coap_types.specs.declared.endpoint.Endpoint.{Endpoint}
 use Rattle.coap_codec.specs.Message.{Message}
-use Rattle.coap_layer.specs.Machine.State.{usual}
 use Rattle.coap_layer.specs.Sends.{IsIn, GoesOut, EachGoesOut, first, copy, plain as in_non, reply as in_reply, stored, reset}
 use Rattle.coap_layer.specs.Trace as L
 use Rattle.coap_layer.specs.Words.{Open, begun, Awaited, awaited_of, awaits_in, awaits, from_there, handed_by}
@@ -47,13 +46,13 @@ GoesToClient e = (p : L.Packet) → IsIn p e.out → p.to ≡ client_end
 
 module _ (config : Config) (observers : (t : List S.Call) → AreObservers config.limits config.server_szx t) where
   abbrev Law : List S.Call → Type 0
-  Law t = ServerLaw config.limits config.server_szx config.server_word t
+  Law t = ServerLaw config.limits config.server_szx config.server_setup t
 
   abbrev pub HeardClient : List S.Call → Type 0
   HeardClient t = Every IsFromClient (server_layer config t)
 
   back : (c : S.Call) (t : List S.Call) → Law (c ∷ t) → Law t
-  back c t law = server_facts.back config.limits config.server_szx config.server_word (c ∷ []) t law
+  back c t law = server_facts.back config.limits config.server_szx config.server_setup (c ∷ []) t law
 
   pub heard_before : (c : S.Call) (t : List S.Call) → HeardClient (c ∷ t) → HeardClient t
   heard_before c t h = Always_back (λ p e. IsFromClient e) (server_adds config t c) (server_layer config t)
@@ -68,7 +67,7 @@ module _ (config : Config) (observers : (t : List S.Call) → AreObservers confi
   hands_client a v (e ∷ es) all (inr h) = hands_client a v es all.1 h
 
   of_comes : (t : List S.Call) (c : S.Call) (a : Asked) (v : _) → HeardClient (c ∷ t)
-      → Comes config.limits config.server_szx config.server_word t c a v → a.from ≡ client_end
+      → Comes config.limits config.server_szx config.server_setup t c a v → a.from ≡ client_end
   of_comes t c a v heard k = hands_client a v k.news (news k.news (subst (Every IsFromClient) k.is heard)) k.here
     where
       news : (front : List L.Entry) → Every IsFromClient (front ++ server_layer config t) → Every IsFromClient front
@@ -79,10 +78,10 @@ module _ (config : Config) (observers : (t : List S.Call) → AreObservers confi
       → serving (own_of config.limits config.server_szx t) c ≡ Some x → x.asked.from ≡ client_end
   of_served t c law heard x is =
       brought (c ∷ t) heard
-      ((server_facts.handed config.limits config.server_szx config.server_word (c ∷ t) law).0 x is)
+      ((server_facts.handed config.limits config.server_szx config.server_setup (c ∷ t) law).0 x is)
     where
       brought : (calls : List S.Call) → HeardClient calls
-          → Sometime (λ old b. Brings config.limits config.server_szx config.server_word old b x.asked x.question) calls
+          → Sometime (λ old b. Brings config.limits config.server_szx config.server_setup old b x.asked x.question) calls
           → x.asked.from ≡ client_end
       brought [] h k = absurd k
       brought (b ∷ old) h (inl k) = of_comes old b x.asked k.verdict h k.comes
@@ -99,12 +98,12 @@ module _ (config : Config) (observers : (t : List S.Call) → AreObservers confi
   pub told_observer : (t : List S.Call) (c : S.Call) → Law (c ∷ t) → (to : Endpoint) → NotifiesTo c to
       → (o : Observer) × WasMade config.limits config.server_szx t o × (o.to ≡ to)
   told_observer t c law to n =
-      let next = ((server_facts.begins config.limits config.server_szx config.server_word (c ∷ t) law).0 n.now n.answer
+      let next = ((server_facts.begins config.limits config.server_szx config.server_setup (c ∷ t) law).0 n.now n.answer
       n.tick).notifies n.notice_of n.here in
       let among = Ever_map _ (λ y. y ≡ n.notice_of.observer) (λ y k. k.0)
       (own_of config.limits config.server_szx t).observers
-      (Ever_of_Since (λ y. (y ≡ n.notice_of.observer) × CanNotify config.limits config.server_szx config.server_word t y)
-      (λ y. CanNotify config.limits config.server_szx config.server_word t y → ⊥)
+      (Ever_of_Since (λ y. (y ≡ n.notice_of.observer) × CanNotify config.limits config.server_szx config.server_setup t y)
+      (λ y. CanNotify config.limits config.server_szx config.server_setup t y → ⊥)
       (own_of config.limits config.server_szx t).observers next.first) in (
         n.notice_of.observer,
         of_each (WasMade config.limits config.server_szx t) n.notice_of.observer
@@ -117,7 +116,7 @@ module _ (config : Config) (observers : (t : List S.Call) → AreObservers confi
   con_now : (t : List S.Call) (c : S.Call) → Law (c ∷ t) → HeardClient (c ∷ t) → (to : Endpoint)
       → RespondsTo (own_of config.limits config.server_szx t) c to ⊎ NotifiesTo c to → to ≡ client_end
   con_now t c law heard to (inl r) =
-      let next = ((server_facts.begins config.limits config.server_szx config.server_word (c ∷ t) law).0 r.now r.answer
+      let next = ((server_facts.begins config.limits config.server_szx config.server_setup (c ∷ t) law).0 r.now r.answer
       r.tick).responds r.asked r.answers in
       sym (ap (λ (z : Asked). z.from) next.asks.0 ∙ r.from) ∙ of_served t c law heard next.serves next.here
   con_now t c law heard to (inr n) =
@@ -129,7 +128,7 @@ module _ (config : Config) (observers : (t : List S.Call) → AreObservers confi
   cons_to [] law heard con h = absurd h
   cons_to (c ∷ t) law heard con h =
       ⊎_elim (λ now. con_now t c law heard con.to
-      (con_of config.limits config.server_szx config.server_word t c con now))
+      (con_of config.limits config.server_szx config.server_setup t c con now))
       (λ older. cons_to t (back c t law) (heard_before c t heard) con older)
       (Ever_append (λ b. begun b ≡ Some con) (server_adds config t c) (server_layer config t)
       (subst (Ever (λ b. begun b ≡ Some con)) (server_next config t c) h))
@@ -186,10 +185,6 @@ module _ (config : Config) (observers : (t : List S.Call) → AreObservers confi
         → Here (responding s d passed h word id) → Tells h
     told_responding s (due.Ready a) passed (S.Serves q reply left) word id (inl k) = absurd (cc k)
     told_responding s (due.Ready a) passed (S.Serves q reply left) word id (inr k) = absurd k
-    told_responding s (due.Ready a) passed S.Silent word id k = absurd k
-    told_responding s (due.Ready a) passed (S.Replies r) word id k = absurd k
-    told_responding s (due.Ready a) passed (S.Waits q delay) word id k = absurd k
-    told_responding s (due.Ready a) passed (S.Notifies o reply) word id k = absurd k
     told_responding s due.Idle passed (S.Notifies o reply) word id (inl k) = record {
       observer = o;
       reply = reply;
@@ -204,8 +199,7 @@ module _ (config : Config) (observers : (t : List S.Call) → AreObservers confi
         absurd (none_ready s.clock passed (marked s.observers) k)
     told_responding s due.Idle passed (S.Waits q delay) word id k =
         absurd (none_ready s.clock passed (marked s.observers) k)
-    told_responding s due.Copied passed h word id k = absurd k
-    told_responding s due.Expired passed h word id k = absurd k
+    told_responding s _ passed _ word id k = absurd k
 
     fed_now : (s : S.Own) (p : Asked × Message) (h : S.Handling) (below : L.Answer) (call : R.Call) → plain_to call ≡ None
         → Here (answering s (Some p) h below ++ call ∷ []) → p.0.from ≡ to
@@ -234,7 +228,7 @@ module _ (config : Config) (observers : (t : List S.Call) → AreObservers confi
         let call : R.Call = incoming s now from bytes up (Some p) in
         sym (fed_now (Handling.heard s now call) p h below call refl k)
         ∙ of_comes t (S.Feeds now from bytes word up (Some p) h below) p.0 _ heard
-        (comes_here config.limits config.server_szx config.server_word t now from bytes word up p h below law)
+        (comes_here config.limits config.server_szx config.server_setup t now from bytes word up p h below law)
     plain_now t (S.Feeds now from bytes word up None h below) law heard (inl k) = absurd (cc k)
     plain_now t (S.Feeds now from bytes word up None h below) law heard (inr k) = absurd k
     plain_now t (S.Ticks now word below room d passed h id answer) law heard k =
@@ -249,14 +243,9 @@ module _ (config : Config) (observers : (t : List S.Call) → AreObservers confi
           here = ap (λ z. notice (S.Ticks now word below room d passed z id answer)) n.is;
           there = n.there;
         }))
-    plain_now t (S.Sets now path format body answer left) law heard k = absurd k
-    plain_now t (S.Removes now path answer left) law heard k = absurd k
-    plain_now t (S.Delays path ms answer) law heard k = absurd k
-    plain_now t (S.Plains path answer) law heard k = absurd k
     plain_now t (S.NextOut answer) law heard (inl k) = absurd (cc k)
     plain_now t (S.NextOut answer) law heard (inr k) = absurd k
-    plain_now t (S.Gets path answer) law heard k = absurd k
-    plain_now t (S.TellsApplied answer) law heard k = absurd k
+    plain_now t _ law heard k = absurd k
 
   abbrev PlainToClient : L.Entry → Type 0
   PlainToClient e = (to : Endpoint) (content : L.Content) → e.call ≡ L.Plain to content → to ≡ client_end
@@ -264,12 +253,12 @@ module _ (config : Config) (observers : (t : List S.Call) → AreObservers confi
   plains : (t : List S.Call) → Law t → HeardClient t → Every PlainToClient (server_layer config t)
   plains [] law heard = tt
   plains (c ∷ t) law heard =
-      let calls : List R.Call = exchange_calls config.limits config.server_szx config.server_word t c in
+      let calls : List R.Call = exchange_calls config.limits config.server_szx config.server_setup t c in
       subst (Every PlainToClient) (sym (server_next config t c))
       (every_join PlainToClient (server_adds config t c) (server_layer config t)
       (every_map (IsEntrySo (Confirms calls) (Plain calls)) PlainToClient
       (λ e so to content is. plain_now to t c law heard (so.plain to content is)) (server_adds config t c)
-      (adds_so config.limits config.server_szx config.server_word t c))
+      (adds_so config.limits config.server_szx config.server_setup t c))
       (plains t (back c t law) (heard_before c t heard)))
 
   -- what is awaited, to which a reply is given
@@ -315,6 +304,6 @@ module _ (config : Config) (observers : (t : List S.Call) → AreObservers confi
   pub all_to_client : (t : List S.Call) → Law t → HeardClient t → Every GoesToClient (server_layer config t)
   all_to_client t law heard =
       out_to (server_layer config t)
-      (each_goes_out (usual config.server_word) (server_layer config t)
-      (server_facts.layer config.limits config.server_szx config.server_word t law))
+      (each_goes_out config.server_setup (server_layer config t)
+      (server_facts.layer config.limits config.server_szx config.server_setup t law))
       heard (plains t law heard) (cons_to t law heard)

@@ -28,16 +28,7 @@ module _ (limits : Limits) (szx : ℕ) (w : Waiting) where
   before (S.Feeds now from bytes word up came h below) t none still = absurd none
   before (S.Ticks now word below room (due.Ready a) passed h id answer) t none still =
       left_in (max (own_of limits szx t).clock now) a w (own_of limits szx t).waiting still
-  before (S.Ticks now word below room due.Idle passed h id answer) t none still = still
-  before (S.Ticks now word below room due.Copied passed h id answer) t none still = still
-  before (S.Ticks now word below room due.Expired passed h id answer) t none still = still
-  before (S.Sets now path format body answer left) t none still = still
-  before (S.Removes now path answer left) t none still = still
-  before (S.Delays path ms answer) t none still = still
-  before (S.Plains path answer) t none still = still
-  before (S.NextOut answer) t none still = still
-  before (S.Gets path answer) t none still = still
-  before (S.TellsApplied answer) t none still = still
+  before _ t none still = still
 
   pub waited_before : (later t : List S.Call) → Each IsNoFeed later → WaitsStill limits szx w (later ++ t)
       → WaitsStill limits szx w t

@@ -64,18 +64,12 @@ module _ (config : Config) (delays : All (λ (d : Delay). d.ms ≤ max_delay) co
         tick = (word, below, room, d, passed, h, id, refl);
         answers = answers;
       }))
-      ((server_facts.waits_on config.limits config.server_szx config.server_word
+      ((server_facts.waits_on config.limits config.server_szx config.server_setup
       (S.Ticks now word below room d passed h id answer ∷ server_trace config past) law).0 w still)
   goes_on w past (S.Feeds now from bytes word up came h below) law still =
       let s : S.Own = own_of config.limits config.server_szx (server_trace config past) in
       inl (behind (max s.clock now) came h w s.waiting still)
-  goes_on w past (S.Sets now path format body answer left) law still = inl still
-  goes_on w past (S.Removes now path answer left) law still = inl still
-  goes_on w past (S.Delays path ms answer) law still = inl still
-  goes_on w past (S.Plains path answer) law still = inl still
-  goes_on w past (S.NextOut answer) law still = inl still
-  goes_on w past (S.Gets path answer) law still = inl still
-  goes_on w past (S.TellsApplied answer) law still = inl still
+  goes_on w past _ law still = inl still
 
   carried : (w : Waiting) (past : List Entry) → Still w past ⊎ Sometime (WaitedIn config w) past → (e : Entry)
       → ForServer config (e ∷ past) → Still w (e ∷ past) ⊎ Sometime (WaitedIn config w) (e ∷ past)

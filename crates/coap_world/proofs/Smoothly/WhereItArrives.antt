@@ -8,7 +8,7 @@ use Rattle.coap_types.specs.declared.endpoint.Endpoint.{Endpoint}
 use Rattle.coap_types.specs.declared.message.Kind.TheVariants.{Con}
 use Rattle.coap_codec.specs.Message.{Message}
 use Rattle.coap_layer.specs.Channel.{Hop, Near, Far, OnNear, OnFar}
-use Rattle.coap_layer.specs.Machine.State.{State, start, made, usual}
+use Rattle.coap_layer.specs.Machine.State.{State, start, made}
 use Rattle.coap_layer.specs.Machine.Steps.{Asked, Steps, left_after, entries}
 use Rattle.coap_layer.specs.Trace as L
 use Rattle.coap_layer.specs.Words.{handed_in}
@@ -121,14 +121,7 @@ client_fed from bytes up (C.Feeds now f b word u settled event sent token kept) 
           ∙ ap (λ x. C.Feeds now from x word u settled event sent token kept) bytes_is
           ∙ ap (λ x. C.Feeds now from bytes word x settled event sent token kept) (sym same);
     }
-client_fed from bytes up (C.Calls now r a) is same = absurd (cc is)
-client_fed from bytes up (C.Observes now path a) is same = absurd (cc is)
-client_fed from bytes up (C.Cancels now number a) is same = absurd (cc is)
-client_fed from bytes up (C.Forgets number kept a) is same = absurd (cc is)
-client_fed from bytes up (C.Ticks now word below turn sent token kept a) is same = absurd (cc is)
-client_fed from bytes up (C.NextOut a) is same = absurd (cc is)
-client_fed from bytes up (C.NextReport a) is same = absurd (cc is)
-client_fed from bytes up (C.Asked a) is same = absurd (cc is)
+client_fed from bytes up _ is same = absurd (cc is)
 
 server_fed : (from : Endpoint) (bytes : List ℕ) (up : L.Answer) (c : S.Call) → server_call c ≡ L.Receive from bytes
     → up ≡ server_up c → ServerFed from bytes up c
@@ -145,14 +138,7 @@ server_fed from bytes up (S.Feeds now f b word u came h below) is same =
           ∙ ap (λ x. S.Feeds now from x word u came h below) bytes_is
           ∙ ap (λ x. S.Feeds now from bytes word x came h below) (sym same);
     }
-server_fed from bytes up (S.Sets now path format body a left) is same = absurd (cc is)
-server_fed from bytes up (S.Removes now path a left) is same = absurd (cc is)
-server_fed from bytes up (S.Delays path ms a) is same = absurd (cc is)
-server_fed from bytes up (S.Plains path a) is same = absurd (cc is)
-server_fed from bytes up (S.Ticks now word below room d passed h id a) is same = absurd (cc is)
-server_fed from bytes up (S.NextOut a) is same = absurd (cc is)
-server_fed from bytes up (S.Gets path a) is same = absurd (cc is)
-server_fed from bytes up (S.TellsApplied a) is same = absurd (cc is)
+server_fed from bytes up _ is same = absurd (cc is)
 
 module _ (config : Config) where
   pub record AtClient (from : Endpoint) (bytes : List ℕ) (e : L.Entry) (past : List C.Call) (c : C.Call) : Type 0 where
@@ -179,8 +165,8 @@ module _ (config : Config) where
       ]
       go (makes_none q) = absurd (never_quiets from bytes e _ (client_asks config past c) q h is)
       go (makes_fed k) =
-          let o = oldest_of (start (usual config.client_word)) (client_asks config past c) (client_asked config past)
-          good.0 (subst (λ a. Steps (start (usual config.client_word)) a good.0) (client_asked_next config past c) good.1)
+          let o = oldest_of (start config.client_setup) (client_asks config past c) (client_asked config past)
+          good.0 (subst (λ a. Steps (start config.client_setup) a good.0) (client_asked_next config past c) good.1)
           (client_call c) (client_up c) k from bytes e h is in
           record { later = o.later; adds = o.is; fed = client_fed from bytes e.answer c o.call_is o.answer }
 
@@ -197,8 +183,8 @@ module _ (config : Config) where
       ]
       go (makes_none q) = absurd (never_quiets from bytes e _ (server_asks config past c) q h is)
       go (makes_fed k) =
-          let o = oldest_of (start (usual config.server_word)) (server_asks config past c) (server_asked config past)
-          good.0 (subst (λ a. Steps (start (usual config.server_word)) a good.0) (server_asked_next config past c) good.1)
+          let o = oldest_of (start config.server_setup) (server_asks config past c) (server_asked config past)
+          good.0 (subst (λ a. Steps (start config.server_setup) a good.0) (server_asked_next config past c) good.1)
           (server_call c) (server_up c) k from bytes e h is in
           record { later = o.later; adds = o.is; silent = o.silent; fed = server_fed from bytes e.answer c o.call_is o.answer }
 

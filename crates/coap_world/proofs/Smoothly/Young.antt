@@ -11,7 +11,6 @@ use Rattle.coap_types.specs.SameEndpoint.{same_endpoint}
 use Rattle.coap_types.specs.declared.endpoint.Endpoint.{Endpoint}
 use Rattle.coap_block.specs.Sizes.{Sizes}
 use Rattle.coap_layer.specs.Channel.{Hop, ChannelLaw, far_of}
-use Rattle.coap_layer.specs.Machine.State.{usual}
 use Rattle.coap_layer.specs.Rows.{LayerLaw, Busy}
 use Rattle.coap_layer.specs.Sends.{as_begun, IsOpen}
 use Rattle.coap_layer.specs.Taking.{ResetsMeant}
@@ -61,16 +60,16 @@ use Rattle.coap_world.proofs.Smoothly.WaitedBefore.{waited_before}
 -- what the laws beneath say
 pub record YoungLaws : Type 0 where
   pub laws : Laws
-  pub in_time : (server : Endpoint) (sizes : Sizes) (word : ℕ) (t : List C.Call) → ClientLaw server sizes word t
+  pub in_time : (server : Endpoint) (sizes : Sizes) (setup : Setup) (t : List C.Call) → ClientLaw server sizes setup t
       → AllEndInTime sizes t
   pub resets : (one other : Setup) (near far : Endpoint) (all : List Hop) → ChannelLaw one other near far all
       → ResetsMeant near far all
-  pub hears : (server : Endpoint) (sizes : Sizes) (word : ℕ) (t : List C.Call) → ClientLaw server sizes word t
-      → HearsOfOpen server sizes word t
+  pub hears : (server : Endpoint) (sizes : Sizes) (setup : Setup) (t : List C.Call) → ClientLaw server sizes setup t
+      → HearsOfOpen server sizes setup t
   pub observers : (limits : Limits) (szx : ℕ) (t : List S.Call) → AreObservers limits szx t
 
 -- a CON to there is outstanding, or none is
-busy_or_not : (to : Endpoint) (cs : List Open) → Ever (λ (c : Open). same_endpoint c.to to ≡ true) cs
+pub busy_or_not : (to : Endpoint) (cs : List Open) → Ever (λ (c : Open). same_endpoint c.to to ≡ true) cs
     ⊎ (Ever (λ (c : Open). same_endpoint c.to to ≡ true) cs → ⊥)
 busy_or_not to [] = inr (λ h. h)
 busy_or_not to (c ∷ cs) = by (same_endpoint c.to to) refl (busy_or_not to cs)
@@ -85,12 +84,12 @@ busy_or_not to (c ∷ cs) = by (same_endpoint c.to to) refl (busy_or_not to cs)
     by false is (inr f) = inr (λ h. ⊎_elim (λ now. let z : true ≡ false = sym now ∙ is in cc z) f h)
 
 -- a CON that is outstanding to there, as it began
-record OpenTo (to : Endpoint) (t : List L.Entry) : Type 0 where
-  con : Open
-  there : con.to ≡ to
-  is_open : IsOpen t con
+pub record OpenTo (to : Endpoint) (t : List L.Entry) : Type 0 where
+  pub con : Open
+  pub there : con.to ≡ to
+  pub is_open : IsOpen t con
 
-open_to : (to : Endpoint) (t : List L.Entry) → Busy t to → OpenTo to t
+pub open_to : (to : Endpoint) (t : List L.Entry) → Busy t to → OpenTo to t
 open_to to t busy = found (outstanding t) busy (λ c h. h)
   where
     found : (cs : List Open) → Ever (λ (c : Open). same_endpoint c.to to ≡ true) cs
@@ -226,10 +225,10 @@ module _ (config : Config) (range : IsConfig config) (needs : YoungLaws)
       abbrev IsBegun : List L.Entry → Type 0
       IsBegun l = Ever (λ b. begun b ≡ Some o.con) l
 
-      stands_in : LayerLaw (usual config.server_word) (server_layer config older)
-      stands_in = server_facts.layer config.limits config.server_szx config.server_word older
-          (server_facts.back config.limits config.server_szx config.server_word newer older
-          (subst (ServerLaw config.limits config.server_szx config.server_word) is g_tick.stands.server))
+      stands_in : LayerLaw config.server_setup (server_layer config older)
+      stands_in = server_facts.layer config.limits config.server_szx config.server_setup older
+          (server_facts.back config.limits config.server_szx config.server_setup newer older
+          (subst (ServerLaw config.limits config.server_szx config.server_setup) is g_tick.stands.server))
 
       there : IsBegun (server_layer config t)
       there = subst (λ z. IsBegun (server_layer config z)) (sym is)
@@ -243,8 +242,8 @@ module _ (config : Config) (range : IsConfig config) (needs : YoungLaws)
           let far : far_of (hops_of config past) ≡ server_layer config (server_trace config (entries_of past)) =
           far_is config (entries_of past) in
           let k = front_of config ticks (server_trace config (entries_of past)) in
-          let was_open = open_before (usual config.server_word) k.0 (server_layer config (server_trace config (entries_of past)))
-          o.con (subst (LayerLaw (usual config.server_word)) k.1 stands_in) was
+          let was_open = open_before config.server_setup k.0 (server_layer config (server_trace config (entries_of past)))
+          o.con (subst (LayerLaw config.server_setup) k.1 stands_in) was
           (subst (λ l. IsOpen l o.con) k.1 o.is_open) in
           (taken_here config needs.laws.beneath tick past g_tick).over o.con (subst IsBegun (sym far) was) o.there old
           (subst (λ l. IsOpen l o.con) (sym far) was_open)
@@ -280,8 +279,8 @@ module _ (config : Config) (range : IsConfig config) (needs : YoungLaws)
         waited = waited_before config.limits config.server_szx w l.later (l.ticks ++ server_trace config (entries_of past)) l.none_in
             (subst (WaitsStill config.limits config.server_szx w) l.is still)
 
-        by : NoId config.limits config.server_szx config.server_word (l.ticks ++ server_trace config (entries_of past)) tick.event.at
-            ⊎ NoneToAnswer config.limits config.server_szx config.server_word (l.ticks ++ server_trace config (entries_of past)) tick.event.at
+        by : NoId config.limits config.server_szx config.server_setup (l.ticks ++ server_trace config (entries_of past)) tick.event.at
+            ⊎ NoneToAnswer config.limits config.server_szx config.server_setup (l.ticks ++ server_trace config (entries_of past)) tick.event.at
             → Busy (server_layer config (l.ticks ++ server_trace config (entries_of past))) w.asked.from ⊎ (Busy (server_layer config (l.ticks ++ server_trace config (entries_of past))) w.asked.from → ⊥)
             → Answers x tick.event.at (tick ∷ past)
         by (inl no_id) b = absurd (ids.0 what l.later (l.ticks ++ server_trace config (entries_of past)) l.is no_id)
@@ -289,7 +288,7 @@ module _ (config : Config) (range : IsConfig config) (needs : YoungLaws)
             busy l.ticks (open_to client_end (server_layer config (l.ticks ++ server_trace config (entries_of past)))
             (subst (Busy (server_layer config (l.ticks ++ server_trace config (entries_of past)))) from is_busy)) l.later l.is
         by (inr none) (inr free) =
-            absurd (of_each (λ y. CanAnswer config.limits config.server_szx config.server_word (l.ticks ++ server_trace config (entries_of past))
+            absurd (of_each (λ y. CanAnswer config.limits config.server_szx config.server_setup (l.ticks ++ server_trace config (entries_of past))
             tick.event.at y → ⊥) w (own_of config.limits config.server_szx (l.ticks ++ server_trace config (entries_of past))).waiting none waited
             (record {
               passed = passed (own_of config.limits config.server_szx (l.ticks ++ server_trace config (entries_of past))).clock tick.event.at w.delay w.at at since delay
@@ -300,13 +299,13 @@ module _ (config : Config) (range : IsConfig config) (needs : YoungLaws)
     at_tick : Always (λ p c. TakesNoObservation c) (client_of es) → Answers x tick.event.at (tick ∷ past)
     at_tick none =
         by (last_waits config needs.laws delays turn (tick ∷ past) g none at
-        (open_since server_end config.client_sizes config.client_word at x (client_of es) alone.is_open)
+        (open_since server_end config.client_sizes config.client_setup at x (client_of es) alone.is_open)
         (let later_than = g.stands.legal.0.later in omega (arith, later_than, late)))
       where
         by : LastWaits config at (tick ∷ past) → Answers x tick.event.at (tick ∷ past)
         by k =
             let both : Some k.sending ≡ Some x =
-            sym k.last ∙ last_of server_end config.client_sizes config.client_word at x (client_of es) alone.is_open in
+            sym k.last ∙ last_of server_end config.client_sizes config.client_setup at x (client_of es) alone.is_open in
             let same : k.sending ≡ x = cc both in
             let token = k.token ∙ ap (λ (z : Sending). z.token) same in
             ⊎_elim (λ still. waits_no_more k.waiting k.from k.since k.delay still)
@@ -343,7 +342,7 @@ module _ (config : Config) (range : IsConfig config) (needs : YoungLaws)
 
   -- an exchange that is open began at an event
   began_in : (turns : List Turn) → Stands config turns → (at : ℕ) (x : Sending)
-      → OpenOf server_end config.client_sizes config.client_word at x (client_of (entries_of turns)) → (when : ℕ)
+      → OpenOf server_end config.client_sizes config.client_setup at x (client_of (entries_of turns)) → (when : ℕ)
       → at < when → Ever (λ (u : Turn). u.event.at < when) turns
   began_in [] s at x o when later = absurd o
   began_in (turn ∷ past) s at x o when later =
@@ -364,15 +363,15 @@ module _ (config : Config) (range : IsConfig config) (needs : YoungLaws)
 
     too_old : at + max_open < turn.event.at → ⊥
     too_old late =
-        let k = open_of server_end config.client_sizes config.client_word at calls s_past.client is_open in
+        let k = open_of server_end config.client_sizes config.client_setup at calls s_past.client is_open in
         let x : Sending = k.0 in
         let alone : Alone at x past = record {
-          observed = needs.laws.observed server_end config.client_sizes config.client_word calls s_past.client;
+          observed = needs.laws.observed server_end config.client_sizes config.client_setup calls s_past.client;
           none = none;
-          of_open = needs.hears server_end config.client_sizes config.client_word calls s_past.client;
+          of_open = needs.hears server_end config.client_sizes config.client_setup calls s_past.client;
           ends = by_answers config past s_past older
-              (needs.in_time server_end config.client_sizes config.client_word calls s_past.client)
-              (needs.resets (usual config.client_word) (usual config.server_word) client_end server_end (hops_of config past)
+              (needs.in_time server_end config.client_sizes config.client_setup calls s_past.client)
+              (needs.resets config.client_setup config.server_setup client_end server_end (hops_of config past)
               (joined.channel config _ past (record_of config past s_past) s_past.legal));
           is_open = k.1;
         } in
@@ -381,7 +380,7 @@ module _ (config : Config) (range : IsConfig config) (needs : YoungLaws)
         let r = find turn past g ids none at x alone ticks in
         let soon = r.soon in
         ends_here config needs.laws turn past g none at is_open x
-        (last_of server_end config.client_sizes config.client_word at x calls k.1) r.con
+        (last_of server_end config.client_sizes config.client_setup at x calls k.1) r.con
         (subst (Ever (λ b. begun b ≡ Some r.con)) (sym (far_is config (entries_of past))) r.begun_there) r.carries
         (omega (arith, soon, late))
 

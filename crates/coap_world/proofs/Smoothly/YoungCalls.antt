@@ -27,13 +27,7 @@ began_at sizes t at past (C.Feeds now from bytes w up settled event sent token k
     let m = b.moment in omega (arith, is, m)
 began_at sizes t at past (C.Ticks now w below turn sent token kept answer) is b =
     let m = b.moment in omega (arith, is, m)
-began_at sizes t at past (C.Calls now r a) is b = absurd (cc (b.sends_it))
-began_at sizes t at past (C.Observes now path a) is b = absurd (cc (b.sends_it))
-began_at sizes t at past (C.Cancels now number a) is b = absurd (cc (b.sends_it))
-began_at sizes t at past (C.Forgets number kept a) is b = absurd (cc (b.sends_it))
-began_at sizes t at past (C.NextOut a) is b = absurd (cc (b.sends_it))
-began_at sizes t at past (C.NextReport a) is b = absurd (cc (b.sends_it))
-began_at sizes t at past (C.Asked a) is b = absurd (cc (b.sends_it))
+began_at sizes t at past _ is b = absurd (cc (b.sends_it))
 
 opened_in : (sizes : Sizes) (t at : ℕ) (cs past : List C.Call) → Every (client.IsAt t) cs → IsOpenSince sizes at (cs ++ past)
     → (t ≤ at) ⊎ IsOpenSince sizes at past

@@ -71,9 +71,7 @@ none_sent : (sizes : Sizes) (m : Method) (body : List ℕ) (t : Transfer) → Ca
 none_sent sizes Delete body Single h is = refl
 none_sent sizes Delete body (Fetches f) h is = absurd h
 none_sent sizes Delete body (Uploads u) h is = absurd h
-none_sent sizes Get body t h is = absurd (cc is)
-none_sent sizes Put body t h is = absurd (cc is)
-none_sent sizes Post body t h is = absurd (cc is)
+none_sent sizes _ body t h is = absurd (cc is)
 
 module _ (config : Config) (number : ℕ) (all : List Entry) (small : config.client_sizes.szx ≤ 6) (whole : Lawful config all)
     (in_range : (x : Taken) → WasTaken x (client_of all) → IsRequest x.request) where
@@ -90,7 +88,7 @@ module _ (config : Config) (number : ℕ) (all : List Entry) (small : config.cli
   one_called : (r s : C.Request) → WasTaken (record { number = number; request = r }) (client_of all)
       → WasTaken (record { number = number; request = s }) (client_of all) → r ≡ s
   one_called r s a b = one_request number r s (client_of all)
-      (client_facts.numbers server_end config.client_sizes config.client_word (client_of all) whole.client) a b
+      (client_facts.numbers server_end config.client_sizes config.client_setup (client_of all) whole.client) a b
 
   module _ (w : List Entry) (later : LaterAll w) (law : Lawful config w) (x : Serving)
       (from : (x.asked).from ≡ client_end) (k : Known config number all small whole in_range w x) where
@@ -134,7 +132,7 @@ module _ (config : Config) (number : ℕ) (all : List Entry) (small : config.cli
         }
 
     as_it_came : (past : List Entry) (c : S.Call) → PartOf (OfServer c ∷ past)
-        → Comes config.limits config.server_szx config.server_word (server_trace config past) c x.asked (Asks x.question)
+        → Comes config.limits config.server_szx config.server_setup (server_trace config past) c x.asked (Asks x.question)
         → (x.question).body ≡ payload_of k.transfer
     as_it_came past c part comes =
         let f = part.law.came.0 x.asked (Asks x.question) comes from in
@@ -146,11 +144,11 @@ module _ (config : Config) (number : ℕ) (all : List Entry) (small : config.cli
         ∙ ap (λ r. r.payload) k.message)
 
     by_verdict : (past : List Entry) (c : S.Call) → PartOf (OfServer c ∷ past) → (v : Verdict)
-        → Comes config.limits config.server_szx config.server_word (server_trace config past) c x.asked v
+        → Comes config.limits config.server_szx config.server_setup (server_trace config past) c x.asked v
         → AsksBy config.limits config.server_szx (server_trace config past) c x.asked x.question v
         → AsItCame (OfServer c ∷ past) ⊎ ByBlocks
     by_verdict past c part (Asks p) comes h =
-        let here = subst (λ q. Comes config.limits config.server_szx config.server_word
+        let here = subst (λ q. Comes config.limits config.server_szx config.server_setup
         (server_trace config past) c x.asked (Asks q)) (sym h) comes in inl (inl here, as_it_came past c part here)
     by_verdict past c part (UploadsBlock p b) comes h = inr (by_blocks past c part p b h)
     by_verdict past c part Ignored comes h = absurd h
@@ -200,7 +198,7 @@ module _ (config : Config) (number : ℕ) (all : List Entry) (small : config.cli
       let k = known config number all small whole in_range past c later law a in
       let r : C.Request = k.request in
       let l = leaves (own_of config.limits config.server_szx (server_trace config past)) c x a.here in
-      let right = (server_facts.right config.limits config.server_szx config.server_word t law.server).0.applied x a.here
+      let right = (server_facts.right config.limits config.server_szx config.server_setup t law.server).0.applied x a.here
       a.applied in
       let before : x.old.holds x.question.path ≡ holds_at config r.path past =
       ap (λ (s : Content). s.holds x.question.path) l.found ∙ ap (λ p. holds_at config p past) k.path in
@@ -210,7 +208,7 @@ module _ (config : Config) (number : ℕ) (all : List Entry) (small : config.cli
       ap (λ (s : Content). s.tally.version + 1) l.found
       ∙ ap (λ n. n + 1) (version_is config.limits config.server_szx (server_trace config past) law.server.rows.1)
       in
-      let brings = (server_facts.handed config.limits config.server_szx config.server_word t law.server).0 x a.here in
+      let brings = (server_facts.handed config.limits config.server_szx config.server_setup t law.server).0 x a.here in
       let body = body_whole (e ∷ past) later law x a.from k (brought_in config x.asked x.question (e ∷ past) brings) in
       record {
         request = r;

@@ -7,7 +7,6 @@ use Rattle.coap_layer.specs.Channel.{near_of, OnFar, HandsUpAs}
 use Rattle.coap_layer.specs.Trace as T
 use Rattle.coap_layer.specs.Words.{Open, begun}
 use Rattle.coap_layer.proofs.Facts.Laws.{cons_apart}
-use Rattle.coap_layer.specs.Machine.State.{usual}
 use Rattle.coap_client.specs.Follows.Begins.{IsRequestOf}
 use Rattle.coap_client.specs.Follows.Order.{call_of}
 use Rattle.coap_client.specs.Follows.Words.{Taken, WasTaken, Sending}
@@ -138,7 +137,7 @@ module _ (config : Config) (all : List Entry) (small : config.client_sizes.szx �
       let f = follows config all small whole in_range k.con con k.sending y o.number j knows u.known differ
       ((k.is).to ∙ sym u.to) past earlier found in
       apart_at client_end k.con con (server_adds config (server_trace config past) c) (hops_in config past)
-      (cons_apart (usual config.client_word) (usual config.server_word) client_end server_end
+      (cons_apart config.client_setup config.server_setup client_end server_end
       (hops_in config (OfServer c ∷ past)) p.law.channel) f u.up k.arrives
 
   turn_of : (w : List Entry) → PartOf w → (a b : Open) (x y : Sending) (i j : ℕ) → KnownTo a x i → KnownTo b y j → i ≢ j

@@ -33,7 +33,6 @@ use Rattle.coap_world.proofs.Requests.OfACall.{Lawful}
 use Rattle.coap_world.proofs.Requests.Traced.{brought_in}
 use Rattle.coap_world.proofs.Uploads.Parts.{Begun, Sent, Carries, Part, part_back, one_con}
 use Rattle.coap_types.proofs.Facts.Traces.{Sometime_map}
-use Rattle.coap_layer.specs.Machine.State.{usual}
 use Rattle.coap_observe.specs.Observers.{Observer}
 
 off_near : (P : T.Entry → Type 0) (adds : List T.Entry) (hs : List Hop) → Ever (OnFar P) (map Near adds ++ hs)
@@ -84,7 +83,7 @@ module _ (config : Config) (all : List Entry) (small : config.client_sizes.szx �
         → UpIn (hops_in config (OfServer c ∷ past))
     served_up past c p s here from token =
         let w : List Entry = OfServer c ∷ past in
-        let brings = (server_facts.handed config.limits config.server_szx config.server_word
+        let brings = (server_facts.handed config.limits config.server_szx config.server_setup
         (server_trace config w) p.law.server).0 s here in
         brought_up s.asked s.question w p (brought_in config s.asked s.question w brings) from token
 
@@ -119,7 +118,7 @@ module _ (config : Config) (all : List Entry) (small : config.client_sizes.szx �
         → IsAnswer config m (server_trace config past) c → m.token ≡ x.token → UpIn (hops_in config (OfServer c ∷ past))
     answer_by m past c p (replies s here is) token = served_up past c p s here is.to_client (is.token_is ∙ token)
     answer_by m past c p (continues z size here more asks is) token =
-        let k = (server_facts.blocks config.limits config.server_szx config.server_word
+        let k = (server_facts.blocks config.limits config.server_szx config.server_setup
         (server_trace config (OfServer c ∷ past)) p.law.server).0 z here in
         comes_up past (OfServer c) z.asked (Uploads k.question k.block) p k.comes is.to_client (is.token_is ∙ token)
     answer_by m past c p (refuses a v code comes handed unserved why is) token =
@@ -156,5 +155,5 @@ module _ (config : Config) (all : List Entry) (small : config.client_sizes.szx �
         (heard_up (OfClient c ∷ past) p h) in
         Ever_by_law (λ q e. OnFar (HandsUpAs client_end old) e → OnFar (Takes client_end old) e)
         (OnFar (HandsUpAs client_end old)) (OnFar (Takes client_end old)) (λ q e l k. l.0 k) (hops_in config past)
-        (only_that_con (usual config.client_word) (usual config.server_word) client_end server_end
+        (only_that_con config.client_setup config.server_setup client_end server_end
         (hops_in config past) earlier.law.channel old there) up

@@ -15,8 +15,7 @@ use Rattle.coap_client.specs.Follows.Begins.{IsRequestOf}
 use Rattle.coap_client.specs.Follows.Blocks.{Carried, carried}
 use Rattle.coap_client.specs.Law.{own_of}
 use Rattle.coap_client.specs.Follows.Order.{call_of, turn_of}
-use Rattle.coap_client.specs.Own.{Fetches, Uploads, Single, Operation, Calling, Registering, Fetching}
-use Rattle.coap_client.specs.Own.{Cancelling, Dropped}
+use Rattle.coap_client.specs.Own.{Uploads, Operation, Calling}
 use Rattle.coap_client.specs.Trace as C
 use Rattle.coap_client.specs.Follows.Words.{Taken, WasTaken, Sending, sends}
 use Rattle.coap_client.proofs.Facts.Laws as client_facts
@@ -54,12 +53,7 @@ pub of_carried : (op : Operation) (b : Carried) → carried op ≡ Some b
 of_carried (Calling n r (Uploads u)) b h =
     let e : ◌≡◌ {A = Carried} (record { number = n; upload = u }) b = cc h in
     (ap (λ (z : Carried). Some z.number) e, ap (λ (z : Carried). Some z.number) e)
-of_carried (Calling n r (Fetches f)) b h = absurd (cc h)
-of_carried (Calling n r Single) b h = absurd (cc h)
-of_carried (Registering n path) b h = absurd (cc h)
-of_carried (Fetching n) b h = absurd (cc h)
-of_carried (Cancelling n) b h = absurd (cc h)
-of_carried Dropped b h = absurd (cc h)
+of_carried _ b h = absurd (cc h)
 
 pub call_is : (x : Sending) (k : ℕ) → IsBlockOf x k → call_of x.operation ≡ Some k
 call_is x k b = (of_carried x.operation b.block b.carries).0 ∙ ap (λ n. Some n) b.number_is
@@ -85,7 +79,7 @@ module _ (config : Config) (all : List Entry) (small : config.client_sizes.szx �
   -- what was begun was sent, by the call that began it
   pub sent_of : (w : List Entry) → PartOf w → (con : Open) → Begun config con w
       → (y : Sending) × Sent config y w × IsRequestOf server_end con y
-  sent_of w p con h = client_facts.begins server_end config.client_sizes config.client_word (client_of w) p.law.client con
+  sent_of w p con h = client_facts.begins server_end config.client_sizes config.client_setup (client_of w) p.law.client con
       (subst (Ever (λ b. begun b ≡ Some con)) (near_is config w) h)
 
   pub is_that : (con : Open) (x z : Sending) (k : ℕ) → Known con x k → Sent config z all → IsRequestOf server_end con z
@@ -124,7 +118,7 @@ module _ (config : Config) (all : List Entry) (small : config.client_sizes.szx �
         now_sent : (con : Open) → Ever (λ b. begun b ≡ Some con) adds
             → (z : Sending) × (sends (own_of config.client_sizes (client_of past)) c ≡ Some z)
             × IsRequestOf server_end con z
-        now_sent con k = let s = (client_facts.begins_now server_end config.client_sizes config.client_word
+        now_sent con k = let s = (client_facts.begins_now server_end config.client_sizes config.client_setup
             (client_of (OfClient c ∷ past)) p.law.client).0 con k in (s.sending, s.sends_it, s.is)
 
         sends_y : sends (own_of config.client_sizes (client_of past)) c ≡ Some y
@@ -168,7 +162,7 @@ module _ (config : Config) (all : List Entry) (small : config.client_sizes.szx �
     in_turn [] p h = absurd h
     in_turn (OfServer c ∷ past) p (inl h) = absurd h
     in_turn (OfClient c ∷ past) p (inl h) =
-        ((client_facts.order server_end config.client_sizes config.client_word
+        ((client_facts.order server_end config.client_sizes config.client_setup
         (client_of (OfClient c ∷ past)) p.law.client).0).in_turn x y i j h.sends_it h.sent (turn_is x i knows.block)
         (turn_is y j known.block)
     in_turn (e ∷ past) p (inr h) = in_turn past (back past e p) h
@@ -207,11 +201,11 @@ module _ (config : Config) (all : List Entry) (small : config.client_sizes.szx �
           (⊎_elim (λ k. inl (heard_taken config all small whole in_range old x i
           (call_is x i knows.block) knows.sent knows.begun_there knows.carries past c p h.old_begun k))
           (λ k. inr (quiet k))
-          ((blocks_apart server_end config.client_sizes config.client_word (client_of (OfClient c ∷ past)) p.law.client).0
+          ((blocks_apart server_end config.client_sizes config.client_setup (client_of (OfClient c ∷ past)) p.law.client).0
           x y i j h.sends_it h.sent knows.block known.block differ))
           h.new_begun
         where
-          quiet : IsQuiet server_end config.client_sizes config.client_word (client_of past) c x
+          quiet : IsQuiet server_end config.client_sizes config.client_setup (client_of past) c x
               → Always (λ t e. SendsIt old t e → e.at + max_latency < new.first)
               (client_adds config (client_of past) c ++ near_of (hops_in config past))
           quiet k =

@@ -1,21 +1,18 @@
 -- A part of a lawful record, and of which request a block is that the server takes.
 use Rattle.std.proofs.Common.{◌≡◌, ◌≤◌, ◌⊎◌, inl, inr, ℕ, Option, Some, None, List, [], ◌∷◌, refl, ap, sym, subst, ◌∙◌}
 use Rattle.coap_types.specs.Bytes.{AreBytes}
-use Rattle.coap_types.specs.MethodCode.{method_code, method_of}
+use Rattle.coap_types.specs.MethodCode.{method_of}
 use Rattle.coap_types.specs.Past.{Ever}
 use Rattle.coap_types.specs.declared.block.Block.{Block}
 use Rattle.coap_types.specs.declared.request.Method.TheVariants.{Get}
-use Rattle.coap_block.specs.Sizes.{Sizes}
 use Rattle.coap_codec.specs.Message.{Message, Spells}
 use Rattle.coap_layer.specs.Channel.{near_of}
 use Rattle.coap_layer.specs.Trace as T
 use Rattle.coap_layer.specs.Words.{Open, begun}
 use Rattle.coap_resource.specs.Serves.{Question}
 use Rattle.coap_client.specs.Follows.Begins.{WasSent, IsRequestOf}
-use Rattle.coap_client.specs.Follows.OfCalls.{OthersAreGets}
 use Rattle.coap_client.specs.Follows.Order.{call_of}
 use Rattle.coap_client.specs.Follows.Tokens.{Deregisters, Ends}
-use Rattle.coap_client.specs.Trace as C
 use Rattle.coap_client.specs.Follows.Words.{Taken, WasTaken, Sending}
 use Rattle.coap_server.specs.Follows.Reads.{ReadsOf}
 use Rattle.coap_server.specs.Follows.Takes.{Took, took, takes_block}
@@ -28,7 +25,7 @@ use Rattle.coap_world.specs.CameFrom.{request_of, CameFrom}
 use Rattle.coap_world.specs.Events.{client_end, server_end, Config}
 use Rattle.coap_world.specs.Hops.{hops_in, hops_at}
 use Rattle.coap_world.specs.Legal.{IsRequest}
-use Rattle.coap_world.specs.Record.{Entry, OfClient, OfServer, client_of, server_trace}
+use Rattle.coap_world.specs.Record.{Entry, OfServer, client_of, server_trace}
 use Rattle.coap_world.proofs.Delivery.HopsAreEntries.{near_is}
 use Rattle.coap_world.proofs.Requests.CameFrom.{same_request}
 use Rattle.coap_world.proofs.Requests.LastRequests.{of_call_at, method_is}
@@ -37,19 +34,10 @@ use Rattle.coap_world.proofs.Requests.ReadBack.{Changes}
 use Rattle.coap_world.proofs.Requests.Traced.{near_later, sent_later}
 use Rattle.coap_client.specs.Follows.Apart.{IsBlockOf}
 use Rattle.coap_world.proofs.Uploads.BlockRead.{uploads_change, ReadsBlock, reads_block}
+use Rattle.coap_world.proofs.Requests.Belongs.{get_at}
+use Rattle.coap_world.proofs.Requests.OfACall.{taken_later}
 
 -- what is sent for no call is a GET
-get_at : (sizes : Sizes) (t : List C.Call) → OthersAreGets sizes t → (x : Sending) → WasSent sizes x t
-    → call_of x.operation ≡ None → x.request.code ≡ (method_code Get).0
-get_at sizes [] law x h none = absurd h
-get_at sizes (c ∷ t) law x (inl h) none = law.0 x h none
-get_at sizes (c ∷ t) law x (inr h) none = get_at sizes t law.1 x h none
-
-taken_later : (x : Taken) (past : List Entry) (e : Entry) → WasTaken x (client_of past)
-    → WasTaken x (client_of (e ∷ past))
-taken_later x past (OfClient c) h = inr h
-taken_later x past (OfServer c) h = h
-
 module _ (config : Config) where
   abbrev pub Begun : Open → List Entry → Type 0
   Begun con w = Ever (λ b. begun b ≡ Some con) (near_of (hops_in config w))
@@ -83,7 +71,7 @@ module _ (config : Config) where
       → takes_block (own_of config.limits config.server_szx (server_trace config past)) c ≡ Some z
       → z.asked.from ≡ client_end → CameBlock z past c
   came_block z past c law here from =
-      let k = (server_facts.blocks config.limits config.server_szx config.server_word
+      let k = (server_facts.blocks config.limits config.server_szx config.server_setup
       (server_trace config (OfServer c ∷ past)) law.server).0 z here in
       record {
         question = k.question;
@@ -113,7 +101,7 @@ module _ (config : Config) where
     pub one_sending : (x y : Sending) (number : ℕ) → Sent x all → Sent y all → call_of y.operation ≡ Some number
         → x.token ≡ y.token → x ≡ y
     one_sending x y number sent there of token =
-        by (client_facts.tokens server_end config.client_sizes config.client_word
+        by (client_facts.tokens server_end config.client_sizes config.client_setup
         (client_of all) whole.client x y sent there token)
       where
         by : (x ≡ y) ⊎ (Deregisters x y ⊎ Deregisters y x) → x ≡ y
@@ -136,7 +124,7 @@ module _ (config : Config) where
         → x.token ≡ k.token → y.token ≡ k.token → a ≡ b
     one_con k number sent of a b i j x y ab bb sa sb ia ib ta tb =
         let near = near_is config all in
-        by (client_facts.one_con server_end config.client_sizes config.client_word (client_of all) whole.client a b
+        by (client_facts.one_con server_end config.client_sizes config.client_setup (client_of all) whole.client a b
         (subst (Ever (λ e. begun e ≡ Some a)) near i) (subst (Ever (λ e. begun e ≡ Some b)) near j) x y ab bb sa sb
         (ta ∙ sym tb))
       where

@@ -1,7 +1,7 @@
 -- The blocks of a call are pieces of its body, and a number is of one call.
 use Rattle.std.proofs.Common.{◌≡◌, ◌≤◌, ◌+◌, inl, inr, ℕ, nat_lt, false, Option, Some, None, List, [], ◌∷◌, length}
 use Rattle.std.proofs.Common.{refl, ap, sym, subst, ◌∙◌, arith}
-use Rattle.std.proofs.Common.{Ok, Err}
+use Rattle.std.proofs.Common.{Ok}
 use Rattle.std.proofs.lemmas.Bool.Decides.{nat_tests}
 use Rattle.coap_types.specs.Past.{Ever}
 use Rattle.coap_types.specs.Piece.{size_of, offset_of, part_of, Begins, Piece}
@@ -68,15 +68,7 @@ sent_piece sizes t law x number u h of q b is payload =
 pub given_by : (x : Taken) (c : C.Call) → takes c ≡ Some x → number_given c ≡ Some x.number
 given_by x (C.Calls now r (Ok number)) h = let e : ◌≡◌ {A = Taken} (record { number = number; request = r }) x =
     cc h in ap (λ (z : Taken). Some z.number) e
-given_by x (C.Calls now r (Err why)) h = absurd (cc h)
-given_by x (C.Observes now path answer) h = absurd (cc h)
-given_by x (C.Cancels now number answer) h = absurd (cc h)
-given_by x (C.Forgets number kept answer) h = absurd (cc h)
-given_by x (C.Feeds now from bytes word up settled event sent token kept) h = absurd (cc h)
-given_by x (C.Ticks now word below turn sent token kept answer) h = absurd (cc h)
-given_by x (C.NextOut answer) h = absurd (cc h)
-given_by x (C.NextReport answer) h = absurd (cc h)
-given_by x (C.Asked answer) h = absurd (cc h)
+given_by x _ h = absurd (cc h)
 
 pub ever_given : (x : Taken) (t : List C.Call) → WasTaken x t → Ever (λ b. number_given b ≡ Some x.number) t
 ever_given x [] h = h

@@ -67,7 +67,7 @@ module _ (config : Config) (all : List Entry) (small : config.client_sizes.szx �
   key_from : (past : List Entry) (c : S.Call) → PartOf (OfServer c ∷ past) → (z : Took)
       → taken_at (server_trace config past) c ≡ Some z → (z.key).from ≡ (z.asked).from
   key_from past c p z here =
-      let k = (server_facts.blocks config.limits config.server_szx config.server_word
+      let k = (server_facts.blocks config.limits config.server_szx config.server_setup
       (server_trace config (OfServer c ∷ past)) p.law.server).0 z here in
       ap (λ (y : Took). y.key.from) k.is
 
@@ -83,7 +83,7 @@ module _ (config : Config) (all : List Entry) (small : config.client_sizes.szx �
     same_request z past c p o same =
         let earlier = part_back config all small whole in_range past (OfServer c) p in
         one_request n (o.reads).request r (client_of all)
-        (client_facts.numbers server_end config.client_sizes config.client_word (client_of all) whole.client)
+        (client_facts.numbers server_end config.client_sizes config.client_setup (client_of all) whole.client)
         (subst (λ i. WasTaken (record { number = i; request = (o.reads).request }) (client_of all)) same
         (earlier.taken (record { number = o.number; request = (o.reads).request }) (o.reads).taken)) called
 
@@ -94,7 +94,7 @@ module _ (config : Config) (all : List Entry) (small : config.client_sizes.szx �
         let earlier = part_back config all small whole in_range past (OfServer c) p in
         let k = o.block in
         let g = sent_piece config.client_sizes (client_of all)
-        (client_facts.pieces server_end config.client_sizes config.client_word (client_of all) whole.client)
+        (client_facts.pieces server_end config.client_sizes config.client_setup (client_of all) whole.client)
         k.came.sending o.number (o.reads).upload (earlier.sent k.came.sending k.came.sent)
         (o.reads).carries k.question k.block (o.reads).block (o.reads).payload
         in
@@ -244,7 +244,7 @@ module _ (config : Config) (all : List Entry) (small : config.client_sizes.szx �
       zero_by m token code past c p (continues z size here more asks is) =
           zero_here past c p z here is.to_client (is.token_is ∙ token)
       zero_by m token code past c p (replies s here is) =
-          absurd ((server_facts.continues config.limits config.server_szx config.server_word
+          absurd ((server_facts.continues config.limits config.server_szx config.server_setup
           (server_trace config (OfServer c ∷ past)) p.law.server).0 s here (sym is.code ∙ code))
       zero_by m token code past c p (refuses a v k comes handed unserved why is) =
           absurd (refusal_not (own_of config.limits config.server_szx (server_trace config past)) c k why
@@ -282,7 +282,7 @@ module _ (config : Config) (all : List Entry) (small : config.client_sizes.szx �
         inr (zero_before y b is number some path method w
         (part_back config all small whole in_range w (OfClient c) p) h)
     zero_before y b is number some path method (OfClient c ∷ w) p (inl h) =
-        let k = (client_facts.continued server_end config.client_sizes config.client_word
+        let k = (client_facts.continued server_end config.client_sizes config.client_setup
         (client_of (OfClient c ∷ w)) p.law.client).0 y b h is some in
         zero_heard k.first (p.sent k.first (inr k.sent)) k.block k.carries
         ((of_carried (k.first).operation k.block k.carries).0 ∙ ap (λ i. Some i) (k.number_is ∙ number)) k.is_first

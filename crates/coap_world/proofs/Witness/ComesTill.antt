@@ -84,7 +84,7 @@ module _ (at : ℕ) where
     record { may = tt; right = refl; new_is = refl },
   )
 
-  pub lawful : ServerLaw limits 6 0 calls
+  pub lawful : ServerLaw limits 6 (usual 0) calls
   lawful = record {
     rows = rows;
     exchanges = record

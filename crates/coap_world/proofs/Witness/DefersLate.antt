@@ -301,8 +301,8 @@ goes_13 = (
 smooth : Smooth slow after_13
 smooth = record {
   goes = goes_13;
-  few_to_client = few_of client_came (client_of (entries_of after_13)) (omega arith);
-  few_to_server = few_of server_came (server_of (entries_of after_13)) (omega arith);
+  few_to_client = few_of 0 client_came (client_of (entries_of after_13)) (omega arith);
+  few_to_server = few_of 0 server_came (server_of (entries_of after_13)) (omega arith);
   delays = of_one (λ (d : Delay). d.ms ≤ 10000) (record { path = t; ms = 1000 }) (omega arith);
   versions = (let n : changes_in slow (entries_of after_13) ≡ 1 = refl in omega (arith, n));
 }

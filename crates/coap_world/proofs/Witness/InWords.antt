@@ -6,8 +6,9 @@ use Rattle.coap_types.specs.Bytes.{AreBytes}
 use Rattle.coap_types.proofs.Facts.Bytes.{bytes_are}
 use Rattle.coap_types.specs.EntityTag.{AreTags}
 use Rattle.coap_types.specs.Path.{IsPath}
+use Rattle.coap_layer.specs.Machine.State.{usual}
 use Rattle.coap_server.specs.Trace.{Delay}
-use Rattle.coap_world.specs.Legal.{IsDelay, IsConfig}
+use Rattle.coap_world.specs.Legal.{IsDelay, IsSetup, IsConfig}
 use Rattle.coap_world.specs.LegalRuns.{with_delays, config, t}
 
 pub of_one : {X : Type 0} (P : X → Type 0) (x : X) → P x → All P (x ∷ [])
@@ -27,12 +28,16 @@ t_is = path_of_one (codes "t") (omega arith) (bytes_are (codes "t") refl)
 pub no_tags : AreTags []
 no_tags = record { few = omega arith; each = All-nil _ }
 
+-- word 0, and 4,096 messages that are remembered
+pub usual_range : IsSetup (usual 0)
+usual_range = record { word = omega arith; some = omega arith; few = omega arith }
+
 pub configured : (delays : List Delay) → All IsDelay delays → length delays ≤ 16 → IsConfig (with_delays delays)
 configured delays each few = record {
-  client_word = omega arith;
+  client_setup = usual_range;
   client_szx = omega arith;
   client_limit = (omega arith, omega arith);
-  server_word = omega arith;
+  server_setup = usual_range;
   server_szx = omega arith;
   some = omega arith;
   limit = (let most : 4194303 ≤ 4194303 = omega arith in most);

@@ -147,10 +147,10 @@ response_spelled code id value some small = (sendable_when_short _ (record {
 
 pub by_16_range : IsConfig by_16
 by_16_range = record {
-  client_word = omega arith;
+  client_setup = config_range.client_setup;
   client_szx = omega arith;
   client_limit = (omega arith, omega arith);
-  server_word = omega arith;
+  server_setup = config_range.server_setup;
   server_szx = omega arith;
   some = omega arith;
   limit = config_range.limit;

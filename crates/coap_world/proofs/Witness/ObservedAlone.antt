@@ -8,10 +8,12 @@ use Rattle.coap_client.specs.Follows.OfObservations.{Observed, observes}
 use Rattle.coap_client.specs.Law.{own_of}
 use Rattle.coap_client.specs.Steps.{reports}
 use Rattle.coap_client.specs.Trace as C
-use Rattle.coap_world.specs.Current.{is_taken, ObservesAlone, forgotten, FitsABlock}
+use Rattle.coap_client.specs.Follows.Gives.{forgotten}
+use Rattle.coap_world.specs.Current.{is_taken, ObservesAlone, FitsABlock}
 use Rattle.coap_world.specs.Events.{Config}
 use Rattle.coap_world.specs.Record.{Entry, OfClient, OfServer, client_of}
 use Rattle.coap_world.specs.Words.{ReportsAt, holds_at}
+use Rattle.std.proofs.lemmas.Bool.{and_parts as all_of_both}
 
 -- none of the calls is taken on
 abbrev pub none : List C.Call → Bool
@@ -60,10 +62,6 @@ short_held : (most : ℕ) (o : Option Held) → is_short most o ≡ true → (he
 short_held most None h held is = absurd (cc is)
 short_held most (Some other) h held is =
     leb-true (length held.body) most (subst (λ (o : Option Held). is_short most o ≡ true) is h)
-
-all_of_both : (a b : Bool) → a && b ≡ true → (a ≡ true) × (b ≡ true)
-all_of_both true b h = (refl, h)
-all_of_both false b h = absurd (cc h)
 
 module _ (config : Config) where
   abbrev pub all_short : List (List ℕ) → List Entry → Bool

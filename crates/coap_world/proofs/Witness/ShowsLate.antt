@@ -103,8 +103,8 @@ goes_20 = (record { in_order = none_higher 4 after_19 (tt, (tt, (tt, (tt, (tt, (
 smooth : Smooth config after_20
 smooth = record {
   goes = goes_20;
-  few_to_client = few_of client_came (client_of (entries_of after_20)) (omega arith);
-  few_to_server = few_of server_came (server_of (entries_of after_20)) (omega arith);
+  few_to_client = few_of 0 client_came (client_of (entries_of after_20)) (omega arith);
+  few_to_server = few_of 0 server_came (server_of (entries_of after_20)) (omega arith);
   delays = All-nil (λ (d : Delay). d.ms ≤ 10000);
   versions = (let n : changes_in config (entries_of after_20) ≡ 3 = refl in omega (arith, n));
 }

@@ -2,6 +2,7 @@
 use Rattle.std.proofs.Common.{◌≡◌, ◌<◌, ◌≤◌, ◌⊎◌, ◌+◌, inl, inr, ⊎_elim, ℕ, Bool, true, false, Option, List, []}
 use Rattle.std.proofs.Common.{◌∷◌, length, ap, arith, subst, cond, Ok, Err}
 use Rattle.coap_types.specs.Past.{Sometime, Always, all_of}
+use Rattle.coap_layer.specs.Machine.State.{usual}
 use Rattle.coap_client.specs.Trace as C
 use Rattle.coap_world.specs.Events.{What, Deliver}
 use Rattle.coap_world.specs.Record.{Given, Turn, given_in}
@@ -46,8 +47,12 @@ at_most came since (c ∷ past) =
     let n : length (c ∷ past) ≡ length past + 1 = omega arith in
     omega (arith, k, n)
 
-pub few_of : {X : Type 0} (came : X → Option ℕ) (calls : List X) → length calls < 4096 → FewCome came calls
-few_of came calls few since = let k = at_most came since calls in omega (arith, k, few)
+-- with as many that are remembered as where nothing else is chosen
+pub few_of : {X : Type 0} (word : ℕ) (came : X → Option ℕ) (calls : List X) → length calls < 4096
+    → FewCome (usual word) came calls
+few_of word came calls few since =
+    let k = at_most came since calls in
+    let less : count_came came since calls < 4096 = omega (arith, k, few) in (less, less)
 
 -- no observation is taken
 abbrev pub observes : List C.Call → Bool

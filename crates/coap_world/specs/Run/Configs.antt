@@ -1,5 +1,6 @@
 -- With what a run begins.
 use Rattle.std.specs.Prelude.{ℕ, List, ◌++◌, map}
+use Rattle.coap_layer.specs.declared.setup.Setup.{Setup}
 use Rattle.coap_block.specs.Sizes.{Sizes}
 use Rattle.coap_resource.specs.Limits.{Limits}
 use Rattle.coap_server.specs.declared.server.parts.Delay.{Delay as PathDelay}
@@ -9,13 +10,13 @@ use Rattle.coap_server.specs.Trace.{Delay}
 use Rattle.coap_world.specs.Events.{Config}
 use Rattle.coap_world.specs.Record.{DelayOf, PlainOf, gives_it}
 
-abbrev pub config_of : {A : Type 0} → (client_word : ℕ) → Sizes → (server_word server_szx : ℕ) → Limits
+abbrev pub config_of : {A : Type 0} → (client_setup : Setup) → Sizes → (server_setup : Setup) (server_szx : ℕ) → Limits
     → List (PathDelay A) → List (List (List ℕ)) → Config
-config_of client_word client_sizes server_word server_szx limits delays plains =
+config_of client_setup client_sizes server_setup server_szx limits delays plains =
     record {
-      client_word = client_word;
+      client_setup = client_setup;
       client_sizes = client_sizes;
-      server_word = server_word;
+      server_setup = server_setup;
       server_szx = server_szx;
       limits = limits;
       delays = delays_as delays;
@@ -27,6 +28,13 @@ abbrev pub with_limits : Config → (client server : ℕ) → Config
 with_limits config client server = record config {
   client_sizes = record config.client_sizes { limit = client };
   limits = record config.limits { body = server };
+}
+
+-- the same, with other numbers of remembered messages
+abbrev pub with_remembered : Config → (client server : ℕ) → Config
+with_remembered config client server = record config {
+  client_setup = record config.client_setup { remembered = client };
+  server_setup = record config.server_setup { remembered = server };
 }
 
 -- the same, with other delays

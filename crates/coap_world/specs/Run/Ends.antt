@@ -14,11 +14,11 @@ use Rattle.coap_world.specs.declared.running.ends.ServerEnd.{ServerEnd}
 
 -- the client, and what was sent under each token
 pub record ClientLed {A : Type 0} (config : Config) (t : List C.Call) (e : ClientEnd A) : Type 0 where
-  pub led : client.Led server_end config.client_sizes config.client_word t e.client
+  pub led : client.Led server_end config.client_sizes config.client_setup t e.client
   pub senders : (token : List ℕ) → sender_in e.senders token ≡ sender_of config.client_sizes token t
 
 -- a server over a store, by what that holds, and how many changes there were
 pub record ServerLed {K A : Type 0} (content : K → Content) (config : Config) (t : List S.Call)
     (e : ServerEnd K A) : Type 0 where
-  pub led : server.Led config.limits config.server_szx config.server_word t (state_of content e.server)
+  pub led : server.Led config.limits config.server_szx config.server_setup t (state_of content e.server)
   pub version : e.version ≡ changes config.limits config.server_szx t

@@ -20,12 +20,12 @@ use std::hash::BuildHasherDefault;
 pub(crate) fn client_of<A: Allocator + Copy>(config: &WorldConfig<A>) -> ClientEnd<A>
     ensures { ClientLed config.now [] result }
 {
-    let client = Client::with_limit(
+    let client = Client::with_setup(
         config.alloc,
         SERVER_END,
         config.client_szx,
-        config.client_word,
         config.client_limit,
+        config.client_setup,
         BuildHasherDefault::new(),
     );
     ClientEnd {
@@ -36,12 +36,18 @@ pub(crate) fn client_of<A: Allocator + Copy>(config: &WorldConfig<A>) -> ClientE
 
 // The server, without the delays and the plain paths.
 fn fresh_server<S: Store<A>, A: Allocator + Copy>(config: &WorldConfig<A>) -> Server<S, A>
-    ensures { Led config.now.limits config.now.server_szx config.now.server_word [] (state_of S.content result) }
+    ensures { Led config.now.limits config.now.server_szx config.now.server_setup [] (state_of S.content result) }
 {
     let Some(store) = S::new_sized(config.alloc, config.changes, config.server_limit) else {
         unreachable!()
     };
-    Server::new(config.alloc, store, config.server_szx, config.server_word)
+    Server::with_setup(
+        config.alloc,
+        store,
+        config.server_szx,
+        config.server_setup,
+        BuildHasherDefault::new(),
+    )
 }
 
 // Gives a server the delays, from the last to the first.
@@ -49,8 +55,8 @@ fn give_delays<S: Store<A>, A: Allocator + Copy>(
     server: &mut Server<S, A>,
     config: &WorldConfig<A>,
 ) -> Result<(), AllocError>
-    requires { Led config.now.limits config.now.server_szx config.now.server_word [] (state_of S.content server.old) }
-    ensures { OnOk result (Led config.now.limits config.now.server_szx config.now.server_word (gives config.now.delays)
+    requires { Led config.now.limits config.now.server_szx config.now.server_setup [] (state_of S.content server.old) }
+    ensures { OnOk result (Led config.now.limits config.now.server_szx config.now.server_setup (gives config.now.delays)
         (state_of S.content server.new)) }
 {
     let mut left = config.delays.len();
@@ -71,9 +77,9 @@ fn make_plain<S: Store<A>, A: Allocator + Copy>(
     server: &mut Server<S, A>,
     config: &WorldConfig<A>,
 ) -> Result<(), AllocError>
-    requires { Led config.now.limits config.now.server_szx config.now.server_word (gives config.now.delays)
+    requires { Led config.now.limits config.now.server_szx config.now.server_setup (gives config.now.delays)
         (state_of S.content server.old) }
-    ensures { OnOk result (Led config.now.limits config.now.server_szx config.now.server_word (begun_with config.now)
+    ensures { OnOk result (Led config.now.limits config.now.server_szx config.now.server_setup (begun_with config.now)
         (state_of S.content server.new)) }
 {
     let mut left = config.plains.len();
@@ -93,8 +99,8 @@ fn set_up<S: Store<A>, A: Allocator + Copy>(
     server: &mut Server<S, A>,
     config: &WorldConfig<A>,
 ) -> Result<(), AllocError>
-    requires { Led config.now.limits config.now.server_szx config.now.server_word [] (state_of S.content server.old) }
-    ensures { OnOk result (Led config.now.limits config.now.server_szx config.now.server_word (begun_with config.now)
+    requires { Led config.now.limits config.now.server_szx config.now.server_setup [] (state_of S.content server.old) }
+    ensures { OnOk result (Led config.now.limits config.now.server_szx config.now.server_setup (begun_with config.now)
         (state_of S.content server.new)) }
 {
     give_delays(server, config)?;

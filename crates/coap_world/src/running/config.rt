@@ -6,23 +6,26 @@ ghost use Rattle.coap_block.specs.Sizes.{usual_sizes};
 ghost use Rattle.coap_resource.specs.Limits.{usual_limits};
 ghost use Rattle.coap_server.specs.Plain.{is_plain, may_be_plain, plains_with};
 ghost use Rattle.coap_server.specs.declared.server.plain.PlainRefusal.TheVariants as plain_refusals;
-ghost use Rattle.coap_world.specs.Run.Configs.{with_delays, with_limits, with_plains};
+ghost use Rattle.coap_world.specs.Run.Configs.{with_delays, with_limits, with_plains, with_remembered};
+ghost use Rattle.coap_layer.specs.Machine.State.{usual};
 
 use coap_ends::{Delay, DelayRefusal, PlainRefusal, give_delay, give_plain};
+use coap_layer::Setup;
 use coap_resource::MAX_CHANGES_PER_WINDOW;
-use coap_types::{BodyLimit, Path, Szx};
+use coap_types::{BodyLimit, Path, Remembered, Szx};
 use std::alloc::{Allocator, Global};
 use std::marker::Model;
 
-/// With what a run begins: the words, the block sizes and the limits of bodies of both ends, how many
-/// changes a window takes, which paths are answered later, and which are notified in NONs.
+/// With what a run begins: the words, the numbers of remembered messages, the block sizes and the limits
+/// of bodies of both ends, how many changes a window takes, which paths are answered later, and which are
+/// notified in NONs.
 #[derive(Drop)]
 pub struct WorldConfig<A: Allocator + Copy = Global> {
     pub(crate) alloc: A,
-    pub(crate) client_word: u64,
+    pub(crate) client_setup: Setup,
     pub(crate) client_szx: Szx,
     pub(crate) client_limit: BodyLimit,
-    pub(crate) server_word: u64,
+    pub(crate) server_setup: Setup,
     pub(crate) server_szx: Szx,
     pub(crate) server_limit: BodyLimit,
     pub(crate) changes: u32,
@@ -38,16 +41,16 @@ impl<A: Allocator + Copy> Model for WorldConfig<A> {
 
     ghost use Rattle.coap_world.specs.Run.Configs.{config_of};
 
-    ghost view = { λ c. config_of c.client_word (record { szx = c.client_szx; limit = c.client_limit }) c.server_word
+    ghost view = { λ c. config_of c.client_setup (record { szx = c.client_szx; limit = c.client_limit }) c.server_setup
         c.server_szx (record { changes = c.changes; body = c.server_limit }) c.delays.items c.plains.items };
 
-    ghost invariant = { λ c. IsConfig (config_of c.client_word (record { szx = c.client_szx; limit = c.client_limit })
-        c.server_word c.server_szx (record { changes = c.changes; body = c.server_limit }) c.delays.items c.plains.items) };
+    ghost invariant = { λ c. IsConfig (config_of c.client_setup (record { szx = c.client_szx; limit = c.client_limit })
+        c.server_setup c.server_szx (record { changes = c.changes; body = c.server_limit }) c.delays.items c.plains.items) };
 }
 
 impl<A: Allocator + Copy> WorldConfig<A> {
-    /// With no delays and no plain path, and with the limits of `BodyLimit::default()`; None where a store does not take
-    /// so many changes in a window.
+    /// With no delays and no plain path, and with the limits of `BodyLimit::default()` and as many remembered messages
+    /// as `Remembered::default()`; None where a store does not take so many changes in a window.
     pub fn new(
         alloc: A,
         client_word: u64,
@@ -56,11 +59,12 @@ impl<A: Allocator + Copy> WorldConfig<A> {
         server_szx: Szx,
         changes: u32,
     ) -> Option<WorldConfig<A>>
-        // A `new` run has these words, sizes and changes a window, the usual limits, no delay and no plain path.
+        // A `new` run has these words, sizes and changes a window, the usual limits and numbers of remembered messages,
+        // no delay and no plain path.
         ensures config { IfSome result (λ c. c ≡ record {
-          client_word = client_word;
+          client_setup = usual client_word;
           client_sizes = usual_sizes client_szx;
-          server_word = server_word;
+          server_setup = usual server_word;
           server_szx = server_szx;
           limits = usual_limits changes;
           delays = [];
@@ -74,10 +78,10 @@ impl<A: Allocator + Copy> WorldConfig<A> {
         }
         Some(WorldConfig {
             alloc,
-            client_word,
+            client_setup: Setup::new(client_word),
             client_szx,
             client_limit: BodyLimit::default(),
-            server_word,
+            server_setup: Setup::new(server_word),
             server_szx,
             server_limit: BodyLimit::default(),
             changes,
@@ -93,6 +97,17 @@ impl<A: Allocator + Copy> WorldConfig<A> {
     {
         self.client_limit = client;
         self.server_limit = server;
+    }
+
+    /// Has the client and the server remember so many messages at most (RFC 7252, section 4.5).
+    pub fn remembered(&mut self, client: Remembered, server: Remembered)
+        // The ends of the run remember so many messages, and all else is as it was.
+        ensures { self.new ≡ with_remembered self.old client server }
+    {
+        let _client = client.get();
+        let _server = server.get();
+        self.client_setup.remembered = client;
+        self.server_setup.remembered = server;
     }
 
     /// Has each Confirmable request of the path wait for so many milliseconds, as

@@ -1,17 +1,19 @@
 //! What a client is asked for.
-ghost use Rattle.std.specs.Prelude.{◌≡◌, ◌≢◌, pos, map, Option, Some, IfOk, IfErr, IfSome, Ok, Err};
+ghost use Rattle.std.specs.Prelude.{◌≡◌, ◌≢◌, ◌↔◌, ◌⊎◌, pos, map, Option, Some, IfOk, IfErr, IfSome};
+ghost use Rattle.std.specs.Prelude.{IfNone, OnOk, Ok, Err};
 ghost use Rattle.coap_client.specs.Object.CallShown.{shown_request};
 ghost use Rattle.coap_client.specs.Object.Shown.{number_of};
 ghost use Rattle.coap_client.specs.RefusalNumbers.{call_refusal_number};
 ghost use Rattle.coap_client.specs.declared.refusals.CallRefusal.TheVariants as refusals;
-ghost use Rattle.knifesilver.specs.Answers.{IsAnswered, IsRefused};
+ghost use Rattle.knifesilver.specs.Answers.{IsAnswered, IsRefused, IsUsual};
+ghost use Rattle.knifesilver.specs.CallArguments.{AreTags, MakeRequest, RefusesArguments};
 ghost use Rattle.knifesilver.specs.ClientCalls.{CallsThat, IsCall, IsCancel, IsForget, IsObserve, TakenAnswers, asked};
 ghost use Rattle.knifesilver.specs.ClientCalls.{tag_bytes};
 ghost use Rattle.knifesilver.specs.ClientHeld.{HoldsClient, IsClient, Made};
-ghost use Rattle.knifesilver.specs.PathTexts.{spelled};
+ghost use Rattle.knifesilver.specs.PathTexts.{RefusesPath, spelled};
 ghost use Rattle.knifesilver.specs.Reports.{beside};
 
-use crate::answers::{BAD_ARGUMENT, DONE, NO_MEMORY, NOT_LIVE, NOTHING};
+use crate::answers::{BAD_ARGUMENT, BAD_PATH, DONE, NO_MEMORY, NOT_LIVE, NOTHING};
 use crate::crossing::format_of;
 use crate::handle::KsHandle;
 use crate::held::Held;
@@ -47,7 +49,9 @@ pub struct KsTag {
 
 // The entity-tags; None where one is none, or there are too many.
 fn tags_of(given: &[KsTag]) -> Option<Tags>
-    ensures { IfSome result (λ tags. tags ≡ map tag_bytes given.now) }
+    ensures tags { IfSome result (λ tags. tags ≡ map tag_bytes given.now) }
+    ensures some { IfSome result (λ tags. AreTags given.now) }
+    ensures none { IfNone result (AreTags given.now → ⊥) }
 {
     let mut tags = Tags::new();
     for tag in given {
@@ -68,6 +72,11 @@ fn request_of(
 ) -> Result<Request, i32>
     ensures says { IfOk result (λ request. asked what.now path body.now etags.now if_match.now
         ≡ Some (shown_request request)) }
+    ensures fits { OnOk result (MakeRequest what.now etags.now if_match.now) }
+    ensures argument { IfErr result (λ answer. (answer ≡ BAD_ARGUMENT)
+        ↔ (MakeRequest what.now etags.now if_match.now → ⊥)) }
+    ensures path { IfErr result (λ answer. answer ≢ BAD_PATH) }
+    ensures why { IfErr result (λ answer. (answer ≡ BAD_ARGUMENT) ⊎ (answer ≡ NO_MEMORY)) }
     ensures refused { IfErr result IsRefused }
     ensures live { IfErr result (λ answer. answer ≢ NOT_LIVE) }
 {
@@ -97,6 +106,9 @@ fn refused(why: CallRefusal) -> i32
     ensures answered { IsAnswered result → (why ≢ refusals.Memory) × (result ≡ pos (call_refusal_number why)) }
     ensures memory { IsRefused result → why ≡ refusals.Memory }
     ensures live { result ≢ NOT_LIVE }
+    ensures path { result ≢ BAD_PATH }
+    ensures argument { result ≢ BAD_ARGUMENT }
+    ensures why { IsRefused result → result ≡ NO_MEMORY }
 {
     match why {
         CallRefusal::Memory => NO_MEMORY,
@@ -110,6 +122,9 @@ fn taken(number: Result<CallId, CallRefusal>, id: &mut u64) -> i32
         → (number ≢ Err refusals.Memory) × TakenAnswers result id.new (number_of number) }
     ensures memory { IsRefused result → number ≡ Err refusals.Memory }
     ensures live { result ≢ NOT_LIVE }
+    ensures path { result ≢ BAD_PATH }
+    ensures argument { result ≢ BAD_ARGUMENT }
+    ensures why { IsRefused result → result ≡ NO_MEMORY }
 {
     match number {
         Ok(number) => {
@@ -127,6 +142,9 @@ fn call(held: &mut Held, now: u64, request: Request, id: &mut u64) -> i32
     ensures kept { IsRefused result → held.new ≡ held.old }
     ensures beside { beside (Some held.new) ≡ beside (Some held.old) }
     ensures live { IsClient held.old → result ≢ NOT_LIVE }
+    ensures path { result ≢ BAD_PATH }
+    ensures argument { result ≢ BAD_ARGUMENT }
+    ensures why { IsRefused result → IsUsual result }
 {
     match held {
         Held::Client(client) => taken(client.client.call(Moment(now), request), id),
@@ -156,6 +174,14 @@ pub extern "C" fn ks_client_call(
     ensures kept { IsRefused result → handle.new.held ≡ handle.old.held }
     // A call leaves the report that waits beside the client.
     ensures beside { beside handle.new.held ≡ beside handle.old.held }
+    // A call is refused for its path exactly where the text spells none.
+    ensures refused { RefusesPath path.now result }
+    // A call of a path is refused for its arguments exactly where its method is none, an entity-tag has no byte or over 8, or
+    // there are over four, unless memory is refused first.
+    ensures argument { RefusesArguments path.now what.now etags.now if_match.now result }
+    // A call is refused for its path or its arguments, for want of memory or of a client in the handle, and for
+    // nothing else.
+    ensures why { IsRefused result → (result ≡ BAD_PATH) ⊎ (result ≡ BAD_ARGUMENT) ⊎ IsUsual result }
     // `call` never says of a handle with a client that it holds none.
     ensures live { HoldsClient handle.old.held → result ≢ NOT_LIVE }
 {
@@ -181,6 +207,8 @@ fn observe(held: &mut Held, now: u64, path: Path, id: &mut u64) -> i32
     ensures kept { IsRefused result → held.new ≡ held.old }
     ensures beside { beside (Some held.new) ≡ beside (Some held.old) }
     ensures live { IsClient held.old → result ≢ NOT_LIVE }
+    ensures path { result ≢ BAD_PATH }
+    ensures why { IsRefused result → IsUsual result }
 {
     match held {
         Held::Client(client) => taken(client.client.observe(Moment(now), path), id),
@@ -204,6 +232,10 @@ pub extern "C" fn ks_client_observe(
     ensures kept { IsRefused result → handle.new.held ≡ handle.old.held }
     // An observation leaves the report that waits beside the client.
     ensures beside { beside handle.new.held ≡ beside handle.old.held }
+    // An observation is refused for its path exactly where the text spells none.
+    ensures refused { RefusesPath path.now result }
+    // An observation is refused for its path, for want of memory or of a client in the handle, and for nothing else.
+    ensures why { IsRefused result → (result ≡ BAD_PATH) ⊎ IsUsual result }
     // `observe` never says of a handle with a client that it holds none.
     ensures live { HoldsClient handle.old.held → result ≢ NOT_LIVE }
 {
@@ -225,6 +257,7 @@ fn cancel(held: &mut Held, now: u64, id: u64) -> i32
     ensures kept { IsRefused result → held.new ≡ held.old }
     ensures beside { beside (Some held.new) ≡ beside (Some held.old) }
     ensures live { IsClient held.old → result ≢ NOT_LIVE }
+    ensures why { IsRefused result → result ≡ NOT_LIVE }
 {
     match held {
         Held::Client(client) => match client.client.cancel(Moment(now), CallId(id)) {
@@ -246,6 +279,8 @@ pub extern "C" fn ks_client_cancel(alloc: Global, handle: &mut KsHandle, now: u6
     ensures beside { beside handle.new.held ≡ beside handle.old.held }
     // `cancel` never says of a handle with a client that it holds none.
     ensures live { HoldsClient handle.old.held → result ≢ NOT_LIVE }
+    // A cancel is refused for want of a client in the handle, and for nothing else.
+    ensures why { IsRefused result → result ≡ NOT_LIVE }
 {
     let Some(mut held) = handle.take(alloc) else {
         return NOT_LIVE;
@@ -261,6 +296,7 @@ fn forget(held: &mut Held, id: u64) -> i32
     ensures kept { IsRefused result → held.new ≡ held.old }
     ensures beside { beside (Some held.new) ≡ beside (Some held.old) }
     ensures live { IsClient held.old → result ≢ NOT_LIVE }
+    ensures why { IsRefused result → result ≡ NOT_LIVE }
 {
     match held {
         Held::Client(client) => {
@@ -285,6 +321,8 @@ pub extern "C" fn ks_client_forget(alloc: Global, handle: &mut KsHandle, id: u64
     ensures beside { beside handle.new.held ≡ beside handle.old.held }
     // `forget` never says of a handle with a client that it holds none.
     ensures live { HoldsClient handle.old.held → result ≢ NOT_LIVE }
+    // To forget an observation is refused for want of a client in the handle, and for nothing else.
+    ensures why { IsRefused result → result ≡ NOT_LIVE }
 {
     let Some(mut held) = handle.take(alloc) else {
         return NOT_LIVE;

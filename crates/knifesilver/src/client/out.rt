@@ -1,5 +1,5 @@
 //! The datagrams that a client hands out.
-ghost use Rattle.std.specs.Prelude.{◌≡◌, ◌≢◌, Some};
+ghost use Rattle.std.specs.Prelude.{◌≡◌, ◌≢◌, ◌⊎◌, Some};
 ghost use Rattle.knifesilver.specs.Answers.{IsAnswered, IsRefused};
 ghost use Rattle.knifesilver.specs.ClientCalls.{IsNextOut};
 ghost use Rattle.knifesilver.specs.ClientHeld.{HoldsClient, IsClient, Made};
@@ -20,6 +20,7 @@ fn next_out(held: &mut Held, to: &mut KsAddress, room: &mut [u8], len: &mut usiz
     ensures kept { IsRefused result → held.new ≡ held.old }
     ensures beside { beside (Some held.new) ≡ beside (Some held.old) }
     ensures live { IsClient held.old → result ≢ NOT_LIVE }
+    ensures why { IsRefused result → (result ≡ SMALL_ROOM) ⊎ (result ≡ NOT_LIVE) }
 {
     match held {
         Held::Client(client) => {
@@ -51,6 +52,9 @@ pub extern "C" fn ks_client_next_out(
     ensures beside { beside handle.new.held ≡ beside handle.old.held }
     // `next_out` never says of a handle with a client that it holds none.
     ensures live { HoldsClient handle.old.held → result ≢ NOT_LIVE }
+    // To take a datagram of a client is refused for a room that is too small or for want of a client in the handle,
+    // and for nothing else.
+    ensures why { IsRefused result → (result ≡ SMALL_ROOM) ⊎ (result ≡ NOT_LIVE) }
 {
     let Some(mut held) = handle.take(alloc) else {
         return NOT_LIVE;

@@ -1,5 +1,5 @@
 //! The reports that a client hands out.
-ghost use Rattle.std.specs.Prelude.{◌≡◌, ◌≢◌, ◌<◌, true, false, length, take, unwrap_or, [], None, Some, Option};
+ghost use Rattle.std.specs.Prelude.{◌≡◌, ◌≢◌, ◌⊎◌, ◌<◌, true, false, length, take, unwrap_or, [], None, Some, Option};
 ghost use Rattle.std.specs.Option.{option_map};
 ghost use Rattle.coap_client.specs.Object.Shown.{shown_report, shown_reported};
 ghost use Rattle.coap_client.specs.Trace.{Reported};
@@ -200,6 +200,7 @@ fn next_report(held: &mut Held, report: &mut KsReport, room: &mut [u8]) -> i32
         × (beside (Some held.new) ≡ Some next) × IsLong report.new (length room.old) next }
     ensures kept { IsRefused result → result ≢ SMALL_ROOM → held.new ≡ held.old }
     ensures live { IsClient held.old → result ≢ NOT_LIVE }
+    ensures why { IsRefused result → (result ≡ SMALL_ROOM) ⊎ (result ≡ NOT_LIVE) }
 {
     match held {
         Held::Client(client) => next_of(client, report, room),
@@ -227,6 +228,9 @@ pub extern "C" fn ks_client_next_report(
     ensures kept { IsRefused result → result ≢ SMALL_ROOM → handle.new.held ≡ handle.old.held }
     // `next_report` never says of a handle with a client that it holds none.
     ensures live { HoldsClient handle.old.held → result ≢ NOT_LIVE }
+    // To take a report is refused for a room that is too small or for want of a client in the handle, and for
+    // nothing else.
+    ensures why { IsRefused result → (result ≡ SMALL_ROOM) ⊎ (result ≡ NOT_LIVE) }
 {
     let Some(mut held) = handle.take(alloc) else {
         return NOT_LIVE;

@@ -1,6 +1,7 @@
 //! What a client is handed: datagrams and moments.
 ghost use Rattle.std.specs.Prelude.{◌≡◌, ◌≢◌, Some};
-ghost use Rattle.knifesilver.specs.Answers.{IsAnswered, IsRefused};
+ghost use Rattle.coap_client.specs.Turns.Quiet.{IsIdle, TellsNothing};
+ghost use Rattle.knifesilver.specs.Answers.{IsAnswered, IsRefused, IsUsual};
 ghost use Rattle.knifesilver.specs.ClientCalls.{IsDue, IsFeed, IsTick};
 ghost use Rattle.knifesilver.specs.ClientHeld.{HoldsClient, HoldsClientIn, IsClient, IsClientIn, Made};
 ghost use Rattle.knifesilver.specs.Reports.{beside};
@@ -18,6 +19,8 @@ fn feed(held: &mut Held, now: u64, from: Endpoint, datagram: &[u8], word: u64) -
     ensures kept { IsRefused result → held.new ≡ held.old }
     ensures beside { beside (Some held.new) ≡ beside (Some held.old) }
     ensures live { IsClient held.old → result ≢ NOT_LIVE }
+    ensures why { IsRefused result → IsUsual result }
+    ensures quiet { IsClientIn (λ s. TellsNothing s now from datagram.now) held.old → IsAnswered result }
 {
     match held {
         Held::Client(client) => match client.client.feed(Moment(now), from, datagram, word) {
@@ -48,6 +51,12 @@ pub extern "C" fn ks_client_feed(
     ensures beside { beside handle.new.held ≡ beside handle.old.held }
     // `feed` never says of a handle with a client that it holds none.
     ensures live { HoldsClient handle.old.held → result ≢ NOT_LIVE }
+    // A feed of a client is refused for want of memory or of a client in the handle, and for nothing else.
+    ensures why { IsRefused result → IsUsual result }
+    // A datagram for which a client sends nothing, and of which it keeps and tells nothing, is not refused.
+    ensures quiet { HoldsClientIn
+        (λ s. TellsNothing s now (record { ip = from.now.ip; port = from.now.port }) datagram.now) handle.old.held
+        → IsAnswered result }
 {
     let Some(mut held) = handle.take(alloc) else {
         return NOT_LIVE;
@@ -63,6 +72,8 @@ fn tick(held: &mut Held, now: u64, word: u64) -> i32
     ensures kept { IsRefused result → held.new ≡ held.old }
     ensures beside { beside (Some held.new) ≡ beside (Some held.old) }
     ensures live { IsClient held.old → result ≢ NOT_LIVE }
+    ensures why { IsRefused result → IsUsual result }
+    ensures quiet { IsClientIn (λ s. IsIdle s now) held.old → IsAnswered result }
 {
     match held {
         Held::Client(client) => match client.client.tick(Moment(now), word) {
@@ -85,6 +96,10 @@ pub extern "C" fn ks_client_tick(alloc: Global, handle: &mut KsHandle, now: u64,
     ensures beside { beside handle.new.held ≡ beside handle.old.held }
     // `tick` never says of a handle with a client that it holds none.
     ensures live { HoldsClient handle.old.held → result ≢ NOT_LIVE }
+    // A tick of a client is refused for want of memory or of a client in the handle, and for nothing else.
+    ensures why { IsRefused result → IsUsual result }
+    // A tick of a client at which nothing is due is not refused.
+    ensures quiet { HoldsClientIn (λ s. IsIdle s now) handle.old.held → IsAnswered result }
 {
     let Some(mut held) = handle.take(alloc) else {
         return NOT_LIVE;
@@ -98,6 +113,7 @@ pub extern "C" fn ks_client_tick(alloc: Global, handle: &mut KsHandle, now: u64,
 fn due(held: &Held, at: &mut u64) -> i32
     ensures due { IsAnswered result → IsClientIn (IsDue result at.new) held.now }
     ensures live { IsClient held.now → result ≢ NOT_LIVE }
+    ensures why { IsRefused result → result ≡ NOT_LIVE }
 {
     match held {
         Held::Client(client) => match client.client.due() {
@@ -121,6 +137,8 @@ pub extern "C" fn ks_client_due(alloc: Global, handle: &mut KsHandle, at: &mut u
     ensures kept { handle.new.held ≡ handle.old.held }
     // `due` never says of a handle with a client that it holds none.
     ensures live { HoldsClient handle.old.held → result ≢ NOT_LIVE }
+    // To ask when a tick of a client is due is refused for want of a client in the handle, and for nothing else.
+    ensures why { IsRefused result → result ≡ NOT_LIVE }
 {
     let Some(held) = handle.take(alloc) else {
         return NOT_LIVE;

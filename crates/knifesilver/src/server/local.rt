@@ -1,17 +1,17 @@
 //! What the server's own side does with its resources.
-ghost use Rattle.std.specs.Prelude.{◌≡◌, ◌≢◌, ℕ, pos, length, option_copied, Some, IfSome, IfNone};
+ghost use Rattle.std.specs.Prelude.{◌≡◌, ◌≢◌, ◌⊎◌, ℕ, pos, length, option_copied, Some, IfSome, IfNone};
 ghost use Rattle.coap_resource.specs.Content.{refusal_number};
 ghost use Rattle.coap_resource.specs.Entries.{content_of};
 ghost use Rattle.coap_resource.specs.declared.refusal.StoreRefusal.TheVariants.{Memory};
 ghost use Rattle.coap_server.specs.Object.Shown.{state_of};
-ghost use Rattle.knifesilver.specs.Answers.{IsAnswered, IsRefused};
+ghost use Rattle.knifesilver.specs.Answers.{IsAnswered, IsRefused, IsUsual};
 ghost use Rattle.knifesilver.specs.Formats.{format_in};
 ghost use Rattle.knifesilver.specs.declared.held.Held.TheVariants.{Server};
-ghost use Rattle.knifesilver.specs.PathTexts.{spelled};
+ghost use Rattle.knifesilver.specs.PathTexts.{RefusesPath, spelled};
 ghost use Rattle.knifesilver.specs.ServerCalls.{HoldsThat, IsDelay, IsGot, IsRemove, IsSet, IsTooLong, Updates};
 ghost use Rattle.knifesilver.specs.ServerHeld.{HoldsServer, HoldsServerIn, IsServer, IsServerIn, Made};
 
-use crate::answers::{DONE, NO_MEMORY, NOT_LIVE, NOTHING, SMALL_ROOM};
+use crate::answers::{BAD_PATH, DONE, NO_MEMORY, NOT_LIVE, NOTHING, SMALL_ROOM};
 use crate::crossing::{copy_out, format_number, format_of};
 use crate::handle::KsHandle;
 use crate::held::{Held, OurServer};
@@ -26,6 +26,8 @@ fn refused(why: StoreRefusal) -> i32
     ensures answered { IsAnswered result → (why ≢ Memory) × (result ≡ pos (refusal_number why)) }
     ensures memory { IsRefused result → why ≡ Memory }
     ensures live { result ≢ NOT_LIVE }
+    ensures path { result ≢ BAD_PATH }
+    ensures why { IsRefused result → result ≡ NO_MEMORY }
 {
     match why {
         StoreRefusal::Memory => NO_MEMORY,
@@ -46,6 +48,8 @@ fn set(
         → Made (IsSet now path.now format body.now (pos 0) result version.new) (Some held.old) (Some held.new) }
     ensures kept { IsRefused result → held.new ≡ held.old }
     ensures live { IsServer held.old → result ≢ NOT_LIVE }
+    ensures path { result ≢ BAD_PATH }
+    ensures why { IsRefused result → IsUsual result }
 {
     match held {
         Held::Server(server) => match server.set(Moment(now), path, format, body) {
@@ -76,6 +80,10 @@ pub extern "C" fn ks_server_set(
         handle.new.held }
     // To set a value that is refused leaves the very server in the handle.
     ensures kept { IsRefused result → handle.new.held ≡ handle.old.held }
+    // To set a value is refused for its path exactly where the text spells none.
+    ensures refused { RefusesPath path.now result }
+    // To set a value is refused for its path, for want of memory or of a server in the handle, and for nothing else.
+    ensures why { IsRefused result → (result ≡ BAD_PATH) ⊎ IsUsual result }
     // `set` never says of a handle with a server that it holds none.
     ensures live { HoldsServer handle.old.held → result ≢ NOT_LIVE }
 {
@@ -117,6 +125,8 @@ fn replace(
         (Some (Server server.old)) (Some (Server server.new)) }
     ensures kept { IsRefused result → server.new ≡ server.old }
     ensures live { result ≢ NOT_LIVE }
+    ensures path { result ≢ BAD_PATH }
+    ensures why { IsRefused result → result ≡ NO_MEMORY }
 {
     match server.set(Moment(now), path, format, body) {
         Ok(number) => {
@@ -140,6 +150,8 @@ fn update(
         → Updates now path.now format body.now result version.new (Some held.old) (Some held.new) }
     ensures kept { IsRefused result → held.new ≡ held.old }
     ensures live { IsServer held.old → result ≢ NOT_LIVE }
+    ensures path { result ≢ BAD_PATH }
+    ensures why { IsRefused result → IsUsual result }
 {
     match held {
         Held::Server(server) => match version_of(server, path, format, body) {
@@ -170,6 +182,10 @@ pub extern "C" fn ks_server_update(
         handle.new.held }
     // An update that is refused leaves the very server in the handle.
     ensures kept { IsRefused result → handle.new.held ≡ handle.old.held }
+    // An update is refused for its path exactly where the text spells none.
+    ensures refused { RefusesPath path.now result }
+    // An update is refused for its path, for want of memory or of a server in the handle, and for nothing else.
+    ensures why { IsRefused result → (result ≡ BAD_PATH) ⊎ IsUsual result }
     // `update` never says of a handle with a server that it holds none.
     ensures live { HoldsServer handle.old.held → result ≢ NOT_LIVE }
 {
@@ -190,6 +206,8 @@ fn remove(held: &mut Held, now: u64, path: &Path) -> i32
     ensures led { IsAnswered result → Made (IsRemove now path.now result) (Some held.old) (Some held.new) }
     ensures kept { IsRefused result → held.new ≡ held.old }
     ensures live { IsServer held.old → result ≢ NOT_LIVE }
+    ensures path { result ≢ BAD_PATH }
+    ensures why { IsRefused result → IsUsual result }
 {
     match held {
         Held::Server(server) => match server.remove(Moment(now), path) {
@@ -215,6 +233,10 @@ pub extern "C" fn ks_server_remove(
         → Made (IsRemove now (spelled path.now) result) handle.old.held handle.new.held }
     // A removal that is refused leaves the very server in the handle.
     ensures kept { IsRefused result → handle.new.held ≡ handle.old.held }
+    // A removal is refused for its path exactly where the text spells none.
+    ensures refused { RefusesPath path.now result }
+    // A removal is refused for its path, for want of memory or of a server in the handle, and for nothing else.
+    ensures why { IsRefused result → (result ≡ BAD_PATH) ⊎ IsUsual result }
     // `remove` never says of a handle with a server that it holds none.
     ensures live { HoldsServer handle.old.held → result ≢ NOT_LIVE }
 {
@@ -248,6 +270,8 @@ fn get_from(server: &OurServer, path: &Path, shown: &mut KsRepresentation, room:
     ensures long { result ≡ SMALL_ROOM
         → IsTooLong path.now shown.new (length room.old) (state_of content_of server.now) }
     ensures live { result ≢ NOT_LIVE }
+    ensures path { result ≢ BAD_PATH }
+    ensures why { IsRefused result → result ≡ SMALL_ROOM }
 {
     let Some(representation) = server.get(path) else {
         return NOTHING;
@@ -269,6 +293,8 @@ fn get(held: &Held, path: &Path, shown: &mut KsRepresentation, room: &mut [u8]) 
     ensures got { IsAnswered result → IsServerIn (IsGot path.now result shown.new room.new) held.now }
     ensures long { result ≡ SMALL_ROOM → IsServerIn (IsTooLong path.now shown.new (length room.old)) held.now }
     ensures live { IsServer held.now → result ≢ NOT_LIVE }
+    ensures path { result ≢ BAD_PATH }
+    ensures why { IsRefused result → (result ≡ SMALL_ROOM) ⊎ IsUsual result }
 {
     match held {
         Held::Server(server) => get_from(server, path, shown, room),
@@ -292,6 +318,11 @@ pub extern "C" fn ks_server_get(
         → HoldsServerIn (IsTooLong (spelled path.now) shown.new (length room.old)) handle.old.held }
     // To ask for a value leaves the very server in the handle.
     ensures kept { handle.new.held ≡ handle.old.held }
+    // To ask for a value is refused for its path exactly where the text spells none.
+    ensures refused { RefusesPath path.now result }
+    // To ask for a value is refused for its path, for a body longer than the room, for want of memory or of a server in the
+    // handle, and for nothing else.
+    ensures why { IsRefused result → (result ≡ BAD_PATH) ⊎ (result ≡ SMALL_ROOM) ⊎ IsUsual result }
     // `get` never says of a handle with a server that it holds none.
     ensures live { HoldsServer handle.old.held → result ≢ NOT_LIVE }
 {
@@ -315,6 +346,8 @@ fn set_delay(held: &mut Held, path: &Path, ms: u64) -> i32
     ensures led { IsAnswered result → Made (IsDelay path.now ms result) (Some held.old) (Some held.new) }
     ensures kept { IsRefused result → held.new ≡ held.old }
     ensures live { IsServer held.old → result ≢ NOT_LIVE }
+    ensures path { result ≢ BAD_PATH }
+    ensures why { IsRefused result → IsUsual result }
 {
     match held {
         Held::Server(server) => match server.set_delay(path, ms) {
@@ -339,6 +372,10 @@ pub extern "C" fn ks_server_set_delay(
         → Made (IsDelay (spelled path.now) ms result) handle.old.held handle.new.held }
     // A delay that is refused leaves the very server in the handle.
     ensures kept { IsRefused result → handle.new.held ≡ handle.old.held }
+    // To delay a path is refused for its path exactly where the text spells none.
+    ensures refused { RefusesPath path.now result }
+    // To delay a path is refused for its path, for want of memory or of a server in the handle, and for nothing else.
+    ensures why { IsRefused result → (result ≡ BAD_PATH) ⊎ IsUsual result }
     // `set_delay` never says of a handle with a server that it holds none.
     ensures live { HoldsServer handle.old.held → result ≢ NOT_LIVE }
 {

@@ -1,16 +1,17 @@
 //! A server is made and freed.
-ghost use Rattle.std.specs.Prelude.{◌≡◌, pos, None, Some, IfOk, IfErr};
+ghost use Rattle.std.specs.Prelude.{◌≡◌, ◌≢◌, ◌⊎◌, pos, None, Some, IfOk, IfErr, OnOk};
 ghost use Rattle.knifesilver.specs.Answers.{IsAnswered, IsRefused};
-ghost use Rattle.knifesilver.specs.Configs.{chosen};
+ghost use Rattle.knifesilver.specs.Configs.{SaysWrongOfServer, ServesWith, chosen};
 ghost use Rattle.knifesilver.specs.Fresh.{IsFreshServer};
 ghost use Rattle.knifesilver.specs.declared.held.Held.TheVariants.{Server as ServerHeld};
 
 use crate::answers::{BAD_CHANGES, NO_MEMORY, NOTHING};
-use crate::config::{KsConfig, sizes_of};
+use crate::config::{KsConfig, choice_of};
 use crate::handle::KsHandle;
 use crate::held::{Held, OurServer};
-use crate::seed::{KsSeed, hasher};
+use crate::seed::{KsSeed, hash_of};
 use coap_ends::Server;
+use coap_layer::Setup;
 use coap_resource::{MAX_CHANGES_PER_WINDOW, MapStore, Store};
 use std::alloc::Global;
 
@@ -28,19 +29,23 @@ fn changes_of(changes: u32) -> u32
 // A server that holds nothing, or what is wrong with its configuration.
 fn fresh_server(alloc: Global, config: &KsConfig, seed: &KsSeed) -> Result<OurServer, i32>
     ensures made { IfOk result (λ server. IsFreshServer config.now seed.now.word (Some (ServerHeld server))) }
+    ensures taken { OnOk result (ServesWith config.now) }
     ensures refused { IfErr result IsRefused }
+    ensures why { IfErr result (SaysWrongOfServer config.now) }
+    ensures memory { IfErr result (λ answer. answer ≢ NO_MEMORY) }
 {
-    let (szx, limit) = match sizes_of(config) {
-        Ok(sizes) => sizes,
+    let choice = match choice_of(config) {
+        Ok(choice) => choice,
         Err(answer) => return Err(answer),
     };
-    let Some(store) = MapStore::new_sized(alloc, changes_of(config.changes), limit) else {
+    let Some(store) = MapStore::new_sized(alloc, changes_of(config.changes), choice.limit) else {
         return Err(BAD_CHANGES);
     };
-    let Some(hasher) = hasher(seed) else {
-        return Err(NO_MEMORY);
+    let setup = Setup {
+        word: seed.word,
+        remembered: choice.remembered,
     };
-    Ok(Server::with_hasher(alloc, store, szx, seed.word, hasher))
+    Ok(Server::with_setup(alloc, store, choice.szx, setup, hash_of(seed)))
 }
 
 /// Makes a server; what the handle held is freed.
@@ -53,8 +58,14 @@ pub extern "C" fn ks_server_new(
 ) -> i32
     // A server that is made is one that begins, with the numbers of its configuration and its seed.
     ensures made { IsAnswered result → (result ≡ pos 0) × IsFreshServer config.now seed.now.word handle.new.held }
+    // A server is made only with a configuration that can be taken.
+    ensures taken { IsAnswered result → ServesWith config.now }
     // Where no server is made, the handle holds what it held.
     ensures kept { IsRefused result → handle.new.held ≡ handle.old.held }
+    // Where no server is made, the answer says what is wrong with the configuration, or that there is no memory.
+    ensures why { IsRefused result → SaysWrongOfServer config.now result ⊎ (result ≡ NO_MEMORY) }
+    // Want of memory is answered for a server only where its configuration can be taken.
+    ensures memory { result ≡ NO_MEMORY → ServesWith config.now }
 {
     let server = match fresh_server(alloc, config, seed) {
         Ok(server) => server,

@@ -1,5 +1,5 @@
 //! What a server hands out: datagrams, and what a client had it do.
-ghost use Rattle.std.specs.Prelude.{◌≡◌, ◌≢◌, ◌∷◌, [], length, Some};
+ghost use Rattle.std.specs.Prelude.{◌≡◌, ◌≢◌, ◌⊎◌, ◌∷◌, [], length, Some};
 ghost use Rattle.coap_server.specs.Object.Shown.{applied_as};
 ghost use Rattle.knifesilver.specs.Answers.{IsAnswered, IsRefused};
 ghost use Rattle.knifesilver.specs.Applied.{AppliedAnswers, IsLongPath};
@@ -22,6 +22,7 @@ fn next_out(held: &mut Held, to: &mut KsAddress, room: &mut [u8], len: &mut usiz
         → Made (IsNextOut result to.new room.new len.new) (Some held.old) (Some held.new) }
     ensures kept { IsRefused result → held.new ≡ held.old }
     ensures live { IsServer held.old → result ≢ NOT_LIVE }
+    ensures why { IsRefused result → (result ≡ SMALL_ROOM) ⊎ (result ≡ NOT_LIVE) }
 {
     match held {
         Held::Server(server) => {
@@ -51,6 +52,9 @@ pub extern "C" fn ks_server_next_out(
     ensures kept { IsRefused result → handle.new.held ≡ handle.old.held }
     // `next_out` never says of a handle with a server that it holds none.
     ensures live { HoldsServer handle.old.held → result ≢ NOT_LIVE }
+    // To take a datagram of a server is refused for a room that is too small or for want of a server in the handle,
+    // and for nothing else.
+    ensures why { IsRefused result → (result ≡ SMALL_ROOM) ⊎ (result ≡ NOT_LIVE) }
 {
     let Some(mut held) = handle.take(alloc) else {
         return NOT_LIVE;
@@ -83,6 +87,7 @@ fn tell(applied: &Applied<Global>, told: &mut KsApplied, room: &mut [u8]) -> i32
     ensures told { IsAnswered result → AppliedAnswers result told.new room.new (applied_as applied.now ∷ []) }
     ensures long { result ≡ SMALL_ROOM → IsLongPath (length room.old) (applied_as applied.now ∷ []) }
     ensures live { result ≢ NOT_LIVE }
+    ensures why { IsRefused result → result ≡ SMALL_ROOM }
 {
     let (token, token_len) = token_of(&applied.token);
     let Some(path_len) = put_path(&applied.path, room) else {
@@ -107,6 +112,7 @@ fn applied(held: &Held, told: &mut KsApplied, room: &mut [u8]) -> i32
     ensures long { result ≡ SMALL_ROOM
         → Made (IsAppliedLong (length room.old)) (Some held.now) (Some held.now) }
     ensures live { IsServer held.now → result ≢ NOT_LIVE }
+    ensures why { IsRefused result → (result ≡ SMALL_ROOM) ⊎ (result ≡ NOT_LIVE) }
 {
     match held {
         Held::Server(server) => match server.applied() {
@@ -135,6 +141,9 @@ pub extern "C" fn ks_server_applied(
     ensures kept { handle.new.held ≡ handle.old.held }
     // `applied` never says of a handle with a server that it holds none.
     ensures live { HoldsServer handle.old.held → result ≢ NOT_LIVE }
+    // To ask what was applied is refused for a room that is too small or for want of a server in the handle, and for
+    // nothing else.
+    ensures why { IsRefused result → (result ≡ SMALL_ROOM) ⊎ (result ≡ NOT_LIVE) }
 {
     let Some(held) = handle.take(alloc) else {
         return NOT_LIVE;

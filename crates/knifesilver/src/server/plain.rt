@@ -1,11 +1,11 @@
 //! Which paths are notified in Non-confirmable messages (RFC 7641, section 4.5).
-ghost use Rattle.std.specs.Prelude.{◌≡◌, ◌≢◌, Some};
-ghost use Rattle.knifesilver.specs.Answers.{IsAnswered, IsRefused};
-ghost use Rattle.knifesilver.specs.PathTexts.{spelled};
+ghost use Rattle.std.specs.Prelude.{◌≡◌, ◌≢◌, ◌⊎◌, Some};
+ghost use Rattle.knifesilver.specs.Answers.{IsAnswered, IsRefused, IsUsual};
+ghost use Rattle.knifesilver.specs.PathTexts.{RefusesPath, spelled};
 ghost use Rattle.knifesilver.specs.ServerCalls.{IsPlain};
 ghost use Rattle.knifesilver.specs.ServerHeld.{HoldsServer, IsServer, Made};
 
-use crate::answers::{NO_MEMORY, NOT_LIVE, NOTHING};
+use crate::answers::{BAD_PATH, NO_MEMORY, NOT_LIVE, NOTHING};
 use crate::handle::KsHandle;
 use crate::held::Held;
 use crate::path_text::path_of;
@@ -21,6 +21,8 @@ fn set_plain(held: &mut Held, path: &Path) -> i32
     ensures led { IsAnswered result → Made (IsPlain path.now result) (Some held.old) (Some held.new) }
     ensures kept { IsRefused result → held.new ≡ held.old }
     ensures live { IsServer held.old → result ≢ NOT_LIVE }
+    ensures path { result ≢ BAD_PATH }
+    ensures why { IsRefused result → IsUsual result }
 {
     match held {
         Held::Server(server) => match server.set_plain(path) {
@@ -40,6 +42,11 @@ pub extern "C" fn ks_server_set_plain(alloc: Global, handle: &mut KsHandle, path
     ensures led { IsAnswered result → Made (IsPlain (spelled path.now) result) handle.old.held handle.new.held }
     // A path that isn't made plain leaves the very server in the handle.
     ensures kept { IsRefused result → handle.new.held ≡ handle.old.held }
+    // To make a path plain is refused for that path exactly where the text spells none.
+    ensures refused { RefusesPath path.now result }
+    // To make a path plain is refused for that path, for want of memory or of a server in the handle, and for
+    // nothing else.
+    ensures why { IsRefused result → (result ≡ BAD_PATH) ⊎ IsUsual result }
     // `set_plain` never says of a handle with a server that it holds none.
     ensures live { HoldsServer handle.old.held → result ≢ NOT_LIVE }
 {

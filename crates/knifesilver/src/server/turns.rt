@@ -1,6 +1,7 @@
 //! What a server is handed: datagrams and moments.
 ghost use Rattle.std.specs.Prelude.{◌≡◌, ◌≢◌, Some};
-ghost use Rattle.knifesilver.specs.Answers.{IsAnswered, IsRefused};
+ghost use Rattle.knifesilver.specs.Answers.{IsAnswered, IsRefused, IsUsual};
+ghost use Rattle.knifesilver.specs.Quiet.{PassesOver, SendsNothing};
 ghost use Rattle.knifesilver.specs.ServerCalls.{IsDue, IsFeed, IsTick};
 ghost use Rattle.knifesilver.specs.ServerHeld.{HoldsServer, HoldsServerIn, IsServer, IsServerIn, Made};
 
@@ -16,6 +17,8 @@ fn feed(held: &mut Held, now: u64, from: Endpoint, datagram: &[u8], word: u64) -
     ensures led { IsAnswered result → Made (IsFeed now from datagram.now word) (Some held.old) (Some held.new) }
     ensures kept { IsRefused result → held.new ≡ held.old }
     ensures live { IsServer held.old → result ≢ NOT_LIVE }
+    ensures why { IsRefused result → IsUsual result }
+    ensures quiet { IsServerIn (PassesOver now from datagram.now) held.old → IsAnswered result }
 {
     match held {
         Held::Server(server) => match server.feed(Moment(now), from, datagram, word) {
@@ -44,6 +47,11 @@ pub extern "C" fn ks_server_feed(
     ensures kept { IsRefused result → handle.new.held ≡ handle.old.held }
     // `feed` never says of a handle with a server that it holds none.
     ensures live { HoldsServer handle.old.held → result ≢ NOT_LIVE }
+    // A feed of a server is refused for want of memory or of a server in the handle, and for nothing else.
+    ensures why { IsRefused result → IsUsual result }
+    // A datagram for which the server's message layer sends nothing and hands nothing up is not refused.
+    ensures quiet { HoldsServerIn (PassesOver now (record { ip = from.now.ip; port = from.now.port }) datagram.now)
+        handle.old.held → IsAnswered result }
 {
     let Some(mut held) = handle.take(alloc) else {
         return NOT_LIVE;
@@ -58,6 +66,8 @@ fn tick(held: &mut Held, now: u64, word: u64) -> i32
     ensures led { IsAnswered result → Made (IsTick now word result) (Some held.old) (Some held.new) }
     ensures kept { IsRefused result → held.new ≡ held.old }
     ensures live { IsServer held.old → result ≢ NOT_LIVE }
+    ensures why { IsRefused result → IsUsual result }
+    ensures quiet { IsServerIn (SendsNothing now) held.old → IsAnswered result }
 {
     match held {
         Held::Server(server) => match server.tick(Moment(now), word) {
@@ -78,6 +88,10 @@ pub extern "C" fn ks_server_tick(alloc: Global, handle: &mut KsHandle, now: u64,
     ensures kept { IsRefused result → handle.new.held ≡ handle.old.held }
     // `tick` never says of a handle with a server that it holds none.
     ensures live { HoldsServer handle.old.held → result ≢ NOT_LIVE }
+    // A tick of a server is refused for want of memory or of a server in the handle, and for nothing else.
+    ensures why { IsRefused result → IsUsual result }
+    // A tick with which a server sends nothing is not refused.
+    ensures quiet { HoldsServerIn (SendsNothing now) handle.old.held → IsAnswered result }
 {
     let Some(mut held) = handle.take(alloc) else {
         return NOT_LIVE;
@@ -91,6 +105,7 @@ pub extern "C" fn ks_server_tick(alloc: Global, handle: &mut KsHandle, now: u64,
 fn due(held: &Held, at: &mut u64) -> i32
     ensures due { IsAnswered result → IsServerIn (IsDue result at.new) held.now }
     ensures live { IsServer held.now → result ≢ NOT_LIVE }
+    ensures why { IsRefused result → result ≡ NOT_LIVE }
 {
     match held {
         Held::Server(server) => match server.due() {
@@ -114,6 +129,8 @@ pub extern "C" fn ks_server_due(alloc: Global, handle: &mut KsHandle, at: &mut u
     ensures kept { handle.new.held ≡ handle.old.held }
     // `due` never says of a handle with a server that it holds none.
     ensures live { HoldsServer handle.old.held → result ≢ NOT_LIVE }
+    // To ask when a tick of a server is due is refused for want of a server in the handle, and for nothing else.
+    ensures why { IsRefused result → result ≡ NOT_LIVE }
 {
     let Some(held) = handle.take(alloc) else {
         return NOT_LIVE;

@@ -13,8 +13,8 @@ pub returns-clause-is_open : goal.returns-clause-is_open
 returns-clause-is_open c = open_runs
 
 pub returns-clause-ends_in_time : goal.returns-clause-ends_in_time
-returns-clause-ends_in_time c server sizes word t law =
-    all_end_in_time server sizes word t law (c.asker_law.ensures.in_time server word (lower_of sizes t) law.exchanges)
+returns-clause-ends_in_time c server sizes setup t law =
+    all_end_in_time server sizes setup t law (c.asker_law.ensures.in_time server setup (lower_of sizes t) law.exchanges)
 
 pub returns-clause-replies_to_con : goal.returns-clause-replies_to_con
 returns-clause-replies_to_con c = replies_to_cons
@@ -29,14 +29,14 @@ pub returns-clause-hears_of_open : goal.returns-clause-hears_of_open
 returns-clause-hears_of_open c = hears_of_open
 
 pub returns-clause-answers_heard : goal.returns-clause-answers_heard
-returns-clause-answers_heard c server sizes word t law =
-    answers_are_heard server sizes word t (c.asker_law.ensures.told_as server word (lower_of sizes t) law.exchanges)
+returns-clause-answers_heard c server sizes setup t law =
+    answers_are_heard server sizes setup t (c.asker_law.ensures.told_as server setup (lower_of sizes t) law.exchanges)
 
 pub returns-clause-sent : goal.returns-clause-sent
-returns-clause-sent c server sizes word t law =
-    sent_where_few_end server sizes word t law (c.asker_law.ensures.sent server word (lower_of sizes t) law.exchanges)
+returns-clause-sent c server sizes setup t law =
+    sent_where_few_end server sizes setup t law (c.asker_law.ensures.sent server setup (lower_of sizes t) law.exchanges)
 
 pub returns-clause-sent_where_answered : goal.returns-clause-sent_where_answered
-returns-clause-sent_where_answered c server sizes word t law =
-    where_few.sent_where_answered sizes t (sent_where_few_end server sizes word t law
-    (c.asker_law.ensures.sent server word (lower_of sizes t) law.exchanges))
+returns-clause-sent_where_answered c server sizes setup t law =
+    where_few.sent_where_answered sizes t (sent_where_few_end server sizes setup t law
+    (c.asker_law.ensures.sent server setup (lower_of sizes t) law.exchanges))

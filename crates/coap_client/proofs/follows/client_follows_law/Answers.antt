@@ -31,19 +31,19 @@ pub returns-clause-begins : goal.returns-clause-begins
 returns-clause-begins c = cons_are_requests
 
 pub returns-clause-order : goal.returns-clause-order
-returns-clause-order c server sizes word t law = are_in_order sizes server word t law
+returns-clause-order c server sizes setup t law = are_in_order sizes server setup t law
 
 pub returns-clause-one_last : goal.returns-clause-one_last
-returns-clause-one_last c server sizes word t law = one_last sizes server word t law
+returns-clause-one_last c server sizes setup t law = one_last sizes server setup t law
 
 pub returns-clause-own_tokens : goal.returns-clause-own_tokens
-returns-clause-own_tokens c server sizes word t law = own_tokens sizes server word t law
+returns-clause-own_tokens c server sizes setup t law = own_tokens sizes server setup t law
 
 pub returns-clause-tokens : goal.returns-clause-tokens
-returns-clause-tokens c server sizes word t law = one_of_token sizes server word t law
+returns-clause-tokens c server sizes setup t law = one_of_token sizes server setup t law
 
 pub returns-clause-short_tokens : goal.returns-clause-short_tokens
-returns-clause-short_tokens c server sizes word t law = short_tokens sizes server word t law
+returns-clause-short_tokens c server sizes setup t law = short_tokens sizes server setup t law
 
 pub returns-clause-heard_once : goal.returns-clause-heard_once
 returns-clause-heard_once c = heard_once
@@ -76,10 +76,10 @@ pub returns-clause-continued : goal.returns-clause-continued
 returns-clause-continued c = are_continued
 
 pub returns-clause-of_calls : goal.returns-clause-of_calls
-returns-clause-of_calls c server sizes word t law = are_of_calls sizes t
+returns-clause-of_calls c server sizes setup t law = are_of_calls sizes t
 
 pub returns-clause-others : goal.returns-clause-others
-returns-clause-others c server sizes word t law = others_are_gets sizes t
+returns-clause-others c server sizes setup t law = others_are_gets sizes t
 
 pub returns-clause-bounded : goal.returns-clause-bounded
 returns-clause-bounded c = are_bounded

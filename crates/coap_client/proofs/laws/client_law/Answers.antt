@@ -1,5 +1,4 @@
 use Rattle.coap_layer.proofs.Facts.Laws.{copies_in_time}
-use Rattle.coap_layer.specs.Machine.State.{usual}
 use Rattle.coap_client.specs.Law.{lower_of, layer_of}
 use Rattle.coap_client.proofs.Sending.NoNons.{no_nons}
 use Rattle.coap_common.proofs.Facts.AskerReplies.{replies_so}
@@ -35,19 +34,19 @@ pub returns-clause-back : goal.returns-clause-back
 returns-clause-back c = client_back
 
 pub returns-clause-places : goal.returns-clause-places
-returns-clause-places c server sizes word t law = (known server sizes word t law.rows law.exchanges.rows).one
+returns-clause-places c server sizes setup t law = (known server sizes setup t law.rows law.exchanges.rows).one
 
 pub returns-clause-once : goal.returns-clause-once
 returns-clause-once c = reported_once
 
 pub returns-clause-none_after : goal.returns-clause-none_after
-returns-clause-none_after c server sizes word t law = none_after sizes server word t law
+returns-clause-none_after c server sizes setup t law = none_after sizes server setup t law
 
 pub returns-clause-answers : goal.returns-clause-answers
-returns-clause-answers c server sizes word t law = answers_last sizes server word t law
+returns-clause-answers c server sizes setup t law = answers_last sizes server setup t law
 
 pub returns-clause-pieces : goal.returns-clause-pieces
-returns-clause-pieces c server sizes word t law = sends_pieces sizes server word t law
+returns-clause-pieces c server sizes setup t law = sends_pieces sizes server setup t law
 
 pub returns-clause-holds : goal.returns-clause-holds
 returns-clause-holds c = all_hold
@@ -59,21 +58,21 @@ pub returns-clause-answered : goal.returns-clause-answered
 returns-clause-answered c = are_answered
 
 pub returns-clause-copies : goal.returns-clause-copies
-returns-clause-copies c server sizes word t law =
-    copies_in_time (usual word) (layer_of server sizes word t) (client_layer server sizes word t law)
+returns-clause-copies c server sizes setup t law =
+    copies_in_time setup (layer_of server sizes setup t) (client_layer server sizes setup t law)
 
 pub returns-clause-nons : goal.returns-clause-nons
-returns-clause-nons c server sizes word t law = no_nons server word (lower_of sizes t)
+returns-clause-nons c server sizes setup t law = no_nons server setup (lower_of sizes t)
 
 pub returns-clause-replies : goal.returns-clause-replies
-returns-clause-replies c server sizes word t law =
-    replies_so server word (lower_of sizes t) law.exchanges.rows law.exchanges.left law.exchanges.layer
+returns-clause-replies c server sizes setup t law =
+    replies_so server setup (lower_of sizes t) law.exchanges.rows law.exchanges.left law.exchanges.layer
 
 pub returns-clause-numbers : goal.returns-clause-numbers
-returns-clause-numbers c server sizes word t law = numbers_once server sizes word t law.rows law.exchanges.rows
+returns-clause-numbers c server sizes setup t law = numbers_once server sizes setup t law.rows law.exchanges.rows
 
 pub returns-clause-from_server : goal.returns-clause-from_server
 returns-clause-from_server c = are_from_server
 
 pub returns-clause-in_order : goal.returns-clause-in_order
-returns-clause-in_order c server sizes word t law = waits sizes t law.rows
+returns-clause-in_order c server sizes setup t law = waits sizes t law.rows

@@ -11,13 +11,13 @@ pub returns-clause-notified : goal.returns-clause-notified
 returns-clause-notified c = are_taken
 
 pub returns-clause-values : goal.returns-clause-values
-returns-clause-values c server sizes word t law = values_are_whole sizes server word t law
+returns-clause-values c server sizes setup t law = values_are_whole sizes server setup t law
 
 pub returns-clause-rising : goal.returns-clause-rising
-returns-clause-rising c server sizes word t law = values_rise sizes server word t law
+returns-clause-rising c server sizes setup t law = values_rise sizes server setup t law
 
 pub returns-clause-ended : goal.returns-clause-ended
-returns-clause-ended c server sizes word t law = are_over sizes server word t law
+returns-clause-ended c server sizes setup t law = are_over sizes server setup t law
 
 pub returns-clause-noted : goal.returns-clause-noted
 returns-clause-noted c = are_noted
@@ -26,4 +26,4 @@ pub returns-clause-noted_at : goal.returns-clause-noted_at
 returns-clause-noted_at c = are_noted_at
 
 pub returns-clause-of_observations : goal.returns-clause-of_observations
-returns-clause-of_observations c server sizes word t law = are_of_observations sizes server word t law
+returns-clause-of_observations c server sizes setup t law = are_of_observations sizes server setup t law

@@ -3,6 +3,7 @@ use Rattle.coap_client.proofs.Hearing.Acked.{are_acked}
 use Rattle.coap_client.proofs.Hearing.NoticesHeard.{notices_are_heard}
 use Rattle.coap_client.proofs.Observing.AreThere.{are_there}
 use Rattle.coap_client.proofs.Observing.Noticed.{are_answered, are_noticed, are_shown}
+use Rattle.coap_client.proofs.Observing.NoneFetched.{none_fetched}
 use Rattle.coap_client.proofs.Observing.StaysLive.{stay_live}
 use Rattle.coap_client.proofs.Observing.TokensKept.{tokens_are_kept}
 use Rattle.coap_client.proofs.Observing.LastValue.{last_is_newest}
@@ -27,11 +28,11 @@ pub returns-clause-kept : goal.returns-clause-kept
 returns-clause-kept c = tokens_are_kept
 
 pub returns-clause-notices_heard : goal.returns-clause-notices_heard
-returns-clause-notices_heard c server sizes word t law =
-    notices_are_heard server sizes word t law (c.asker_law.ensures.told_as server word (lower_of sizes t) law.exchanges)
+returns-clause-notices_heard c server sizes setup t law =
+    notices_are_heard server sizes setup t law (c.asker_law.ensures.told_as server setup (lower_of sizes t) law.exchanges)
 
 pub returns-clause-there : goal.returns-clause-there
-returns-clause-there c server sizes word t law = are_there sizes server word t law
+returns-clause-there c server sizes setup t law = are_there sizes server setup t law
 
 pub returns-clause-watched : goal.returns-clause-watched
 returns-clause-watched c = are_watched
@@ -45,9 +46,12 @@ returns-clause-tokens c = have_tokens
 pub returns-clause-last : goal.returns-clause-last
 returns-clause-last c = last_is_newest
 
+pub returns-clause-none_fetched : goal.returns-clause-none_fetched
+returns-clause-none_fetched c = none_fetched
+
 pub returns-clause-cancels : goal.returns-clause-cancels
-returns-clause-cancels c server sizes word t law = cancels_are_taken sizes server word t law
+returns-clause-cancels c server sizes setup t law = cancels_are_taken sizes server setup t law
 
 pub returns-clause-acked : goal.returns-clause-acked
-returns-clause-acked c server sizes word t law =
-    are_acked server sizes word t law (c.asker_law.ensures.replied server word (lower_of sizes t) law.exchanges)
+returns-clause-acked c server sizes setup t law =
+    are_acked server sizes setup t law (c.asker_law.ensures.replied server setup (lower_of sizes t) law.exchanges)

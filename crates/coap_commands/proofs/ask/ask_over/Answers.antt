@@ -10,5 +10,5 @@ pub returns : goal.returns
 returns g c =
     began (λ server sizes w. Led server sizes w [] c.fresh_client-client.result)
     (λ server sizes w. Asks server sizes w c.args.give_up (shown_request c.args.request))
-    c.ask_and_tell-ended.result c.args.server (client_sizes c.args.limit) c.args.word c.fresh_client-client.ensures
+    c.ask_and_tell-ended.result c.args.server (client_sizes c.args.size c.args.limit) c.args.setup c.fresh_client-client.ensures
     c.ask_and_tell-ended.ensures

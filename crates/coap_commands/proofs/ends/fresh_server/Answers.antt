@@ -8,6 +8,6 @@ use Rattle.coap_commands.proofs.ends.fresh_server.Goals as goal
 pub returns : goal.returns
 returns g c =
     let limits = server_limits c.args.limit in
-    subst (λ (szx : ℕ). Led limits szx c.args.word [] (state_of content_of c.with_hasher.result))
+    subst (λ (szx : ℕ). Led limits szx c.args.setup [] (state_of content_of c.with_setup.result))
     c.largest_szx.ensures
-    (c.with_hasher.ensures.led limits c.in-Some.ensures.empty)
+    (c.with_setup.ensures.led limits c.in-Some.ensures.empty)

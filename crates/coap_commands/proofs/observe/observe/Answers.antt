@@ -3,4 +3,5 @@ use Rattle.coap_commands.proofs.observe.observe.Goals as goal
 
 pub returns : goal.returns
 returns g c =
-    observed_by _ c.in_ok-word.word c.args.path.now c.args.options.now _ c.in_ok-word.ensures c.observe_over.ensures
+    observed_by c.args.port _ c.in_ok-word.word c.args.path.now c.args.options.now _ c.server_of-server.ensures
+    c.in_ok-word.ensures c.observe_on.ensures

@@ -12,7 +12,6 @@ use Rattle.coap_exchange.proofs.EndsSaid.Unmatched.{unmatched_told}
 use Rattle.coap_exchange.proofs.Responding.EmptyReplies.{are_replied}
 use Rattle.coap_exchange.proofs.Ids.ServerIds.{ids_counted}
 use Rattle.coap_exchange.proofs.Ids.ServerIsFree.{id_is_free}
-use Rattle.coap_layer.specs.Machine.State.{usual}
 use Rattle.coap_exchange.specs.AnswererLaw.{below_of}
 use Rattle.coap_exchange.proofs.Responding.GoesBack.{ready_alone, sends_so}
 use Rattle.coap_exchange.proofs.laws.answerer_law.Goals as goal
@@ -36,16 +35,16 @@ pub returns-clause-exact : goal.returns-clause-exact
 returns-clause-exact c = exact
 
 pub returns-clause-responses : goal.returns-clause-responses
-returns-clause-responses c word t law = (counted t law.rows).0
+returns-clause-responses c setup t law = (counted t law.rows).0
 
 pub returns-clause-requests : goal.returns-clause-requests
-returns-clause-requests c word t law = came_in word t law.rows law.left law.layer
+returns-clause-requests c setup t law = came_in setup t law.rows law.left law.layer
 
 pub returns-clause-ends_none : goal.returns-clause-ends_none
-returns-clause-ends_none c word t law = hands_or_ends t law.rows
+returns-clause-ends_none c setup t law = hands_or_ends t law.rows
 
 pub returns-clause-ends : goal.returns-clause-ends
-returns-clause-ends c word t law = ends_once t
+returns-clause-ends c setup t law = ends_once t
 
 pub returns-clause-told : goal.returns-clause-told
 returns-clause-told c = told
@@ -54,35 +53,35 @@ pub returns-clause-waits : goal.returns-clause-waits
 returns-clause-waits c = waits
 
 pub returns-clause-long_enough : goal.returns-clause-long_enough
-returns-clause-long_enough c word t law = long_enough t law.rows
+returns-clause-long_enough c setup t law = long_enough t law.rows
 
 pub returns-clause-when_due : goal.returns-clause-when_due
-returns-clause-when_due c word t law = ready_when_due t law.rows
+returns-clause-when_due c setup t law = ready_when_due t law.rows
 
 pub returns-clause-earliest : goal.returns-clause-earliest
-returns-clause-earliest c word t law = earliest t law.rows
+returns-clause-earliest c setup t law = earliest t law.rows
 
 pub returns-clause-back : goal.returns-clause-back
-returns-clause-back c word t law = (sends_so word t law.rows law.left law.layer).0
+returns-clause-back c setup t law = (sends_so setup t law.rows law.left law.layer).0
 
 pub returns-clause-replied : goal.returns-clause-replied
-returns-clause-replied c word t law = are_replied t law.rows
+returns-clause-replied c setup t law = are_replied t law.rows
 
 pub returns-clause-alone : goal.returns-clause-alone
-returns-clause-alone c word t law = (sends_so word t law.rows law.left law.layer).1
+returns-clause-alone c setup t law = (sends_so setup t law.rows law.left law.layer).1
 
 pub returns-clause-ready_alone : goal.returns-clause-ready_alone
-returns-clause-ready_alone c word t law = ready_alone word t law.rows law.left law.layer
+returns-clause-ready_alone c setup t law = ready_alone setup t law.rows law.left law.layer
 
 pub returns-clause-unmatched : goal.returns-clause-unmatched
-returns-clause-unmatched c word t law = unmatched_told t
+returns-clause-unmatched c setup t law = unmatched_told t
 
 pub returns-clause-few : goal.returns-clause-few
-returns-clause-few c word t law = (counted t law.rows).1.few
+returns-clause-few c setup t law = (counted t law.rows).1.few
 
 pub returns-clause-ids : goal.returns-clause-ids
-returns-clause-ids c word t law = ids_counted word t law
+returns-clause-ids c setup t law = ids_counted setup t law
 
 pub returns-clause-id_free : goal.returns-clause-id_free
-returns-clause-id_free c word t law = id_is_free word t law
-    (c.layer_law.ensures.held (usual word) (below_of word t) (layer_stands word t law))
+returns-clause-id_free c setup t law = id_is_free setup t law
+    (c.layer_law.ensures.held setup (below_of setup t) (layer_stands setup t law))

@@ -14,7 +14,6 @@ use Rattle.coap_exchange.proofs.Telling.EmptyReplies.{are_replied}
 use Rattle.coap_exchange.proofs.Telling.ResponsesMatch.{matched}
 use Rattle.coap_exchange.proofs.Ids.ClientIds.{ids_counted}
 use Rattle.coap_exchange.proofs.Ids.ClientIsFree.{id_is_free, requests_are_sent}
-use Rattle.coap_layer.specs.Machine.State.{usual}
 use Rattle.coap_exchange.specs.AskerLaw.{below_of}
 use Rattle.coap_exchange.proofs.laws.asker_law.Goals as goal
 
@@ -37,49 +36,49 @@ pub returns-clause-exact : goal.returns-clause-exact
 returns-clause-exact c = exact
 
 pub returns-clause-exchanges : goal.returns-clause-exchanges
-returns-clause-exchanges c server word t law = (known server word t law.rows).0
+returns-clause-exchanges c server setup t law = (known server setup t law.rows).0
 
 pub returns-clause-refused : goal.returns-clause-refused
-returns-clause-refused c server word t law = refused server word t law.rows law.left law.layer
+returns-clause-refused c server setup t law = refused server setup t law.rows law.left law.layer
 
 pub returns-clause-tokens : goal.returns-clause-tokens
-returns-clause-tokens c server word t law = (counted server word t law.rows).0
+returns-clause-tokens c server setup t law = (counted server setup t law.rows).0
 
 pub returns-clause-in_time : goal.returns-clause-in_time
-returns-clause-in_time c server word t law = in_time server word t law.rows law.left law.layer
+returns-clause-in_time c server setup t law = in_time server setup t law.rows law.left law.layer
 
 pub returns-clause-when_due : goal.returns-clause-when_due
-returns-clause-when_due c server word t law = when_due server word t law.rows law.left law.layer
+returns-clause-when_due c server setup t law = when_due server setup t law.rows law.left law.layer
 
 pub returns-clause-outstanding : goal.returns-clause-outstanding
-returns-clause-outstanding c server word t law = still_outstanding server word t law
+returns-clause-outstanding c server setup t law = still_outstanding server setup t law
 
 pub returns-clause-few_kept : goal.returns-clause-few_kept
-returns-clause-few_kept c server word t law = few_kept server word t law.rows
+returns-clause-few_kept c server setup t law = few_kept server setup t law.rows
 
 pub returns-clause-from_server : goal.returns-clause-from_server
-returns-clause-from_server c server word t law = came_from server word t law.rows law.left law.layer
+returns-clause-from_server c server setup t law = came_from server setup t law.rows law.left law.layer
 
 pub returns-clause-matched : goal.returns-clause-matched
-returns-clause-matched c server word t law = matched server word t law.rows
+returns-clause-matched c server setup t law = matched server setup t law.rows
 
 pub returns-clause-told_as : goal.returns-clause-told_as
-returns-clause-told_as c server word t law = told_as server word t law.rows
+returns-clause-told_as c server setup t law = told_as server setup t law.rows
 
 pub returns-clause-replied : goal.returns-clause-replied
-returns-clause-replied c server word t law = are_replied server word t law.rows
+returns-clause-replied c server setup t law = are_replied server setup t law.rows
 
 pub returns-clause-rejected : goal.returns-clause-rejected
-returns-clause-rejected c server word t law = rejected server word t law.rows law.left law.layer
+returns-clause-rejected c server setup t law = rejected server setup t law.rows law.left law.layer
 
 pub returns-clause-ids : goal.returns-clause-ids
 returns-clause-ids c = ids_counted
 
 pub returns-clause-id_free : goal.returns-clause-id_free
-returns-clause-id_free c server word t law = id_is_free server word t law
-    (c.layer_law.ensures.held (usual word) (below_of server word t) (layer_stands server word t law))
+returns-clause-id_free c server setup t law = id_is_free server setup t law
+    (c.layer_law.ensures.held setup (below_of server setup t) (layer_stands server setup t law))
 
 pub returns-clause-sent : goal.returns-clause-sent
-returns-clause-sent c server word t law = requests_are_sent server word
-    (λ past stands. c.layer_law.ensures.held (usual word) (below_of server word past)
-    (layer_stands server word past stands)) t law
+returns-clause-sent c server setup t law = requests_are_sent server setup
+    (λ past stands. c.layer_law.ensures.held setup (below_of server setup past)
+    (layer_stands server setup past stands)) t law

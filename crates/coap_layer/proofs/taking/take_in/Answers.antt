@@ -28,13 +28,13 @@ returns-clause-arrived g c =
     c.keep_by.ensures.newest)
 
 pub returns-clause-before : goal.returns-clause-before
-returns-clause-before g c most =
+returns-clause-before g c most ids =
     before_grown c.args.moments.last.0 (arrivals_in c.args.lists.now.entries) c.keep_by.new.entries.settled
     (c.keep_by.ensures.settled ∙ c.begin-mark.ensures.settled)
-    most c.begin-mark.result c.args.awaits c.args.ids.now _ c.end_by.new.sendings.items c.args.lists.now.waiting.items
+    most c.begin-mark.result c.args.awaits ids _ c.end_by.new.sendings.items c.args.lists.now.waiting.items
     c.push_some.new.waiting.items (option_to_list c.args.sent)
     (c.end_by.ensures.before ∙ c.begin-mark.ensures.open_before) (search rules)
-    (ap (λ m. m.0) c.begin-mark.ensures.clock) c.begin-mark.ensures.awaits c.begin-mark.ensures.ids (search rules)
+    (ap (λ m. m.0) c.begin-mark.ensures.clock) c.begin-mark.ensures.awaits (search rules)
 
 pub returns-clause-within : goal.returns-clause-within
 returns-clause-within g c =

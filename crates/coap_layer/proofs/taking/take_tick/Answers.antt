@@ -11,13 +11,13 @@ returns-clause-arrived g c =
     ∙ (append-nil c.begin-mark.new.lists.entries.settled ∙ c.begin-mark.ensures.settled)
 
 pub returns-clause-before : goal.returns-clause-before
-returns-clause-before g c most =
+returns-clause-before g c most ids =
     before_grown c.args.moments.last.0 (arrivals_in c.args.lists.now.entries) c.begin-mark.new.lists.entries.settled
     c.begin-mark.ensures.settled
-    most c.begin-mark.result c.args.awaits c.args.ids.now _ c.take_step.new.sendings.items c.args.lists.now.waiting.items
+    most c.begin-mark.result c.args.awaits ids _ c.take_step.new.sendings.items c.args.lists.now.waiting.items
     c.push_some.new.waiting.items (option_to_list c.args.sent)
     (c.take_step.ensures.before ∙ c.begin-mark.ensures.open_before) (search rules)
-    (ap (λ m. m.0) c.begin-mark.ensures.clock) c.begin-mark.ensures.awaits c.begin-mark.ensures.ids (search rules)
+    (ap (λ m. m.0) c.begin-mark.ensures.clock) c.begin-mark.ensures.awaits (search rules)
 
 pub returns-clause-within : goal.returns-clause-within
 returns-clause-within g c =

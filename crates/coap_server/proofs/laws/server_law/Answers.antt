@@ -16,7 +16,6 @@ use Rattle.coap_exchange.proofs.Facts.ServerSide.{are_responses}
 use Rattle.coap_server.specs.Law.{lower_of}
 use Rattle.coap_server.proofs.laws.server_law.Goals as goal
 use Rattle.coap_layer.proofs.Facts.Laws.{handed_up_once}
-use Rattle.coap_layer.specs.Machine.State.{usual}
 use Rattle.coap_exchange.proofs.Facts.ServerSide.{layer_stands}
 use Rattle.coap_server.specs.Law.{layer_of}
 use Rattle.coap_server.proofs.Serving.Brought.{servers_back}
@@ -50,123 +49,123 @@ pub returns-clause-law : goal.returns-clause-law
 returns-clause-law c = led_lawful
 
 pub returns-clause-exact : goal.returns-clause-exact
-returns-clause-exact c limits szx word past = is_exact limits szx word past
+returns-clause-exact c limits szx setup past = is_exact limits szx setup past
 
 pub returns-clause-handed : goal.returns-clause-handed
-returns-clause-handed c limits szx word t law = handed_up limits szx word t law
+returns-clause-handed c limits szx setup t law = handed_up limits szx setup t law
 
 pub returns-clause-blocks : goal.returns-clause-blocks
-returns-clause-blocks c limits szx word t law = blocks_come limits szx word t law
+returns-clause-blocks c limits szx setup t law = blocks_come limits szx setup t law
 
 pub returns-clause-served : goal.returns-clause-served
-returns-clause-served c limits szx word t law =
+returns-clause-served c limits szx setup t law =
     served_once limits szx t (are_responses (lower_of limits szx t) law.exchanges.rows)
 
 pub returns-clause-gives : goal.returns-clause-gives
-returns-clause-gives c limits szx word t law = sends_responses limits szx word t law
+returns-clause-gives c limits szx setup t law = sends_responses limits szx setup t law
 
 pub returns-clause-continues : goal.returns-clause-continues
-returns-clause-continues c limits szx word t law = none_continues limits szx word t law
+returns-clause-continues c limits szx setup t law = none_continues limits szx setup t law
 
 pub returns-clause-observers : goal.returns-clause-observers
 returns-clause-observers c limits szx t = are_observers limits szx t
 
 pub returns-clause-follows : goal.returns-clause-follows
-returns-clause-follows c limits szx word t law = follows limits szx word t law
+returns-clause-follows c limits szx setup t law = follows limits szx setup t law
 
 pub returns-clause-ends : goal.returns-clause-ends
-returns-clause-ends c limits szx word t law = ends_observation limits szx word t law
+returns-clause-ends c limits szx setup t law = ends_observation limits szx setup t law
 
 pub returns-clause-deregisters : goal.returns-clause-deregisters
 returns-clause-deregisters c limits szx t = ends_on_request limits szx t
 
 pub returns-clause-gone : goal.returns-clause-gone
-returns-clause-gone c limits szx word t law = ends_on_notice limits szx t law.rows
+returns-clause-gone c limits szx setup t law = ends_on_notice limits szx t law.rows
 
 pub returns-clause-stays : goal.returns-clause-stays
-returns-clause-stays c limits szx word t law = ends_so limits szx t law.rows
+returns-clause-stays c limits szx setup t law = ends_so limits szx t law.rows
 
 pub returns-clause-reads : goal.returns-clause-reads
 returns-clause-reads c = verdicts_read
 
 pub returns-clause-waits : goal.returns-clause-waits
-returns-clause-waits c limits szx word t law = waits_as_deferred limits szx word t law
+returns-clause-waits c limits szx setup t law = waits_as_deferred limits szx setup t law
 
 pub returns-clause-ready : goal.returns-clause-ready
-returns-clause-ready c limits szx word t law = ready_are_served limits szx word t law
+returns-clause-ready c limits szx setup t law = ready_are_served limits szx setup t law
 
 pub returns-clause-left : goal.returns-clause-left
-returns-clause-left c limits szx word t law = one_state limits szx word t law
+returns-clause-left c limits szx setup t law = one_state limits szx setup t law
 
 pub returns-clause-ticks : goal.returns-clause-ticks
-returns-clause-ticks c limits szx word t = ticks_end limits szx word t
+returns-clause-ticks c limits szx setup t = ticks_end limits szx setup t
 
 pub returns-clause-layer : goal.returns-clause-layer
-returns-clause-layer c limits szx word t law = layer_stands word (lower_of limits szx t) law.exchanges
+returns-clause-layer c limits szx setup t law = layer_stands setup (lower_of limits szx t) law.exchanges
 
 pub returns-clause-back : goal.returns-clause-back
-returns-clause-back c limits szx word calls t law = servers_back limits szx word calls t law
+returns-clause-back c limits szx setup calls t law = servers_back limits szx setup calls t law
 
 pub returns-clause-once : goal.returns-clause-once
-returns-clause-once c limits szx word t law = handed_up_once (usual word) (layer_of limits szx word t)
-    (layer_stands word (lower_of limits szx t) law.exchanges)
+returns-clause-once c limits szx setup t law = handed_up_once setup (layer_of limits szx setup t)
+    (layer_stands setup (lower_of limits szx t) law.exchanges)
 
 pub returns-clause-right : goal.returns-clause-right
-returns-clause-right c limits szx word t law = all_served limits szx t law.rows
+returns-clause-right c limits szx setup t law = all_served limits szx t law.rows
 
 pub returns-clause-holds : goal.returns-clause-holds
-returns-clause-holds c limits szx word t law = holds_changes limits szx t law.rows
+returns-clause-holds c limits szx setup t law = holds_changes limits szx t law.rows
 
 pub returns-clause-limits : goal.returns-clause-limits
-returns-clause-limits c limits szx word t law = limits_are limits szx t law.rows
+returns-clause-limits c limits szx setup t law = limits_are limits szx t law.rows
 
 pub returns-clause-stamped : goal.returns-clause-stamped
-returns-clause-stamped c limits szx word t law = are_stamped limits szx t law.rows
+returns-clause-stamped c limits szx setup t law = are_stamped limits szx t law.rows
 
 pub returns-clause-tags : goal.returns-clause-tags
-returns-clause-tags c limits szx word t law = one_tag limits szx t law.rows
+returns-clause-tags c limits szx setup t law = one_tag limits szx t law.rows
 
 pub returns-clause-counts : goal.returns-clause-counts
-returns-clause-counts c limits szx word t law = counted limits szx word t law
+returns-clause-counts c limits szx setup t law = counted limits szx setup t law
 
 pub returns-clause-replies : goal.returns-clause-replies
-returns-clause-replies c limits szx word t law = replies_at_once limits szx word t law
+returns-clause-replies c limits szx setup t law = replies_at_once limits szx setup t law
 
 pub returns-clause-handed_on : goal.returns-clause-handed_on
-returns-clause-handed_on c limits szx word t law = all_handed_on limits szx word t law
+returns-clause-handed_on c limits szx setup t law = all_handed_on limits szx setup t law
 
 pub returns-clause-attended : goal.returns-clause-attended
-returns-clause-attended c limits szx word t law = all_attended limits szx word t law
+returns-clause-attended c limits szx setup t law = all_attended limits szx setup t law
 
 pub returns-clause-answered : goal.returns-clause-answered
-returns-clause-answered c limits szx word t law = first_answered limits szx word t law
+returns-clause-answered c limits szx setup t law = first_answered limits szx setup t law
 
 pub returns-clause-goes : goal.returns-clause-goes
-returns-clause-goes c limits szx word t law = goes_on limits szx word t law
+returns-clause-goes c limits szx setup t law = goes_on limits szx setup t law
 
 pub returns-clause-rests : goal.returns-clause-rests
-returns-clause-rests c limits szx word t law = comes_to_rest limits szx word t law
+returns-clause-rests c limits szx setup t law = comes_to_rest limits szx setup t law
 
 pub returns-clause-in_order : goal.returns-clause-in_order
-returns-clause-in_order c limits szx word t law = gives_in_order limits szx word t law
+returns-clause-in_order c limits szx setup t law = gives_in_order limits szx setup t law
 
 pub returns-clause-shows : goal.returns-clause-shows
-returns-clause-shows c limits szx word t law = shows_held limits szx t law.rows
+returns-clause-shows c limits szx setup t law = shows_held limits szx t law.rows
 
 pub returns-clause-notices : goal.returns-clause-notices
-returns-clause-notices c limits szx word t law = notices_show limits szx t law.rows
+returns-clause-notices c limits szx setup t law = notices_show limits szx t law.rows
 
 pub returns-clause-tokens : goal.returns-clause-tokens
-returns-clause-tokens c limits szx word t law = short_tokens limits szx word t law
+returns-clause-tokens c limits szx setup t law = short_tokens limits szx setup t law
 
 pub returns-clause-asks : goal.returns-clause-asks
 returns-clause-asks c = verdicts_ask
 
 pub returns-clause-methods : goal.returns-clause-methods
-returns-clause-methods c limits szx word t law = all_methods limits szx t law.rows
+returns-clause-methods c limits szx setup t law = all_methods limits szx t law.rows
 
 pub returns-clause-uploads : goal.returns-clause-uploads
-returns-clause-uploads c limits szx word t law = all_uploads limits szx t law.rows
+returns-clause-uploads c limits szx setup t law = all_uploads limits szx t law.rows
 
 pub returns-clause-latest : goal.returns-clause-latest
 returns-clause-latest c = are_latest
@@ -181,4 +180,4 @@ pub returns-clause-acks : goal.returns-clause-acks
 returns-clause-acks c = acks_arrive
 
 pub returns-clause-pairs : goal.returns-clause-pairs
-returns-clause-pairs c limits szx word t law = all_serve_pairs limits szx t
+returns-clause-pairs c limits szx setup t law = all_serve_pairs limits szx t

@@ -3,7 +3,7 @@ use Rattle.std.specs.declared.alloc.AllocError.{AllocError}
 use Rattle.clap.specs.Words.{found_of, rows_of}
 use Rattle.coap_words.specs.declared.orders.TheConstants.{MAX_PLAINS as max_plains}
 use Rattle.coap_words.proofs.NamingPaths.{ended, none_named, one_more, path_wrong, too_many}
-use Rattle.coap_words.proofs.Tags.{given_texts}
+use Rattle.coap_words.proofs.GivenTexts.{given_texts}
 use Rattle.coap_words.proofs.plains.plains_of.Goals as goal
 
 pub returns-in_default : goal.returns-in_default

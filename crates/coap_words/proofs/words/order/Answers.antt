@@ -20,6 +20,12 @@ returns-in-show c =
       wrong = wrong_by _ _ _ c.show_order.result enters c.show_order.ensures;
     }
 
+pub returns-in-dump : goal.returns-in-dump
+returns-in-dump c =
+    let enters = enters_met _ c.in_ok-coap_command.ensures _ _ c.in_ok-matches.ensures.matches
+    c.in_ok-matches.ensures.kinds _ _ _ c.in-dump.is c.in-Some.ensures.name c.in-Some.ensures.rows in
+    record { ok = (codes "dump", _, enters, refl); wrong = tt }
+
 pub answer_order-requires : goal.answer_order-requires
 answer_order-requires c =
     let enters = enters_met _ c.in_ok-coap_command.ensures _ _ c.in_ok-matches.ensures.matches
@@ -54,7 +60,7 @@ pub serve_order-requires : goal.serve_order-requires
 serve_order-requires c =
     let enters = enters_met _ c.in_ok-coap_command.ensures _ _ c.in_ok-matches.ensures.matches
     c.in_ok-matches.ensures.kinds _ _ _ c.in-serve.is c.in-Some.ensures.name c.in-Some.ensures.rows in
-    record { port = serve_port _ _ enters; count = serve_count _ _ enters }
+    record { port = serve_port _ _ enters; count = serve_count _ _ enters; own = takes_its_own _ _ _ enters }
 
 pub returns-in-serve : goal.returns-in-serve
 returns-in-serve c =
@@ -86,20 +92,23 @@ returns-in_err-matches-clause-wrong c =
     c.in_err-matches.ensures.kinds
 
 is_ask : (name : List ℕ) → IsOurs name → (name ≡ codes "show" → ⊥) → (name ≡ codes "answer" → ⊥)
-    → (name ≡ codes "pair" → ⊥) → (name ≡ codes "serve" → ⊥) → (name ≡ codes "sim" → ⊥) → IsAsk name
-is_ask name (inl is) a b c d e = absurd (a is)
-is_ask name (inr (inl is)) a b c d e = absurd (b is)
-is_ask name (inr (inr (inl is))) a b c d e = absurd (c is)
-is_ask name (inr (inr (inr (inl is)))) a b c d e = absurd (d is)
-is_ask name (inr (inr (inr (inr (inl is))))) a b c d e = absurd (e is)
-is_ask name (inr (inr (inr (inr (inr is))))) a b c d e = is
+    → (name ≡ codes "pair" → ⊥) → (name ≡ codes "serve" → ⊥) → (name ≡ codes "sim" → ⊥) → (name ≡ codes "dump" → ⊥)
+    → IsAsk name
+is_ask name (inl is) a b c d e f = absurd (a is)
+is_ask name (inr (inl is)) a b c d e f = absurd (b is)
+is_ask name (inr (inr (inl is))) a b c d e f = absurd (c is)
+is_ask name (inr (inr (inr (inl is)))) a b c d e f = absurd (d is)
+is_ask name (inr (inr (inr (inr (inl is))))) a b c d e f = absurd (e is)
+is_ask name (inr (inr (inr (inr (inr (inl is)))))) a b c d e f = absurd (f is)
+is_ask name (inr (inr (inr (inr (inr (inr is)))))) a b c d e f = is
 
 pub ask_order-requires : goal.ask_order-requires
 ask_order-requires c =
     let enters = enters_met _ c.in_ok-coap_command.ensures _ _ c.in_ok-matches.ensures.matches
     c.in_ok-matches.ensures.kinds _ _ _ refl c.in-Some.ensures.name c.in-Some.ensures.rows in
     let d = c.in_default-subcommand in
-    let ask = is_ask _ (ours _ _ _ enters) d.not-show d.not-answer d.not-pair d.not-serve d.not-sim in
+    let ask = is_ask _ (ours _ _ _ enters) d.not-show d.not-answer d.not-pair d.not-serve d.not-sim
+    d.not-dump in
     record {
       name = ask;
       port = ask_port _ _ _ ask enters;

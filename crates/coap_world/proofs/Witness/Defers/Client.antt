@@ -64,11 +64,11 @@ rows = (
   ),
 )
 
-asked : asker.AskerLaw server_end 0 (lower_of sizes calls)
+asked : asker.AskerLaw server_end (usual 0) (lower_of sizes calls)
 asked = (tt, (tt, (refl, (tt, (refl, (tt, (tt, (refl, (refl, (refl, (tt, tt)))))))))))
 
 abbrev run : List Asked
-run = asker.lower_of server_end 0 (lower_of sizes calls)
+run = asker.lower_of server_end (usual 0) (lower_of sizes calls)
 
 steps : Steps (start (usual 0)) run (left_after (start (usual 0)) run)
 unfolding decoded frame_fault body_at walk walk_of option_at nibbles_at value_at extended payload_at option_bytes
@@ -135,5 +135,5 @@ steps = (
   record { may = tt; right = refl; new_is = refl },
 )
 
-pub lawful : ClientLaw server_end sizes 0 calls
+pub lawful : ClientLaw server_end sizes (usual 0) calls
 lawful = record { rows = rows; exchanges = record { rows = asked; left = left_after (start (usual 0)) run; layer = steps } }

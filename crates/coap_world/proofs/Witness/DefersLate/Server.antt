@@ -223,7 +223,7 @@ steps = (
   },
 )
 
-pub lawful : ServerLaw limits 6 0 calls
+pub lawful : ServerLaw limits 6 (usual 0) calls
 lawful = record {
   rows = rows;
   exchanges = record {

@@ -131,7 +131,7 @@ unfolding option_bytes options_bytes
 rows = (refl, (refl, (tt, (tt, (tt, rows_12)))))
 
 abbrev AreAsked : List C.Call → Type 0
-AreAsked calls = asker.AskerLaw server_end 0 (lower_of sizes calls)
+AreAsked calls = asker.AskerLaw server_end (usual 0) (lower_of sizes calls)
 
 asked_0 : AreAsked calls_0
 asked_0 = (tt, (tt, (refl, (refl, (refl, (tt, tt))))))
@@ -178,7 +178,7 @@ asked = (tt, (tt, (refl, asked_12)))
 -- .. and their steps in the message layer
 
 abbrev run : List C.Call → List Asked
-run calls = asker.lower_of server_end 0 (lower_of sizes calls)
+run calls = asker.lower_of server_end (usual 0) (lower_of sizes calls)
 
 -- its layer has used one Message ID, and nothing is outstanding
 abbrev rests_at : ℕ → State
@@ -355,7 +355,7 @@ steps = (
   record { may = tt; right = refl; new_is = refl },
 )
 
-pub lawful : ClientLaw server_end sizes 0 calls
+pub lawful : ClientLaw server_end sizes (usual 0) calls
 lawful = record { rows = rows; exchanges = record { rows = asked; left = left; layer = steps } }
 
 -- the exchange is open since 0

@@ -354,5 +354,5 @@ steps = (
   },
 )
 
-pub lawful : ServerLaw limits 6 0 calls
+pub lawful : ServerLaw limits 6 (usual 0) calls
 lawful = record { rows = rows; exchanges = record { rows = answered; left = left; layer = steps } }

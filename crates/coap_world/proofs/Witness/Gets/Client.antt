@@ -56,11 +56,11 @@ rows : ClientRows sizes calls
 unfolding option_bytes options_bytes
 rows = (refl, (refl, (tt, (tt, (refl, (tt, (tt, (refl, (refl, (refl, (tt, (refl, tt))))))))))))
 
-asked : asker.AskerLaw server_end 0 (lower_of sizes calls)
+asked : asker.AskerLaw server_end (usual 0) (lower_of sizes calls)
 asked = (tt, (refl, (tt, (tt, (refl, (refl, (refl, (tt, tt))))))))
 
 abbrev run : List Asked
-run = asker.lower_of server_end 0 (lower_of sizes calls)
+run = asker.lower_of server_end (usual 0) (lower_of sizes calls)
 
 steps : Steps (start (usual 0)) run (left_after (start (usual 0)) run)
 unfolding decoded frame_fault body_at walk walk_of option_at nibbles_at value_at extended payload_at option_bytes
@@ -111,7 +111,7 @@ steps = (
   record { may = tt; right = refl; new_is = refl },
 )
 
-pub lawful : ClientLaw server_end sizes 0 calls
+pub lawful : ClientLaw server_end sizes (usual 0) calls
 lawful = record { rows = rows; exchanges = record { rows = asked; left = left_after (start (usual 0)) run; layer = steps } }
 
 -- .. where no response comes
@@ -123,11 +123,11 @@ rows_before : ClientRows sizes calls_before
 unfolding option_bytes options_bytes
 rows_before = (refl, (tt, (tt, (refl, (refl, (refl, (tt, (refl, tt))))))))
 
-asked_before : asker.AskerLaw server_end 0 (lower_of sizes calls_before)
+asked_before : asker.AskerLaw server_end (usual 0) (lower_of sizes calls_before)
 asked_before = (tt, (tt, (refl, (refl, (refl, (tt, tt))))))
 
 abbrev run_before : List Asked
-run_before = asker.lower_of server_end 0 (lower_of sizes calls_before)
+run_before = asker.lower_of server_end (usual 0) (lower_of sizes calls_before)
 
 steps_before : Steps (start (usual 0)) run_before (left_after (start (usual 0)) run_before)
 unfolding decoded frame_fault body_at walk walk_of option_at nibbles_at value_at extended payload_at option_bytes
@@ -166,7 +166,7 @@ steps_before = (
   record { may = tt; right = refl; new_is = refl },
 )
 
-pub lawful_before : ClientLaw server_end sizes 0 calls_before
+pub lawful_before : ClientLaw server_end sizes (usual 0) calls_before
 lawful_before = record {
   rows = rows_before;
   exchanges =

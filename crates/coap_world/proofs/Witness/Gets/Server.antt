@@ -120,5 +120,5 @@ steps = (
   record { may = tt; right = refl; new_is = refl },
 )
 
-pub lawful : ServerLaw limits 6 0 calls
+pub lawful : ServerLaw limits 6 (usual 0) calls
 lawful = record { rows = rows; exchanges = record { rows = answered; left = left_after (start (usual 0)) run; layer = steps } }

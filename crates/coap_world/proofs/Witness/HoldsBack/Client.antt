@@ -96,34 +96,34 @@ rows_done = (refl, (refl, (tt, (tt, (refl, (tt, (tt, (tt, rows_second))))))))
 
 -- .. and so have those of its exchanges
 
-asked_begun : asker.AskerLaw server_end 0 (lower_of sizes_16 calls_begun)
+asked_begun : asker.AskerLaw server_end (usual 0) (lower_of sizes_16 calls_begun)
 asked_begun = (tt, (tt, (refl, (refl, (refl, (tt, tt))))))
 
-asked_lost : asker.AskerLaw server_end 0 (lower_of sizes_16 calls_lost)
+asked_lost : asker.AskerLaw server_end (usual 0) (lower_of sizes_16 calls_lost)
 asked_lost = (tt, (tt, (refl, (refl, asked_begun))))
 
-asked_twice : asker.AskerLaw server_end 0 (lower_of sizes_16 calls_twice)
+asked_twice : asker.AskerLaw server_end (usual 0) (lower_of sizes_16 calls_twice)
 asked_twice = (tt, (tt, (refl, (refl, (tt, (tt, (refl, (refl, asked_lost))))))))
 
-asked_copied : asker.AskerLaw server_end 0 (lower_of sizes_16 calls_copied)
+asked_copied : asker.AskerLaw server_end (usual 0) (lower_of sizes_16 calls_copied)
 asked_copied = (tt, (tt, (refl, (refl, (tt, (tt, (refl, (refl, asked_twice))))))))
 
-asked_late : asker.AskerLaw server_end 0 (lower_of sizes_16 calls_late)
+asked_late : asker.AskerLaw server_end (usual 0) (lower_of sizes_16 calls_late)
 asked_late = (tt, (refl, (tt, (refl, (tt, (tt, (refl, (refl, asked_copied))))))))
 
-asked_first : asker.AskerLaw server_end 0 (lower_of sizes_16 calls_first)
+asked_first : asker.AskerLaw server_end (usual 0) (lower_of sizes_16 calls_first)
 asked_first = (tt, (tt, (refl, (refl, (refl, asked_late)))))
 
-asked_second : asker.AskerLaw server_end 0 (lower_of sizes_16 calls_second)
+asked_second : asker.AskerLaw server_end (usual 0) (lower_of sizes_16 calls_second)
 asked_second = (tt, (tt, (refl, (refl, asked_first))))
 
-asked_done : asker.AskerLaw server_end 0 (lower_of sizes_16 calls_done)
+asked_done : asker.AskerLaw server_end (usual 0) (lower_of sizes_16 calls_done)
 asked_done = (tt, (refl, (tt, (tt, (refl, (refl, asked_second))))))
 
 -- the steps of its message layer
 
 abbrev run_begun : List Asked
-run_begun = asker.lower_of server_end 0 (lower_of sizes_16 calls_begun)
+run_begun = asker.lower_of server_end (usual 0) (lower_of sizes_16 calls_begun)
 
 abbrev left_begun : State
 left_begun = record (start (usual 0)) {
@@ -150,7 +150,7 @@ steps_begun = (
 )
 
 abbrev run_lost : List Asked
-run_lost = asker.lower_of server_end 0 (lower_of sizes_16 calls_lost)
+run_lost = asker.lower_of server_end (usual 0) (lower_of sizes_16 calls_lost)
 
 abbrev left_lost : State
 left_lost = record left_begun {
@@ -176,7 +176,7 @@ steps_lost = (
 )
 
 abbrev run_twice : List Asked
-run_twice = asker.lower_of server_end 0 (lower_of sizes_16 calls_twice)
+run_twice = asker.lower_of server_end (usual 0) (lower_of sizes_16 calls_twice)
 
 abbrev left_twice : State
 left_twice = record left_lost {
@@ -194,7 +194,7 @@ steps_twice = (
 )
 
 abbrev run_copied : List Asked
-run_copied = asker.lower_of server_end 0 (lower_of sizes_16 calls_copied)
+run_copied = asker.lower_of server_end (usual 0) (lower_of sizes_16 calls_copied)
 
 abbrev left_copied : State
 left_copied = record left_twice {
@@ -212,7 +212,7 @@ steps_copied = (
 )
 
 abbrev run_late : List Asked
-run_late = asker.lower_of server_end 0 (lower_of sizes_16 calls_late)
+run_late = asker.lower_of server_end (usual 0) (lower_of sizes_16 calls_late)
 
 abbrev left_late : State
 left_late = record left_copied { clock = 130000; open_cons = [] }
@@ -231,7 +231,7 @@ steps_late = (
 )
 
 abbrev run_first : List Asked
-run_first = asker.lower_of server_end 0 (lower_of sizes_16 calls_first)
+run_first = asker.lower_of server_end (usual 0) (lower_of sizes_16 calls_first)
 
 abbrev left_first : State
 left_first = record left_late {
@@ -256,7 +256,7 @@ steps_first = (
 )
 
 abbrev run_second : List Asked
-run_second = asker.lower_of server_end 0 (lower_of sizes_16 calls_second)
+run_second = asker.lower_of server_end (usual 0) (lower_of sizes_16 calls_second)
 
 abbrev left_second : State
 left_second = record left_first {
@@ -283,7 +283,7 @@ steps_second = (
 )
 
 abbrev run_done : List Asked
-run_done = asker.lower_of server_end 0 (lower_of sizes_16 calls_done)
+run_done = asker.lower_of server_end (usual 0) (lower_of sizes_16 calls_done)
 
 abbrev left_done : State
 left_done = record left_second { upcoming = 5; open_cons = [] }
@@ -317,5 +317,5 @@ steps_done = (
   step tt,
 )
 
-pub lawful : ClientLaw server_end sizes_16 0 calls_done
+pub lawful : ClientLaw server_end sizes_16 (usual 0) calls_done
 lawful = record { rows = rows_done; exchanges = record { rows = asked_done; left = left_done; layer = steps_done } }

@@ -229,5 +229,5 @@ unfolding decoded frame_fault body_at walk walk_of option_at nibbles_at value_at
     options_bytes
 steps_put = (_, (_, (_, (_, steps_held, step (bytes_are held_third refl)), step refl), step tt), step tt)
 
-pub lawful : ServerLaw limits 6 0 calls_put
+pub lawful : ServerLaw limits 6 (usual 0) calls_put
 lawful = record { rows = rows_put; exchanges = record { rows = replied_put; left = left_put; layer = steps_put } }

@@ -84,7 +84,7 @@ unfolding option_bytes options_bytes
 rows = (refl, (refl, (tt, (tt, (tt, rows_9)))))
 
 abbrev AreAsked : List C.Call → Type 0
-AreAsked calls = asker.AskerLaw server_end 0 (lower_of sizes calls)
+AreAsked calls = asker.AskerLaw server_end (usual 0) (lower_of sizes calls)
 
 asked_5 : AreAsked calls_5
 asked_5 = (tt, (tt, (refl, (tt, (refl, (tt, (refl, (refl, (tt, (tt, (refl, (refl, (refl, (tt, tt))))))))))))))
@@ -107,7 +107,7 @@ asked = (tt, (tt, (refl, asked_9)))
 -- .. and their steps in the message layer
 
 abbrev run : List C.Call → List Asked
-run calls = asker.lower_of server_end 0 (lower_of sizes calls)
+run calls = asker.lower_of server_end (usual 0) (lower_of sizes calls)
 
 -- its layer has used one Message ID, nothing is outstanding, and it remembers the notification
 abbrev rests_at : ℕ → State
@@ -214,5 +214,5 @@ unfolding decoded frame_fault body_at walk walk_of option_at nibbles_at value_at
     options_bytes
 steps = (_, (_, (_, (_, steps_9, record { may = bytes_are third_bytes refl; right = refl; new_is = refl }), record { may = refl; right = refl; new_is = refl }), record { may = tt; right = refl; new_is = refl }), record { may = tt; right = refl; new_is = refl })
 
-pub lawful : ClientLaw server_end sizes 0 calls
+pub lawful : ClientLaw server_end sizes (usual 0) calls
 lawful = record { rows = rows; exchanges = record { rows = asked; left = left; layer = steps } }

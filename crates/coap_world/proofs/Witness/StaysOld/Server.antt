@@ -35,5 +35,5 @@ unfolding decoded frame_fault body_at walk walk_of option_at nibbles_at value_at
     options_bytes
 steps = (_, (_, (_, (_, (_, (_, (_, (_, (_, (_, (_, (_, refl, record { may = tt; right = refl; new_is = refl }), record { may = bytes_are observe_bytes refl; right = refl; new_is = refl }), record { may = refl; right = refl; new_is = refl }), record { may = tt; right = refl; new_is = refl }), record { may = tt; right = refl; new_is = refl }), record { may = tt; right = refl; new_is = refl }), record { may = tt; right = refl; new_is = refl }), record { may = tt; right = refl; new_is = refl }), record { may = notice_sendable; right = refl; new_is = refl }), record { may = tt; right = refl; new_is = refl }), record { may = tt; right = refl; new_is = refl }), record { may = tt; right = refl; new_is = refl })
 
-pub lawful : ServerLaw limits 6 0 calls
+pub lawful : ServerLaw limits 6 (usual 0) calls
 lawful = record { rows = rows; exchanges = record { rows = answered; left = left_after (start (usual 0)) run; layer = steps } }

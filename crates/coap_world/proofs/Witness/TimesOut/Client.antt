@@ -130,7 +130,7 @@ rows = (
   ),
 )
 
-asked : asker.AskerLaw server_end 0 (lower_of sizes calls)
+asked : asker.AskerLaw server_end (usual 0) (lower_of sizes calls)
 asked = (
   tt,
   (
@@ -178,7 +178,7 @@ asked = (
 -- the steps of its message layer
 
 abbrev run_asked : List Asked
-run_asked = asker.lower_of server_end 0 (lower_of sizes (calls_asked))
+run_asked = asker.lower_of server_end (usual 0) (lower_of sizes (calls_asked))
 
 abbrev pub left_asked : State
 left_asked = record (start (usual 0)) {
@@ -225,7 +225,7 @@ steps_asked = (
 )
 
 abbrev run_twice : List Asked
-run_twice = asker.lower_of server_end 0 (lower_of sizes (calls_twice))
+run_twice = asker.lower_of server_end (usual 0) (lower_of sizes (calls_twice))
 
 abbrev pub left_twice : State
 left_twice = record left_asked {
@@ -267,7 +267,7 @@ steps_twice = (
 )
 
 abbrev run_copied : List Asked
-run_copied = asker.lower_of server_end 0 (lower_of sizes (calls_copied))
+run_copied = asker.lower_of server_end (usual 0) (lower_of sizes (calls_copied))
 
 abbrev pub left_copied : State
 left_copied = record left_twice {
@@ -309,7 +309,7 @@ steps_copied = (
 )
 
 abbrev run_expired : List Asked
-run_expired = asker.lower_of server_end 0 (lower_of sizes (calls))
+run_expired = asker.lower_of server_end (usual 0) (lower_of sizes (calls))
 
 abbrev pub left_expired : State
 left_expired = record left_copied { clock = 62000; open_cons = [] }
@@ -327,7 +327,7 @@ steps_expired = (
   record { may = tt; right = refl; new_is = refl },
 )
 
-pub lawful : ClientLaw server_end sizes 0 calls
+pub lawful : ClientLaw server_end sizes (usual 0) calls
 lawful = record { rows = rows; exchanges = record { rows = asked; left = left_expired; layer = steps_expired } }
 
 -- the exchange is open since 0, and is so after a copy

@@ -30,3 +30,6 @@ returns-clause-smooth c config events turns run legal smooth none =
       gets = c.answered_law.ensures.gets config events turns run legal all;
       changes = c.answered_law.ensures.changes config events turns run legal all;
     }
+
+pub returns-clause-current : goal.returns-clause-current
+returns-clause-current c = c.watch_law.ensures.current

@@ -9,6 +9,6 @@ pub returns : goal.returns
 returns c = record {
   holds = λ config events turns record_of legal. changes_held config (entries_of turns) record_of.server;
   local = λ config events turns record_of legal. local_right config (entries_of turns) record_of.server.rows;
-  short = λ config events turns record_of legal. bodies_short config (entries_of turns) record_of.server.rows;
+  short = λ config events turns record_of legal. bodies_short config (entries_of turns) record_of.server;
   owned = λ config events turns record_of legal. O.owned config (entries_of turns) record_of.server.rows;
 }

@@ -1,4 +1,3 @@
-use Rattle.coap_layer.specs.Machine.State.{usual}
 use Rattle.coap_world.specs.Events.{client_end, server_end}
 use Rattle.coap_world.specs.Hops.{hops_of}
 use Rattle.coap_world.specs.Record.{entries_of}
@@ -18,7 +17,7 @@ returns-clause-channel c config events turns made legal = joined.channel config 
 
 pub returns-clause-back : goal.returns-clause-back
 returns-clause-back c config events turns made legal =
-    channel_across (usual config.client_word) (usual config.server_word) client_end server_end (hops_of config turns)
+    channel_across config.client_setup config.server_setup client_end server_end (hops_of config turns)
     (joined.channel config events turns made legal.events)
 
 pub returns-clause-at_once : goal.returns-clause-at_once

@@ -1,11 +1,10 @@
-use Rattle.coap_layer.specs.Machine.State.{usual}
 use Rattle.coap_world.specs.Events.{client_end, server_end}
 use Rattle.coap_world.specs.Hops.{hops_of}
 use Rattle.coap_world.specs.Record.{entries_of, client_of}
 use Rattle.coap_world.proofs.Delivery.HopsAreAChannel as joined
-use Rattle.coap_world.proofs.Smoothly.AllTaken.{all_taken}
+use Rattle.coap_world.proofs.Smoothly.AllTaken.{all_taken, goes_in, Beneath}
 use Rattle.coap_world.proofs.Smoothly.ArrivesInTime.{all_in_time}
-use Rattle.coap_world.proofs.Smoothly.AtOnce.{old_wait}
+use Rattle.coap_world.proofs.Smoothly.AtOnce.{old_wait, Laws}
 use Rattle.coap_world.proofs.Smoothly.ByAnswers.{by_answers}
 use Rattle.coap_world.proofs.Smoothly.FewArrive.{few_arrive}
 use Rattle.coap_world.proofs.Smoothly.IdsFree.{has_ids}
@@ -15,7 +14,28 @@ use Rattle.coap_world.proofs.Smoothly.TicksAnswer.{ticks_answer}
 use Rattle.coap_world.proofs.Smoothly.TicksInTime.{ticks_in_time}
 use Rattle.coap_world.proofs.Smoothly.TicksLeave.{ticks_leave}
 use Rattle.coap_world.proofs.Smoothly.Young.{are_young}
+use Rattle.coap_world.proofs.smooth.open_law.Goals.{After-server_law}
 use Rattle.coap_world.proofs.smooth.open_law.Goals as goal
+
+-- what the laws beneath say
+beneath : After-server_law → Beneath
+beneath c = record {
+  within = c.channel_law.ensures.within;
+  ended = c.channel_law.ensures.ended;
+  replies = c.client_exchanges_law.ensures.replies_to_con;
+}
+
+laws : After-server_law → Laws
+laws c = record {
+  beneath = beneath c;
+  acks = c.layer_law.ensures.acks;
+  acks_replied = c.channel_law.ensures.replied;
+  replied_once = c.channel_law.ensures.replied_once;
+  heard = c.client_exchanges_law.ensures.answers_heard;
+  own = c.client_follows_law.ensures.own_tokens;
+  observed = c.client_values_law.ensures.of_observations;
+  handed_on = c.server_law.ensures.handed_on;
+}
 
 pub returns-clause-arrive : goal.returns-clause-arrive
 returns-clause-arrive c config events turns run legal smooth =
@@ -28,75 +48,33 @@ returns-clause-few c config events turns run legal smooth =
 pub returns-clause-taken : goal.returns-clause-taken
 returns-clause-taken c config events turns run legal smooth =
     all_taken config
-    (record {
-      within = c.channel_law.ensures.within;
-      ended = c.channel_law.ensures.ended;
-      replies = c.client_exchanges_law.ensures.replies_to_con;
-    })
-    turns (record {
-      stands = stands config events turns run legal smooth;
-      few_client = smooth.few_to_client;
-      few_server = smooth.few_to_server;
-    })
+    (beneath (goal.at.returns-clause-taken c).After-server_law)
+    turns (goes_in config events turns run legal smooth)
 
 pub returns-clause-by_answers : goal.returns-clause-by_answers
 returns-clause-by_answers c config events turns run legal smooth young =
     let s = stands config events turns run legal smooth in
     by_answers config turns s young
-    (c.client_exchanges_law.ensures.ends_in_time server_end config.client_sizes config.client_word
+    (c.client_exchanges_law.ensures.ends_in_time server_end config.client_sizes config.client_setup
     (client_of (entries_of turns)) run.client)
-    (c.channel_law.ensures.resets (usual config.client_word) (usual config.server_word) client_end server_end
+    (c.channel_law.ensures.resets config.client_setup config.server_setup client_end server_end
     (hops_of config turns) (joined.channel config _ turns (record_of config turns s) s.legal))
 
 pub returns-clause-at_once : goal.returns-clause-at_once
 returns-clause-at_once c config events turns run legal smooth none =
     old_wait config
-    (record {
-      beneath = record {
-        within = c.channel_law.ensures.within;
-        ended = c.channel_law.ensures.ended;
-        replies = c.client_exchanges_law.ensures.replies_to_con;
-      };
-      acks = c.layer_law.ensures.acks;
-      acks_replied = c.channel_law.ensures.replied;
-      replied_once = c.channel_law.ensures.replied_once;
-      heard = c.client_exchanges_law.ensures.answers_heard;
-      own = c.client_follows_law.ensures.own_tokens;
-      observed = c.client_values_law.ensures.of_observations;
-      handed_on = c.server_law.ensures.handed_on;
-    })
+    (laws (goal.at.returns-clause-at_once c).After-server_law)
     smooth.delays
     turns
-    (record {
-      stands = stands config events turns run legal smooth;
-      few_client = smooth.few_to_client;
-      few_server = smooth.few_to_server;
-    })
+    (goes_in config events turns run legal smooth)
     none
 
 pub returns-clause-separate : goal.returns-clause-separate
 returns-clause-separate c config events turns run legal smooth none =
     separate_ends config
-    (record {
-      beneath = record {
-        within = c.channel_law.ensures.within;
-        ended = c.channel_law.ensures.ended;
-        replies = c.client_exchanges_law.ensures.replies_to_con;
-      };
-      acks = c.layer_law.ensures.acks;
-      acks_replied = c.channel_law.ensures.replied;
-      replied_once = c.channel_law.ensures.replied_once;
-      heard = c.client_exchanges_law.ensures.answers_heard;
-      own = c.client_follows_law.ensures.own_tokens;
-      observed = c.client_values_law.ensures.of_observations;
-      handed_on = c.server_law.ensures.handed_on;
-    })
+    (laws (goal.at.returns-clause-separate c).After-server_law)
     turns
-    (record {
-      stands = stands config events turns run legal smooth;
-      few_client = smooth.few_to_client;
-      few_server = smooth.few_to_server;
-    })
+    (goes_in config events turns run legal smooth)
     none
 
 pub returns-clause-ticks : goal.returns-clause-ticks
@@ -112,14 +90,10 @@ pub returns-clause-ids : goal.returns-clause-ids
 returns-clause-ids c config events turns run legal smooth none =
     has_ids config
     (λ t. c.server_law.ensures.observers config.limits config.server_szx t)
-    (λ t law. c.answerer_law.ensures.id_free config.server_word t law)
+    (λ t law. c.answerer_law.ensures.id_free config.server_setup t law)
     turns
-    (record {
-      stands = stands config events turns run legal smooth;
-      few_client = smooth.few_to_client;
-      few_server = smooth.few_to_server;
-    })
-    (c.client_values_law.ensures.of_observations server_end config.client_sizes config.client_word
+    (goes_in config events turns run legal smooth)
+    (c.client_values_law.ensures.of_observations server_end config.client_sizes config.client_setup
     (client_of (entries_of turns)) run.client)
     none
 
@@ -127,20 +101,7 @@ pub returns-clause-young : goal.returns-clause-young
 returns-clause-young c config events turns run legal smooth none =
     are_young config legal.range
     (record {
-      laws = record {
-        beneath = record {
-          within = c.channel_law.ensures.within;
-          ended = c.channel_law.ensures.ended;
-          replies = c.client_exchanges_law.ensures.replies_to_con;
-        };
-        acks = c.layer_law.ensures.acks;
-        acks_replied = c.channel_law.ensures.replied;
-        replied_once = c.channel_law.ensures.replied_once;
-        heard = c.client_exchanges_law.ensures.answers_heard;
-        own = c.client_follows_law.ensures.own_tokens;
-        observed = c.client_values_law.ensures.of_observations;
-        handed_on = c.server_law.ensures.handed_on;
-      };
+      laws = laws (goal.at.returns-clause-young c).After-server_law;
       in_time = c.client_exchanges_law.ensures.ends_in_time;
       resets = c.channel_law.ensures.resets;
       hears = c.client_exchanges_law.ensures.hears_of_open;
@@ -148,21 +109,6 @@ returns-clause-young c config events turns run legal smooth none =
     })
     smooth.delays
     turns
-    (record {
-      stands = stands config events turns run legal smooth;
-      few_client = smooth.few_to_client;
-      few_server = smooth.few_to_server;
-    })
-    (has_ids config
-    (λ t. c.server_law.ensures.observers config.limits config.server_szx t)
-    (λ t law. c.answerer_law.ensures.id_free config.server_word t law)
-    turns
-    (record {
-      stands = stands config events turns run legal smooth;
-      few_client = smooth.few_to_client;
-      few_server = smooth.few_to_server;
-    })
-    (c.client_values_law.ensures.of_observations server_end config.client_sizes config.client_word
-    (client_of (entries_of turns)) run.client)
-    none)
+    (goes_in config events turns run legal smooth)
+    (returns-clause-ids c config events turns run legal smooth none)
     none

@@ -7,8 +7,8 @@ pub returns : goal.returns
 returns c = record {
   all = λ config events turns run legal smooth none.
       all_sent config events turns run legal smooth none
-      (c.client_follows_law.ensures.own_tokens server_end config.client_sizes config.client_word)
-      (c.client_follows_law.ensures.calls_alone server_end config.client_sizes config.client_word)
-      (c.client_exchanges_law.ensures.sent_where_answered server_end config.client_sizes config.client_word
+      (c.client_follows_law.ensures.own_tokens server_end config.client_sizes config.client_setup)
+      (c.client_follows_law.ensures.calls_alone server_end config.client_sizes config.client_setup)
+      (c.client_exchanges_law.ensures.sent_where_answered server_end config.client_sizes config.client_setup
       (client_of (entries_of turns)) run.client);
 }

@@ -12,9 +12,9 @@ use Rattle.coap_client.proofs.Calls.NoticingLemmas.{told_happens}
 use Rattle.coap_client.proofs.client.observing.noticed.Goals as goal
 
 pub returns-in_default-clause-happens : goal.returns-in_default-clause-happens
-returns-in_default-clause-happens g c word =
+returns-in_default-clause-happens g c setup =
     let s = own_of c.args.held.now in
-    noticed_none c.args.asker.now.state s c.args.at.0 word c.args.m.now
+    noticed_none c.args.asker.now.state s c.args.at.0 setup c.args.m.now
     (found_by c.args.m.now.token c.token.result.now s.observations s.observations _ _ c.find_with.ensures
     c.token.ensures.bytes refl
     (ap (λ r. option_map (λ o. shown_observation o.now) r) c.in_default.is))
@@ -29,9 +29,9 @@ tell-requires-clause-clock g c =
     (ap (λ r. option_map (λ o. shown_observation o.now) r) c.in-Some.is))
 
 pub returns-in-Some-notified-clause-happens : goal.returns-in-Some-notified-clause-happens
-returns-in-Some-notified-clause-happens g c word =
+returns-in-Some-notified-clause-happens g c setup =
     let s = own_of c.args.held.now in
-    told_happens c.args.asker.now.state s c.args.at.0 word c.args.m.now (shown_observation c.in-Some.observation.now)
+    told_happens c.args.asker.now.state s c.args.at.0 setup c.args.m.now (shown_observation c.in-Some.observation.now)
     (found_by c.args.m.now.token c.token.result.now s.observations s.observations _ _ c.find_with.ensures
     c.token.ensures.bytes refl
     (ap (λ r. option_map (λ o. shown_observation o.now) r) c.in-Some.is)) c.notified.result c.notified.ensures
@@ -39,10 +39,10 @@ returns-in-Some-notified-clause-happens g c word =
     (one_observation s _ c.requires.apart) c.tell.ensures.old c.tell.ensures.new
 
 pub returns-in-None-clause-happens : goal.returns-in-None-clause-happens
-returns-in-None-clause-happens g c word =
+returns-in-None-clause-happens g c setup =
     let s = own_of c.args.held.now in
     let o = shown_observation c.in-Some.observation.now in
-    noticed_over c.args.asker.now.state s c.args.at.0 word c.args.m.now o
+    noticed_over c.args.asker.now.state s c.args.at.0 setup c.args.m.now o
     (found_by c.args.m.now.token c.token.result.now s.observations s.observations _ _ c.find_with.ensures
     c.token.ensures.bytes refl
     (ap (λ r. option_map (λ o. shown_observation o.now) r) c.in-Some.is)) c.notified.result c.notified.ensures

@@ -11,9 +11,9 @@ use Rattle.coap_client.proofs.Calls.Happening.{begun_own, not_registered, regist
 use Rattle.coap_client.proofs.client.observing.registered.Goals as goal
 
 pub returns-in_default-clause-happens : goal.returns-in_default-clause-happens
-returns-in_default-clause-happens g c word =
+returns-in_default-clause-happens g c setup =
     not_registered c.args.asker.now.state c.args.number c.args.path
-    (own_of c.args.held.now) _ c.args.at.0 word c.args.m.now c.notified.result c.notified.ensures c.in_default.is
+    (own_of c.args.held.now) _ c.args.at.0 setup c.args.m.now c.notified.result c.notified.ensures c.in_default.is
     (c.give.ensures
     ∙ (ap (λ r. reporting (record {
       own = record (own_of c.args.held.now) { running = option_map shown_operation r };
@@ -28,10 +28,10 @@ returns-in_default-clause-happens g c word =
     })) c.code.ensures))
 
 pub returns-in-Ok-clause-happens : goal.returns-in-Ok-clause-happens
-returns-in-Ok-clause-happens g c word =
+returns-in-Ok-clause-happens g c setup =
     let same = registered_number c.notified.result c.args.m.now c.in-Some.sequence c.notified.ensures c.in-Some.is in
     was_registered c.args.asker.now.state c.keep-kept.new.self.state c.args.number c.args.path
-    (own_of c.args.held.now) _ c.args.at.0 word c.args.m.now c.notified.result c.in-Some.sequence c.keep-kept.result
+    (own_of c.args.held.now) _ c.args.at.0 setup c.args.m.now c.notified.result c.in-Some.sequence c.keep-kept.result
     c.notified.ensures c.in-Some.is
     (subst (λ t. X.Step c.args.asker.now.state (E.Keep t c.keep-kept.result) c.keep-kept.new.self.state)
     c.live-token.ensures.token c.keep-kept.ensures.step)

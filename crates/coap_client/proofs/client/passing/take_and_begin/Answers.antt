@@ -11,7 +11,7 @@ use Rattle.coap_client.proofs.Calls.PassingLemmas.{drop_shown, first_runs_shown,
 use Rattle.coap_client.proofs.client.passing.take_and_begin.Goals as goal
 
 pub returns-clause-begun : goal.returns-clause-begun
-returns-clause-begun g c behind word h =
+returns-clause-begun g c behind setup h =
     let s = own_of c.args.held.now in
     let q = c.args.held.now.operations.queue in
     let some = may_some c.args.at.0 s s.queue c.requires.may in
@@ -19,10 +19,10 @@ returns-clause-begun g c behind word h =
     let is = ap (λ v. option_map (shown_operation {A = g.row.A.Denot}) v.running) c.start_first.ensures
     ∙ (first_runs_shown {A = g.row.A.Denot} q ∙ some.1) in
     let sends = subst (λ l. Sends behind c.args.at.0
-    (message_of (map (shown_observation {A = g.row.A.Denot}) l) op) word c.args.given c.args.asker.now.state)
+    (message_of (map (shown_observation {A = g.row.A.Denot}) l) op) setup c.args.given c.args.asker.now.state)
     (sym (ap (λ v. v.live) c.start_first.ensures)) (h op some.1) in
-    subst (λ e. Comes behind e c.args.at.0 word (left (own_of c.begin.new.held) c.begin.new.asker.state))
+    subst (λ e. Comes behind e c.args.at.0 setup (left (own_of c.begin.new.held) c.begin.new.asker.state))
     (ap (λ o. runs op (clocked c.args.at.0 (own_of (record c.args.held.now { operations = o })))) c.start_first.ensures
     ∙ (ap (λ k. runs op (clocked c.args.at.0 (record s { queue = k }))) (drop_shown {A = g.row.A.Denot} q)
     ∙ sym (starts_first c.args.at.0 s s.queue op c.requires.may some.1)))
-    (c.begin.ensures.begun op behind word is sends)
+    (c.begin.ensures.begun op behind setup is sends)

@@ -4,10 +4,10 @@ use Rattle.coap_client.specs.Object.Shown.{shown_asked}
 use Rattle.coap_client.proofs.client.starting.begin.Goals as goal
 
 pub returns-clause-begun : goal.returns-clause-begun
-returns-clause-begun g c op behind word runs sends =
+returns-clause-begun g c op behind setup runs sends =
     record {
       asked = shown_asked c.close-held.result;
       own = own_of c.close-held.new.held;
-      happens = c.close-held.ensures.closes op behind word runs sends;
+      happens = c.close-held.ensures.closes op behind setup runs sends;
       own_is = refl;
     }

@@ -53,7 +53,7 @@ returns-clause-step g c =
     )
 
 pub returns-clause-led : goal.returns-clause-led
-returns-clause-led g c = let s = returns-clause-step g c in (s.0, λ word t led. led_call word t _ _ _ led s.1)
+returns-clause-led g c = let s = returns-clause-step g c in (s.0, λ setup t led. led_call setup t _ _ _ led s.1)
 
 pub returns-clause-kept : goal.returns-clause-kept
 returns-clause-kept g c same at there may =

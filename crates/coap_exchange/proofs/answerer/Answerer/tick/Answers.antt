@@ -1,4 +1,4 @@
-use Rattle.std.proofs.Common.{◌≡◌, ◌<◌, max, true, Ok, refl, sym, rules, ap, ◌∙◌, subst}
+use Rattle.std.proofs.Common.{Option, ◌≡◌, ◌<◌, max, true, Ok, refl, sym, rules, ap, ◌∙◌, subst}
 use Rattle.std.specs.Vec.{vec_len, vec_capacity}
 use Rattle.std.specs.Option.{option_map}
 use Rattle.coap_layer.specs.Machine.State as L
@@ -15,7 +15,28 @@ use Rattle.coap_exchange.proofs.Calls.ServerTicks.{waits_its_turn}
 use Rattle.coap_exchange.proofs.Calls.RoomIsKept.{may_still, ticked_confirms}
 use Rattle.coap_exchange.proofs.Calls.WhatIsDue.{expires, ticked_ready, ticked_same}
 use Rattle.coap_layer.proofs.Facts.CallsOfLayer.{step_clock}
+use Rattle.coap_exchange.proofs.answerer.Answerer.tick.Given.{Over}
+use Rattle.coap_exchange.proofs.answerer.Answerer.tick.Goals.{After-due_of}
 use Rattle.coap_exchange.proofs.answerer.Answerer.tick.Goals as goal
+
+-- the first request whose delay has passed
+abbrev first : (g : Over) → After-due_of g → Option Deferred
+first g c =
+    let i = c.self.inside in
+    ready_at (own_with i.layer.state.clock i.pending i.deferred (listed i.separate.items) i.ended
+    (sending_as i.unmatched)) c.args.now.0
+
+-- .. is ready, where nothing comes before it
+is_ready : (g : Over) (c : After-due_of g) → c.unless_due-ready.result
+    ≡ option_map (λ (x : Deferred). x.asked) (ready_if c.in_ok-tick.ensures.step.0 (first g c))
+is_ready g c =
+    let i = c.self.inside in
+    let step = c.in_ok-tick.ensures.step in
+    let found : c.ready.result ≡ option_map (λ (x : Deferred). x.asked) (first g c) =
+    search (rules, c.ready.ensures.first, c.max.ensures, c.clock.ensures, c.deref.ensures.value) in
+    readied i.layer.state c.make_room.new.layer.state c.tick.new.self.state c.args.now.0 c.in_ok-tick.tick step.0
+    c.in_ok-make_room.ensures.state step.1 step.2 c.would_tick-due.result c.ready.result c.unless_due-ready.result
+    (first g c) c.would_tick-due.ensures.idle c.would_tick-due.ensures.due c.unless_due-ready.ensures found
 
 pub is_sendable-room-requires : goal.is_sendable-room-requires
 is_sendable-room-requires g c =
@@ -49,13 +70,9 @@ returns-clause-step g c =
     let i = c.self.inside in
     let step = c.in_ok-tick.ensures.step in
     let now = c.args.now.0 in
-    let d = ready_at (own_with i.layer.state.clock i.pending i.deferred (listed i.separate.items) i.ended
-    (sending_as i.unmatched)) now in
-    let found : c.ready.result ≡ option_map (λ (x : Deferred). x.asked) d =
-    search (rules, c.ready.ensures.first, c.max.ensures, c.clock.ensures, c.deref.ensures.value) in
-    let ready = readied i.layer.state c.make_room.new.layer.state c.tick.new.self.state now c.in_ok-tick.tick step.0
-    c.in_ok-make_room.ensures.state step.1 step.2 c.would_tick-due.result c.ready.result c.unless_due-ready.result d
-    c.would_tick-due.ensures.idle c.would_tick-due.ensures.due c.unless_due-ready.ensures found in
+    let k = (goal.at.returns-clause-step g c).After-due_of in
+    let d = first g k in
+    let ready = is_ready g k in
     let list = c.settle_down.ensures.now ∙ ap listed c.in_ok-make_room.ensures.items in (
       step.0,
       c.is_sendable-room.result,
@@ -73,20 +90,16 @@ returns-clause-step g c =
     )
 
 pub returns-clause-led : goal.returns-clause-led
-returns-clause-led g c = let s = returns-clause-step g c in (s.0, s.1, λ word t led. led_call word t _ _ _ led s.2)
+returns-clause-led g c = let s = returns-clause-step g c in (s.0, s.1, λ setup t led. led_call setup t _ _ _ led s.2)
 
 pub returns-clause-ready : goal.returns-clause-ready
 returns-clause-ready g c a h =
     let i = c.self.inside in
     let step = c.in_ok-tick.ensures.step in
     let now = c.args.now.0 in
-    let d = ready_at (own_with i.layer.state.clock i.pending i.deferred (listed i.separate.items) i.ended
-    (sending_as i.unmatched)) now in
-    let found : c.ready.result ≡ option_map (λ (x : Deferred). x.asked) d =
-    search (rules, c.ready.ensures.first, c.max.ensures, c.clock.ensures, c.deref.ensures.value) in
-    let ready = readied i.layer.state c.make_room.new.layer.state c.tick.new.self.state now c.in_ok-tick.tick step.0
-    c.in_ok-make_room.ensures.state step.1 step.2 c.would_tick-due.result c.ready.result c.unless_due-ready.result d
-    c.would_tick-due.ensures.idle c.would_tick-due.ensures.due c.unless_due-ready.ensures found in
+    let k = (goal.at.returns-clause-ready g c).After-due_of in
+    let d = first g k in
+    let ready = is_ready g k in
     let list = c.settle_down.ensures.now ∙ ap listed c.in_ok-make_room.ensures.items in
     let first : L.Step i.layer.state now T.Ticks step.0 c.tick.new.self.state =
     subst (λ x. L.Step x now T.Ticks step.0 c.tick.new.self.state) c.in_ok-make_room.ensures.state step.2 in
@@ -107,13 +120,9 @@ returns-clause-kept g c at there may =
     let i = c.self.inside in
     let step = c.in_ok-tick.ensures.step in
     let now = c.args.now.0 in
-    let d = ready_at (own_with i.layer.state.clock i.pending i.deferred (listed i.separate.items) i.ended
-    (sending_as i.unmatched)) now in
-    let found : c.ready.result ≡ option_map (λ (x : Deferred). x.asked) d =
-    search (rules, c.ready.ensures.first, c.max.ensures, c.clock.ensures, c.deref.ensures.value) in
-    let ready = readied i.layer.state c.make_room.new.layer.state c.tick.new.self.state now c.in_ok-tick.tick step.0
-    c.in_ok-make_room.ensures.state step.1 step.2 c.would_tick-due.result c.ready.result c.unless_due-ready.result d
-    c.would_tick-due.ensures.idle c.would_tick-due.ensures.due c.unless_due-ready.ensures found in
+    let k = (goal.at.returns-clause-kept g c).After-due_of in
+    let d = first g k in
+    let ready = is_ready g k in
     may_still c.args.self.now _ i.layer.state c.is_sendable-room.new.layer.state at there
     (sym (ap (λ s. s.state.layer) c.self.view_is)) refl (λ h. search rules)
     (ticked_confirms i.layer.state c.make_room.new.layer.state c.tick.new.self.state c.is_sendable-room.new.layer.state
@@ -126,13 +135,9 @@ returns-clause-only g c a h =
     let i = c.self.inside in
     let step = c.in_ok-tick.ensures.step in
     let now = c.args.now.0 in
-    let d = ready_at (own_with i.layer.state.clock i.pending i.deferred (listed i.separate.items) i.ended
-    (sending_as i.unmatched)) now in
-    let found : c.ready.result ≡ option_map (λ (x : Deferred). x.asked) d =
-    search (rules, c.ready.ensures.first, c.max.ensures, c.clock.ensures, c.deref.ensures.value) in
-    let ready = readied i.layer.state c.make_room.new.layer.state c.tick.new.self.state now c.in_ok-tick.tick step.0
-    c.in_ok-make_room.ensures.state step.1 step.2 c.would_tick-due.result c.ready.result c.unless_due-ready.result d
-    c.would_tick-due.ensures.idle c.would_tick-due.ensures.due c.unless_due-ready.ensures found in
+    let k = (goal.at.returns-clause-only g c).After-due_of in
+    let d = first g k in
+    let ready = is_ready g k in
     sym (ap (λ s. takes_response s.state now) c.self.view_is)
     ∙ ticked_ready i.layer.state c.make_room.new.layer.state c.tick.new.self.state c.is_sendable-room.new.layer.state
     now c.in_ok-tick.tick step.0 d c.is_sendable-room.result c.in_ok-make_room.ensures.state step.1 step.2 a
@@ -143,13 +148,9 @@ returns-clause-same g c h there =
     let i = c.self.inside in
     let step = c.in_ok-tick.ensures.step in
     let now = c.args.now.0 in
-    let d = ready_at (own_with i.layer.state.clock i.pending i.deferred (listed i.separate.items) i.ended
-    (sending_as i.unmatched)) now in
-    let found : c.ready.result ≡ option_map (λ (x : Deferred). x.asked) d =
-    search (rules, c.ready.ensures.first, c.max.ensures, c.clock.ensures, c.deref.ensures.value) in
-    let ready = readied i.layer.state c.make_room.new.layer.state c.tick.new.self.state now c.in_ok-tick.tick step.0
-    c.in_ok-make_room.ensures.state step.1 step.2 c.would_tick-due.result c.ready.result c.unless_due-ready.result d
-    c.would_tick-due.ensures.idle c.would_tick-due.ensures.due c.unless_due-ready.ensures found in
+    let k = (goal.at.returns-clause-same g c).After-due_of in
+    let d = first g k in
+    let ready = is_ready g k in
     ticked_same i.layer.state c.make_room.new.layer.state c.tick.new.self.state c.is_sendable-room.new.layer.state now
     c.in_ok-tick.tick step.0 d c.is_sendable-room.result c.in_ok-make_room.ensures.state step.1 step.2
     (c.is_sendable-room.ensures.steps (ready_if step.0 d) ready)
@@ -161,13 +162,9 @@ returns-clause-fails g c none due =
     let i = c.self.inside in
     let step = c.in_ok-tick.ensures.step in
     let now = c.args.now.0 in
-    let d = ready_at (own_with i.layer.state.clock i.pending i.deferred (listed i.separate.items) i.ended
-    (sending_as i.unmatched)) now in
-    let found : c.ready.result ≡ option_map (λ (x : Deferred). x.asked) d =
-    search (rules, c.ready.ensures.first, c.max.ensures, c.clock.ensures, c.deref.ensures.value) in
-    let ready = readied i.layer.state c.make_room.new.layer.state c.tick.new.self.state now c.in_ok-tick.tick step.0
-    c.in_ok-make_room.ensures.state step.1 step.2 c.would_tick-due.result c.ready.result c.unless_due-ready.result d
-    c.would_tick-due.ensures.idle c.would_tick-due.ensures.due c.unless_due-ready.ensures found in
+    let k = (goal.at.returns-clause-fails g c).After-due_of in
+    let d = first g k in
+    let ready = is_ready g k in
     ap Ok (c.due_of.ensures.due step.0 d step.1 ready
     ∙ expires i.layer.state c.make_room.new.layer.state c.tick.new.self.state now step.0 d c.is_sendable-room.result
     c.in_ok-make_room.ensures.state step.2

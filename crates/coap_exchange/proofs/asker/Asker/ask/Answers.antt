@@ -25,12 +25,12 @@ returns-in-Spent-clause-step g c e = (
 
 pub returns-in-Running-clause-led : goal.returns-in-Running-clause-led
 returns-in-Running-clause-led g c e = let s =
-    returns-in-Running-clause-step g c e in (s.0, λ server word t led. led_call server word t _ _ _ led s.1)
+    returns-in-Running-clause-step g c e in (s.0, λ server setup t led. led_call server setup t _ _ _ led s.1)
 
 pub returns-in-Spent-clause-led : goal.returns-in-Spent-clause-led
 returns-in-Spent-clause-led g c e = let s = returns-in-Spent-clause-step g c e
-    in (s.0, λ server word t led. led_call server word t _ _ _ led s.1)
+    in (s.0, λ server setup t led. led_call server setup t _ _ _ led s.1)
 
 pub returns-in-Sends-clause-led : goal.returns-in-Sends-clause-led
 returns-in-Sends-clause-led g c e = let s = c.send.ensures.step e
-    in (s.0, λ server word t led. led_call server word t _ _ _ led s.1)
+    in (s.0, λ server setup t led. led_call server setup t _ _ _ led s.1)

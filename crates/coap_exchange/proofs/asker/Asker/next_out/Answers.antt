@@ -6,4 +6,4 @@ pub returns-clause-step : goal.returns-clause-step
 returns-clause-step g c = search rules
 
 pub returns-clause-led : goal.returns-clause-led
-returns-clause-led g c server word t led = led_call server word t _ _ _ led (returns-clause-step g c)
+returns-clause-led g c server setup t led = led_call server setup t _ _ _ led (returns-clause-step g c)

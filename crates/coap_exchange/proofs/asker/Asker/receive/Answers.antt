@@ -36,7 +36,7 @@ returns-clause-step g c =
 
 pub returns-clause-led : goal.returns-clause-led
 returns-clause-led g c = let s = returns-clause-step g c
-    in (s.0, s.1, λ server word t led. led_call server word t _ _ _ led s.2)
+    in (s.0, s.1, λ server setup t led. led_call server setup t _ _ _ led s.2)
 
 pub returns-clause-few : goal.returns-clause-few
 returns-clause-few g c =

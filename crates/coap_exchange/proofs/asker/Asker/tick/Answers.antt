@@ -17,4 +17,4 @@ returns-clause-step g c =
 
 pub returns-clause-led : goal.returns-clause-led
 returns-clause-led g c = let s = returns-clause-step g c
-    in (s.0, λ server word t led. led_call server word t _ _ _ led s.1)
+    in (s.0, λ server setup t led. led_call server setup t _ _ _ led s.1)

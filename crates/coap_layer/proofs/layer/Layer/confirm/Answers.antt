@@ -1,11 +1,13 @@
 use Rattle.std.proofs.Common.{rules, ◌≡◌, ap, sym, subst, ◌∙◌, [], ◌∷◌, ◌++◌, ◌+◌, ◌%◌, is_some, ◌&&◌, List}
+use Rattle.std.proofs.lemmas.List.{append-nil}
 use Rattle.std.specs.List.{list_any}
 use Rattle.coap_types.specs.declared.message.Kind.TheVariants.{Con}
 use Rattle.coap_types.specs.SameEndpoint.{same_endpoint}
 use Rattle.coap_codec.specs.Spelling.{message_bytes}
 use Rattle.coap_layer.specs.Machine.Entries.{IsUpTo, arrivals_in}
-use Rattle.coap_layer.specs.Machine.Parts.{held, open_before}
+use Rattle.coap_layer.specs.Machine.Parts.{awaited, held, open_before}
 use Rattle.coap_layer.specs.Machine.Sendings.{open_now}
+use Rattle.coap_layer.specs.Machine.Sound.{IsKept}
 use Rattle.coap_layer.specs.Machine.State.{State, is_busy}
 use Rattle.coap_layer.specs.Trace.{Packet, with_head}
 use Rattle.coap_layer.specs.Words.{Open}
@@ -32,9 +34,24 @@ returns-in-Some-clause-step g c _ =
 pub returns-in-Some-clause-led : goal.returns-in-Some-clause-led
 returns-in-Some-clause-led g c sent first t led = led_step first t _ _ _ _ _ led (returns-in-Some-clause-step g c sent)
 
-pub returns-in_default-take_room-clause-room : goal.returns-in_default-take_room-clause-room
-returns-in_default-take_room-clause-room g c has same =
-    absurd (cc (c.in_default-take_room.ensures.had (ap (λ s. s.has_room) c.self.view_is ∙ has)))
+pub returns-in_default-make_room-clause-room : goal.returns-in_default-make_room-clause-room
+returns-in_default-make_room-clause-room g c has same =
+    absurd (cc (c.in_default-make_room.ensures.had (ap (λ s. s.has_room) c.self.view_is ∙ has)))
+
+pub invariant_of-self : goal.invariant_of-self
+invariant_of-self g c =
+    let i = c.self.invariant in (i.0, i.1, (upto_later _ _ _ (search rules) i.2.0, tt))
+
+pub invariant_of-self-in_default-make_room : goal.invariant_of-self-in_default-make_room
+invariant_of-self-in_default-make_room g c =
+    let i = c.self.invariant in
+    let entries = c.make_room.ensures.entries in (
+      within_pushed c.self.inside.mark c.self.inside.lists.entries.settled c.make_room.new.lists.entries.settled
+          c.self.inside.lists.waiting.items c.make_room.new.lists.waiting.items [] i.0 (ap (λ m. m.settled) entries)
+          (c.make_room.ensures.waiting ∙ sym (append-nil c.self.inside.lists.waiting.items)),
+      c.make_room.ensures.room,
+      subst (IsKept c.self.inside.clock.0 (awaited c.self.inside.awaits) c.self.inside.replies) (sym entries) i.2,
+    )
 
 pub invariant_of-self-2 : goal.invariant_of-self-2
 invariant_of-self-2 g c =
@@ -44,12 +61,12 @@ invariant_of-self-2 g c =
     } ∷ [] in (
       within_pushed c.self.inside.mark c.self.inside.lists.entries.settled c.send_con.new.lists.entries.settled
           c.self.inside.lists.waiting.items c.send_con.new.lists.waiting.items out c.self.invariant.0
-          (ap (λ m. m.settled) (c.send_con.ensures.entries ∙ c.take_room.ensures.entries))
-          (c.send_con.ensures.waiting ∙ ap (λ (q : List Packet). q ++ out) c.take_room.ensures.waiting),
+          (ap (λ m. m.settled) (c.send_con.ensures.entries ∙ c.make_room.ensures.entries))
+          (c.send_con.ensures.waiting ∙ ap (λ (q : List Packet). q ++ out) c.make_room.ensures.waiting),
       search rules,
       (
         subst (λ m. IsUpTo c.later-at.result.0 (arrivals_in m))
-            (sym (c.send_con.ensures.entries ∙ c.take_room.ensures.entries))
+            (sym (c.send_con.ensures.entries ∙ c.make_room.ensures.entries))
             (upto_later _ _ _ (search rules) c.self.invariant.2.0),
         tt,
       ),
@@ -79,9 +96,9 @@ returns-clause-step g c _ =
     c.args.word c.is_busy-busy.result c.would_give.result c.give-id.result _ _ _ _ _ busy c.would_give.ensures
     (sym c.refusal.ensures ∙ c.in_default.is) c.give-id.ensures.id
     (ap (λ s. s.upcoming) c.give-id.ensures.new) (ap (λ s. s.last_used) c.give-id.ensures.new)
-    (ap arrivals_in (c.send_con.ensures.entries ∙ c.take_room.ensures.entries))
-    (c.send_con.ensures.open ∙ ap (λ cs. open_now cs ++ begun) c.take_room.ensures.sendings)
-    (c.send_con.ensures.waiting ∙ ap (λ (q : List Packet). q ++ out) c.take_room.ensures.waiting)
+    (ap arrivals_in (c.send_con.ensures.entries ∙ c.make_room.ensures.entries))
+    (c.send_con.ensures.open ∙ ap (λ cs. open_now cs ++ begun) c.make_room.ensures.sendings)
+    (c.send_con.ensures.waiting ∙ ap (λ (q : List Packet). q ++ out) c.make_room.ensures.waiting)
 
 pub returns-clause-led : goal.returns-clause-led
 returns-clause-led g c sent first t led = led_step first t _ _ _ _ _ led (returns-clause-step g c sent)
@@ -92,16 +109,17 @@ returns-clause-before g c =
       to = c.args.to;
       bytes = message_bytes (with_head Con c.give-id.result.0 c.args.content.now);
     } ∷ [] in
-    before_same c.self.inside.most c.self.inside.mark c.self.inside.lists.entries.settled c.send_con.new.lists.entries.settled
+    before_same c.self.inside.most c.self.inside.mark _ _ c.self.inside.lists.entries.settled c.send_con.new.lists.entries.settled
     c.self.inside.lists.sendings.items c.send_con.new.lists.sendings.items c.self.inside.lists.waiting.items
     c.send_con.new.lists.waiting.items out
-    c.self.invariant.0 (ap (λ m. m.settled) (c.send_con.ensures.entries ∙ c.take_room.ensures.entries))
-    (c.send_con.ensures.before ∙ ap open_before c.take_room.ensures.sendings)
-    (c.send_con.ensures.waiting ∙ ap (λ (q : List Packet). q ++ out) c.take_room.ensures.waiting)
+    c.self.invariant.0 (ap (λ m. m.settled) (c.send_con.ensures.entries ∙ c.make_room.ensures.entries))
+    (c.send_con.ensures.before ∙ ap open_before c.make_room.ensures.sendings)
+    (c.send_con.ensures.waiting ∙ ap (λ (q : List Packet). q ++ out) c.make_room.ensures.waiting)
+    (c.note.ensures c.give-id.new.self)
     ∙ ap (λ s. s.before) c.self.view_is
 
-pub returns-in_default-take_room-clause-quiet : goal.returns-in_default-take_room-clause-quiet
-returns-in_default-take_room-clause-quiet g c quiet _ =
+pub returns-in_default-make_room-clause-quiet : goal.returns-in_default-make_room-clause-quiet
+returns-in_default-make_room-clause-quiet g c quiet _ =
     let h : State = held c.self.inside.most c.self.inside.clock.0 c.self.inside.awaits c.self.inside.ids c.self.inside.lists in
     let busy : c.is_busy-busy.result ≡ is_busy c.args.to h.open_cons
     = c.is_busy-busy.ensures ∙ (ap (λ cs. list_any (λ x. is_some x.last && same_endpoint x.to c.args.to) cs)

@@ -10,7 +10,8 @@ use Rattle.coap_layer.proofs.layer.Layer.next_out.Goals as goal
 pub invariant_of-self : goal.invariant_of-self
 invariant_of-self g c =
     let i = c.self.invariant in
-    (tt, room_kept c.self.inside.room c.self.inside.lists _ i.1 (omega arith) refl (λ x. search rules), i.2)
+    let lists = record c.self.inside.lists { waiting = c.pop_front.new.self } in
+    (tt, room_kept c.self.inside.room c.self.inside.lists lists i.1 (omega arith) refl (λ x. search rules), i.2)
 
 pub returns-clause-step : goal.returns-clause-step
 returns-clause-step g c =

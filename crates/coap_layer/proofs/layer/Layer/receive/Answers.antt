@@ -9,7 +9,7 @@ use Rattle.coap_layer.specs.Machine.Sound.{IsKept}
 use Rattle.coap_layer.specs.Machine.State.{State, answer_to, is_live, is_remembered}
 use Rattle.coap_layer.specs.Trace.{Becomes}
 use Rattle.coap_layer.proofs.Machine.Forgetting.{led_step}
-use Rattle.coap_layer.proofs.Calls.Remembered.{same_arrivals}
+use Rattle.coap_layer.proofs.Calls.Remembered.{on_err, same_arrivals}
 use Rattle.coap_layer.proofs.Calls.Received.{received, awaited_so, quiet_so}
 use Rattle.coap_layer.proofs.Calls.TakenIn.{none_of, room_kept, same_found}
 use Rattle.coap_layer.proofs.layer.Layer.receive.Goals as goal
@@ -82,6 +82,15 @@ returns-in_err-grow-clause-quiet g c quiet =
     ∙ none_of c.in_ok-sent.sent (c.in_ok-sent.ensures.sent ∙ none.2) in
     absurd (cc (c.in_err-grow.ensures.idle (c.keeps.ensures ∙ none.1) (c.hands.ensures ∙ none.0) unsent))
 
+pub returns-in_err-grow-clause-err : goal.returns-in_err-grow-clause-err
+returns-in_err-grow-clause-err g c =
+    let settled = c.in_err-grow.ensures.settled in
+    let newest = c.in_err-grow.ensures.newest in
+    let sendings = c.in_err-grow.ensures.sendings in
+    let waiting = c.in_err-grow.ensures.waiting in
+    let room = c.in_err-grow.ensures.err in
+    on_err _ (cc (settled, newest, sendings, waiting, room) ∙ c.self.view_is)
+
 pub invariant_of-self-2 : goal.invariant_of-self-2
 invariant_of-self-2 g c =
     let at : ℕ = c.later.result.0 in (
@@ -115,7 +124,7 @@ returns-clause-kept g c has = c.in_ok-grow.ensures.kept (ap (λ s. s.has_room) c
 
 pub returns-clause-before : goal.returns-clause-before
 returns-clause-before g c =
-    c.take_in-mark.ensures.before c.self.inside.most
+    c.take_in-mark.ensures.before c.self.inside.most c.self.inside.ids
     ∙ (same_found c.self.inside.most c.self.inside.clock.0 _ c.self.inside.ids _ _ _ _ _ _
     (same_arrivals c.in_ok-grow.ensures.settled c.in_ok-grow.ensures.newest)
     (ap open_now c.in_ok-grow.ensures.sendings) c.in_ok-grow.ensures.waiting

@@ -22,14 +22,14 @@ invariant_of-self g c =
             c.store_reply.ensures.newest))
             (upto_more c.self.inside.clock.0 old.settled _
             (upto_front c.self.inside.clock.0 old.settled _ c.self.invariant.2.0)
-            (upto_stored c.self.inside.clock.0 c.args.to c.args.id.0 c.fitted-stored.result.items old.newest
+            (upto_stored c.self.inside.clock.0 c.args.to c.args.id.0 c.copied-stored.result.items old.newest
             (upto_back c.self.inside.clock.0 old.settled _ c.self.invariant.2.0))),
         tt,
       ),
     )
 
-pub returns-in-Some-clause-step : goal.returns-in-Some-clause-step
-returns-in-Some-clause-step g c =
+pub returns-clause-step : goal.returns-clause-step
+returns-clause-step g c =
     let h : State = held c.self.inside.most c.self.inside.clock.0 c.self.inside.awaits c.self.inside.ids c.self.inside.lists in
     let old = c.self.inside.lists.entries in
     let id = c.args.id.0 in
@@ -40,7 +40,7 @@ returns-in-Some-clause-step g c =
     let stored : arrivals_in c.store_reply.new.self ≡ old.settled
     ++ option_to_list (option_map (storing c.args.to id bytes) old.newest) =
     same_arrivals c.store_reply.ensures.settled
-    (c.store_reply.ensures.newest ∙ ap (λ b. option_map (storing c.args.to id b) old.newest) c.fitted-stored.ensures) in
+    (c.store_reply.ensures.newest ∙ ap (λ b. option_map (storing c.args.to id b) old.newest) c.copied-stored.ensures) in
     step_of h c.args.self.now.state _ 0 h.clock (Reply c.args.to id bytes) Nothing
     (record { to = c.args.to; bytes = bytes } ∷ []) (ap (λ s. s.state) c.self.view_is)
     (ap (λ s. s.state.awaits) c.self.view_is ∙ c.requires.may.awaited) refl refl refl
@@ -48,15 +48,15 @@ returns-in-Some-clause-step g c =
     (ap (filter (is_live c.self.inside.clock.0)) stored
     ∙ stored_newest c.self.inside.clock.0 c.args.to id bytes old.settled old.newest unknown)
     (c.push_within.ensures.items ∙ ap (λ b. h.queue ++ record { to = c.args.to; bytes = b } ∷ [])
-    c.filled-sent.ensures))
+    c.copied-sent.ensures))
 
-pub returns-in-Some-clause-led : goal.returns-in-Some-clause-led
-returns-in-Some-clause-led g c word t led = led_step word t _ _ _ _ _ led (returns-in-Some-clause-step g c)
+pub returns-clause-led : goal.returns-clause-led
+returns-clause-led g c word t led = led_step word t _ _ _ _ _ led (returns-clause-step g c)
 
-pub returns-in-Some-clause-before : goal.returns-in-Some-clause-before
-returns-in-Some-clause-before g c =
-    before_same c.self.inside.most c.self.inside.mark c.self.inside.lists.entries.settled c.store_reply.new.self.settled
+pub returns-clause-before : goal.returns-clause-before
+returns-clause-before g c =
+    before_same c.self.inside.most c.self.inside.mark _ _ c.self.inside.lists.entries.settled c.store_reply.new.self.settled
     c.self.inside.lists.sendings.items c.self.inside.lists.sendings.items c.self.inside.lists.waiting.items
     c.push_within.new.waiting.items _
-    c.self.invariant.0 c.store_reply.ensures.settled refl c.push_within.ensures.items
+    c.self.invariant.0 c.store_reply.ensures.settled refl c.push_within.ensures.items refl
     ∙ ap (λ s. s.before) c.self.view_is

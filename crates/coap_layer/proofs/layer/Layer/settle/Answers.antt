@@ -15,9 +15,10 @@ use Rattle.coap_layer.proofs.layer.Layer.settle.Goals as goal
 
 pub invariant_of-self : goal.invariant_of-self
 invariant_of-self g c =
-    let i = c.self.invariant in (
+    let i = c.self.invariant in
+    let lists = record c.self.inside.lists { sendings = c.end_all.new.sendings } in (
       i.0,
-      room_kept c.self.inside.room c.self.inside.lists _ i.1 (search rules) c.end_all.ensures.capacity (λ x. x),
+      room_kept c.self.inside.room c.self.inside.lists lists i.1 (search rules) c.end_all.ensures.capacity (λ x. x),
       i.2,
     )
 
@@ -40,7 +41,7 @@ returns-clause-led g c word t led = led_step word t _ _ _ _ _ led (returns-claus
 
 pub returns-clause-before : goal.returns-clause-before
 returns-clause-before g c =
-    before_ended c.self.inside.most c.self.inside.mark c.self.inside.lists.entries.settled c.self.inside.lists.sendings.items
+    before_ended c.self.inside.most c.self.inside.mark _ c.self.inside.lists.entries.settled c.self.inside.lists.sendings.items
     c.end_all.new.sendings.items c.self.inside.lists.waiting.items
     (ap open_before c.end_all.ensures.items ∙ ended_before c.args.to c.args.id.0 c.self.inside.lists.sendings.items)
     ∙ ap (λ s. s.before) c.self.view_is

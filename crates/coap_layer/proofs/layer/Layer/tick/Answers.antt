@@ -20,33 +20,33 @@ pub returns-clause-step : goal.returns-clause-step
 returns-clause-step g c =
     let h : State = held c.self.inside.most c.self.inside.clock.0 c.self.inside.awaits c.self.inside.ids c.self.inside.lists in
     let at : ℕ = c.later.result.0 in
-    let due = c.take_tick-mark.result.1 in
+    let due = c.take_tick-due.result.1 in
     let out = option_to_list c.in_ok-sent.sent in
     let sendings = c.in_ok-grow.ensures.sendings in (
       answer_for due,
       c.ticked.ensures,
       step_of h c.args.self.now.state _ c.args.now.0 at Ticks (answer_for due) out (ap (λ s. s.state) c.self.view_is) tt
           (search rules)
-          (c.take_tick-mark.ensures.due ∙ ap (λ cs. tick_of at (open_now cs)) sendings) (sym c.in_ok-sent.ensures.copy)
-          (ticked_left h at due out (arrivals_in c.take_tick-mark.new.lists.entries)
-          (open_now c.take_tick-mark.new.lists.sendings.items) c.take_tick-mark.new.lists.waiting.items
+          (c.take_tick-due.ensures.due ∙ ap (λ cs. tick_of at (open_now cs)) sendings) (sym c.in_ok-sent.ensures.copy)
+          (ticked_left h at due out (arrivals_in c.take_tick-due.new.lists.entries)
+          (open_now c.take_tick-due.new.lists.sendings.items) c.take_tick-due.new.lists.waiting.items
           (search rules)
-          (c.take_tick-mark.ensures.arrived ∙ ap (filter (is_live c.self.inside.clock.0))
+          (c.take_tick-due.ensures.arrived ∙ ap (filter (is_live c.self.inside.clock.0))
           (same_arrivals c.in_ok-grow.ensures.settled c.in_ok-grow.ensures.newest))
-          (c.take_tick-mark.ensures.open out ∙ ap (λ cs. filter_map
+          (c.take_tick-due.ensures.open out ∙ ap (λ cs. filter_map
           (left_by (record { at = at; call = Ticks; answer = answer_for due; out = out })) (open_now cs)) sendings)
-          (c.take_tick-mark.ensures.waiting ∙ ap (λ q. q ++ out) c.in_ok-grow.ensures.waiting)),
+          (c.take_tick-due.ensures.waiting ∙ ap (λ q. q ++ out) c.in_ok-grow.ensures.waiting)),
     )
 
 pub returns-clause-led : goal.returns-clause-led
 returns-clause-led g c _ word t led = led_step word t _ _ _ _ _ led ((returns-clause-step g c).2)
 
-pub take_tick-mark-requires-clause-up_to : goal.take_tick-mark-requires-clause-up_to
-take_tick-mark-requires-clause-up_to g c = subst (IsUpTo c.self.inside.clock.0)
+pub take_tick-due-requires-clause-up_to : goal.take_tick-due-requires-clause-up_to
+take_tick-due-requires-clause-up_to g c = subst (IsUpTo c.self.inside.clock.0)
     (sym (same_arrivals c.in_ok-grow.ensures.settled c.in_ok-grow.ensures.newest)) c.self.invariant.2.0
 
-pub take_tick-mark-requires-clause-place : goal.take_tick-mark-requires-clause-place
-take_tick-mark-requires-clause-place g c some = c.in_ok-grow.ensures.place (c.is_some.ensures ∙ some)
+pub take_tick-due-requires-clause-place : goal.take_tick-due-requires-clause-place
+take_tick-due-requires-clause-place g c some = c.in_ok-grow.ensures.place (c.is_some.ensures ∙ some)
 
 pub returns-clause-kept : goal.returns-clause-kept
 returns-clause-kept g c has = c.in_ok-grow.ensures.kept (ap (λ s. s.has_room) c.self.view_is ∙ has)
@@ -98,16 +98,16 @@ returns-in_err-grow-clause-err g c =
 
 pub invariant_of-self-2 : goal.invariant_of-self-2
 invariant_of-self-2 g c = (
-  c.take_tick-mark.ensures.within,
-  room_kept c.grow.new.room c.grow.new.lists c.take_tick-mark.new.lists c.in_ok-grow.ensures.room
-      c.take_tick-mark.ensures.sendings_len c.take_tick-mark.ensures.sendings_capacity
-      c.take_tick-mark.ensures.waiting_room,
-  c.take_tick-mark.ensures.kept,
+  c.take_tick-due.ensures.within,
+  room_kept c.grow.new.room c.grow.new.lists c.take_tick-due.new.lists c.in_ok-grow.ensures.room
+      c.take_tick-due.ensures.sendings_len c.take_tick-due.ensures.sendings_capacity
+      c.take_tick-due.ensures.waiting_room,
+  c.take_tick-due.ensures.kept,
 )
 
 pub returns-clause-before : goal.returns-clause-before
 returns-clause-before g c =
-    let before = c.take_tick-mark.ensures.before c.self.inside.most in
+    let before = c.take_tick-due.ensures.before c.self.inside.most c.self.inside.ids in
     let arrived = same_arrivals c.in_ok-grow.ensures.settled c.in_ok-grow.ensures.newest in
     let sendings = c.in_ok-grow.ensures.sendings in
     let waiting = c.in_ok-grow.ensures.waiting in

@@ -1,21 +1,14 @@
-use Rattle.std.proofs.Common.{rules, [], sym, subst}
-use Rattle.coap_server.specs.Led.{Led}
-use Rattle.coap_server.proofs.Exact.Leads.{led_empty}
+use Rattle.std.proofs.Common.{◌≡◌, [], subst}
+use Rattle.coap_server.specs.Led.{Led, fresh_state}
+use Rattle.coap_server.specs.Object.Shown.{state_of}
 use Rattle.coap_server.proofs.server.Server.with_hasher.Goals as goal
 
-pub returns-clause-start : goal.returns-clause-start
-returns-clause-start g c = search rules
+pub returns-clause-led : goal.returns-clause-led
+returns-clause-led g c limits empty =
+    subst (λ setup. Led limits c.args.szx setup [] (state_of g.S.Store.content c.with_setup.result)) c.new.ensures
+    (c.with_setup.ensures.led limits empty)
 
-pub invariant_of-result : goal.invariant_of-result
-invariant_of-result g c = (
-  (
-    c.requires.fresh.0,
-    c.args.szx,
-    c.args.word,
-    [],
-    subst (λ s. Led c.requires.fresh.0 c.args.szx c.args.word [] s)
-        (sym (returns-clause-start g c c.requires.fresh.0 c.requires.fresh.1))
-        (led_empty c.requires.fresh.0 c.args.szx c.args.word),
-  ),
-  search rules,
-)
+pub returns-clause-start : goal.returns-clause-start
+returns-clause-start g c limits empty =
+    subst (λ setup. state_of g.S.Store.content c.with_setup.result ≡ fresh_state limits c.args.szx setup) c.new.ensures
+    (c.with_setup.ensures.start limits empty)

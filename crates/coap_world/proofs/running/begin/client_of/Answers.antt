@@ -6,7 +6,7 @@ use Rattle.coap_world.proofs.running.begin.client_of.Goals as goal
 pub returns : goal.returns
 returns g c =
     record {
-      led = subst (λ (k : Config). Led server_end k.client_sizes k.client_word [] c.with_limit-client.result) c.config.view_is
-          c.with_limit-client.ensures.led;
+      led = subst (λ (k : Config). Led server_end k.client_sizes k.client_setup [] c.with_setup-client.result) c.config.view_is
+          c.with_setup-client.ensures.led;
       senders = c.new-2.ensures;
     }

@@ -6,5 +6,5 @@ use Rattle.coap_world.proofs.running.begin.fresh_server.Goals as goal
 
 pub returns : goal.returns
 returns g c =
-    subst (λ (k : Config). Led k.limits k.server_szx k.server_word [] (state_of g.S.Store.content c.new.result))
-    c.config.view_is (c.new.ensures.led _ c.in-Some.ensures.empty)
+    subst (λ (k : Config). Led k.limits k.server_szx k.server_setup [] (state_of g.S.Store.content c.with_setup.result))
+    c.config.view_is (c.with_setup.ensures.led _ c.in-Some.ensures.empty)

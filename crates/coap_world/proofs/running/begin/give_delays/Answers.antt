@@ -17,7 +17,7 @@ delays-init g c =
     (ap (λ (k : Config). k.delays) c.config.view_is) (c.len-left.ensures ∙ c.config.inside.delays.ok.0) in
     record {
       within = none.0;
-      led = subst (λ t. Led k.limits k.server_szx k.server_word t (state_of g.S.Store.content c.args.server.now)) none.1
+      led = subst (λ t. Led k.limits k.server_szx k.server_setup t (state_of g.S.Store.content c.args.server.now)) none.1
           c.requires;
     }
 
@@ -31,14 +31,14 @@ delays-preserved g c =
     record {
       within = omega (arith, c.delays.invariant.within);
       led =
-          subst (λ t. Led k.limits k.server_szx k.server_word t (state_of g.S.Store.content c.set_delay.new.self))
+          subst (λ t. Led k.limits k.server_szx k.server_setup t (state_of g.S.Store.content c.set_delay.new.self))
           (next_given c.config.inside.delays.items k.delays n c.delays.left c.index-delay.result.now are
           (omega (arith, c.delays-test.true)) (omega (arith, long, c.delays.invariant.within, c.delays-test.true))
           c.index-delay.ensures)
-          (subst (λ b. Led k.limits k.server_szx k.server_word
+          (subst (λ b. Led k.limits k.server_szx k.server_setup
           (Delays c.index-delay.result.now.path c.index-delay.result.now.ms b ∷ gives (drop c.delays.left k.delays))
           (state_of g.S.Store.content c.set_delay.new.self)) ok
-          (c.set_delay.ensures.led k.limits k.server_szx k.server_word
+          (c.set_delay.ensures.led k.limits k.server_szx k.server_setup
           (gives (drop c.delays.left k.delays)) c.delays.invariant.led
           (λ e. let clash = sym c.in-Ok.is ∙ e in cc)));
     }

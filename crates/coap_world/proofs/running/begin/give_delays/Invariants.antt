@@ -11,6 +11,6 @@ abbrev pub invariant-delays : goal.invariant-delays
 invariant-delays g l =
     record {
       within : l.left ≤ length l.fn.config.delays;
-      led : Led l.fn.config.limits l.fn.config.server_szx l.fn.config.server_word
+      led : Led l.fn.config.limits l.fn.config.server_szx l.fn.config.server_setup
           (gives (drop l.left l.fn.config.delays)) (state_of g.S.Store.content l.server);
     }

@@ -17,7 +17,7 @@ plains-init g c =
     (c.len-left.ensures ∙ c.config.inside.plains.ok.0 ∙ ap length are) in
     record {
       within = none.0;
-      led = subst (λ t. Led k.limits k.server_szx k.server_word t (state_of g.S.Store.content c.args.server.now)) none.1
+      led = subst (λ t. Led k.limits k.server_szx k.server_setup t (state_of g.S.Store.content c.args.server.now)) none.1
           c.requires;
     }
 
@@ -31,14 +31,14 @@ plains-preserved g c =
     record {
       within = omega (arith, c.plains.invariant.within);
       led =
-          subst (λ t. Led k.limits k.server_szx k.server_word t (state_of g.S.Store.content c.set_plain.new.self))
+          subst (λ t. Led k.limits k.server_szx k.server_setup t (state_of g.S.Store.content c.set_plain.new.self))
           (next_plain k.plains k.delays n c.plains.left c.index.result.now (omega (arith, c.plains-test.true))
           (omega (arith, long, c.plains.invariant.within, c.plains-test.true))
           (c.index.ensures ∙ ap (λ ps. get_or ps n c.index.result.now) are))
-          (subst (λ b. Led k.limits k.server_szx k.server_word
+          (subst (λ b. Led k.limits k.server_szx k.server_setup
           (Plains c.index.result.now b ∷ begins_with (drop c.plains.left k.plains) k.delays)
           (state_of g.S.Store.content c.set_plain.new.self)) ok
-          (c.set_plain.ensures.led k.limits k.server_szx k.server_word
+          (c.set_plain.ensures.led k.limits k.server_szx k.server_setup
           (begins_with (drop c.plains.left k.plains) k.delays) c.plains.invariant.led
           (λ e. let clash = sym c.in-Ok.is ∙ e in cc)));
     }

@@ -11,6 +11,6 @@ abbrev pub invariant-plains : goal.invariant-plains
 invariant-plains g l =
     record {
       within : l.left ≤ length l.fn.config.plains;
-      led : Led l.fn.config.limits l.fn.config.server_szx l.fn.config.server_word
+      led : Led l.fn.config.limits l.fn.config.server_szx l.fn.config.server_setup
           (begins_with (drop l.left l.fn.config.plains) l.fn.config.delays) (state_of g.S.Store.content l.server);
     }

@@ -5,12 +5,12 @@ use Rattle.knifesilver.specs.ClientHeld.{IsClientIn}
 use Rattle.knifesilver.proofs.client.calls.cancel.Goals as goal
 
 pub returns-in-Ok-clause-led : goal.returns-in-Ok-clause-led
-returns-in-Ok-clause-led c = λ _ server sizes word t led.
-    let w = c.in-Ok.ensures.led server sizes word t (subst (IsClientIn (Led server sizes word t)) c.in-Client.is led) in
+returns-in-Ok-clause-led c = λ _ server sizes setup t led.
+    let w = c.in-Ok.ensures.led server sizes setup t (subst (IsClientIn (Led server sizes setup t)) c.in-Client.is led) in
     (_, (_, refl, refl), w)
 
 pub returns-in-Err-clause-led : goal.returns-in-Err-clause-led
-returns-in-Err-clause-led c = λ _ server sizes word t led.
-    let w = c.in-Err.ensures.led server sizes word t (subst (IsClientIn (Led server sizes word t)) c.in-Client.is led) in
+returns-in-Err-clause-led c = λ _ server sizes setup t led.
+    let w = c.in-Err.ensures.led server sizes setup t (subst (IsClientIn (Led server sizes setup t)) c.in-Client.is led) in
     let same = to_z-of_z {w = w32} {z = c.from.result} (record { sfits = c.from.type_inv }) in
     (_, (_, same ∙ c.from.ensures ∙ ap pos c.number.ensures, refl), w)

@@ -5,11 +5,11 @@ use Rattle.knifesilver.specs.ClientHeld.{IsClientIn}
 use Rattle.knifesilver.proofs.client.calls.forget.Goals as goal
 
 pub returns-then-forget-clause-led : goal.returns-then-forget-clause-led
-returns-then-forget-clause-led c = λ _ server sizes word t led.
-    let w = c.forget.ensures.led server sizes word t (subst (IsClientIn (Led server sizes word t)) c.in-Client.is led) in
+returns-then-forget-clause-led c = λ _ server sizes setup t led.
+    let w = c.forget.ensures.led server sizes setup t (subst (IsClientIn (Led server sizes setup t)) c.in-Client.is led) in
     (_, (w.0, _, ap told (sym c.if-forget.true), refl), w.1)
 
 pub returns-else-forget-clause-led : goal.returns-else-forget-clause-led
-returns-else-forget-clause-led c = λ _ server sizes word t led.
-    let w = c.forget.ensures.led server sizes word t (subst (IsClientIn (Led server sizes word t)) c.in-Client.is led) in
+returns-else-forget-clause-led c = λ _ server sizes setup t led.
+    let w = c.forget.ensures.led server sizes setup t (subst (IsClientIn (Led server sizes setup t)) c.in-Client.is led) in
     (_, (w.0, _, ap told (sym c.if-forget.false), refl), w.1)

@@ -8,10 +8,10 @@ use Rattle.knifesilver.specs.ClientHeld.{IsClientIn}
 use Rattle.knifesilver.proofs.client.calls.observe.Goals as goal
 
 pub returns-in-Client-clause-led : goal.returns-in-Client-clause-led
-returns-in-Client-clause-led c = λ answered server sizes word t led.
+returns-in-Client-clause-led c = λ answered server sizes setup t led.
     let same = to_z-of_z {w = w32} {z = c.taken.result} (record { sfits = c.taken.type_inv }) in
     let how = c.taken.ensures.answered (subst IsAnswered same answered) in
-    let w = c.observe.ensures.led server sizes word t (subst (IsClientIn (Led server sizes word t)) c.in-Client.is led) how.0 in (
+    let w = c.observe.ensures.led server sizes setup t (subst (IsClientIn (Led server sizes setup t)) c.in-Client.is led) how.0 in (
       _,
       (
         number_of c.observe.result,

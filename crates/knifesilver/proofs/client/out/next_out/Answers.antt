@@ -6,9 +6,9 @@ use Rattle.knifesilver.specs.Outgoing.{OutAnswers}
 use Rattle.knifesilver.proofs.client.out.next_out.Goals as goal
 
 pub returns-else-room-lt-MAX_MESSAGE_LEN-clause-led : goal.returns-else-room-lt-MAX_MESSAGE_LEN-clause-led
-returns-else-room-lt-MAX_MESSAGE_LEN-clause-led c = λ _ server sizes word t led.
+returns-else-room-lt-MAX_MESSAGE_LEN-clause-led c = λ _ server sizes setup t led.
     let give = c.give in
     let same = to_z-of_z {w = w32} {z = give.result} (record { sfits = give.type_inv }) in
     let told = subst (λ n. OutAnswers n give.new.to give.new.room give.new.len c.next_out.result) (sym same) give.ensures.told in
-    let w = c.next_out.ensures.led server sizes word t (subst (IsClientIn (Led server sizes word t)) c.in-Client.is led) in
+    let w = c.next_out.ensures.led server sizes setup t (subst (IsClientIn (Led server sizes setup t)) c.in-Client.is led) in
     (_, (_, told, refl), w)

@@ -5,11 +5,11 @@ use Rattle.knifesilver.specs.ClientHeld.{IsClientIn}
 use Rattle.knifesilver.proofs.client.turns.tick.Goals as goal
 
 pub returns-in-Ok-true-clause-led : goal.returns-in-Ok-true-clause-led
-returns-in-Ok-true-clause-led c = λ _ server sizes word t led.
-    let w = c.in-Ok-true.ensures.led server sizes word t (subst (IsClientIn (Led server sizes word t)) c.in-Client.is led) in
+returns-in-Ok-true-clause-led c = λ _ server sizes setup t led.
+    let w = c.in-Ok-true.ensures.led server sizes setup t (subst (IsClientIn (Led server sizes setup t)) c.in-Client.is led) in
     (_, (w.0, w.1, w.2, w.3, w.4, _, ap told (sym c.in-Ok-true.field-0-test), refl), w.5)
 
 pub returns-in-Ok-false-clause-led : goal.returns-in-Ok-false-clause-led
-returns-in-Ok-false-clause-led c = λ _ server sizes word t led.
-    let w = c.in-Ok-false.ensures.led server sizes word t (subst (IsClientIn (Led server sizes word t)) c.in-Client.is led) in
+returns-in-Ok-false-clause-led c = λ _ server sizes setup t led.
+    let w = c.in-Ok-false.ensures.led server sizes setup t (subst (IsClientIn (Led server sizes setup t)) c.in-Client.is led) in
     (_, (w.0, w.1, w.2, w.3, w.4, _, ap told (sym c.in-Ok-false.field-0-test), refl), w.5)

@@ -6,17 +6,17 @@ use Rattle.knifesilver.specs.ServerHeld.{IsServerIn}
 use Rattle.knifesilver.proofs.server.local.remove.Goals as goal
 
 pub returns-in-Ok-true-clause-led : goal.returns-in-Ok-true-clause-led
-returns-in-Ok-true-clause-led c = λ _ limits szx word t led.
-    let w = c.in-Ok-true.ensures.led limits szx word t (subst (IsServerIn (Led limits szx word t)) c.in-Server.is led) in
+returns-in-Ok-true-clause-led c = λ _ limits szx setup t led.
+    let w = c.in-Ok-true.ensures.led limits szx setup t (subst (IsServerIn (Led limits szx setup t)) c.in-Server.is led) in
     (_, (_, _, ap told (sym c.in-Ok-true.field-0-test), refl), w)
 
 pub returns-in-Ok-false-clause-led : goal.returns-in-Ok-false-clause-led
-returns-in-Ok-false-clause-led c = λ _ limits szx word t led.
-    let w = c.in-Ok-false.ensures.led limits szx word t (subst (IsServerIn (Led limits szx word t)) c.in-Server.is led) in
+returns-in-Ok-false-clause-led c = λ _ limits szx setup t led.
+    let w = c.in-Ok-false.ensures.led limits szx setup t (subst (IsServerIn (Led limits szx setup t)) c.in-Server.is led) in
     (_, (_, _, ap told (sym c.in-Ok-false.field-0-test), refl), w)
 
 pub returns-in-Err-clause-led : goal.returns-in-Err-clause-led
-returns-in-Err-clause-led c = λ _ limits szx word t led.
-    let w = c.in-Err.ensures.led limits szx word t (subst (IsServerIn (Led limits szx word t)) c.in-Server.is led) in
+returns-in-Err-clause-led c = λ _ limits szx setup t led.
+    let w = c.in-Err.ensures.led limits szx setup t (subst (IsServerIn (Led limits szx setup t)) c.in-Server.is led) in
     let same = to_z-of_z {w = w32} {z = c.from.result} (record { sfits = c.from.type_inv }) in
     (_, (_, _, same ∙ c.from.ensures ∙ ap pos c.number.ensures, refl), w)

@@ -4,11 +4,11 @@ use Rattle.knifesilver.specs.Answers.{IsAnswered}
 use Rattle.knifesilver.proofs.server.local.replace.Goals as goal
 
 pub returns-in-Ok-clause-led : goal.returns-in-Ok-clause-led
-returns-in-Ok-clause-led c = λ _ limits szx word t led.
-    (_, (_, _, (refl, refl), refl), c.in-Ok.ensures.led limits szx word t led (λ e. cc))
+returns-in-Ok-clause-led c = λ _ limits szx setup t led.
+    (_, (_, _, (refl, refl), refl), c.in-Ok.ensures.led limits szx setup t led (λ e. cc))
 
 pub returns-in-Err-clause-led : goal.returns-in-Err-clause-led
-returns-in-Err-clause-led c = λ answered limits szx word t led.
+returns-in-Err-clause-led c = λ answered limits szx setup t led.
     let same = to_z-of_z {w = w32} {z = c.refused.result} (record { sfits = c.refused.type_inv }) in
     let why = c.refused.ensures.answered (subst IsAnswered same answered) in
-    (_, (_, _, same ∙ why.1, refl), c.in-Err.ensures.led limits szx word t led (λ e. why.0 cc))
+    (_, (_, _, same ∙ why.1, refl), c.in-Err.ensures.led limits szx setup t led (λ e. why.0 cc))

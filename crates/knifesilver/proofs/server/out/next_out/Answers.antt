@@ -6,9 +6,9 @@ use Rattle.knifesilver.specs.ServerHeld.{IsServerIn}
 use Rattle.knifesilver.proofs.server.out.next_out.Goals as goal
 
 pub returns-else-room-lt-MAX_MESSAGE_LEN-clause-led : goal.returns-else-room-lt-MAX_MESSAGE_LEN-clause-led
-returns-else-room-lt-MAX_MESSAGE_LEN-clause-led c = λ _ limits szx word t led.
+returns-else-room-lt-MAX_MESSAGE_LEN-clause-led c = λ _ limits szx setup t led.
     let give = c.give in
     let same = to_z-of_z {w = w32} {z = give.result} (record { sfits = give.type_inv }) in
     let told = subst (λ n. OutAnswers n give.new.to give.new.room give.new.len c.next_out.result) (sym same) give.ensures.told in
-    let w = c.next_out.ensures.led limits szx word t (subst (IsServerIn (Led limits szx word t)) c.in-Server.is led) in
+    let w = c.next_out.ensures.led limits szx setup t (subst (IsServerIn (Led limits szx setup t)) c.in-Server.is led) in
     (_, (_, told, refl), w)

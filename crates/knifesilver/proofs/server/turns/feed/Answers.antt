@@ -4,6 +4,6 @@ use Rattle.knifesilver.specs.ServerHeld.{IsServerIn}
 use Rattle.knifesilver.proofs.server.turns.feed.Goals as goal
 
 pub returns-in-Ok-clause-led : goal.returns-in-Ok-clause-led
-returns-in-Ok-clause-led c = λ _ limits szx word t led.
-    let w = c.in-Ok.ensures.led limits szx word t (subst (IsServerIn (Led limits szx word t)) c.in-Server.is led) in
+returns-in-Ok-clause-led c = λ _ limits szx setup t led.
+    let w = c.in-Ok.ensures.led limits szx setup t (subst (IsServerIn (Led limits szx setup t)) c.in-Server.is led) in
     (_, (w.0, w.1, w.2, w.3, refl), w.4)

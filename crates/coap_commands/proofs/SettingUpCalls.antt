@@ -1,0 +1,40 @@
+-- The calls by which a server is set up, one after the other.
+use Rattle.std.proofs.Common.{◌≡◌, ◌<◌, ◌+◌, ◌++◌, ◌∷◌, [], ℕ, List, Option, Some, None, IfNone, Result, Ok, Err, IfOk}
+use Rattle.std.proofs.Common.{◌∙◌, ap, get_or, length, take, fold, refl, subst, sym}
+use Rattle.std.proofs.lemmas.List.{take_more}
+use Rattle.std.proofs.lemmas.List.Sums.{fold_more}
+use Rattle.coap_server.specs.Trace.{Call}
+use Rattle.coap_words.specs.declared.orders.Hold.{Hold}
+use Rattle.coap_commands.specs.SettingUp.{Holding, Holds}
+
+holds_more : (holds : List Hold) (hold : Hold) (before between after : List Call) → Holds holds before between
+    → Holding hold.path hold.body.items between after → Holds (holds ++ hold ∷ []) before after
+holds_more [] hold before between after so one =
+    (after, subst (λ (b : List Call). Holding hold.path hold.body.items b after) so one, refl)
+holds_more (h ∷ holds) hold before between after so one =
+    (so.0, so.1, holds_more holds hold so.0 between after so.2 one)
+
+-- one thing more is held
+pub one_hold : (holds : List Hold) (i : ℕ) (x : Hold) → x ≡ get_or holds i x → i < length holds
+    → (before between after : List Call) → Holds (take i holds) before between
+    → Holding x.path x.body.items between after → Holds (take (i + 1) holds) before after
+one_hold holds i x is lt before between after so one =
+    subst (λ (hs : List Hold). Holds hs before after)
+    (sym (take_more holds i x lt ∙ ap (λ y. take i holds ++ y ∷ []) (sym is)))
+    (holds_more (take i holds) x before between after so one)
+
+-- one item more is folded in
+pub fold_item : {A B : Type 0} (f : B → A → B) (t : B) (xs : List A) (i : ℕ) (x : A) → x ≡ get_or xs i x
+    → i < length xs → f (fold f t (take i xs)) x ≡ fold f t (take (i + 1) xs)
+fold_item f t xs i x is lt = ap (f (fold f t (take i xs))) is ∙ sym (fold_more f t xs i x lt)
+
+-- what holds where nothing is refused leads on
+pub where_none : {X E : Type 0} (r : Result (Option X) E) (P Q : Type 0) → (P → Q) → IfOk r (λ o. IfNone o P)
+    → IfOk r (λ o. IfNone o Q)
+where_none (Ok None) P Q on h = on h
+where_none (Ok (Some x)) P Q on h = tt
+where_none (Err e) P Q on h = tt
+
+pub none_is : {X : Type 0} (P : Type 0) (o : Option X) → IfNone o P → o ≡ None → P
+none_is P None h is = h
+none_is P (Some x) h is = cc

@@ -1,0 +1,18 @@
+use Rattle.std.proofs.Common.{arith, subst, sym}
+use Rattle.coap_links.specs.Turning.{Turns}
+use Rattle.coap_links.specs.declared.tally.Tally.{Tally}
+use Rattle.coap_commands.specs.Serves.{Turning, further, none, nothing_fed}
+use Rattle.coap_commands.proofs.serve.serve_until.Goals as goal
+
+pub loop-turn-init : goal.loop-turn-init
+loop-turn-init g c =
+    let end = g.E.End in
+    let link = g.L.Link in
+    let at = end.state c.args.server.now in
+    subst (λ (t : Tally). Turning
+    (Turns end.waiting end.gives link.sends link.receives end.quiet_feed end.feeds end.quiet_tick end.ticks)
+    c.args.count at c.args.link.now (nothing_fed c.args.word) at c.args.link.now t) (sym c.fresh_tally-tally.ensures) none
+
+pub loop-turn-preserved : goal.loop-turn-preserved
+loop-turn-preserved g c =
+    further _ _ _ _ _ _ _ c.loop-turn.invariant (omega (arith, c.if-tally-count.false)) c.serve_turn.ensures

@@ -1,0 +1,11 @@
+use Rattle.coap_links.specs.Turning.{Turns}
+use Rattle.coap_commands.specs.Serves.{Turning, nothing_fed}
+use Rattle.coap_commands.proofs.serve.serve_until.Given as goal
+
+-- so far turns alone led here
+abbrev pub invariant-loop-turn : goal.invariant-loop-turn
+invariant-loop-turn g l =
+    let end = g.E.End in
+    let link = g.L.Link in
+    Turning (Turns end.waiting end.gives link.sends link.receives end.quiet_feed end.feeds end.quiet_tick end.ticks)
+    l.fn.count (end.state l.fn.server) l.fn.link (nothing_fed l.fn.word) (end.state l.server) l.link l.tally

@@ -1,0 +1,52 @@
+-- How a server is set up before it serves: the calls that lead on, the newest first.
+use Rattle.std.specs.Prelude.{◌≡◌, ℕ, List, [], ◌∷◌, Some, Ok, true, codes, fold}
+use Rattle.coap_types.specs.declared.szx.TheConstants.{MAX_SZX as max_szx}
+use Rattle.coap_layer.specs.declared.setup.Setup.{Setup}
+use Rattle.coap_resource.specs.Content.{Content}
+use Rattle.coap_server.specs.Led.{Led, State}
+use Rattle.coap_server.specs.Trace.{Call, Delays, Plains, Sets}
+use Rattle.coap_words.specs.PathText.{IsPathText}
+use Rattle.coap_words.specs.declared.orders.Delay.{Delay}
+use Rattle.coap_words.specs.declared.orders.Hold.{Hold}
+use Rattle.coap_words.specs.declared.orders.ServeOptions.{ServeOptions}
+use Rattle.coap_commands.specs.Ends.{server_limits}
+use Rattle.coap_commands.specs.declared.ends.TheConstants.{TEXT_PLAIN as text_plain}
+
+-- at the moment 0 this text is set at this path
+abbrev pub Holding : List (List ℕ) → List ℕ → List Call → List Call → Type 0
+Holding path body before after = (version : ℕ) × (store : Content)
+    × (after ≡ Sets 0 path (Some text_plain) body (Ok version) store ∷ before)
+
+-- the text of a temperature is set
+abbrev pub HoldsResource : List Call → List Call → Type 0
+HoldsResource before after =
+    (path : List (List ℕ)) × IsPathText (codes "temperature") path × Holding path (codes "22.3 C") before after
+
+-- each of these is set, in order
+abbrev pub Holds : List Hold → List Call → List Call → Type 0
+Holds [] before after = after ≡ before
+Holds (hold ∷ holds) before after =
+    (between : List Call) × Holding hold.path hold.body.items before between × Holds holds between after
+
+-- the requests of a path wait
+abbrev pub with_delay : List Call → Delay → List Call
+with_delay before delay = Delays delay.path delay.ms true ∷ before
+
+-- the observers of a path are told in Non-confirmable messages
+abbrev pub with_plain : List Call → List (List ℕ) → List Call
+with_plain before path = Plains path true ∷ before
+
+-- the server is set up as the words say
+abbrev pub SetsUp : ServeOptions → List Call → List Call → Type 0
+SetsUp options before after =
+    (own : List Call) × (held : List Call) × HoldsResource before own × Holds options.holds.items own held
+    × (after ≡ fold with_plain (fold with_delay held options.delays.items) options.plains.items)
+
+-- with this word, and as many messages remembered as the words say
+abbrev pub served_setup : ℕ → ServeOptions → Setup
+served_setup word options = record { word = word; remembered = options.remembered }
+
+-- a server that began so, takes bodies up to the limit that the words say, and was set up as they say
+abbrev pub IsServer : ℕ → ServeOptions → State → Type 0
+IsServer word options s = (after : List Call) × SetsUp options [] after
+    × Led (server_limits options.limit) max_szx (served_setup word options) after s

@@ -1,0 +1,24 @@
+-- What is told of a request that is applied: that request, once; what could not be told is counted.
+use Rattle.std.specs.Prelude.{ℕ, Bool, List, [], ◌∷◌, Option, Some, None, ◌≡◌, if◌then◌else◌}
+use Rattle.coap_types.specs.declared.request.Method.{Method}
+use Rattle.coap_resource.specs.Content.{Held}
+use Rattle.coap_links.specs.Faults.{raised}
+use Rattle.coap_server.specs.Trace.{Applied}
+
+-- it is told of, or one more could not be (`t` and `u` are the teller before and after, `n` and `m` the counts)
+abbrev pub IsToldOnce : {T : Type 0} → (T → Bool → T → Type 0) → T → ℕ → T → ℕ → Type 0
+IsToldOnce tells t n u m = (told : Bool) × tells t told u × (m ≡ if told then n else raised n)
+
+-- the body that is held, empty where nothing is
+abbrev pub body_of : Option Held → List ℕ
+body_of None = []
+body_of (Some held) = held.body
+
+-- where there is a teller, it tells of what was applied at this moment, if anything, with the body that its path holds;
+-- where there is none, nothing is told of, and nothing is missed
+abbrev pub IsToldWhere : {T : Type 0} → (T → ℕ → Method → List (List ℕ) → ℕ → List ℕ → Bool → T → Type 0) → ℕ
+    → List Applied → (List (List ℕ) → List ℕ) → Option T → ℕ → Option T → ℕ → Type 0
+IsToldWhere tells at applied bodies None n u m = (u ≡ None) × (m ≡ n)
+IsToldWhere tells at [] bodies (Some t) n u m = (u ≡ Some t) × (m ≡ n)
+IsToldWhere {T} tells at (a ∷ more) bodies (Some t) n u m = (v : T) × (u ≡ Some v)
+    × IsToldOnce (λ x told y. tells x at a.method a.path a.version (bodies a.path) told y) t n v m

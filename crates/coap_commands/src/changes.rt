@@ -1,0 +1,316 @@
+//! What `--changes` prints: a line for each request that the server applies.
+ghost use Rattle.std.specs.Prelude.{◌≡◌, ℕ, Bool, List, is_ok, is_some, option_copied};
+ghost use Rattle.coap_types.specs.declared.request.Method.{Method as MethodSpec};
+ghost use Rattle.coap_server.specs.Object.Shown.{applied_list};
+ghost use Rattle.coap_server.specs.Trace.{Applied as AppliedSpec};
+ghost use Rattle.coap_commands.specs.ToldChanges.{IsToldOnce, IsToldWhere};
+
+use crate::message_words::{code_name, write_segment};
+use crate::tracing::SharedWriter;
+use coap_ends::{Applied, End, Server};
+use coap_layer::Datagram;
+use coap_resource::Store;
+use coap_types::{Endpoint, Method, Moment, Path};
+use std::alloc::{AllocError, Allocator};
+use std::cell::RefCell;
+use std::hash::BuildHasher;
+use std::io::Write;
+use std::{fmt, io};
+
+/// How many bytes of a body are told.
+pub const MAX_TOLD_LEN: usize = 64;
+
+const _: () = prove!(MAX_TOLD_LEN == 64);
+
+/// A request that was applied, in words: the moment, the method, the path, the version that it made, and the first
+/// `MAX_TOLD_LEN` bytes of the body, with `..` behind a longer one. No byte of it is printed as it is but where it
+/// is printable ASCII.
+#[derive(Clone, Copy)]
+pub struct ChangeWords<'a, A: Allocator + Copy> {
+    /// When it was applied.
+    pub at: Moment,
+    /// What it asked for.
+    pub method: Method,
+    /// Of which resource.
+    pub path: &'a Path<A>,
+    /// The version that it made, 0 where it changed nothing.
+    pub version: u64,
+    /// What the path holds then; empty where it holds nothing.
+    pub body: &'a [u8],
+}
+
+impl<'a, A: Allocator + Copy> fmt::Display for ChangeWords<'a, A> {
+    fn fmt<W: fmt::Write>(&self, f: &mut fmt::Formatter<W>) -> fmt::Result {
+        let at = self.at.0;
+        let method = code_name(self.method.code()).unwrap_or("");
+        let version = self.version;
+        write!(f, "{at} {method} ")?;
+        write_path(f, self.path)?;
+        write!(f, " v{version}")?;
+        write_body(f, self.body)
+    }
+}
+
+// The segments of a path, with a slash between two; a slash where there is none (RFC 7252, section 6.5).
+fn write_path<A: Allocator + Copy, W: fmt::Write>(
+    f: &mut fmt::Formatter<W>,
+    path: &Path<A>,
+) -> fmt::Result {
+    if path.is_empty() {
+        return f.write_str("/");
+    }
+    let mut is_first = true;
+    for segment in path.segments() {
+        if !is_first {
+            f.write_str("/")?;
+        }
+        is_first = false;
+        write_segment(f, segment.as_slice())?;
+    }
+    Ok(())
+}
+
+// The first bytes of a body, a space in front; nothing where there are none.
+fn write_body<W: fmt::Write>(f: &mut fmt::Formatter<W>, body: &[u8]) -> fmt::Result {
+    if body.is_empty() {
+        return Ok(());
+    }
+    f.write_str(" ")?;
+    for byte in body.get(..MAX_TOLD_LEN).unwrap_or(body) {
+        let byte = *byte;
+        match byte {
+            b' '..=b'~' => f.write_char(byte as char)?,
+            _ => write!(f, "\\x{byte:02x}")?,
+        }
+    }
+    if body.len() > MAX_TOLD_LEN {
+        f.write_str("..")?;
+    }
+    Ok(())
+}
+
+/// What is told of the requests that a server applies, as on a writer.
+pub trait ChangeTeller<A: Allocator + Copy> {
+    /// The teller before, when a request was applied, its method, its path, the version that it made and the body that
+    /// the path holds then, whether it was told of, and the teller after.
+    ghost tells_change: { Self → ℕ → MethodSpec → List (List ℕ) → ℕ → List ℕ → Bool → Self → Type 0 };
+
+    /// Tells of a request that was applied. An `Err` says that it did not, or not to the end.
+    fn tell_change(
+        &mut self,
+        at: Moment,
+        method: Method,
+        path: &Path<A>,
+        version: u64,
+        body: &[u8],
+    ) -> io::Result<()>
+        // A teller of changes tells of that request, as its own words have it, and says whether it did.
+        ensures { tells_change self.old at.0 method path.now version body.now (is_ok result) self.new };
+}
+
+/// Tells of each request that is applied on a writer, a line each, at once.
+#[derive(Drop)]
+pub struct ChangeLines<A, W> {
+    alloc: A,
+    out: W,
+}
+
+/// A teller of changes on a writer that others have too, where one is wanted.
+pub fn changes_on<'a, A: Allocator + Copy, W: Write>(
+    alloc: A,
+    out: &'a RefCell<W>,
+    is_wanted: bool,
+) -> Option<ChangeLines<A, SharedWriter<'a, W>>>
+    // There is a teller of changes exactly where one is wanted.
+    ensures { is_some result ≡ is_wanted }
+{
+    if is_wanted {
+        let out = SharedWriter(out);
+        Some(ChangeLines { alloc, out })
+    } else {
+        None
+    }
+}
+
+impl<A: Allocator + Copy, W: Write> ChangeTeller<A> for ChangeLines<A, W> {
+    ghost use Rattle.std.specs.Prelude.{⊤};
+
+    ghost tells_change = { λ _ _ _ _ _ _ _ _. ⊤ };
+
+    fn tell_change(
+        &mut self,
+        at: Moment,
+        method: Method,
+        path: &Path<A>,
+        version: u64,
+        body: &[u8],
+    ) -> io::Result<()> {
+        let words = ChangeWords {
+            at,
+            method,
+            path,
+            version,
+            body,
+        };
+        let line = format!(in self.alloc; "{words}\n")?;
+        self.out.write_all(line.as_bytes())
+    }
+}
+
+/// An end that applies requests.
+pub trait Applies<A: Allocator + Copy> {
+    /// What the last `feed` or `tick` applied: nothing, or one request.
+    ghost applies: { Self → List AppliedSpec };
+
+    /// The body that a path holds; empty where it holds nothing.
+    ghost bodies: { Self → List (List ℕ) → List ℕ };
+
+    /// What the last `feed` or `tick` applied, if any.
+    fn last_applied(&self) -> Option<&Applied<A>>
+        // What an end says that it applied last is what its own words have.
+        ensures { applied_list (option_copied result) ≡ applies self.now };
+
+    /// The body that a path holds; empty where it holds nothing.
+    fn body_at(&self, path: &Path<A>) -> &[u8]
+        // The body that an end has for a path is the one that its own words have.
+        ensures { result.now ≡ bodies self.now path.now };
+}
+
+impl<S: Store<A>, A: Allocator + Copy, H: BuildHasher> Applies<A> for Server<S, A, H> {
+    ghost use Rattle.coap_server.specs.Object.Shown.{state_of};
+    ghost use Rattle.coap_commands.specs.ToldChanges.{body_of};
+
+    ghost applies = { λ s. (state_of S.content s).own.applied };
+
+    ghost bodies = { λ s path. body_of ((state_of S.content s).own.store.holds path) };
+
+    fn last_applied(&self) -> Option<&Applied<A>> {
+        Server::applied(self)
+    }
+
+    fn body_at(&self, path: &Path<A>) -> &[u8] {
+        match Server::get(self, path) {
+            Some(held) => held.body.as_slice(),
+            None => &[],
+        }
+    }
+}
+
+/// An end that tells of each request that it applies, once, where there is a teller. What it does beside is what the
+/// end does that it is around; where a request can't be told of, as for want of memory, it goes on as well.
+#[derive(Drop)]
+pub struct TellingEnd<E, T> {
+    /// The end that it is around.
+    pub end: E,
+    teller: Option<T>,
+    untold: u64,
+}
+
+impl<E: Drop, T: Drop> TellingEnd<E, T> {
+    /// Has a teller, where there is one, tell of the requests that an end applies.
+    pub fn new(end: E, teller: Option<T>) -> TellingEnd<E, T>
+        // A `new` telling end is around its end as that is, and has missed nothing to tell of.
+        ensures { result ≡ record { end = end; teller = teller; untold = 0 } }
+    {
+        TellingEnd {
+            end,
+            teller,
+            untold: 0,
+        }
+    }
+
+    /// How many requests it could not tell of, up to the last value of a `u64`.
+    pub fn untold(&self) -> u64
+        // The number is that of the requests that it could not tell of.
+        ensures { result ≡ self.now.untold }
+    {
+        self.untold
+    }
+}
+
+// Tells of a request, once, and counts one that can't be told of.
+fn tell_once<A: Allocator + Copy, T: ChangeTeller<A>>(
+    teller: &mut T,
+    untold: &mut u64,
+    at: Moment,
+    applied: &Applied<A>,
+    body: &[u8],
+)
+    ensures { IsToldOnce (λ t told u. T.tells_change t at.0 applied.now.method applied.now.path applied.now.version body.now told u)
+        teller.old untold.old teller.new untold.new }
+{
+    let ended = teller.tell_change(at, applied.method, &applied.path, applied.version, body);
+    if ended.is_err() {
+        *untold = untold.saturating_add(1);
+    }
+}
+
+// Tells of what an end applied last, if anything, once, where there is a teller.
+fn tell_last<A: Allocator + Copy, E: Applies<A>, T: ChangeTeller<A>>(
+    end: &E,
+    teller: &mut Option<T>,
+    untold: &mut u64,
+    at: Moment,
+)
+    ensures { IsToldWhere T.tells_change at.0 (E.applies end.now) (E.bodies end.now)
+        teller.old untold.old teller.new untold.new }
+{
+    match teller {
+        Some(teller) => match end.last_applied() {
+            Some(applied) => tell_once(teller, untold, at, applied, end.body_at(&applied.path)),
+            None => {}
+        },
+        None => {}
+    }
+}
+
+impl<A: Allocator + Copy, E: End<A> + Applies<A> + Drop, T: ChangeTeller<A> + Drop> End<A>
+    for TellingEnd<E, T> {
+    ghost State = { E.State };
+
+    ghost state = { λ t. E.state t.end };
+
+    ghost waiting = { E.waiting };
+
+    ghost latest = { E.latest };
+
+    ghost work = { E.work };
+
+    ghost quiet_feed = { E.quiet_feed };
+
+    ghost quiet_tick = { E.quiet_tick };
+
+    ghost feeds = { E.feeds };
+
+    ghost ticks = { E.ticks };
+
+    ghost gives = { E.gives };
+
+    fn feed(
+        &mut self,
+        now: Moment,
+        from: Endpoint,
+        bytes: &[u8],
+        word: u64,
+    ) -> Result<(), AllocError> {
+        self.end.feed(now, from, bytes, word)?;
+        tell_last(&self.end, &mut self.teller, &mut self.untold, now);
+        Ok(())
+    }
+
+    fn tick(&mut self, now: Moment, word: u64) -> Result<bool, AllocError> {
+        let did = self.end.tick(now, word)?;
+        if did {
+            tell_last(&self.end, &mut self.teller, &mut self.untold, now);
+        }
+        Ok(did)
+    }
+
+    fn due(&self) -> Option<Moment> {
+        self.end.due()
+    }
+
+    fn next_out(&mut self) -> Option<Datagram<A>> {
+        self.end.next_out()
+    }
+}

@@ -1,0 +1,131 @@
+//! Showing the datagrams that a reader has in hex, one a line.
+ghost use Rattle.std.specs.Prelude.{◌≡◌, ◌⊎◌, IfOk, max};
+ghost use Rattle.coap_commands.specs.Dumps.{IsLineStatus, IsShown};
+ghost use Rattle.coap_commands.specs.Statuses.{IsOfScript, status_number};
+
+use crate::request::STANDARD_INPUT_FILE;
+use crate::show::show;
+use crate::status::{Status, Stop, stop_of};
+use hex::FromHexError;
+use std::alloc::Global;
+use std::fs;
+use std::io::{BufRead, BufReader, Read, Write};
+use std::rt::Files;
+
+// What ends a line.
+const LINE_END: u8 = b'\n';
+
+// A line without what ends it.
+fn without_end(line: &[u8]) -> &[u8] {
+    let line = line.strip_suffix(b"\n").unwrap_or(line);
+    line.strip_suffix(b"\r").unwrap_or(line)
+}
+
+// Prints each line of a text behind a number.
+fn tell_lines<W: Write>(number: u64, text: &[u8], out: &mut W) -> Result<(), Stop> {
+    let lines = text.strip_suffix(b"\n").unwrap_or(text);
+    for line in lines.split(|byte| *byte == LINE_END) {
+        write!(out, "{number}: ")?;
+        out.write_all(line)?;
+        writeln!(out)?;
+    }
+    out.flush()?;
+    Ok(())
+}
+
+// Prints what a datagram says, behind a number.
+fn dump_datagram<W: Write>(
+    alloc: Global,
+    number: u64,
+    datagram: &[u8],
+    out: &mut W,
+) -> Result<Status, Stop>
+    ensures { IfOk result (IsShown datagram.now) }
+{
+    let mut text = Vec::new(alloc);
+    match show(alloc, datagram, &mut text) {
+        Ok(status) => {
+            tell_lines(number, text.as_slice(), out)?;
+            Ok(status)
+        }
+        // What is written to memory fails for want of it.
+        Err(_) => Err(Stop::Memory),
+    }
+}
+
+/// Prints what the datagram says that a line has in hex, behind the number of the line.
+pub fn dump_line<W: Write>(
+    alloc: Global,
+    number: u64,
+    line: &[u8],
+    out: &mut W,
+) -> Result<Status, Stop>
+    // A line of a dump comes to 0 where it is the hex of a message, to 1 where it is that of a datagram at fault, and to 2 where it is none.
+    ensures { IfOk result (IsLineStatus line.now) }
+{
+    match hex::decode(alloc, line) {
+        Ok(datagram) => dump_datagram(alloc, number, datagram.as_slice(), out),
+        Err(FromHexError::OutOfMemory) => Err(Stop::Memory),
+        Err(_) => {
+            tell_lines(number, b"bad hex", out)?;
+            Ok(Status::Words)
+        }
+    }
+}
+
+// The greater of two statuses.
+fn worse(one: Status, other: Status) -> Status
+    ensures one_of { (result ≡ one) ⊎ (result ≡ other) }
+    ensures most { status_number result ≡ max (status_number one) (status_number other) }
+{
+    if one.number() < other.number() {
+        other
+    } else {
+        one
+    }
+}
+
+/// Prints what the datagrams say that a reader has in hex, one a line, each behind the number of its line;
+/// the status is the worst of theirs.
+pub fn dump_to<I: BufRead, W: Write>(
+    alloc: Global,
+    input: &mut I,
+    out: &mut W,
+) -> Result<Status, Stop>
+    // A dump is told with status 0, 1 or 2, or stops.
+    ensures { IfOk result IsOfScript }
+{
+    let mut worst = Status::Done;
+    // More lines than a program reads.
+    for number in 1..u64::MAX {
+        let mut line = Vec::new(alloc);
+        match input.read_until(LINE_END, &mut line) {
+            Ok(0) => return Ok(worst),
+            Ok(_) => {}
+            Err(error) => return Err(stop_of(&error)),
+        }
+        let status = dump_line(alloc, number, without_end(line.as_slice()), out)?;
+        worst = worse(worst, status);
+    }
+    Ok(worst)
+}
+
+/// Prints what the datagrams say that standard input has.
+pub(crate) fn dump<R: AllocGlobal + Files, W: Write>(rt: &R, out: &mut W) -> Result<Status, Stop>
+    ensures { IfOk result IsOfScript }
+{
+    match fs::open(rt, STANDARD_INPUT_FILE) {
+        Ok(file) => dump_file(rt.alloc(), file, out),
+        Err(error) => Err(stop_of(&error)),
+    }
+}
+
+// Prints what the datagrams say that are in a file.
+fn dump_file<F: Read + Drop, W: Write>(alloc: Global, file: F, out: &mut W) -> Result<Status, Stop>
+    ensures { IfOk result IsOfScript }
+{
+    match BufReader::new(alloc, file) {
+        Ok(mut input) => dump_to(alloc, &mut input, out),
+        Err(error) => Err(stop_of(&error)),
+    }
+}

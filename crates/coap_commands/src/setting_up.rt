@@ -1,0 +1,153 @@
+//! A server, set up as the words say.
+ghost use Rattle.std.specs.Prelude.{◌≡◌, ℕ, List, Ok, Some, IfOk, IfNone, codes, fold};
+ghost use Rattle.coap_resource.specs.Content.{Content};
+ghost use Rattle.coap_resource.specs.Entries.{content_of};
+ghost use Rattle.coap_resource.specs.Limits.{Limits};
+ghost use Rattle.coap_server.specs.Led.{Led};
+ghost use Rattle.coap_layer.specs.declared.setup.Setup.{Setup as SetupSpec};
+ghost use Rattle.coap_server.specs.Object.Shown.{state_of};
+ghost use Rattle.coap_server.specs.Trace.{Call};
+ghost use Rattle.coap_types.specs.declared.szx.TheConstants.{MAX_SZX as max_szx};
+ghost use Rattle.coap_commands.specs.SettingUp.{Holds, HoldsResource, IsServer, SetsUp, with_delay, with_plain};
+
+use crate::ends::{fresh_server, hold};
+use crate::put_away::put_away;
+use crate::status::Stop;
+use coap_ends::{DelayRefusal, PlainRefusal, Server};
+use coap_layer::Setup;
+use coap_resource::{MapStore, StoreRefusal};
+use coap_types::Path;
+use coap_words::{Delay, Hold, ServeOptions, path_of_text};
+use std::alloc::Global;
+use std::hash::BuildHasher;
+
+// The resource that is served, and what it holds.
+const PATH: &str = "temperature";
+
+const BODY: &str = "22.3 C";
+
+/// Has the server hold the resource, the text of a temperature; the refusal of its store where it
+/// doesn't.
+pub fn hold_resource<H: BuildHasher + Drop>(
+    alloc: Global,
+    server: &mut Server<MapStore, Global, H>,
+) -> Result<Option<StoreRefusal>, Stop>
+    // What led to the server before it was to hold the temperature leads, with the one call that set it, to the server that holds it.
+    ensures { (limits : Limits) (setup : SetupSpec) (t : List Call) → Led limits max_szx setup t (state_of content_of server.old)
+        → IfOk result (λ refusal. IfNone refusal ((after : List Call) × HoldsResource t after
+        × Led limits max_szx setup after (state_of content_of server.new))) }
+{
+    let Ok(path) = path_of_text(alloc, PATH) else {
+        return Err(Stop::Memory);
+    };
+    hold(server, &path, BODY.as_bytes())
+}
+
+// Has the server hold each of these, in order.
+fn hold_all<H: BuildHasher + Drop>(
+    server: &mut Server<MapStore, Global, H>,
+    holds: &[Hold],
+) -> Result<Option<StoreRefusal>, Stop>
+    ensures { (limits : Limits) (setup : SetupSpec) (t : List Call) → Led limits max_szx setup t (state_of content_of server.old)
+        → IfOk result (λ refusal. IfNone refusal ((after : List Call) × Holds holds.now t after
+        × Led limits max_szx setup after (state_of content_of server.new))) }
+{
+    for held in holds {
+        if let Some(refusal) = hold(server, &held.path, held.body.as_slice())? {
+            return Ok(Some(refusal));
+        }
+    }
+    Ok(None)
+}
+
+// Has the requests of each of these paths wait.
+fn delay_all<H: BuildHasher + Drop>(
+    server: &mut Server<MapStore, Global, H>,
+    delays: &[Delay],
+) -> Result<(), Stop>
+    ensures { (limits : Limits) (setup : SetupSpec) (t : List Call) → Led limits max_szx setup t (state_of content_of server.old)
+        → IfOk result (λ _. Led limits max_szx setup (fold with_delay t delays.now) (state_of content_of server.new)) }
+{
+    for delay in delays {
+        match server.set_delay(&delay.path, delay.ms) {
+            Ok(()) => {}
+            Err(DelayRefusal::Memory) => return Err(Stop::Memory),
+            // More than the words can name.
+            Err(DelayRefusal::Full) => return Err(Stop::Failed),
+        }
+    }
+    Ok(())
+}
+
+// Has the observers of each of these paths told in Non-confirmable messages.
+fn make_plain<H: BuildHasher + Drop>(
+    server: &mut Server<MapStore, Global, H>,
+    paths: &[Path],
+) -> Result<(), Stop>
+    ensures { (limits : Limits) (setup : SetupSpec) (t : List Call) → Led limits max_szx setup t (state_of content_of server.old)
+        → IfOk result (λ _. Led limits max_szx setup (fold with_plain t paths.now) (state_of content_of server.new)) }
+{
+    for path in paths {
+        match server.set_plain(path) {
+            Ok(()) => {}
+            Err(PlainRefusal::Memory) => return Err(Stop::Memory),
+            // More than the words can name.
+            Err(PlainRefusal::Full) => return Err(Stop::Failed),
+        }
+    }
+    Ok(())
+}
+
+/// Has the server hold the resource and what the words name, and answer as they say; the refusal of its
+/// store where it doesn't.
+pub fn set_up<H: BuildHasher + Drop>(
+    alloc: Global,
+    server: &mut Server<MapStore, Global, H>,
+    options: &ServeOptions,
+) -> Result<Option<StoreRefusal>, Stop>
+    // What led to the server before leads to the one that is set up, with these calls and no other: its resource and what the words name
+    // is set, in order, and so are their delays and their plain paths.
+    ensures { (limits : Limits) (setup : SetupSpec) (t : List Call) → Led limits max_szx setup t (state_of content_of server.old)
+        → IfOk result (λ refusal. IfNone refusal ((after : List Call) × SetsUp options.now t after
+        × Led limits max_szx setup after (state_of content_of server.new))) }
+{
+    if let Some(refusal) = hold_resource(alloc, server)? {
+        return Ok(Some(refusal));
+    }
+    if let Some(refusal) = hold_all(server, options.holds.as_slice())? {
+        return Ok(Some(refusal));
+    }
+    delay_all(server, options.delays.as_slice())?;
+    make_plain(server, options.plains.as_slice())?;
+    Ok(None)
+}
+
+/// A server that is set up as the words say, and begins with this word; the refusal of its store where it
+/// doesn't hold what it was to hold.
+pub fn server_by<H: BuildHasher + Drop>(
+    alloc: Global,
+    word: u64,
+    options: &ServeOptions,
+    hasher: H,
+) -> Result<Result<Server<MapStore, Global, H>, StoreRefusal>, Stop>
+    // The server of `serve` remembers as many messages, and takes bodies up to the limit, as its words say; the calls that set it up
+    // have led to it, and no other.
+    ensures { IfOk result (λ made. IfOk made (λ server. IsServer word options.now (state_of content_of server))) }
+{
+    let setup = Setup {
+        word,
+        remembered: options.remembered,
+    };
+    let mut server = fresh_server(alloc, setup, options.limit, hasher);
+    match set_up(alloc, &mut server, options) {
+        Ok(None) => Ok(Ok(server)),
+        Ok(Some(refusal)) => {
+            put_away(server);
+            Ok(Err(refusal))
+        }
+        Err(stop) => {
+            put_away(server);
+            Err(stop)
+        }
+    }
+}

@@ -1,0 +1,22 @@
+-- Where the server's registration of an observation is, in a smooth run.
+pub mod Premises
+pub mod OpenYoung
+pub mod SendsKnown
+pub mod ToldToken
+pub mod RepliesFed
+pub mod ResetSays
+pub mod NonReset
+pub mod Registered
+pub mod FirstEntry
+pub mod NonSent
+pub mod NeverFails
+pub mod Rejected
+pub mod ResetCases
+pub mod ResetLaws
+pub mod NoReset
+pub mod OneObservation
+pub mod EndsIt
+pub mod OfTheOne
+pub mod IsMade
+pub mod Stays
+pub mod AllThere
