@@ -35,8 +35,8 @@ pub fn sim_to<A: Allocator + Copy, R: Read, W: Write>(
     script: &mut R,
     out: &mut W,
 ) -> Result<Status, Stop>
-    // The events of a script run to their end with status 0, between ends that remember the usual number of messages and
-    // without a plain path; one of them is not legal with status 1.
+    // Some list of events, which nothing here ties to the text, runs to its end with status 0, between ends that remember the
+    // usual number of messages and without a plain path; one of them is not legal with status 1.
     ensures { IfOk result (λ status. (events : List EventSpec) × IsSim (sim_config default_remembered []) events status) }
 {
     let no_path: [Path<A>; 0] = [];
@@ -61,8 +61,8 @@ pub fn sim_with<A: Allocator + Copy, R: Read, W: Write>(
     remembered: Remembered,
     out: &mut W,
 ) -> Result<Status, Stop>
-    // The events of a script run to their end with status 0, between ends that remember so many messages and with these
-    // plain paths, over either store; one of them is not legal with status 1.
+    // Some list of events, which nothing here ties to the text, runs to its end with status 0, between ends that remember so
+    // many messages and with these plain paths, over either store; one of them is not legal with status 1.
     ensures { IfOk result (λ status. (events : List EventSpec) × IsSim (sim_config remembered plains.now) events status) }
 {
     let mut text = Vec::new(alloc);
