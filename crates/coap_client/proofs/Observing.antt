@@ -10,12 +10,14 @@ pub mod Marks
 pub mod NoneFetched
 pub mod Noticed
 pub mod Notified
+pub mod ObservationSources
 pub mod ObservationOrigins
 pub mod OfObservations
 pub mod OneToken
 pub mod Rising
 pub mod StaysLive
 pub mod TokensKept
+pub mod ValueParts
 pub mod Values
 pub mod WatchedAs
 pub mod Registered

@@ -1,3 +1,4 @@
+pub mod ShortPaths
 pub mod GoesOn
 pub mod RequestsSpelled
 pub mod Spelled

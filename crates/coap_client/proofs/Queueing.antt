@@ -1,4 +1,5 @@
 pub mod FetchesFirst
+pub mod RisingNumbers
 pub mod InTurn
 pub mod OneByOne
 pub mod Queued

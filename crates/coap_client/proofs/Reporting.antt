@@ -1,5 +1,6 @@
 pub mod AnswerCodes
 pub mod AnswerReports
+pub mod FetchedParts
 pub mod Bodies
 pub mod ByAnswers
 pub mod ByTable
@@ -9,6 +10,7 @@ pub mod Dropped
 pub mod EachValid
 pub mod EachWhole
 pub mod EffectReports
+pub mod GivenNumbers
 pub mod Ends
 pub mod ExchangeEnds
 pub mod LastParts

@@ -23,4 +23,5 @@ pub mod SentIn
 pub mod SentWhereFew
 pub mod StaysOpen
 pub mod TokenOfBytes
+pub mod LiveTokens
 pub mod Tokens

@@ -1,31 +1,26 @@
 //! The client (RFC 7252, section 5; RFC 7641; RFC 7959).
-mod cancelling;
 mod due;
-mod failing;
-mod fetching;
-mod forgetting;
-mod happening;
+mod end;
+mod event;
+mod fetch;
 mod heard;
 mod held;
-mod judging;
 mod last_request;
+mod notification;
+mod observation_fetch;
 mod observations;
-mod observed;
-mod observing;
 mod operation;
-mod passing;
+mod parts;
+mod queue;
 mod report;
-mod reporting;
+mod request;
 mod request_options;
 mod responses;
-mod sending;
+mod scheduler;
 mod short_path;
-mod starting;
 mod taken_call;
-mod taking;
-mod ticking;
 mod transfer;
-mod uploading;
+mod upload;
 
 ghost use Rattle.std.specs.Prelude.{◌≡◌, ◌≢◌, ◌≤◌, ◌<◌, ◌^◌, max, ℕ, Bool, false, true, List, ◌∷◌, [], length, Option, Result};
 ghost use Rattle.std.specs.Prelude.{Ok, Err, None, IfNone, IfOk, IfSome, IsOk, OnOk, OnErr, is_ok};
@@ -51,8 +46,9 @@ ghost use Rattle.coap_client.specs.Turns.Quiet.{IsIdle, TellsNothing};
 ghost use Rattle.coap_client.specs.Turns.Work.{work};
 
 use crate::client::due::begins_from;
-use crate::client::happening::happen;
+use crate::client::event::happen;
 use crate::client::held::Held;
+use crate::client::parts::{Now, Parts};
 use crate::client::request_options::{is_long_path, is_long_request};
 use crate::{CallRefusal, CancelRefusal};
 use coap_exchange::Asker;
@@ -69,21 +65,19 @@ use std::marker::Model;
 /// as the last.
 #[derive(Drop)]
 pub struct Client<A: Allocator + Copy, H: BuildHasher = BuildHasherDefault<FoldHasher>> {
-    alloc: A,
-    asker: Asker<A, H>,
-    held: Held<A>,
+    parts: Parts<A, H>,
 }
 
 impl<A: Allocator + Copy, H: BuildHasher> Model for Client<A, H> {
     ghost use Rattle.coap_client.specs.Led.{State};
-    ghost use Rattle.coap_client.specs.Object.Happens.{WasLed, left};
-    ghost use Rattle.coap_client.specs.Object.Held.{own_of};
+    ghost use Rattle.coap_client.specs.Object.Happens.{WasLed};
+    ghost use Rattle.coap_client.specs.Object.Held.{seen};
 
     ghost Value = { State };
 
-    ghost view = { λ c. left (own_of c.held) c.asker.state };
+    ghost view = { λ c. seen c.parts };
 
-    ghost invariant = { λ c. WasLed (left (own_of c.held) c.asker.state) };
+    ghost invariant = { λ c. WasLed (seen c.parts) };
 }
 
 impl<A: Allocator + Copy> Client<A, BuildHasherDefault<FoldHasher>> {
@@ -143,9 +137,10 @@ impl<A: Allocator + Copy, H: BuildHasher> Client<A, H> {
         ensures start { result ≡ fresh_state server (record { szx = szx; limit = limit }) setup }
     {
         Client {
-            alloc,
-            asker: Asker::with_setup(alloc, server, setup, hasher),
-            held: Held::new(alloc, szx, limit),
+            parts: Parts {
+                asker: Asker::with_setup(alloc, server, setup, hasher),
+                held: Held::new(alloc, szx, limit),
+            },
         }
     }
 
@@ -173,11 +168,11 @@ impl<A: Allocator + Copy, H: BuildHasher> Client<A, H> {
         // Where nothing is sent, kept or told, as for an acknowledgement that matches nothing, it takes no memory.
         ensures quiet { TellsNothing self.old now.0 from bytes.now → IsOk result }
     {
-        let at = self.held.clock.later(now);
-        let event = self.asker.receive(at, from, bytes)?;
-        let done = happen(&mut self.asker, &mut self.held, at, word, event);
+        let at = self.parts.held.clock.later(now);
+        let event = self.parts.asker.receive(at, from, bytes)?;
+        let done = happen(&mut self.parts, Now { at, word }, event);
         if done.is_err() {
-            self.asker.undo();
+            self.parts.asker.undo();
         }
         done
     }
@@ -195,8 +190,11 @@ impl<A: Allocator + Copy, H: BuildHasher> Client<A, H> {
         // The moment that the client tells is not before its latest.
         ensures from { IfSome result (λ at. latest self.now ≤ at.0) }
     {
-        let from = self.asker.clock().later(self.held.clock);
-        earlier(self.asker.due(from), begins_from(&self.held, from))
+        let from = self.parts.asker.clock().later(self.parts.held.clock);
+        earlier(
+            self.parts.asker.due(from),
+            begins_from(&self.parts.held, from),
+        )
     }
 
     /// Takes a request, which starts at a later tick: its number, or why it is not taken. The lowest
@@ -231,7 +229,7 @@ impl<A: Allocator + Copy, H: BuildHasher> Client<A, H> {
             → result ≢ Err refusals.Memory }
     {
         let long = is_long_request(&request);
-        taking::call(self.alloc, &mut self.held, now, request, long)
+        queue::call(&mut self.parts.held, now, request, long)
     }
 
     /// Takes an observation, whose registration starts at a later tick (RFC 7641, section 3.1): its
@@ -250,7 +248,7 @@ impl<A: Allocator + Copy, H: BuildHasher> Client<A, H> {
         ensures refused { is_ok (observe_answer self.old.own path) ≡ false → result ≢ Err refusals.Memory }
     {
         let long = is_long_path(&path);
-        taking::observe(&mut self.held, now, path, long)
+        queue::observe(&mut self.parts.held, now, path, long)
     }
 
     /// Takes the cancel of an observation, which starts at a later tick (RFC 7641, section 3.6). It
@@ -262,7 +260,7 @@ impl<A: Allocator + Copy, H: BuildHasher> Client<A, H> {
         ensures led { (server : Endpoint) (sizes : Sizes) (setup : SetupSpec) (t : List Call) → Led server sizes setup t self.old
             → Led server sizes setup (Cancels now.0 id.0 (refusal_in result) ∷ t) self.new }
     {
-        cancelling::cancel(&mut self.held, now, id)
+        queue::cancel(&mut self.parts.held, now, id)
     }
 
     /// Forgets an observation, without a message: a later notification is rejected, which ends it at
@@ -275,7 +273,7 @@ impl<A: Allocator + Copy, H: BuildHasher> Client<A, H> {
         ensures led { (server : Endpoint) (sizes : Sizes) (setup : SetupSpec) (t : List Call) → Led server sizes setup t self.old
             → (kept : Bool) × Led server sizes setup (Forgets id.0 kept result ∷ t) self.new }
     {
-        forgetting::forget(&mut self.asker, &mut self.held, id)
+        end::forget(&mut self.parts, id)
     }
 
     /// Does the first that is due at this moment, in milliseconds: an exchange that failed, a
@@ -300,7 +298,7 @@ impl<A: Allocator + Copy, H: BuildHasher> Client<A, H> {
         // Where nothing is due and nothing begins, it takes no memory.
         ensures quiet { IsIdle self.old now.0 → IsOk result }
     {
-        ticking::tick(&mut self.asker, &mut self.held, now, word)
+        scheduler::tick(&mut self.parts, now, word)
     }
 
     /// The request that the last `feed` or `tick` sent for the first time: of which call or
@@ -312,7 +310,7 @@ impl<A: Allocator + Copy, H: BuildHasher> Client<A, H> {
         ensures led { (server : Endpoint) (sizes : Sizes) (setup : SetupSpec) (t : List Call) → Led server sizes setup t self.now
             → Led server sizes setup (Asked (shown_asked result) ∷ t) self.now }
     {
-        last_request::asked(&self.held)
+        last_request::asked(&self.parts.held)
     }
 
     /// The datagram that is to be sent next. It takes no memory.
@@ -329,7 +327,7 @@ impl<A: Allocator + Copy, H: BuildHasher> Client<A, H> {
         // No more datagrams wait at a client than a list in memory holds.
         ensures few { length self.old.layer.layer.queue < 2 ^ 64 }
     {
-        self.asker.next_out()
+        self.parts.asker.next_out()
     }
 
     /// The report that is to be taken next. It takes no memory.
@@ -346,7 +344,7 @@ impl<A: Allocator + Copy, H: BuildHasher> Client<A, H> {
         // No more reports wait than a list in memory holds.
         ensures few { length self.old.own.reports < 2 ^ 64 }
     {
-        let _waiting = self.held.reports.len();
-        self.held.reports.pop_front()
+        let _waiting = self.parts.held.reports.len();
+        self.parts.held.reports.pop_front()
     }
 }

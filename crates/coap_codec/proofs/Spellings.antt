@@ -5,3 +5,4 @@ pub mod WhatIsWritten
 pub mod BoundedLength
 pub mod ItsOwnBytes
 pub mod InBytes
+pub mod IsSpelled

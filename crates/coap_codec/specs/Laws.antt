@@ -20,7 +20,7 @@ NotBoth = (bytes : List ℕ) (m : Message) (reason : Reason) (at : ℕ) → AreB
 
 -- Bytes spell at most one message.
 abbrev pub OneMessage : Type 0
-OneMessage = (bytes : List ℕ) (m n : Message) → AreBytes bytes → Spells bytes m → Spells bytes n → m ≡ n
+OneMessage = (bytes : List ℕ) (m n : Message) → Spells bytes m → Spells bytes n → m ≡ n
 
 -- Bytes are faulty for at most one reason, at one place.
 abbrev pub OneFault : Type 0

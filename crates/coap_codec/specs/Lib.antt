@@ -9,5 +9,6 @@ pub mod Refused
 pub mod BoundedSpelling
 pub mod Reading
 pub mod Decoded
+pub mod IsSpelled
 pub mod Writing
 pub mod Laws

@@ -1,4 +1,5 @@
 ghost use Rattle.coap_codec.specs.BoundedSpelling.{BoundedSpelling};
+ghost use Rattle.coap_codec.specs.IsSpelled.{IsTested};
 ghost use Rattle.coap_codec.specs.OfBytes.{BytesSpellBytes, SpelledInBytes};
 ghost use Rattle.coap_codec.specs.Laws.{EachIsRead, NotBoth, OneMessage, OneFault, MessageIsDecoded, FaultIsDecoded};
 ghost use Rattle.coap_codec.specs.Laws.{OneSpelling, SpelledByItsBytes, SpelledByNoOthers, NoOtherIsSpelled};
@@ -46,4 +47,6 @@ pub fn spelling_law()
     ensures in_bytes { SpelledInBytes }
     // What bytes spell is a message of bytes.
     ensures of_bytes { BytesSpellBytes }
+    // The test of a spelling holds just where the list spells the message.
+    ensures tested { IsTested }
 {}

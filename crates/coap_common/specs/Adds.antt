@@ -1,5 +1,5 @@
 -- What each call of an end asks of its message layer, and the entries that it adds there (RFC 7252, section 4).
-use Rattle.std.specs.Prelude.{ℕ, List, [], ◌∷◌, ◌++◌}
+use Rattle.std.specs.Prelude.{List, [], ◌∷◌, ◌++◌}
 use Rattle.coap_types.specs.declared.endpoint.Endpoint.{Endpoint}
 use Rattle.coap_layer.specs.Machine.Steps.{Asked}
 use Rattle.coap_layer.specs.declared.setup.Setup.{Setup}

@@ -6,4 +6,5 @@ pub mod RoomIsKept
 pub mod ServerCalls
 pub mod ServerTicks
 pub mod VerdictsFit
+pub mod WhatArrived
 pub mod WhatIsDue

@@ -1,4 +1,5 @@
 pub mod Above
+pub mod Arrivals
 pub mod ClientSide
 pub mod Exchanges
 pub mod Moves

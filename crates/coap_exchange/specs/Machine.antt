@@ -2,6 +2,7 @@ pub mod Listed
 pub mod Outstanding
 pub mod AskerShown
 pub mod AnswererShown
+pub mod Arrived
 pub mod VerdictFits
 pub mod ExchangeMoves
 pub mod WhatIsDue

@@ -84,10 +84,6 @@ pub(crate) fn is_sendable<A: Allocator + Copy, S: BuildHasher>(
     ensures may { result ≡ true
         → IfSome ready.now (λ a.
         answer_of layer.old.state (max layer.old.state.clock now.0) (below.Room a.from) ≡ below.Is true) }
-    ensures idle { result ≡ true → (a : AskedSpec) → ready.now ≡ Some a
-        → is_busy a.from layer.new.state.open_cons ≡ false }
-    ensures free { result ≡ true
-        → is_free (max layer.new.state.clock now.0) layer.new.state.upcoming layer.new.state.last_used ≡ true }
 {
     let Some(asked) = ready else {
         return false;

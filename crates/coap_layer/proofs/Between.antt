@@ -10,4 +10,5 @@ pub mod RepliedOnce
 pub mod IdsAreFree
 pub mod OverWithin
 pub mod NonsAreTaken
+pub mod WhatAResetSays
 pub mod ResetsAreReplies

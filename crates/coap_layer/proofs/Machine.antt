@@ -1,4 +1,6 @@
 -- The rows and the machine's steps say the same.
+pub mod WhatIsDecided
+pub mod ArrivalsAreSteps
 pub mod RowsAreSteps
 pub mod Forgetting
 pub mod TicksAreRows

@@ -5,7 +5,6 @@ use Rattle.std.specs.Prelude.{◌≡◌, ◌⊎◌, ◌≤◌, ℕ, ◌+◌, tru
 use Rattle.coap_types.specs.Past.{Ever, Sometime, Always, Since}
 use Rattle.coap_types.specs.declared.endpoint.Endpoint.{Endpoint}
 use Rattle.coap_types.specs.declared.message.Kind.TheVariants.{Con, Non, Ack, Rst}
-use Rattle.coap_types.specs.Bytes.{AreBytes}
 use Rattle.coap_codec.specs.Message.{Message, Spells}
 use Rattle.coap_layer.specs.Trace.{Receive, Reply, Response, Acked, Answer, Becomes, Entry}
 use Rattle.coap_layer.specs.Words.{Incoming, handed, taken, hands_up, Open, begun, outstanding}
@@ -80,7 +79,6 @@ pub record ChannelLaw (one other : Setup) (near far : Endpoint) (all : List Hop)
 pub record HandedBy (e : Entry) (m : Incoming) : Type 0 where
   pub bytes : List ℕ
   pub call : e.call ≡ Receive m.from bytes
-  pub are_bytes : AreBytes bytes
   pub spells : Spells bytes m.message
   pub kind : (m.message.kind ≡ Con) ⊎ (m.message.kind ≡ Non)
   pub kept : m.message.kind ≡ Con → taken e ≡ Some m

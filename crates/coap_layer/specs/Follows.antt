@@ -4,7 +4,6 @@ use Rattle.std.specs.Prelude.{◌≡◌, ◌⊎◌, ◌≤◌, ◌<◌, ℕ, ◌
 use Rattle.coap_types.specs.Past.{Ever, Always}
 use Rattle.coap_types.specs.declared.endpoint.Endpoint.{Endpoint}
 use Rattle.coap_types.specs.SameEndpoint.{same_endpoint}
-use Rattle.coap_types.specs.Bytes.{AreBytes}
 use Rattle.coap_codec.specs.Message.{Message, Spells}
 use Rattle.coap_layer.specs.Ids.{AreApart}
 use Rattle.coap_layer.specs.Trace.{Receive, Response, Acked, Reset, Becomes, Sent, Copied, Entry}
@@ -66,7 +65,6 @@ pub record Carried (e : Entry) (m : Message) : Type 0 where
   pub from : Endpoint
   pub bytes : List ℕ
   pub call : e.call ≡ Receive from bytes
-  pub are_bytes : AreBytes bytes
   pub spells : Spells bytes m
 
 -- A response is what its datagram spells, in an acknowledgement too (section 5.2.1).

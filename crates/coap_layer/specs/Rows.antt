@@ -9,7 +9,6 @@ use Rattle.coap_types.specs.declared.message.Kind.{Kind}
 use Rattle.coap_types.specs.declared.message.Kind.TheVariants.{Con, Non, Ack, Rst}
 use Rattle.coap_types.specs.declared.role.Role.TheVariants as role
 use Rattle.coap_types.specs.SameEndpoint.{same_endpoint}
-use Rattle.coap_types.specs.Bytes.{AreBytes}
 use Rattle.coap_codec.specs.Message.{Spells}
 use Rattle.coap_codec.specs.Spelling.{message_bytes}
 use Rattle.coap_layer.specs.BackOff.{factors}
@@ -271,7 +270,7 @@ pub data Turns (past : List Entry) (e : Entry) : Type 0 where
 -- the table, by call
 abbrev pub Row : Setup → List Entry → Entry → Call → Type 0
 Row setup past e (Receive from bytes) =
-    AreBytes bytes × ((what : Arrival) × Shows bytes what × Arrives setup past e from what)
+    (what : Arrival) × Shows bytes what × Arrives setup past e from what
 Row setup past e (Reply to id bytes) =
     (awaits past ≡ Some (record { from = to; id = id })) × (e.answer ≡ Nothing)
     × (e.out ≡ record { to = to; bytes = bytes } ∷ []) × (e.at ≡ clock past)

@@ -1,6 +1,5 @@
 ghost use Rattle.std.specs.Prelude.{◌≡◌, ◌<◌, [], true, false, None, Ok, option_to_list, IfOk, IsOk};
 ghost use Rattle.std.specs.Vec.{vec_len, vec_capacity};
-ghost use Rattle.coap_types.specs.Bytes.{AreBytes};
 ghost use Rattle.coap_layer.specs.Arrivals.{arrival_at};
 ghost use Rattle.coap_layer.specs.Machine.Arriving.{IsArriving, shown_by, told_by, of_head, sent_by, newly_by};
 ghost use Rattle.coap_layer.specs.Machine.Arriving.{awaits_by, open_by, ends as ends_lem, hands as hands_lem};
@@ -35,8 +34,7 @@ pub(crate) struct Arriving {
 
 /// The message of a datagram, or its fault.
 pub(crate) fn read(bytes: &[u8]) -> Result<View<'_>, Fault>
-    ensures bytes { AreBytes bytes.now }
-    ensures shows { shown_by result ≡ arrival_at bytes.now }
+    ensures { shown_by result ≡ arrival_at bytes.now }
 {
     decode(bytes)
 }

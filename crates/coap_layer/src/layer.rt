@@ -1,32 +1,26 @@
-ghost use Rattle.std.specs.Prelude.{◌≡◌, ◌≢◌, ◌≤◌, ◌<◌, ◌^◌, [], Err, None, Some, IsSome, IsOk, IfOk, OnOk, OnErr};
-ghost use Rattle.std.specs.Prelude.{length, true, false, max, ℕ, IfSome, IfNone};
-ghost use Rattle.coap_types.specs.FirstMoment.{IsFirstMoment};
-ghost use Rattle.coap_layer.specs.Machine.Waits.{any_has_step};
+mod questions;
+mod sendings;
+
+ghost use Rattle.std.specs.Prelude.{◌≡◌, ◌<◌, ◌^◌, [], None, Some, IsSome, IsOk, IfOk, OnOk, OnErr};
+ghost use Rattle.std.specs.Prelude.{length, true, false, max};
 ghost use Rattle.coap_codec.specs.Message.{Message};
-ghost use Rattle.coap_layer.specs.declared.up.SendRefusal.TheVariants as refused;
 ghost use Rattle.coap_layer.specs.Machine.LayerLed.{LayerLed};
-ghost use Rattle.coap_layer.specs.Machine.Moves.{Leads, Moves, would_answer};
-ghost use Rattle.coap_layer.specs.Sendable.{IsSendable};
+ghost use Rattle.coap_layer.specs.Machine.Moves.{Leads, Moves};
 ghost use Rattle.coap_layer.specs.Machine.Shown.{MayReply};
-ghost use Rattle.coap_layer.specs.Machine.State.{copies, is_free, made, start, usual};
-ghost use Rattle.coap_layer.specs.Trace.{Answer, Receive, Reply, Confirm, Plain, Settle, Ticks, Take, Room as AsksRoom};
-ghost use Rattle.coap_layer.specs.Trace.{AsksFree, Pass, Nothing, Is, Idle, Gives};
-ghost use Rattle.coap_layer.specs.Machine.Ups.{IsQuiet, IsTick, answer_as, sent_as};
+ghost use Rattle.coap_layer.specs.Machine.State.{copies, made, start, usual};
+ghost use Rattle.coap_layer.specs.Machine.Ups.{IsQuiet, IsTick, answer_as};
+ghost use Rattle.coap_layer.specs.Trace.{Answer, Receive, Ticks, Take, Pass, Nothing, Gives};
 ghost use Rattle.coap_layer.specs.Words.{handed_by};
-ghost use Rattle.coap_types.specs.declared.limits.TheConstants.{MAX_MESSAGE_LEN as max_message_len};
 
 use crate::arriving::{awaiting, hands, judge, keeps, read, sent, told};
-use crate::datagram::push_within;
 use crate::dedup::Memory;
-use crate::due::next_step;
 use crate::lists::Lists;
 use crate::mark::{Awaiting, FoundIds, Mark};
 use crate::outstanding::{due_copy, put_back};
-use crate::retransmission::{end_all, find_step, is_busy, is_outstanding, is_step, ticked};
-use crate::room::{Brings, Room, copied, grow, make_room};
-use crate::sending::{FirstSending, refusal, send_con, send_non};
+use crate::retransmission::ticked;
+use crate::room::{Brings, Room, grow};
 use crate::taking::{Arrived, Moments, take_in, take_tick};
-use crate::{Content, Datagram, IdSource, SendRefusal, Setup, Tick, Up};
+use crate::{Datagram, IdSource, Setup, Tick, Up};
 use coap_types::{Endpoint, Id, Moment, Remembered};
 use std::alloc::{AllocError, Allocator};
 use std::collections::VecDeque;
@@ -207,249 +201,6 @@ impl<A: Allocator + Copy, S: BuildHasher> Layer<A, S> {
         Ok(told(datagram, arriving.verdict))
     }
 
-    /// Sends the reply to the message that was handed up last, and stores it for a Confirmable one,
-    /// so that a duplicate gets it again (RFC 7252, sections 4.2 and 4.5). It is not refused memory: it asks for
-    /// allocations of the reply's own length, and where one is refused it uses the buffer that was made before.
-    pub fn reply(&mut self, to: Endpoint, id: Id, bytes: &[u8])
-        requires may { MayReply self.old to id.0 }
-        requires short { length bytes.now ≤ max_message_len }
-        // What a reply leaves is a step of the layer's machine.
-        ensures step { Moves self.old 0 (Reply to id.0 bytes.now) Nothing self.new }
-        // Every history that led to the layer leads on with this reply, which is never refused.
-        ensures led { Leads self.old 0 (Reply to id.0 bytes.now) self.new }
-        // A reply belongs to the input that it answers, and is taken back with it.
-        ensures before { self.new.before ≡ self.old.before }
-    {
-        let stored = copied(bytes, &mut self.room.kept);
-        let sent = copied(bytes, &mut self.room.sent);
-        self.room.is_made = false;
-        self.lists.entries.store_reply(to, id, stored);
-        push_within(&mut self.lists.waiting, Datagram { to, bytes: sent });
-        self.awaits = None;
-    }
-
-    /// Sends a Confirmable message, and answers its Message ID (RFC 7252, section 4.2). The word
-    /// picks the initial timeout in milliseconds: `ACK_TIMEOUT_MS` and `word` mod `TIMEOUT_VALUES`.
-    ///
-    /// It is refused with `Outstanding` where a Confirmable message to that endpoint is outstanding
-    /// (NSTART is 1: section 4.7), else with `NoIds` where no Message ID is free (section 4.4), else
-    /// with `Memory` where an allocation was refused. After `Memory` the layer is as before, after
-    /// another refusal its moment has counted alone.
-    pub fn confirm(
-        &mut self,
-        now: Moment,
-        to: Endpoint,
-        content: &Content<'_>,
-        word: u64,
-    ) -> Result<Id, SendRefusal>
-        requires { IsSendable content.now }
-        // What the sending of a Confirmable message answers and leaves is a step of the layer's machine.
-        ensures step { result ≢ Err refused.Memory
-            → Moves self.old now.0 (Confirm to content.now word) (sent_as result) self.new }
-        // Every history that led to the layer leads on with this Confirmable message, unless it was refused memory.
-        ensures led { result ≢ Err refused.Memory → Leads self.old now.0 (Confirm to content.now word) self.new }
-        // A Confirmable message is taken back with the last input.
-        ensures before { self.new.before ≡ self.old.before }
-        // With room a Confirmable message is not refused memory.
-        ensures room { self.old.has_room ≡ true → result ≢ Err refused.Memory }
-        // A Confirmable message that is refused leaves the room as it was.
-        ensures kept { OnErr result (self.new.has_room ≡ self.old.has_room) }
-        // A Confirmable message that is refused for another reason takes no memory.
-        ensures quiet { would_answer self.old now.0 (AsksRoom to) ≡ Is false → result ≢ Err refused.Memory }
-        // A Confirmable message that is refused memory leaves the layer as it was.
-        ensures memory { result ≡ Err refused.Memory → self.new ≡ self.old }
-    {
-        let at = self.clock.later(now);
-        let busy = is_busy(&self.lists.sendings, to);
-        if let Some(refusal) = refusal(busy, self.ids.would_give(at)) {
-            self.clock = at;
-            self.awaits = None;
-            return Err(refusal);
-        }
-        let Ok(()) = make_room(&mut self.room, &mut self.lists) else {
-            return Err(SendRefusal::Memory);
-        };
-        // Nothing fails from here on.
-        self.found.note(&self.ids);
-        let id = self.ids.give(at);
-        let begun = FirstSending { at, word };
-        send_con(&mut self.room, begun, to, id, content, &mut self.lists);
-        self.clock = at;
-        self.awaits = None;
-        Ok(id)
-    }
-
-    /// Sends a Non-confirmable message, and answers its Message ID (RFC 7252, section 4.3).
-    ///
-    /// It is refused with `NoIds` where no Message ID is free (section 4.4), else with `Memory` where
-    /// an allocation was refused; never with `Outstanding`. After `Memory` the layer is as before,
-    /// after `NoIds` its moment has counted alone.
-    pub fn plain(
-        &mut self,
-        now: Moment,
-        to: Endpoint,
-        content: &Content<'_>,
-    ) -> Result<Id, SendRefusal>
-        requires { IsSendable content.now }
-        // What the sending of a Non-confirmable message answers and leaves is a step of the layer's machine.
-        ensures step { result ≢ Err refused.Memory
-            → Moves self.old now.0 (Plain to content.now) (sent_as result) self.new }
-        // Every history that led to the layer leads on with this Non-confirmable message, unless refused memory.
-        ensures led { result ≢ Err refused.Memory → Leads self.old now.0 (Plain to content.now) self.new }
-        // A Non-confirmable message is taken back with the last input.
-        ensures before { self.new.before ≡ self.old.before }
-        // With room a Non-confirmable message is not refused memory.
-        ensures room { self.old.has_room ≡ true → result ≢ Err refused.Memory }
-        // A Non-confirmable message that is refused leaves the room as it was.
-        ensures kept { OnErr result (self.new.has_room ≡ self.old.has_room) }
-        // A Non-confirmable message that is refused for another reason takes no memory.
-        ensures quiet { would_answer self.old now.0 AsksFree ≡ Is false → result ≢ Err refused.Memory }
-        // A Non-confirmable message that is refused memory leaves the layer as it was.
-        ensures memory { result ≡ Err refused.Memory → self.new ≡ self.old }
-    {
-        let at = self.clock.later(now);
-        if let Some(refusal) = refusal(false, self.ids.would_give(at)) {
-            self.clock = at;
-            self.awaits = None;
-            return Err(refusal);
-        }
-        let Ok(()) = make_room(&mut self.room, &mut self.lists) else {
-            return Err(SendRefusal::Memory);
-        };
-        // Nothing fails from here on.
-        self.found.note(&self.ids);
-        let id = self.ids.give(at);
-        send_non(&mut self.room, to, id, content, &mut self.lists);
-        self.clock = at;
-        self.awaits = None;
-        Ok(id)
-    }
-
-    /// What `room` would answer now. Nothing changes: the moment doesn't count.
-    pub fn would_confirm(&self, now: Moment, to: Endpoint) -> bool
-        // What is answered is what `room` would answer now.
-        ensures { would_answer self.now now.0 (AsksRoom to) ≡ Is result }
-    {
-        let at = self.clock.later(now);
-        let busy = is_busy(&self.lists.sendings, to);
-        refusal(busy, self.ids.would_give(at)).is_none()
-    }
-
-    /// Whether `tick` would do a step now. Nothing changes: the moment doesn't count. It takes no
-    /// memory.
-    pub fn would_tick(&self, now: Moment) -> bool
-        // Where nothing would be done, a tick at that moment is idle.
-        ensures idle { result ≡ false → would_answer self.now now.0 Ticks ≡ Idle }
-        // Where something would be done, a tick at that moment is not idle.
-        ensures due { result ≡ true → would_answer self.now now.0 Ticks ≢ Idle }
-    {
-        let at = self.clock.later(now);
-        is_step(find_step(&self.lists.sendings, at))
-    }
-
-    /// The first moment, from this one on, at which `tick` would do a step, unless something is handed in before; None
-    /// where it never would. A moment before the last one counts as the last. Nothing changes: the moment doesn't
-    /// count. It takes no memory.
-    pub fn due(&self, now: Moment) -> Option<Moment>
-        // Where no moment is told, no later tick does anything unless something is handed in.
-        ensures none { IfNone result ((later : ℕ) → now.0 ≤ later → later < 2 ^ 64
-            → would_answer self.now later Ticks ≡ Idle) }
-        // No tick before the moment that is told does anything.
-        ensures some { IfSome result (λ at. (later : ℕ) → now.0 ≤ later → max self.now.state.clock later < at.0
-            → would_answer self.now later Ticks ≡ Idle) }
-        // A tick at the moment that is told does something.
-        ensures does { IfSome result (λ at. would_answer self.now at.0 Ticks ≢ Idle) }
-        // The moment that is told is not before the layer's clock, nor before the one that was handed in.
-        ensures from { IfSome result (λ at. max self.now.state.clock now.0 ≤ at.0) }
-        // The moment that is told is that of the first step that is due of what is outstanding.
-        ensures first { IsFirstMoment (λ later. any_has_step later self.now.state.open_cons)
-            (max self.now.state.clock now.0) result }
-    {
-        next_step(&self.lists.sendings, self.clock.later(now))
-    }
-
-    /// The first moment, from this one on, at which a Message ID is free, unless something is handed in before. A
-    /// moment before the last one counts as the last. Nothing changes: the moment doesn't count. It takes no memory.
-    pub fn free_from(&self, now: Moment) -> Option<Moment>
-        // The moment that is told is the first at which a Message ID is free, unless something is handed in.
-        ensures { IsFirstMoment (λ later. is_free later self.now.state.upcoming self.now.state.last_used)
-            (max self.now.state.clock now.0) result }
-    {
-        self.ids.gives_from(self.clock.later(now))
-    }
-
-    /// Whether `confirm` would refuse a message to this endpoint with neither `Outstanding` nor
-    /// `NoIds`. After true, `confirm` and `plain` are not refused memory, until one of them or
-    /// `reply` is called. Where it is false, it takes no memory.
-    pub fn room(&mut self, now: Moment, to: Endpoint) -> Result<bool, AllocError>
-        // Whether there is room, and what asking leaves, is a step of the layer's machine.
-        ensures step { IfOk result (λ may. Moves self.old now.0 (AsksRoom to) (Is may) self.new) }
-        // Every history that led to the layer leads on with the question for room, unless it was refused memory.
-        ensures led { IsOk result → Leads self.old now.0 (AsksRoom to) self.new }
-        // A question for room is taken back with the last input.
-        ensures before { self.new.before ≡ self.old.before }
-        // Where the answer is yes, there is room for a message.
-        ensures room { IfOk result (λ may. may ≡ true → self.new.has_room ≡ true) }
-        // Room that was there outlasts the question.
-        ensures kept { self.old.has_room ≡ true → self.new.has_room ≡ true }
-        // A question for room leaves which reply may be given.
-        ensures replies { self.new.replies ≡ self.old.replies }
-        // An answer that there is no room takes no memory.
-        ensures quiet { would_answer self.old now.0 (AsksRoom to) ≡ Is false → IsOk result }
-        // A question takes no memory where there is room already.
-        ensures had { self.old.has_room ≡ true → IsOk result }
-        // A question that is refused memory leaves the layer as it was.
-        ensures err { OnErr result (self.new ≡ self.old) }
-    {
-        let at = self.clock.later(now);
-        let may = self.would_confirm(now, to);
-        let brings = Brings {
-            keeps: false,
-            hands: may,
-            sends: false,
-        };
-        grow(brings, &mut self.room, &mut self.lists)?;
-        self.clock = at;
-        Ok(may)
-    }
-
-    /// Makes room for one message: after it, `confirm`, `plain` and a `room` are not refused memory,
-    /// until one of the first two or `reply` is called.
-    pub fn reserve(&mut self) -> Result<(), AllocError>
-        // To reserve room changes nothing that a law speaks of.
-        ensures state { self.new.state ≡ self.old.state }
-        // To reserve room leaves what can be taken back.
-        ensures before { self.new.before ≡ self.old.before }
-        // To reserve room leaves which reply may be given.
-        ensures replies { self.new.replies ≡ self.old.replies }
-        // Where room is reserved, it is there.
-        ensures room { OnOk result (self.new.has_room ≡ true) }
-        // To reserve room takes no memory where it is there already.
-        ensures had { self.old.has_room ≡ true → IsOk result }
-        // Where room is refused, the layer is as it was.
-        ensures err { OnErr result (self.new ≡ self.old) }
-    {
-        make_room(&mut self.room, &mut self.lists)?;
-        Ok(())
-    }
-
-    /// Whether a Message ID is free. It takes no memory.
-    pub fn is_free(&mut self, now: Moment) -> bool
-        // Whether a Message ID is free, and what asking leaves, is a step of the layer's machine.
-        ensures step { Moves self.old now.0 AsksFree (Is result) self.new }
-        // Every history that led to the layer leads on with the question for a Message ID.
-        ensures led { Leads self.old now.0 AsksFree self.new }
-        // A question for a Message ID is taken back with the last input.
-        ensures before { self.new.before ≡ self.old.before }
-        // A question for a Message ID leaves the room as it was.
-        ensures room { self.new.has_room ≡ self.old.has_room }
-        // A question for a Message ID leaves which reply may be given.
-        ensures replies { self.new.replies ≡ self.old.replies }
-    {
-        self.clock = self.clock.later(now);
-        self.ids.would_give(self.clock)
-    }
-
     /// Lets time pass: the moment counts, and nothing else is done. It takes no memory.
     pub fn pass(&mut self, now: Moment)
         // That time passes is a step of the layer's machine.
@@ -464,25 +215,6 @@ impl<A: Allocator + Copy, S: BuildHasher> Layer<A, S> {
         ensures replies { self.new.replies ≡ self.old.replies }
     {
         self.clock = now.later(self.clock);
-    }
-
-    /// Ends the retransmission of the message to this endpoint with this Message ID; false where
-    /// none is outstanding. It takes no memory.
-    pub fn settle(&mut self, to: Endpoint, id: Id) -> bool
-        // That the copies of a message end, since its answer came, is a step of the layer's machine (section 5.2.2).
-        ensures step { Moves self.old 0 (Settle to id.0) (Is result) self.new }
-        // Every history that led to the layer leads on with a message that is settled.
-        ensures led { Leads self.old 0 (Settle to id.0) self.new }
-        // What is settled is open again once the last input is taken back.
-        ensures before { self.new.before ≡ self.old.before }
-        // To settle a message leaves the room as it was.
-        ensures room { self.new.has_room ≡ self.old.has_room }
-        // To settle a message leaves which reply may be given.
-        ensures replies { self.new.replies ≡ self.old.replies }
-    {
-        let open = is_outstanding(&self.lists.sendings, to, id);
-        end_all(&mut self.lists.sendings, to, id);
-        open
     }
 
     /// Does one step that is due: a retransmission, or the failure of one (RFC 7252, section 4.2).

@@ -1,1 +1,3 @@
-pub mod KeyLemmas
+pub mod KeyCounts
+pub mod KeyLists
+pub mod KeyChanges

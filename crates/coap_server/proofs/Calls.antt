@@ -1,4 +1,5 @@
 pub mod DelayLists
+pub mod EachOf
 pub mod FeedIsACall
 pub mod NotifiesBy
 pub mod PassedOver

@@ -3,9 +3,11 @@ pub mod ConsAreAcknowledged
 pub mod CurrentLists
 pub mod DatedMarks
 pub mod EndsObservation
+pub mod Flights
 pub mod LastRegistered
 pub mod LatestRegistration
 pub mod LivesOn
+pub mod MarkedObservers
 pub mod MarksStay
 pub mod NonsApart
 pub mod NoticesGoSo
@@ -28,4 +30,5 @@ pub mod UnmarkedAreCurrent
 pub mod VersionsRise
 pub mod WaysKept
 pub mod WaysSteps
+pub mod WaysTold
 pub mod YoungNons

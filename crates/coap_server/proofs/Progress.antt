@@ -3,7 +3,7 @@ pub mod AnswererGoing
 pub mod AnswererTiming
 pub mod ExchangesGo
 pub mod GoesOn
-pub mod PathsCounted
+pub mod RefusalsSpelled
 pub mod RequestsKept
 pub mod ResponsesSpelled
 pub mod StoreCountsPaths

@@ -1,2 +1,4 @@
 pub mod Ending
+pub mod LayerAsked
+pub mod MarksFall
 pub mod Resting

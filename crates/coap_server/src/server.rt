@@ -1,22 +1,23 @@
 //! The server (RFC 7252, section 5; RFC 7641; RFC 7959).
-mod answering;
-mod deferring;
-mod delaying;
+mod deferral;
+mod delays;
 mod due;
+mod feed;
 mod full_response;
-mod handling;
 mod local;
 mod moments;
-mod notifying;
-mod observing;
+mod notification;
+mod observation;
 mod option_list;
 mod parts;
 mod plain;
+mod reply;
+mod request;
 mod request_checks;
-mod responding;
-mod serving;
-mod turning;
-mod uploading;
+mod separate_response;
+mod served;
+mod tick;
+mod upload;
 
 ghost use Rattle.std.specs.Prelude.{◌≡◌, ◌≢◌, ◌≤◌, ◌<◌, ◌^◌, ℕ, max, Bool, true, false, Option, Some, List, [], ◌∷◌, Ok};
 ghost use Rattle.std.specs.Prelude.{Err};
@@ -34,32 +35,31 @@ ghost use Rattle.coap_resource.specs.declared.refusal.StoreRefusal.TheVariants a
 ghost use Rattle.coap_exchange.specs.declared.answerer.Asked.{Asked as AskedSpec};
 ghost use Rattle.coap_exchange.specs.declared.answerer.Due.{Due};
 ghost use Rattle.coap_server.specs.Deferring.{delay_of, may_delay};
-ghost use Rattle.coap_server.specs.declared.server.delaying.DelayRefusal.TheVariants as delay_refusals;
+ghost use Rattle.coap_server.specs.declared.server.delays.DelayRefusal.TheVariants as delay_refusals;
 ghost use Rattle.coap_server.specs.declared.server.plain.PlainRefusal.TheVariants as plain_refusals;
 ghost use Rattle.coap_server.specs.Led.{Led, Step, fresh_state};
 ghost use Rattle.coap_server.specs.Plain.{is_plain, may_be_plain};
 ghost use Rattle.coap_server.specs.Trace.{Call, Delays, Feeds, Gets, Handling, NextOut, Removes, Sets};
 ghost use Rattle.coap_server.specs.Trace.{Plains, TellsApplied, Ticks};
-ghost use Rattle.coap_server.specs.Object.Shown.{applied_list, kept_of, seen, state_of};
+ghost use Rattle.coap_server.specs.Object.Shown.{applied_list, kept_of, state_of};
 ghost use Rattle.coap_server.specs.Turns.Idle.{IsIdle, moment};
 ghost use Rattle.coap_server.specs.Turns.WhenDue.{TicksDo, latest};
 ghost use Rattle.coap_server.specs.Turns.Work.{work};
 
-use crate::server::delaying::set_delay_parts;
+use crate::server::delays::set_delay_parts;
 use crate::server::due::due_parts;
-use crate::server::handling::handle;
+use crate::server::feed::feed_parts;
 use crate::server::local::{remove_parts, set_parts};
-use crate::server::moments::{forget, later, reject};
 use crate::server::parts::Parts;
 use crate::server::plain::set_plain_parts;
-use crate::server::turning::tick_parts;
+use crate::server::tick::tick_parts;
 use coap_block::Assembly;
 use coap_exchange::Answerer;
 use coap_layer::{Datagram, Setup};
 use coap_observe::Observers;
 use coap_resource::{Representation, Store, StoreRefusal};
 use coap_types::{Endpoint, Moment, Path, Szx};
-pub use delaying::{DelayRefusal, give_delay};
+pub use delays::{DelayRefusal, give_delay};
 pub use parts::{Applied, Delay};
 pub use plain::{PlainRefusal, give_plain};
 use std::alloc::{AllocError, Allocator};
@@ -374,43 +374,5 @@ impl<S: Store<A>, A: Allocator + Copy, H: BuildHasher> Server<S, A, H> {
         ensures few { length self.old.exchanges.layer.queue < 2 ^ 64 }
     {
         self.parts.exchanges.next_out()
-    }
-}
-
-// Takes a datagram.
-fn feed_parts<S: Store<A>, A: Allocator + Copy, H: BuildHasher>(
-    parts: &mut Parts<S, A, H>,
-    now: Moment,
-    from: Endpoint,
-    bytes: &[u8],
-) -> Result<(), AllocError>
-    requires timed { parts.old.observers.clock ≤ parts.old.clock.0 }
-    ensures step { OnOk result ((word : ℕ) → (up : below.Answer) × (came : Option (AskedSpec × Message))
-        × (h : Handling) × (sent : below.Answer)
-        × Step (seen S.content parts.old) (Feeds now.0 from bytes.now word up came h sent) (seen S.content parts.new)) }
-    ensures timed { OnOk result (parts.new.observers.clock ≤ parts.new.clock.0) }
-    ensures err { OnErr result (kept_of parts.new ≡ kept_of parts.old) }
-    ensures quiet { IsQuiet (made parts.old.exchanges.state.layer (max parts.old.clock.0 now.0)
-        (below.Receive from bytes.now)) → IsOk result }
-{
-    let was = parts.clock;
-    let at = later(was, now);
-    let came = parts.exchanges.incoming(at, from, bytes)?;
-    parts.clock = at;
-    match came {
-        None => {
-            forget(&mut parts.observers, parts.exchanges.ended());
-            reject(&mut parts.observers, at, parts.exchanges.unmatched());
-            parts.applied = None;
-            Ok(())
-        }
-        Some((asked, request)) => {
-            let done = handle(parts, &asked, &request);
-            if done.is_err() {
-                parts.exchanges.undo();
-                parts.clock = was;
-            }
-            done
-        }
     }
 }

@@ -12,7 +12,8 @@ pub mod HopsAreAChannel
 pub mod ReportsAreTaken
 pub mod EntriesInTime
 pub mod ResponsesInTime
-pub mod TakenAtOnce
+pub mod End
+pub mod BothEnds
 pub mod ChannelAcross
 pub mod FedInTime
 pub mod SmoothGaps

@@ -1,16 +1,3 @@
 pub mod EachElement
-pub mod SpelledInBytes
-pub mod LayerSendsBytes
-pub mod ExchangesSendBytes
-pub mod TransfersInBytes
-pub mod ClientKeepsBytes
-pub mod AskerSendsBytes
-pub mod ClientSendsBytes
-pub mod BlocksInRange
-pub mod StoreHoldsBytes
-pub mod ServerKeepsBytes
-pub mod ServerSendsBytes
-pub mod ArgumentsInRange
-pub mod GivenOutIsBytes
 pub mod EachEventHasATurn
 pub mod EachPosition

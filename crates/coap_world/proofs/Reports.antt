@@ -1,4 +1,6 @@
 -- From a report back to the server: whose response it is that is reported.
+pub mod MoreBit
+pub mod BegunWith
 pub mod Answered
 pub mod ResponseRead
 pub mod PathRead

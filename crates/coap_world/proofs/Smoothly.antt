@@ -6,6 +6,7 @@ pub mod ArrivesInTime
 pub mod FewArrive
 pub mod WhereItArrives
 pub mod Confirms
+pub mod OnlyResponses
 pub mod ConsCarry
 pub mod HandedAs
 pub mod TakenInTime

@@ -24,6 +24,7 @@ pub mod Settled
 pub mod ShownWhole
 pub mod StillThere
 pub mod TakenIn
+pub mod ToldInOrder
 pub mod TakenThen
 pub mod TellingHeld
 pub mod TickTells

@@ -4,6 +4,8 @@ pub mod Legal
 pub mod InWords
 pub mod OneHeld
 pub mod TurnsMade
+pub mod Tests
+pub mod TurnTests
 pub mod Gets
 pub mod ComesTill
 pub mod Defers

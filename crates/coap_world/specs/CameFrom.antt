@@ -1,7 +1,6 @@
 -- Whose request it is that the server hands up (RFC 7252, sections 4.2, 5.2 and 5.3.1).
 use Rattle.std.specs.Prelude.{◌≡◌, ℕ, Some, List}
 use Rattle.coap_types.specs.Past.{Ever, Always}
-use Rattle.coap_types.specs.Bytes.{AreBytes}
 use Rattle.coap_types.specs.declared.message.Kind.TheVariants.{Con}
 use Rattle.coap_codec.specs.Message.{Message, Spells}
 use Rattle.coap_layer.specs.Channel.{OnFar, HandsUpAs, ChannelLaw, near_of}
@@ -41,7 +40,6 @@ module _ (config : Config) where
     pub con : Open
     pub begun_before : Ever (λ b. begun b ≡ Some con) (near_of (hops_in config past))
     pub is : IsRequestOf server_end con sending
-    pub are_bytes : AreBytes con.bytes
     pub spells : Spells con.bytes (request_of con.id sending)
     pub arrives : Ever (OnFar (HandsUpAs client_end con)) (hops_at config past e)
     pub asked : a ≡ asked_of client_end (request_of con.id sending)

@@ -9,27 +9,14 @@ use Rattle.coap_block.specs.AssemblyState.{Key, same_key, same_method}
 
 is_method : (a b : Method) → same_method a b ≡ true → a ≡ b
 is_method Get Get h = refl
-is_method Get Post h = absurd cc
-is_method Get Put h = absurd cc
-is_method Get Delete h = absurd cc
-is_method Post Get h = absurd cc
 is_method Post Post h = refl
-is_method Post Put h = absurd cc
-is_method Post Delete h = absurd cc
-is_method Put Get h = absurd cc
-is_method Put Post h = absurd cc
 is_method Put Put h = refl
-is_method Put Delete h = absurd cc
-is_method Delete Get h = absurd cc
-is_method Delete Post h = absurd cc
-is_method Delete Put h = absurd cc
 is_method Delete Delete h = refl
+is_method _ _ h = absurd cc
 
 same_method_self : (a : Method) → same_method a a ≡ true
 same_method_self Get = refl
-same_method_self Post = refl
-same_method_self Put = refl
-same_method_self Delete = refl
+same_method_self _ = refl
 
 same_method-decides : (a b : Method) → Decides (same_method a b) (a ≡ b)
 same_method-decides a b = (is_method a b, λ e. ap (λ (m : Method). same_method a m) (sym e) ∙ same_method_self a)

@@ -81,26 +81,18 @@ pub done_says : (fit big lacks differ least more : Bool) (num szx : ℕ)
     → (if not fit then Refuse BadBlock else if big then Refuse TooLarge else if lacks then Refuse NoTag
     else if differ then (if least then Refuse Changed else Again) else if more then Ask num szx else Done) ≡ Done
     → (fit ≡ true) × (differ ≡ false) × (more ≡ false) × (big ≡ false)
-done_says false big lacks differ least more num szx h = absurd cc
-done_says true true lacks differ least more num szx h = absurd cc
-done_says true false true differ least more num szx h = absurd cc
-done_says true false false true true more num szx h = absurd cc
-done_says true false false true false more num szx h = absurd cc
-done_says true false false false least true num szx h = absurd cc
 done_says true false false false least false num szx h = (refl, refl, refl, refl)
+done_says true false false true true more num szx h = absurd cc
+done_says fit big lacks differ least more num szx h = absurd cc
 
 pub ask_says : (fit big lacks differ least more : Bool) (num szx num' szx' : ℕ)
     → (if not fit then Refuse BadBlock else if big then Refuse TooLarge else if lacks then Refuse NoTag
     else if differ then (if least then Refuse Changed else Again) else if more then Ask num szx else Done)
     ≡ Ask num' szx'
     → (fit ≡ true) × (lacks ≡ false) × (differ ≡ false) × (more ≡ true) × (num ≡ num') × (szx ≡ szx') × (big ≡ false)
-ask_says false big lacks differ least more num szx num' szx' h = absurd cc
-ask_says true true lacks differ least more num szx num' szx' h = absurd cc
-ask_says true false true differ least more num szx num' szx' h = absurd cc
-ask_says true false false true true more num szx num' szx' h = absurd cc
-ask_says true false false true false more num szx num' szx' h = absurd cc
 ask_says true false false false least true num szx num' szx' h = (refl, refl, refl, refl, cc, cc, refl)
-ask_says true false false false least false num szx num' szx' h = absurd cc
+ask_says true false false true true more num szx num' szx' h = absurd cc
+ask_says fit big lacks differ least more num szx num' szx' h = absurd cc
 
 pub and_left : (a b : Bool) → (a && b) ≡ true → a ≡ true
 and_left true b h = refl

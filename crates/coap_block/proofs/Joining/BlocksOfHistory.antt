@@ -30,24 +30,16 @@ pub join_says : (fill goes big many more : Bool) (z szx : ℕ)
     Refuse EntityTooLarge
     else if many then Refuse Unavailable else if more then Join z else Done) ≡ Join szx
     → (fill ≡ true) × (goes ≡ true) × (big ≡ false) × (many ≡ false) × (more ≡ true)
-join_says false goes big many more z szx h = absurd cc
-join_says true false big many more z szx h = absurd cc
-join_says true true true many more z szx h = absurd cc
-join_says true true false true more z szx h = absurd cc
 join_says true true false false true z szx h = (refl, refl, refl, refl, refl)
-join_says true true false false false z szx h = absurd cc
+join_says fill goes big many more z szx h = absurd cc
 
 done_says : (fill goes big many more : Bool) (z : ℕ)
     → (if not fill then Refuse BadRequest else if not goes then Refuse EntityIncomplete else if big then
     Refuse EntityTooLarge
     else if many then Refuse Unavailable else if more then Join z else Done) ≡ Done
     → (fill ≡ true) × (goes ≡ true) × (big ≡ false) × (more ≡ false)
-done_says false goes big many more z h = absurd cc
-done_says true false big many more z h = absurd cc
-done_says true true true many more z h = absurd cc
-done_says true true false true more z h = absurd cc
-done_says true true false false true z h = absurd cc
 done_says true true false false false z h = (refl, refl, refl, refl)
+done_says fill goes big many more z h = absurd cc
 
 full_len : (more : Bool) (szx len : ℕ) → more ≡ true → fills more szx len ≡ true → len ≡ size_of szx
 full_len true szx len m h = same_number len (size_of szx) h
@@ -104,21 +96,17 @@ new_of s now key b payload = record { key = key; bytes = with_block s now key b 
 
 distinct_by : (v : BlockVerdict) (new : PartialBody) (ps : List PartialBody) → AreDistinct ps
     → AreDistinct (partials_by v new ps)
-distinct_by (Refuse BadRequest) new ps d = d
-distinct_by (Refuse EntityIncomplete) new ps d = d
 distinct_by (Refuse EntityTooLarge) new ps d = distinct_out new.key ps d
-distinct_by (Refuse Unavailable) new ps d = d
 distinct_by (Join szx) new ps d = distinct_put new ps d
 distinct_by Done new ps d = distinct_out new.key ps d
+distinct_by _ new ps d = d
 
 others_by : (v : BlockVerdict) (new : PartialBody) (other : Key) (ps : List PartialBody) → other ≢ new.key
     → partial_of other (partials_by v new ps) ≡ partial_of other ps
-others_by (Refuse BadRequest) new other ps ne = refl
-others_by (Refuse EntityIncomplete) new other ps ne = refl
 others_by (Refuse EntityTooLarge) new other ps ne = out_other new.key other ps ne
-others_by (Refuse Unavailable) new other ps ne = refl
 others_by (Join szx) new other ps ne = put_other new other ps ne
 others_by Done new other ps ne = out_other new.key other ps ne
+others_by _ new other ps ne = refl
 
 pub others_stay : OthersStay
 others_stay s now key other b payload ne = others_by (verdict_at s now key b (length payload))
@@ -144,15 +132,12 @@ module _ (s : AssemblyState) (now : ℕ) (key : Key) (b : Block) (payload : List
     (few : length s.partials ≤ max_partials) where
   few_by : (v : BlockVerdict) → verdict_at s now key b (length payload) ≡ v
       → length (partials_by v (new_of s now key b payload) (there_at s now)) ≤ max_partials
-  few_by (Refuse BadRequest) e = omega (arith, few, fewer_there (moment_at s now) s.partials)
-  few_by (Refuse EntityIncomplete) e = omega (arith, few, fewer_there (moment_at s now) s.partials)
   few_by (Refuse EntityTooLarge) e = omega (
     arith,
     few,
     fewer_there (moment_at s now) s.partials,
     fewer_out key (there_at s now),
   )
-  few_by (Refuse Unavailable) e = omega (arith, few, fewer_there (moment_at s now) s.partials)
   few_by (Join szx) e =
       let says = join_says (fills b.more b.szx (length payload))
       (goes_on (reached_of (partial_of key (there_at s now))) b.num b.szx)
@@ -163,6 +148,7 @@ module _ (s : AssemblyState) (now : ℕ) (key : Key) (b : Block) (payload : List
       (there_at s now) refl refl says.1 says.4 says.3
       (omega (arith, few, fewer_there (moment_at s now) s.partials))
   few_by Done e = omega (arith, few, fewer_there (moment_at s now) s.partials, fewer_out key (there_at s now))
+  few_by _ e = omega (arith, few, fewer_there (moment_at s now) s.partials)
 
   pub few_after : length (after_block s now key b payload).partials ≤ max_partials
   few_after = few_by (verdict_at s now key b (length payload)) refl
@@ -172,11 +158,8 @@ module _ (parts : Key → List Part) (s : AssemblyState) (now : ℕ) (key : Key)
   joined_after : (v : BlockVerdict) → verdict_at s now key b (length payload) ≡ v → (p : PartialBody)
       → partial_of key (partials_by v (new_of s now key b payload) (there_at s now)) ≡ Some p
       → JoinedFrom s.limit (blocks_by v b payload (parts key)) p
-  joined_after (Refuse BadRequest) e p f = still_joined parts s now key h p f
-  joined_after (Refuse EntityIncomplete) e p f = still_joined parts s now key h p f
   joined_after (Refuse EntityTooLarge) e p f =
       let none = out_none key (there_at s now) (distinct_there (moment_at s now) s.partials h.distinct) in absurd cc
-  joined_after (Refuse Unavailable) e p f = still_joined parts s now key h p f
   joined_after (Join szx) e p f =
       let says = join_says (fills b.more b.szx (length payload))
       (goes_on (reached_of (partial_of key (there_at s now))) b.num b.szx)
@@ -191,6 +174,7 @@ module _ (parts : Key → List Part) (s : AssemblyState) (now : ℕ) (key : Key)
       (full_len b.more b.szx (length payload) says.4 says.0) (not_over s.limit (offset_of b.num b.szx + length payload) says.2))
   joined_after Done e p f =
       let none = out_none key (there_at s now) (distinct_there (moment_at s now) s.partials h.distinct) in absurd cc
+  joined_after _ e p f = still_joined parts s now key h p f
 
   whole_after : verdict_at s now key b (length payload) ≡ Done
       → IsWholeBody s.limit (behind (parts key) b payload) (with_block s now key b payload)

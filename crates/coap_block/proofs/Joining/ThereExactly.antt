@@ -6,8 +6,7 @@ use Rattle.std.proofs.lemmas.Bool.Decides.{nat_tests}
 use Rattle.coap_types.specs.declared.block.Block.{Block}
 use Rattle.coap_block.specs.declared.block_verdict.BlockVerdict.{BlockVerdict}
 use Rattle.coap_block.specs.declared.block_verdict.BlockVerdict.TheVariants.{Refuse, Join, Done}
-use Rattle.coap_block.specs.declared.assembly_step.AssemblyRefusal.TheVariants.{BadRequest, EntityIncomplete}
-use Rattle.coap_block.specs.declared.assembly_step.AssemblyRefusal.TheVariants.{EntityTooLarge, Unavailable}
+use Rattle.coap_block.specs.declared.assembly_step.AssemblyRefusal.TheVariants.{EntityTooLarge}
 use Rattle.coap_block.specs.declared.partial.TheConstants.{PARTIAL_LIFETIME_MS as partial_lifetime}
 use Rattle.coap_block.specs.declared.assembly_judging.TheConstants.{MAX_PARTIALS as max_partials}
 use Rattle.coap_types.specs.Piece.{offset_of}
@@ -87,11 +86,8 @@ module _ (s : AssemblyState) (now : ℕ) (key : Key) (b : Block) (payload : List
   after_taken : (v : BlockVerdict) → verdict_at s now key b (length payload) ≡ v
       → last_of (partial_of key (partials_by v (new_of s now key b payload) (there_at s now)))
       ≡ if_recent (moment_at s now) (last_by v b (moment_at s now) last)
-  after_taken (Refuse BadRequest) e = here
-  after_taken (Refuse EntityIncomplete) e = here
   after_taken (Refuse EntityTooLarge) e = ap last_of
       (out_none key (there_at s now) (distinct_there (moment_at s now) s.partials d))
-  after_taken (Refuse Unavailable) e = here
   after_taken (Join szx) e =
       let says = join_says (fills b.more b.szx (length payload))
       (goes_on (reached_of (partial_of key (there_at s now))) b.num b.szx)
@@ -101,6 +97,7 @@ module _ (s : AssemblyState) (now : ℕ) (key : Key) (b : Block) (payload : List
       ap last_of (put_there (new_of s now key b payload) (there_at s now))
       ∙ joined_at (b.num == 0) (partial_of key (there_at s now)) refl refl says.1
   after_taken Done e = ap last_of (out_none key (there_at s now) (distinct_there (moment_at s now) s.partials d))
+  after_taken _ e = here
 
 -- of another key
 after_other : (s : AssemblyState) (now : ℕ) (key other : Key) (b : Block) (payload : List ℕ) (last : Option ℕ)

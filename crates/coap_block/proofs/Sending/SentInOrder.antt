@@ -59,11 +59,7 @@ sent_by_part parts s answer w k =
 and_parts : (a b c d e : Bool) → (a && (b && (c && (d && e)))) ≡ true
     → (a ≡ true) × (b ≡ true) × (c ≡ true) × (d ≡ true) × (e ≡ true)
 and_parts true true true true true h = (refl, refl, refl, refl, refl)
-and_parts true true true true false h = absurd cc
-and_parts true true true false e h = absurd cc
-and_parts true true false d e h = absurd cc
-and_parts true false c d e h = absurd cc
-and_parts false b c d e h = absurd cc
+and_parts a b c d e h = absurd cc
 
 and_all : (a b c d e : Bool) → a ≡ true → b ≡ true → c ≡ true → d ≡ true → e ≡ true
     → (a && (b && (c && (d && e)))) ≡ true

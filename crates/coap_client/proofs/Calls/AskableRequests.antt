@@ -26,12 +26,10 @@ use Rattle.coap_exchange.proofs.Facts.Requests.{askable_when_short_exactly}
 use Rattle.coap_client.specs.Trace.{Request}
 use Rattle.coap_client.specs.Own.{Transfer, Fetches, Uploads, Single, Observation, Calling}
 use Rattle.coap_client.specs.Queue.{block_option_number}
-use Rattle.coap_client.specs.Requests.{after_path, before_path, block_option, flag_option, get}
-use Rattle.coap_client.specs.Requests.{message_of, options_of, path_options, payload_of}
-use Rattle.coap_client.specs.Object.CallShown.{FitsMethod, IsFew, IsGood, IsShortPath, block_of, is_long}
-use Rattle.coap_client.specs.Object.CallShown.{shown_request}
-use Rattle.coap_client.proofs.Calls.GoodOptions.{AreShort, good_nil, good_run, good_with, good_weaken}
-use Rattle.coap_client.proofs.Calls.GoodOptions.{longer_with}
+use Rattle.coap_client.specs.Requests.{after_path, before_path, block_option, flag_option, get, message_of, options_of}
+use Rattle.coap_client.specs.Requests.{path_options, payload_of}
+use Rattle.coap_client.specs.Object.CallShown.{FitsMethod, IsFew, IsGood, IsShortPath, block_of, is_long, shown_request}
+use Rattle.coap_client.proofs.Calls.GoodOptions.{AreShort, good_nil, good_run, good_with, good_weaken, longer_with}
 use Rattle.coap_client.proofs.Calls.GoodOptions.{longest_with}
 
 differ : (b : Bool) → b ≡ true → b ≡ false → ⊥
@@ -145,9 +143,8 @@ good_uint k n (Some v) os small up g = good_with k n (Some (uint v)) os small (u
 good_after : (method : Method) (r : Request) (os : List CoapOption) → IsGood 17 os
     → IsGood 11 (after_path method r ++ os)
 good_after Get r os g = good_uint 11 17 r.accept os (omega arith) (omega arith) g
-good_after Post r os g = good_uint 11 12 r.format os (omega arith) (omega arith) (good_weaken 12 17 os (omega arith) g)
-good_after Put r os g = good_uint 11 12 r.format os (omega arith) (omega arith) (good_weaken 12 17 os (omega arith) g)
 good_after Delete r os g = good_weaken 11 17 os (omega arith) g
+good_after _ r os g = good_uint 11 12 r.format os (omega arith) (omega arith) (good_weaken 12 17 os (omega arith) g)
 
 good_conditions : (r : Request) (os : List CoapOption) → All IsTag r.if_match → IsGood 5 os
     → IsGood 0 ((map (option 1) r.if_match ++ flag_option 5 r.if_none_match) ++ os)
@@ -193,15 +190,11 @@ good_get o b path few more_few short =
 
 some_code : (m : Method) → 0 < (method_code m).0
 some_code Get = omega arith
-some_code Post = omega arith
-some_code Put = omega arith
-some_code Delete = omega arith
+some_code _ = omega arith
 
 small_code : (m : Method) → (method_code m).0 < 256
 small_code Get = omega arith
-small_code Post = omega arith
-small_code Put = omega arith
-small_code Delete = omega arith
+small_code _ = omega arith
 
 askable_by : (m : Method) (token : Option (List ℕ)) (os : List CoapOption) (p : List ℕ) → IsGood 0 os
     → 4 + (8 + (length (options_bytes 0 os) + (1 + length p))) ≤ 1152
@@ -232,10 +225,9 @@ get_askable token o b path few short more_few =
 
 upload_method : (m : Method) (t : Transfer) → FitsMethod m t
     → (payload_of t ≡ []) ⊎ (block_of t ≡ block_option_number m)
-upload_method m (Fetches f) h = inl refl
-upload_method m Single h = inl refl
 upload_method Get (Uploads u) h = absurd h
 upload_method _ (Uploads u) h = inr refl
+upload_method m _ h = inl refl
 
 fits_with : (n : ℕ) (o : Option (List ℕ)) (os : List CoapOption) → IsFew o
     → length (options_bytes 0 (os ++ option_with n o))
@@ -247,8 +239,7 @@ fits_with n (Some v) os few = longest_with 0 n v os few
 
 block_up : (t : Transfer) → (17 ≤ block_of t) × (block_of t < 65536)
 block_up (Fetches f) = (omega arith, omega arith)
-block_up (Uploads u) = (omega arith, omega arith)
-block_up Single = (omega arith, omega arith)
+block_up _ = (omega arith, omega arith)
 
 pub call_askable : (os : List Observation) (number : ℕ) (r : Request) (t : Transfer) (n : ℕ) (o : Option (List ℕ))
     → Ranges r → is_long r ≡ false → FitsMethod r.method t

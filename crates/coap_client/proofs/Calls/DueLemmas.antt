@@ -187,10 +187,8 @@ module _ (server : Endpoint) (sizes : Sizes) (setup : Setup) (t : List Call) (s 
       where
         go : (k : Turn) → u ≡ k → u ≢ turn.Idle → did ≡ true
         go turn.Idle is other = absurd (other is)
-        go turn.Copied is other =
-            did_is ∙ ap (λ k. not (is_idle k) || asks (passes (at now s.own) (max s.own.clock now) k).deed) is
-        go (turn.End e) is other =
-            did_is ∙ ap (λ k. not (is_idle k) || asks (passes (at now s.own) (max s.own.clock now) k).deed) is
+        go _ is other = did_is ∙ ap (λ k. not (is_idle k) || asks (passes (at now s.own) (max s.own.clock now)
+            k).deed) is
 
     does_begin : begins s.own (max s.own.clock now) ≡ true → did ≡ true
     does_begin some = go u refl
@@ -198,10 +196,7 @@ module _ (server : Endpoint) (sizes : Sizes) (setup : Setup) (t : List Call) (s 
         go : (k : Turn) → u ≡ k → did ≡ true
         go turn.Idle is =
             did_is ∙ (ap (λ k. not (is_idle k) || asks (passes (at now s.own) (max s.own.clock now) k).deed) is ∙ some)
-        go turn.Copied is =
-            did_is ∙ ap (λ k. not (is_idle k) || asks (passes (at now s.own) (max s.own.clock now) k).deed) is
-        go (turn.End e) is =
-            did_is ∙ ap (λ k. not (is_idle k) || asks (passes (at now s.own) (max s.own.clock now) k).deed) is
+        go _ is = did_is ∙ ap (λ k. not (is_idle k) || asks (passes (at now s.own) (max s.own.clock now) k).deed) is
 
   not_true : (b : Bool) → (b ≡ true → ⊥) → b ≡ false
   not_true true f = absurd (f refl)

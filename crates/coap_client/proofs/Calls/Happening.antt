@@ -12,15 +12,13 @@ use Rattle.coap_exchange.specs.AskerTrace as E
 use Rattle.coap_exchange.specs.AskerLaw as X
 use Rattle.coap_exchange.specs.AskerLaw.{Exchanged}
 use Rattle.coap_client.specs.Trace.{Request, Report, Reported, Requested, Feeds, Ended}
-use Rattle.coap_client.specs.Own.{Transfer, Operation, Calling, Cancelling}
-use Rattle.coap_client.specs.Own.{Observation, Own, clocked}
+use Rattle.coap_client.specs.Own.{Transfer, Operation, Calling, Cancelling, Observation, Own, clocked}
 use Rattle.coap_codec.specs.Message.{Message}
 use Rattle.coap_client.specs.Observing.{begun, first_value, is_over, registered, releases}
 use Rattle.coap_client.specs.Observations.{observation_of}
 use Rattle.coap_client.specs.Responses.{is_notification, sequence_in}
 use Rattle.coap_client.specs.Calls as calls
-use Rattle.coap_client.specs.Effects.{Deed, Rests, Asks, Keeps, Releases, Effect, stays, ends, of}
-use Rattle.coap_client.specs.Effects.{is_upload, held_by}
+use Rattle.coap_client.specs.Effects.{Deed, Rests, Asks, Keeps, Releases, Effect, stays, ends, of, is_upload, held_by}
 use Rattle.coap_client.specs.Events.{called, failed, happened}
 use Rattle.coap_client.specs.Steps.{asking, reporting}
 use Rattle.coap_client.specs.Deeds.{at, close, deeds}
@@ -38,9 +36,7 @@ use Rattle.coap_client.specs.Object.Happens.{Comes, Happens, IsDone, failing, le
 
 abbrev pub AsksNothing : Deed → Type 0
 AsksNothing (Asks op) = ⊥
-AsksNothing Rests = Unit {0}
-AsksNothing (Keeps t) = Unit {0}
-AsksNothing (Releases t) = Unit {0}
+AsksNothing _ = Unit {0}
 
 done_by : (x y : X.State) (o : Own) (r : Option Reported) (d : Deed) (m word : ℕ) (own : Own) → AsksNothing d
     → IsDone x d y → own ≡ reporting (record { own = o; report = r; deed = d })

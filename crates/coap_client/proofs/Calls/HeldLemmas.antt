@@ -6,8 +6,7 @@ use Rattle.std.specs.Option.{option_map}
 use Rattle.coap_block.specs.declared.fetch_progress.Asked.{Asked}
 use Rattle.coap_exchange.specs.AskerTrace as E
 use Rattle.coap_client.specs.Own.{Operation, Fetching, Dropped, Notified, Observation, Own}
-use Rattle.coap_client.specs.Observations.{dropped, is_cancel_of, observation_of, observed_path, over}
-use Rattle.coap_client.specs.Observations.{with_rest}
+use Rattle.coap_client.specs.Observations.{dropped, is_cancel_of, observation_of, observed_path, over, with_rest}
 use Rattle.coap_client.specs.Observing.{releases}
 use Rattle.coap_client.specs.Requests.{block2_option, get, message_of, path_options}
 use Rattle.coap_client.specs.Follows.Places.{hit, in_observations}
@@ -27,8 +26,7 @@ use Rattle.coap_client.specs.Object.Shown.{shown_observation, shown_operation, s
 same_cancel : {A : Type 0} (number : ℕ) (q : Queued (W.Waiting A))
     → is_cancel number q ≡ is_cancel_of number (shown_queued q)
 same_cancel number (Starts (waiting.Calling n c)) = refl
-same_cancel number (Starts (waiting.Registering n path)) = refl
-same_cancel number (Cancels n) = refl
+same_cancel number _ = refl
 
 pub queue_over : {A : Type 0} (number : ℕ) (qs : List (Queued (W.Waiting A)))
     → map shown_queued (filter (λ q. not (is_cancel number q)) qs)

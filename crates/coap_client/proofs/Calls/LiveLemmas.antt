@@ -1,7 +1,6 @@
 -- The live observations of a client, by their places.
-use Rattle.std.proofs.Common.{◌≡◌, ◌≤◌, ◌<◌, ℕ, zero, suc, ◌+◌, Bool, true, false, cond, not, Option, Some, None}
-use Rattle.std.proofs.Common.{List, [], ◌∷◌, filter}
-use Rattle.std.proofs.Common.{length, drop, remove, set, slice_get, map, ap, sym, ◌∙◌, refl, arith}
+use Rattle.std.proofs.Common.{◌≡◌, ◌≤◌, ◌<◌, ℕ, zero, suc, ◌+◌, Bool, true, false, cond, not, Option, Some, None, List}
+use Rattle.std.proofs.Common.{[], ◌∷◌, filter, length, drop, remove, set, slice_get, map, ap, sym, ◌∙◌, refl, arith}
 use Rattle.std.proofs.Common.{Bor, option_copied}
 use Rattle.std.proofs.lemmas.Bool.{eq-eqb, ne_eqb}
 use Rattle.std.specs.Prelude.{◌==◌, is_some}

@@ -1,6 +1,6 @@
 -- What a tick does to a client, by what waits (RFC 7252, section 4.7).
 use Rattle.std.proofs.Common.{◌≡◌, ℕ, Bool, true, false, cond, not, ◌&&◌, Option, Some, None, List, [], ◌∷◌, map, drop}
-use Rattle.std.proofs.Common.{slice_get, refl, ap, sym, ◌∙◌, subst}
+use Rattle.std.proofs.Common.{slice_get, refl, ap, sym, ◌∙◌, subst, arith}
 use Rattle.std.specs.Prelude.{is_some}
 use Rattle.std.specs.Option.{option_map}
 use Rattle.std.proofs.lemmas.List.{append-nil}
@@ -9,19 +9,18 @@ use Rattle.coap_operations.specs.declared.queued.Queued.{Queued}
 use Rattle.coap_operations.specs.declared.queued.Queued.TheVariants.{Starts, Cancels}
 use Rattle.coap_operations.specs.Listed.{first_runs}
 use Rattle.coap_client.specs.Trace.{Report}
-use Rattle.coap_client.specs.Own.{Transfer, Observation, Operation, Fetching}
-use Rattle.coap_client.specs.Own.{Cancelling, Own, clocked}
+use Rattle.coap_client.specs.Own.{Transfer, Observation, Operation, Fetching, Cancelling, Own, clocked}
 use Rattle.coap_client.specs.Observations.{observation_of}
 use Rattle.coap_client.specs.Effects.{Effect, stays, runs}
 use Rattle.coap_client.specs.Events.{failed, idle, is_held, is_upload_op, starts}
 use Rattle.coap_client.specs.Observing.{releases}
 use Rattle.coap_client.specs.Steps.{asking, asks}
 use Rattle.coap_client.specs.declared.client.operation.Waiting.{Waiting}
-use Rattle.coap_client.specs.Object.Happens.{Comes, left}
+use Rattle.coap_client.specs.Follows.Places.{in_queue, in_running}
+use Rattle.coap_client.specs.Object.Happens.{Apart, Comes, left}
 use Rattle.coap_client.specs.Object.Shown.{shown_operation, shown_queued, shown_waiting}
-use Rattle.coap_client.proofs.Calls.Happening.{AsksNothing, rests_happens}
+use Rattle.coap_client.proofs.Calls.Happening.{AsksNothing, rests_happens, releases_quiet as releases_nothing}
 use Rattle.coap_client.specs.Object.Starts.{may_start}
-use Rattle.coap_client.proofs.Calls.Happening.{releases_quiet as releases_nothing}
 
 -- nothing is sent or reported
 pub rest_comes : (t own : Own) (x : X.State) (e : Effect) (m word : ℕ) → e ≡ stays t → own ≡ asking None t
@@ -138,3 +137,14 @@ module _ {A : Type 0} where
   first_shown [] x op e h = absurd (cc e)
   first_shown (y ∷ q) x op e h = let is : y ≡ x = cc e in let here : shown_queued y ≡ op = cc h in
       sym here ∙ ap shown_queued is
+
+  -- the first of what waits runs, where nothing does: each number is where it was, once
+  pub started_apart : (s : Own) (q : List (Queued (Waiting A))) → s.queue ≡ map shown_queued q → s.running ≡ None
+      → Apart s
+      → Apart (record s { queue = map shown_queued (drop 1 q); running = option_map shown_operation (first_runs q) })
+  started_apart s [] queue none apart n =
+      let a = apart n in let b = ap (in_queue n) queue in let c = ap (in_running n) none in omega (arith, a, b, c)
+  started_apart s (Starts w ∷ q) queue none apart n =
+      let a = apart n in let b = ap (in_queue n) queue in let c = ap (in_running n) none in omega (arith, a, b, c)
+  started_apart s (Cancels k ∷ q) queue none apart n =
+      let a = apart n in let b = ap (in_queue n) queue in let c = ap (in_running n) none in omega (arith, a, b, c)

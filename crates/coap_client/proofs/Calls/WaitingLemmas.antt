@@ -1,6 +1,5 @@
 -- What waits at a client, as its operations.
-use Rattle.std.proofs.Common.{◌≡◌, ℕ, List, [], ◌∷◌, ◌++◌, filter, length, map, refl, ap}
-use Rattle.std.proofs.Common.{◌∙◌, arith, suc}
+use Rattle.std.proofs.Common.{◌≡◌, ℕ, List, [], ◌∷◌, ◌++◌, filter, length, map, refl, ap, ◌∙◌, arith, suc}
 use Rattle.std.specs.Prelude.{◌==◌, ◌||◌, ◌+◌, IfOk, Result, Ok, Err}
 use Rattle.std.specs.List.{list_any}
 use Rattle.std.proofs.lemmas.List.Folds.{list_any-append}

@@ -37,7 +37,7 @@ use Rattle.coap_client.specs.Led.{State, Step, Led}
 use Rattle.coap_client.proofs.Turning.Leading.{led_client, client_stands}
 use Rattle.coap_client.proofs.Places.Once.{known}
 use Rattle.coap_client.specs.Object.Happens.{Apart, AreFresh, WasLed, Watched, left}
-use Rattle.coap_client.proofs.Places.Once.{at_most_one}
+use Rattle.coap_client.proofs.Places.NumberSteps.{at_most_one}
 
 abbrev Fresh : ℕ → List Observation → Type 0
 Fresh t os = AreFresh t os
@@ -123,12 +123,11 @@ fetched_fresh t number (Some n) s m f = fetch_by_fresh t number n s m _ f
 
 answered_fresh : (t : ℕ) (s : Own) (m : Message) (running : Option Operation) → Seen t s
     → Seen t (answered s t m running).own
-answered_fresh t s m None f = f
 answered_fresh t s m (Some (Calling number r w)) f = called_fresh t number r w s _ f
 answered_fresh t s m (Some (Registering number path)) f = registered_fresh t number path s m f
 answered_fresh t s m (Some (Fetching number)) f = fetched_fresh t number _ s m f
 answered_fresh t s m (Some (Cancelling number)) f = over_fresh t number (record s { running = None }) f
-answered_fresh t s m (Some Dropped) f = f
+answered_fresh t s m _ f = f
 
 noticed_fresh : (t : ℕ) (o : Option Observation) (s : Own) (m : Message) → Seen t s → Seen t (noticed_by o s t m).own
 noticed_fresh t None s m f = f
@@ -182,15 +181,10 @@ own_fresh : (sizes : Sizes) (t : List Call) → Fresh (own_of sizes t).clock (ow
 own_fresh sizes [] = tt
 own_fresh sizes (Calls now r (Ok number) ∷ t) = later _ _ (own_of sizes t).observations (omega arith)
     (own_fresh sizes t)
-own_fresh sizes (Calls now r (Err why) ∷ t) = later _ _ (own_of sizes t).observations (omega arith) (own_fresh sizes t)
 own_fresh sizes (Observes now path (Ok number) ∷ t) =
     later _ _ (own_of sizes t).observations (omega arith) (own_fresh sizes t)
-own_fresh sizes (Observes now path (Err why) ∷ t) = later _ _ (own_of sizes t).observations (omega arith)
-    (own_fresh sizes t)
 own_fresh sizes (Cancels now number None ∷ t) = later _ _ (own_of sizes t).observations (omega arith)
     (own_fresh sizes t)
-own_fresh sizes (Cancels now number (Some why) ∷ t) =
-    later _ _ (own_of sizes t).observations (omega arith) (own_fresh sizes t)
 own_fresh sizes (Forgets number kept true ∷ t) =
     filtered _ (λ o. not (o.number == number)) (own_of sizes t).observations (own_fresh sizes t)
 own_fresh sizes (Forgets number kept false ∷ t) = own_fresh sizes t
@@ -211,6 +205,7 @@ own_fresh sizes (Ticks now word below w sent token kept answer ∷ t) =
 own_fresh sizes (NextOut answer ∷ t) = own_fresh sizes t
 own_fresh sizes (NextReport answer ∷ t) = own_fresh sizes t
 own_fresh sizes (Asked answer ∷ t) = own_fresh sizes t
+own_fresh sizes (_ ∷ t) = later _ _ (own_of sizes t).observations (omega arith) (own_fresh sizes t)
 
 -- what was led to
 

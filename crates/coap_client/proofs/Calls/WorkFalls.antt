@@ -1,7 +1,7 @@
 -- A tick of a client that does something leaves less to be done at its moment.
-use Rattle.std.proofs.Common.{◌≡◌, ◌≤◌, ◌<◌, inl, inr, ◌⊎◌, ℕ, ◌+◌, max, Bool, true, false, not, ◌&&◌, cond}
-use Rattle.std.proofs.Common.{Option, Some, None, is_some, List, [], ◌∷◌, ◌++◌, length, filter, Result, Ok, Err, IfOk}
-use Rattle.std.proofs.Common.{refl, ap, sym, subst, ◌∙◌, arith}
+use Rattle.std.proofs.Common.{◌≡◌, ◌≤◌, ◌<◌, inl, inr, ◌⊎◌, ℕ, ◌+◌, max, Bool, true, false, not, ◌&&◌, cond, Option}
+use Rattle.std.proofs.Common.{Some, None, is_some, List, [], ◌∷◌, ◌++◌, length, filter, Result, Ok, Err, IfOk, refl, ap}
+use Rattle.std.proofs.Common.{sym, subst, ◌∙◌, arith}
 use Rattle.std.specs.Prelude.{◌==◌}
 use Rattle.std.specs.Cmp.{unsigned_Decides}
 use Rattle.std.proofs.lemmas.List.Sums.{length-filter, count_by-le-length}
@@ -19,12 +19,10 @@ use Rattle.coap_exchange.specs.AskerLaw as X
 use Rattle.coap_exchange.proofs.Facts.ClientSide.{exchanged_split}
 use Rattle.coap_common.specs.StepsDue.{one_if, due_count}
 use Rattle.coap_client.specs.Trace.{Report, NoIds, Ticks}
-use Rattle.coap_client.specs.Own.{Transfer, Operation, Calling, Registering, Fetching, Cancelling}
-use Rattle.coap_client.specs.Own.{Dropped, Observation, Own}
+use Rattle.coap_client.specs.Own.{Transfer, Operation, Calling, Registering, Fetching, Cancelling, Dropped, Observation}
+use Rattle.coap_client.specs.Own.{Own}
 use Rattle.coap_client.specs.Observations.{is_cancel_of, to_fetch, with_rest}
-use Rattle.coap_client.specs.Effects.{Deed, Rests, Asks, Keeps, Releases, Effect, stays, runs}
-use Rattle.coap_client.specs.Effects.{is_upload}
-use Rattle.coap_client.specs.Effects.{has_sent}
+use Rattle.coap_client.specs.Effects.{Deed, Rests, Asks, Keeps, Releases, Effect, stays, runs, is_upload, has_sent}
 use Rattle.coap_client.specs.Events.{closed, failed, idle, is_held, is_upload_op, passes, starts}
 use Rattle.coap_client.specs.Reports.{lapse}
 use Rattle.coap_client.specs.Requests.{message_of}
@@ -138,13 +136,12 @@ failed_least u report s (Some (Calling number r t)) = by (u t && is_upload t)
     by : (b : Bool) → to_begin (record (cond b (record s { hold = Some s.sent }) s) { running = None }) ≤ left_by None s
     by true = omega arith
     by false = omega arith
-failed_least u report s (Some (Registering number path)) = omega arith
 failed_least u report s (Some (Fetching number)) = let k = fetch_over_least number s.observations in omega (arith, k)
 failed_least u report s (Some (Cancelling number)) =
     let a = fewer_pass (λ op. not (is_cancel_of number op)) s.queue in
     let b = some_least (λ o. not (o.number == number)) None s.observations in
     omega (arith, a, b)
-failed_least u report s (Some Dropped) = omega arith
+failed_least u report s _ = omega arith
 
 -- .. nor does a request, beside the operation that runs
 asked_least : (m : ℕ) (op : Operation) (s : Own) (token : Result (List ℕ) AskRefusal)
@@ -218,8 +215,6 @@ module _ (m w : ℕ) (sent : L.Answer) (token : Result (List ℕ) AskRefusal) (k
 
   deed_least : (d : Deed) (o : Own) (x y : X.State) → Done d o x y → Least m x.layer y.layer
   deed_least Rests o x y h = same_least m x.layer y.layer (ap (λ (z : X.State). z.layer) h)
-  deed_least (Keeps t) o x y h = same_least m x.layer y.layer (h.2.under ∙ ap (λ (z : X.State). z.layer) h.1)
-  deed_least (Releases t) o x y h = same_least m x.layer y.layer (h.2.under ∙ ap (λ (z : X.State). z.layer) h.1)
   deed_least (Asks op) o x y h =
       let under = h.2.under in
       let r = message_of o.observations op in
@@ -230,6 +225,7 @@ module _ (m w : ℕ) (sent : L.Answer) (token : Result (List ℕ) AskRefusal) (k
       let same = k.1 in
       subst (λ s. Least m s y.layer) (under.1 ∙ ap (λ (z : X.State). z.layer) h.1)
       (record { clock = omega (arith, clock); least = omega (arith, same) })
+  deed_least _ o x y h = same_least m x.layer y.layer (h.2.under ∙ ap (λ (z : X.State). z.layer) h.1)
 
   -- .. nor a wait that is due
   deed_wait : (d : Deed) (o : Own) (x y : X.State) → Done d o x y → wait m y.own ≤ wait m x.own
@@ -389,5 +385,4 @@ TickedSo old now w new did =
 pub ticks_fall : {Y : Type 0} (r : Result Bool Y) (old new : State) (now w : ℕ)
     → IfOk r (λ did. TickedSo old now w new did) → r ≡ Ok true → work new now < work old now
 ticks_fall (Ok true) old new now w s e = work_falls old new now w s.0 s.2 s.3 s.4 s.1 s.5
-ticks_fall (Ok false) old new now w s e = absurd (cc e)
-ticks_fall (Err x) old new now w s e = absurd (cc e)
+ticks_fall _ old new now w s e = absurd (cc e)

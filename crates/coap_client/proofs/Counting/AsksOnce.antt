@@ -21,7 +21,8 @@ use Rattle.coap_client.specs.Turns.Closing.{Closing, quiet, goes_out, is_refused
 use Rattle.coap_client.proofs.Turning.Leading.{client_back}
 use Rattle.coap_client.proofs.Turning.Moves.{releases_none}
 use Rattle.coap_client.proofs.Turning.Turns.{Turned, fed_turned, ticked_turned}
-use Rattle.coap_client.proofs.Queueing.InTurn.{Rises, Turns, turns}
+use Rattle.coap_client.proofs.Queueing.InTurn.{Turns, turns}
+use Rattle.coap_client.proofs.Queueing.RisingNumbers.{Rises}
 use Rattle.coap_client.specs.Follows.Bounds.{registers, cancels, BothDo, AskOnce}
 use Rattle.coap_client.proofs.Sending.Tokens.{one_cancel}
 

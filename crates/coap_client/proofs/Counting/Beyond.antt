@@ -24,9 +24,11 @@ use Rattle.coap_client.specs.Law.{ClientLaw, ClientRows, own_of}
 use Rattle.coap_client.specs.Follows.Order.{call_of}
 use Rattle.coap_client.specs.Follows.Words.{Sending, sends, hears}
 use Rattle.coap_client.proofs.Places.PlaceLemmas.{number_self}
-use Rattle.coap_client.proofs.Reporting.Bodies.{FetchNext, fetch_next, heard_for, part_asks}
+use Rattle.coap_client.proofs.Reporting.Bodies.{heard_for}
+use Rattle.coap_client.proofs.Reporting.FetchedParts.{FetchNext, fetch_next, part_asks}
 use Rattle.coap_client.proofs.Counting.Blocks.{blocks_hold, one_block}
-use Rattle.coap_client.proofs.Counting.Bounds.{Within, sent_or_not, the_call, at_most_one, started, runs_within}
+use Rattle.coap_client.proofs.Counting.Bounds.{sent_or_not, the_call, at_most_one, started, runs_within}
+use Rattle.coap_client.proofs.Counting.BoundedTransfers.{Within}
 use Rattle.coap_client.proofs.Queueing.OneByOne.{sent_now}
 use Rattle.coap_client.proofs.Turning.Origins.{Origin, kept, begins, follows, origin}
 use Rattle.coap_client.proofs.Uploading.Pieces.{answers_last}

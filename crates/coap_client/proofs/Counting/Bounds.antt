@@ -1,42 +1,20 @@
 -- How many requests a call sends at most.
-use Rattle.std.proofs.Common.{◌≡◌, ◌≤◌, ◌⊎◌, inl, inr, ℕ, ◌+◌, max, Bool, true, false, cond, not, ◌&&◌, nat_lt, Option}
-use Rattle.std.proofs.Common.{Some, None, List, [], ◌∷◌, length, refl, ap, sym, subst, ◌∙◌, Result, Ok, Err, arith}
+use Rattle.std.proofs.Common.{◌≡◌, ◌≤◌, ◌⊎◌, inl, inr, ℕ, ◌+◌, max, Bool, true, false, cond, nat_lt, Option, Some, None}
+use Rattle.std.proofs.Common.{List, [], ◌∷◌, length, refl, ap, sym, subst, ◌∙◌, Ok, Err, arith}
 use Rattle.std.specs.Prelude.{◌==◌}
-use Rattle.std.proofs.lemmas.Bool.{and_parts}
 use Rattle.coap_types.specs.Past.{Ever}
 use Rattle.coap_types.proofs.Facts.Traces.{Ever_map}
-use Rattle.coap_types.specs.declared.block.Block.{Block}
 use Rattle.coap_types.specs.declared.endpoint.Endpoint.{Endpoint}
-use Rattle.coap_types.specs.declared.option_number.TheConstants.{BLOCK1 as block1}
-use Rattle.coap_types.specs.declared.request.Method.{Method}
-use Rattle.coap_types.specs.declared.request.Method.TheVariants.{Get, Post, Put, Delete}
-use Rattle.coap_types.specs.Piece.{size_of}
 use Rattle.coap_layer.specs.declared.setup.Setup.{Setup}
-use Rattle.coap_codec.specs.Message.{Message}
 use Rattle.coap_block.specs.Sizes.{Sizes}
-use Rattle.coap_block.specs.declared.fetch_verdict.Verdict.{Verdict}
-use Rattle.coap_block.specs.declared.fetch_verdict.Verdict.TheVariants as verdict
-use Rattle.coap_block.specs.FetchStep.{FetchState}
-use Rattle.coap_block.specs.FetchStep as F
-use Rattle.coap_block.specs.UploadStep.{UploadState, more_follows, continues, moved}
-use Rattle.coap_exchange.specs.declared.asker.AskRefusal.{AskRefusal}
-use Rattle.coap_exchange.specs.declared.asker.Event.{Event}
 use Rattle.coap_client.specs.declared.refusals.CallRefusal.TheVariants.{QueueFull, BodyTooLarge, BadPath}
-use Rattle.coap_client.specs.Trace.{Request, Report, Valid, Failed, BadBlock, NoIds, Reported, Call}
-use Rattle.coap_client.specs.Trace.{Calls, Observes, Cancels, Forgets, Feeds, Ticks, NextOut}
-use Rattle.coap_client.specs.Trace.{NextReport}
-use Rattle.coap_client.specs.Trace.{Asked}
-use Rattle.coap_client.specs.Own.{Transfer, Fetches, Uploads, Single, Operation, Calling, Registering}
-use Rattle.coap_client.specs.Own.{Cancelling, Own}
-use Rattle.coap_client.specs.Requests.{options_of, is_longer}
-use Rattle.coap_client.specs.Responses.{content, valid, continue, tag_in, block_at, part}
-use Rattle.coap_client.specs.Reports.{lapse, done}
-use Rattle.coap_client.specs.Calls.{answer, has_tags}
-use Rattle.coap_client.specs.Calls as calls
-use Rattle.coap_client.specs.Queue.{are_long, block_option_number, is_full, taken_by, call_answer}
-use Rattle.coap_client.specs.Queue.{transfer_of, calling}
-use Rattle.coap_client.specs.Effects.{Effect, ends, of, is_upload, has_sent}
-use Rattle.coap_client.specs.Events.{failed, happened, passes, closed}
+use Rattle.coap_client.specs.Trace.{Request, Call, Calls, Observes, Cancels, Forgets, Feeds, Ticks}
+use Rattle.coap_client.specs.Own.{Transfer, Operation, Calling, Registering, Cancelling, Own}
+use Rattle.coap_client.specs.Requests.{options_of}
+use Rattle.coap_client.specs.Calls.{answer}
+use Rattle.coap_client.specs.Queue.{are_long, block_option_number, is_full, taken_by, call_answer, transfer_of, calling}
+use Rattle.coap_client.specs.Effects.{Effect}
+use Rattle.coap_client.specs.Events.{happened, passes}
 use Rattle.coap_client.specs.Deeds.{at}
 use Rattle.coap_client.specs.Steps.{IsRight}
 use Rattle.coap_client.specs.Law.{ClientLaw, ClientRows, own_of}
@@ -44,173 +22,20 @@ use Rattle.coap_client.specs.Follows.Order.{call_of, turn_of}
 use Rattle.coap_client.specs.Follows.Begins.{WasSent}
 use Rattle.coap_client.specs.Follows.Numbers.{number_given, NumbersOnce}
 use Rattle.coap_client.specs.Follows.Words.{Taken, takes, WasTaken, Sending, sends}
-use Rattle.coap_client.specs.Turns.Moves as mv
-use Rattle.coap_client.specs.Turns.Moves.{Move, left_by}
-use Rattle.coap_client.specs.Turns.Closing.{Closing, quiet, goes_out, is_refused}
 use Rattle.coap_client.proofs.Places.PlaceLemmas.{same_number, number_self}
 use Rattle.coap_client.proofs.Turning.BlockByBlock.{AllOf, all_uncancelled, happened_runs, passes_runs}
-use Rattle.coap_client.proofs.Turning.Turns.{closing, Turned, fed_turned, ticked_turned}
+use Rattle.coap_client.proofs.Turning.Turns.{closing}
 use Rattle.coap_client.proofs.Turning.Origins.{Origin, kept, begins, follows, origin}
 use Rattle.coap_client.proofs.Reporting.Bodies.{waits_closed}
-use Rattle.coap_client.proofs.Queueing.InTurn.{Rises, Turns, turns}
+use Rattle.coap_client.proofs.Queueing.InTurn.{Turns, turns}
+use Rattle.coap_client.proofs.Queueing.RisingNumbers.{Rises}
 use Rattle.coap_client.proofs.Places.Numbers.{numbers_once}
 use Rattle.coap_client.proofs.Queueing.OneByOne.{sent_now}
-use Rattle.coap_client.specs.Follows.Bounds.{max_blocks, most_requests, one_of, one_sent, requests, AreBounded}
-use Rattle.coap_client.proofs.Counting.Blocks.{one_block}
+use Rattle.coap_client.specs.Follows.Bounds.{most_requests, one_of, one_sent, requests, AreBounded}
 use Rattle.coap_client.proofs.Turning.AllWaiting.{all_to, all_more}
-use Rattle.coap_client.proofs.Uploading.TransferSteps.{lt_not, FetchWithin, fetch_begins, fetch_more, fetch_anew}
-use Rattle.coap_client.proofs.Uploading.TransferSteps.{fetch_bound, UploadWithin, upload_more, upload_bound}
-
--- how far the transfer of a call is, by so many requests
-
-abbrev pub IsUploading : Method → Type 0
-IsUploading Get = ⊥
-IsUploading Post = Unit {0}
-IsUploading Put = Unit {0}
-IsUploading Delete = ⊥
-
-abbrev pub Within : Sizes → Request → Transfer → ℕ → Type 0
-Within sizes q (Fetches f) n = (q.method ≡ Get) × FetchWithin sizes.limit f n
-Within sizes q (Uploads u) n = IsUploading q.method × UploadWithin sizes q.body u n
-Within sizes q Single n = n ≤ 1
-
-begins_within : (sizes : Sizes) (q : Request) (m : Method) (n : ℕ) → q.method ≡ m → n ≤ 1
-    → Within sizes q (transfer_of sizes q m) n
-begins_within sizes q Get n is one = (is, fetch_begins sizes n one)
-begins_within sizes q Post n is one = (subst IsUploading (sym is) tt, inl (refl, one))
-begins_within sizes q Put n is one = (subst IsUploading (sym is) tt, inl (refl, one))
-begins_within sizes q Delete n is one = one
-
-module _ (sizes : Sizes) (q r : Request) (m : Message) (next : Transfer) (n : ℕ) where
-  fetch_within : (f : FetchState) → answer r (Fetches f) m ≡ calls.Asks next → Within sizes q (Fetches f) n
-      → Within sizes q next (1 + n)
-  fetch_within f h w = by (m.code == content) ((m.code == valid) && has_tags r.etags) h
-    where
-      by_verdict : (v : Verdict) → part f m ≡ v → calls.fetched f m v ≡ calls.Asks next → Within sizes q next (1 + n)
-      by_verdict (verdict.Refuse why) is h = absurd (cc h)
-      by_verdict verdict.Done is h = absurd (cc h)
-      by_verdict verdict.Again is h = let e : Fetches (F.after f (tag_in m) m.payload verdict.Again)
-          ≡ next = cc h in subst (λ t. Within sizes q t (1 + n)) e (w.0, fetch_anew sizes.limit f m n is w.1)
-      by_verdict (verdict.Ask num size) is h =
-          let e : Fetches (F.after f (tag_in m) m.payload (verdict.Ask num size))
-          ≡ next = cc h in subst (λ t. Within sizes q t (1 + n)) e (w.0, fetch_more sizes.limit f m n num size is w.1)
-
-      by : (c d : Bool) → cond c (calls.fetched f m (part f m))
-          (cond d (calls.Ends true (Valid (tag_in m))) (calls.Ends true (Failed m.code))) ≡ calls.Asks next
-          → Within sizes q next (1 + n)
-      by true d h = by_verdict (part f m) refl h
-      by false true h = absurd (cc h)
-      by false false h = absurd (cc h)
-
-  upload_within : (u : UploadState) → answer r (Uploads u) m ≡ calls.Asks next → Within sizes q (Uploads u) n
-      → Within sizes q next (1 + n)
-  upload_within u h w = by ((m.code == continue) && is_longer u) refl (more_follows u && calls.is_below_errors m.code) h
-    where
-      step : is_longer u ≡ true → (b : Block) (c : Bool) → continues u b ≡ c
-          → cond c (calls.Asks (Uploads (moved u b))) (calls.Ends false BadBlock) ≡ calls.Asks next
-          → Within sizes q next (1 + n)
-      step long b true may h = let e : Uploads (moved u b)
-          ≡ next = cc h in subst (λ t. Within sizes q t (1 + n)) e (w.0, upload_more sizes q.body u b n may long w.1)
-      step long b false may h = absurd (cc h)
-
-      by_block : is_longer u ≡ true → (o : Option Block) → calls.continued u o ≡ calls.Asks next
-          → Within sizes q next (1 + n)
-      by_block long None h = absurd (cc h)
-      by_block long (Some b) h = step long b (continues u b) refl h
-
-      by : (b : Bool) → ((m.code == continue) && is_longer u) ≡ b → (p : Bool)
-          → cond b (calls.continued u (block_at block1 m))
-          (cond p (calls.Ends true BadBlock) (calls.Ends true (done r.method m.code))) ≡ calls.Asks next
-          → Within sizes q next (1 + n)
-      by true is p h = by_block (and_parts (m.code == continue) (is_longer u) is).1 (block_at block1 m) h
-      by false is true h = absurd (cc h)
-      by false is false h = absurd (cc h)
-
-  next_within : (old : Transfer) → answer r old m ≡ calls.Asks next → Within sizes q old n → Within sizes q next (1 + n)
-  next_within (Fetches f) h w = fetch_within f h w
-  next_within (Uploads u) h w = upload_within u h w
-  next_within Single h w = absurd (cc h)
-
-within_bound : (sizes : Sizes) (q : Request) (tr : Transfer) (n : ℕ) → length q.body ≤ sizes.limit → Within sizes q tr n
-    → n ≤ most_requests sizes q q.method
-within_bound sizes q (Fetches f) n small w = subst (λ m. n ≤ most_requests sizes q m) (sym w.0)
-    (fetch_bound sizes.limit f n w.1)
-within_bound sizes q (Uploads u) n small w = by q.method w.0
-  where
-    by : (m : Method) → IsUploading m → n ≤ most_requests sizes q m
-    by Get h = absurd h
-    by Post h = upload_bound sizes q.body u n small w.1
-    by Put h = upload_bound sizes q.body u n small w.1
-    by Delete h = absurd h
-within_bound sizes q Single n small w = by q.method
-  where
-    some : 1 ≤ max_blocks sizes.limit
-    some = one_block sizes.limit
-
-    one : (b : Bool) → n ≤ cond b (max_blocks sizes.limit) 1
-    one true = omega (arith, w, some)
-    one false = w
-
-    by : (m : Method) → n ≤ most_requests sizes q m
-    by Get = omega (arith, w)
-    by Post = one (nat_lt (size_of sizes.szx) (length q.body))
-    by Put = one (nat_lt (size_of sizes.szx) (length q.body))
-    by Delete = w
-
--- the client's sizes stay
-
-sizes_held : (s : Own) (c : Bool) (report : Option Reported)
-    → (ends report (cond c (record s { hold = Some s.sent }) s)).own.sizes ≡ s.sizes
-sizes_held s true report = refl
-sizes_held s false report = refl
-
-sizes_failed : (u : Transfer → Bool) (report : Report) (s : Own) (running : Option Operation)
-    → (failed u report s running).own.sizes ≡ s.sizes
-sizes_failed u report s (Some (Calling k r t)) = sizes_held s (u t && is_upload t) (of k report)
-sizes_failed u report s _ = refl
-
-sizes_moves : (s : Own) (now : ℕ) (told : Option Event) (mo : Move s now told)
-    → (left_by s now told mo).own.sizes ≡ s.sizes
-sizes_moves s now told (mv.is_done k r tr final rep a hears runs ends_so) =
-    sizes_held s (not final && is_upload tr) (of k rep)
-sizes_moves s now told (mv.fails e un) = sizes_failed (λ t. true) (lapse e) s s.running
-sizes_moves s now told _ = refl
-
-sizes_closed : (now : ℕ) (e : Effect) (token : Result (List ℕ) AskRefusal) → Closing now e token
-    → (closed now e e.deed token).own.sizes ≡ e.own.sizes
-sizes_closed now e token (quiet q none own_same report_same) = ap (λ (o : Own). o.sizes) own_same
-sizes_closed now e token (goes_out op key asks given sends_it own_same report_same) = ap (λ (o : Own). o.sizes) own_same
-sizes_closed now e token (is_refused op why asks given none all) = ap (λ (c : Effect). c.own.sizes) all
-    ∙ sizes_failed has_sent NoIds e.own (Some op)
-
-sizes_turned : (sizes : Sizes) (t : List Call) (c : Call) → Turned sizes t c
-    → (own_of sizes (c ∷ t)).sizes ≡ (own_of sizes t).sizes
-sizes_turned sizes t c k =
-    let m : ℕ = max (own_of sizes t).clock k.now in
-    let s : Own = at k.now (own_of sizes t) in
-    ap (λ (o : Own). o.sizes) k.own_is ∙ (sizes_closed m (left_by s m k.told k.move) k.token k.closes
-    ∙ sizes_moves s m k.told k.move)
-
-sizes_same : (sizes : Sizes) (t : List Call) → (own_of sizes t).sizes ≡ sizes
-sizes_same sizes [] = refl
-sizes_same sizes (c ∷ t) = by c ∙ sizes_same sizes t
-  where
-    by : (c : Call) → (own_of sizes (c ∷ t)).sizes ≡ (own_of sizes t).sizes
-    by (Calls now r (Ok n)) = refl
-    by (Calls now r (Err why)) = refl
-    by (Observes now path (Ok n)) = refl
-    by (Observes now path (Err why)) = refl
-    by (Cancels now k None) = refl
-    by (Cancels now k (Some why)) = refl
-    by (Forgets k was true) = refl
-    by (Forgets k was false) = refl
-    by (Feeds now from bytes w up settled event sent token was) =
-        sizes_turned sizes t _ (fed_turned sizes t now from bytes w up settled event sent token was)
-    by (Ticks now w below turn sent token was answer) =
-        sizes_turned sizes t _ (ticked_turned sizes t now w below turn sent token was answer)
-    by (NextOut answer) = refl
-    by (NextReport answer) = refl
-    by (Asked answer) = refl
+use Rattle.coap_client.proofs.Uploading.TransferSteps.{lt_not}
+use Rattle.coap_client.proofs.Counting.BoundedTransfers.{Within, begins_within, next_within, within_bound}
+use Rattle.coap_client.proofs.Sending.OfCalls.{size_is}
 
 -- what waits was taken, and is at its start
 
@@ -294,8 +119,8 @@ module _ (sizes : Sizes) where
       all_more (Waits sizes (Calls now r (Ok n) ∷ t)) (own_of sizes t).queue (calling (own_of sizes t).sizes n r) h (
         r,
         inl refl,
-        subst (λ (z : Sizes). length r.body ≤ z.limit) (sizes_same sizes t) (body_small (own_of sizes t) r n right),
-        ap (λ i. transfer_of i r r.method) (sizes_same sizes t),
+        subst (λ (z : Sizes). length r.body ≤ z.limit) (size_is sizes t) (body_small (own_of sizes t) r n right),
+        ap (λ i. transfer_of i r r.method) (size_is sizes t),
       )
   waits_step t (Observes now path (Ok n)) right h =
       all_more (Waits sizes (Observes now path (Ok n) ∷ t)) (own_of sizes t).queue (Registering n path) h tt

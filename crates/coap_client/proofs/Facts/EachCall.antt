@@ -3,7 +3,7 @@ pub use Rattle.coap_client.proofs.Reporting.AnswerCodes.{apart}
 pub use Rattle.coap_client.proofs.Uploading.BlocksApart.{blocks_apart}
 pub use Rattle.coap_client.proofs.Counting.AsksOnce.{ask_once}
 pub use Rattle.coap_client.proofs.Counting.Beyond.{within_or_beyond}
-pub use Rattle.coap_client.proofs.Reporting.Bodies.{part_asks}
+pub use Rattle.coap_client.proofs.Reporting.FetchedParts.{part_asks}
 pub use Rattle.coap_client.proofs.Counting.Bounds.{are_bounded}
 pub use Rattle.coap_client.proofs.Reporting.CallsAlone.{calls_alone}
 pub use Rattle.coap_client.proofs.Reporting.Codes.{reports_codes}

@@ -24,8 +24,7 @@ use Rattle.coap_client.specs.Follows.OfCalls.{AreOfCalls, OthersAreGets}
 use Rattle.coap_client.specs.Follows.Order.{AreInOrder, OneLast}
 use Rattle.coap_client.specs.Follows.HandedUp.{AreHandedUp}
 use Rattle.coap_client.specs.Follows.Tokens.{OneConOrCancel, OneOfToken}
-use Rattle.coap_client.specs.Trace.{Call, Calls, Observes, Cancels, Forgets, Feeds, Ticks, NextOut}
-use Rattle.coap_client.specs.Trace.{NextReport, Asked}
+use Rattle.coap_client.specs.Trace.{Call, Calls, Observes, Cancels, Forgets, Feeds, Ticks, NextOut, NextReport, Asked}
 use Rattle.coap_client.specs.Own.{Own}
 use Rattle.coap_client.specs.Steps.{after}
 use Rattle.coap_client.specs.Follows.Valid.{ValidOfTags}
@@ -131,13 +130,9 @@ waits sizes t rows = gives.waits sizes t rows
 -- The moment of a call counts.
 pub clock_is : (s : Own) (c : Call) → (after s c).clock ≡ moment_of s c
 clock_is s (Calls now r (Ok number)) = refl
-clock_is s (Calls now r (Err why)) = refl
 clock_is s (Observes now path (Ok number)) = refl
-clock_is s (Observes now path (Err why)) = refl
 clock_is s (Cancels now number None) = refl
-clock_is s (Cancels now number (Some why)) = refl
 clock_is s (Forgets number kept true) = refl
-clock_is s (Forgets number kept false) = refl
 clock_is s (Feeds now from bytes word up settled event sent token kept) =
     let e = effect s (Feeds now from bytes word up settled event sent token kept) in
     (steadied (at now s) (max s.clock now) e token e.deed refl
@@ -145,6 +140,4 @@ clock_is s (Feeds now from bytes word up settled event sent token kept) =
 clock_is s (Ticks now word below t sent token kept answer) =
     let e = effect s (Ticks now word below t sent token kept answer) in
     (steadied (at now s) (max s.clock now) e token e.deed refl (passes_steady (at now s) (max s.clock now) t)).clock
-clock_is s (NextOut answer) = refl
-clock_is s (NextReport answer) = refl
-clock_is s (Asked answer) = refl
+clock_is s _ = refl

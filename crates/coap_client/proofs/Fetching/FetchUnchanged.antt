@@ -1,11 +1,10 @@
 -- A fetch of a representation that does not change comes to its end.
-use Rattle.std.proofs.Common.{◌≡◌, ◌⊎◌, inl, inr, ⊎_elim, ℕ, ◌+◌, ◌-◌, ◌/◌, ◌≤◌, ◌<◌, ◌==◌, min, Bool}
-use Rattle.std.proofs.Common.{true, false, ◌&&◌, ◌||◌, not, nat_lt, Some, None, is_some, List, []}
-use Rattle.std.proofs.Common.{◌++◌, length, take, drop, refl, ap, sym, ◌∙◌, subst, arith, cond, if◌then◌else◌}
+use Rattle.std.proofs.Common.{◌≡◌, ◌⊎◌, inl, inr, ⊎_elim, ℕ, ◌+◌, ◌-◌, ◌/◌, ◌≤◌, ◌<◌, ◌==◌, min, Bool, true, false}
+use Rattle.std.proofs.Common.{◌&&◌, ◌||◌, not, nat_lt, Some, None, is_some, List, [], ◌++◌, length, take, drop, refl}
+use Rattle.std.proofs.Common.{ap, sym, ◌∙◌, subst, arith, cond, if◌then◌else◌, length-append}
 use Rattle.std.proofs.lemmas.Bool.{le-leb}
 use Rattle.std.proofs.lemmas.Bool.Decides.{nat_tests}
 use Rattle.std.proofs.lemmas.List.{length-take, length-drop, take_all}
-use Rattle.std.proofs.Common.{length-append}
 use Rattle.std.proofs.lemmas.Slice.Eq.{bytes_eq-Decides}
 use Rattle.std.proofs.Math.Nat.{zero-div, mul-div_cancel}
 use Rattle.std.proofs.Math.Seq.{take-add}
@@ -18,8 +17,7 @@ use Rattle.coap_block.proofs.Facts.Sizes.{size_some, aligned}
 use Rattle.coap_resource.specs.Content.{Held}
 use Rattle.coap_resource.specs.RequestOptions.{tag_of}
 use Rattle.coap_resource.specs.Serves.{content_reply}
-use Rattle.coap_client.specs.Follows.Unchanged.{reply_to, IsBehind, GoesOnBy, GoesOn}
-use Rattle.coap_client.specs.Follows.Unchanged.{FetchesUnchanged}
+use Rattle.coap_client.specs.Follows.Unchanged.{reply_to, IsBehind, GoesOnBy, GoesOn, FetchesUnchanged}
 
 -- the tests, where each is passed
 passed : {V : Type 0} (a b c d e : Bool) (p q r s y : V) → a ≡ true → b ≡ true → c ≡ false → d ≡ false → e ≡ false

@@ -38,7 +38,8 @@ use Rattle.coap_client.specs.Follows.Words.{hears}
 use Rattle.coap_client.proofs.Fetching.FetchUnchanged.{fetches_unchanged}
 use Rattle.coap_client.proofs.Places.PlaceLemmas.{number_self}
 use Rattle.coap_client.proofs.Reporting.AnswerReports.{gives_of}
-use Rattle.coap_client.proofs.Reporting.Bodies.{IsNew, all_new, fetch_next}
+use Rattle.coap_client.proofs.Reporting.Bodies.{IsNew, all_new}
+use Rattle.coap_client.proofs.Reporting.FetchedParts.{fetch_next}
 use Rattle.coap_client.proofs.Reporting.Codes.{runs_as}
 use Rattle.coap_client.proofs.Turning.BlockByBlock.{AllOf}
 use Rattle.coap_client.proofs.Turning.Leading.{client_back}

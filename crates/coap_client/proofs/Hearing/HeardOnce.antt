@@ -25,7 +25,8 @@ use Rattle.coap_client.specs.Follows.Begins.{WasSent}
 use Rattle.coap_client.specs.Follows.Order.{call_of, HearsBy, HeardOnce}
 use Rattle.coap_client.specs.Follows.Tokens.{OwnTokens}
 use Rattle.coap_client.proofs.Sending.Asked.{AsksFor, sent_if_asked}
-use Rattle.coap_client.proofs.Sending.Tokens.{last_was_sent, own_tokens, one_of_token}
+use Rattle.coap_client.proofs.Sending.Tokens.{own_tokens, one_of_token}
+use Rattle.coap_client.proofs.Sending.LiveTokens.{last_was_sent}
 use Rattle.coap_client.proofs.Hearing.Noted.{last_there}
 
 -- something since began among these, or it did before and these keep it

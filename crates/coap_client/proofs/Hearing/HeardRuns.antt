@@ -32,7 +32,8 @@ use Rattle.coap_client.proofs.Places.Numbers.{numbers_once}
 use Rattle.coap_client.proofs.Places.Once.{beneath, law_front, done_right}
 use Rattle.coap_client.proofs.Sending.OfCalls.{are_of_calls}
 use Rattle.coap_client.proofs.Sending.SentFor.{sent_for, sent_call}
-use Rattle.coap_client.proofs.Sending.Tokens.{last_was_sent, one_of_token}
+use Rattle.coap_client.proofs.Sending.Tokens.{one_of_token}
+use Rattle.coap_client.proofs.Sending.LiveTokens.{last_was_sent}
 use Rattle.coap_client.proofs.Turning.ExchangeCame.{Came, came}
 use Rattle.coap_client.proofs.Turning.Leading.{client_back}
 

@@ -26,7 +26,7 @@ use Rattle.coap_client.specs.Law.{ClientLaw, own_of, lower_of}
 use Rattle.coap_client.specs.Follows.Live.{IsLive}
 use Rattle.coap_client.specs.Follows.Noticed.{NoticesAreHeard}
 use Rattle.coap_client.specs.Follows.Notified.{notes}
-use Rattle.coap_client.proofs.Observing.ObservationOrigins.{In}
+use Rattle.coap_client.proofs.Observing.ObservationSources.{In}
 use Rattle.coap_client.proofs.Observing.StaysLive.{found_in}
 use Rattle.coap_client.proofs.Observing.TokensKept.{only_cancel, tokens_are_kept}
 use Rattle.coap_client.proofs.Places.Once.{beneath}

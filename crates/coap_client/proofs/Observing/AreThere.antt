@@ -31,7 +31,7 @@ use Rattle.coap_client.proofs.Places.PlaceEffects.{Linked}
 use Rattle.coap_client.proofs.Places.PlaceLemmas.{same_number}
 use Rattle.coap_client.proofs.Sending.OfCalls.{are_of_calls}
 use Rattle.coap_client.proofs.Sending.OpenSince.{open_runs}
-use Rattle.coap_client.proofs.Sending.Tokens.{last_was_sent}
+use Rattle.coap_client.proofs.Sending.LiveTokens.{last_was_sent}
 use Rattle.coap_client.proofs.Turning.AllWaiting.{all_wait}
 use Rattle.coap_client.proofs.Turning.BlockByBlock.{AllOf}
 use Rattle.coap_client.proofs.Observing.Notified.{one_of_two}

@@ -1,7 +1,6 @@
 -- The live observations of a client are in the order of their numbers.
 use Rattle.std.proofs.Common.{◌≡◌, ◌≤◌, ◌<◌, ℕ, ◌+◌, max, Bool, true, false, cond, not, ◌&&◌, Option, Some, None, List}
-use Rattle.std.proofs.Common.{[]}
-use Rattle.std.proofs.Common.{◌∷◌, ◌++◌, map, refl, ap, sym, subst, ◌∙◌, Result, Ok, Err, arith}
+use Rattle.std.proofs.Common.{[], ◌∷◌, ◌++◌, map, refl, ap, sym, subst, ◌∙◌, Result, Ok, Err, arith}
 use Rattle.std.specs.Prelude.{◌==◌, filter}
 use Rattle.coap_types.specs.declared.endpoint.Endpoint.{Endpoint}
 use Rattle.coap_layer.specs.declared.setup.Setup.{Setup}
@@ -12,8 +11,7 @@ use Rattle.coap_exchange.specs.declared.asker.Event.{Event}
 use Rattle.coap_observe.specs.Newer.{arrived}
 use Rattle.coap_client.specs.Trace.{Report, NoIds, Call, Calls, Observes, Cancels, Forgets, Feeds, Ticks, NextOut}
 use Rattle.coap_client.specs.Trace.{NextReport, Asked}
-use Rattle.coap_client.specs.Own.{Transfer, Operation, Calling, Registering, Fetching, Cancelling, Observation}
-use Rattle.coap_client.specs.Own.{Own}
+use Rattle.coap_client.specs.Own.{Transfer, Operation, Calling, Registering, Fetching, Cancelling, Observation, Own}
 use Rattle.coap_client.specs.Observing.{begun, first_rest}
 use Rattle.coap_client.specs.Responses.{sequence_in}
 use Rattle.coap_client.specs.Fetching.{rest as rest_left}
@@ -30,7 +28,8 @@ use Rattle.coap_client.specs.Turns.Closing.{Closing, quiet, goes_out, is_refused
 use Rattle.coap_client.proofs.Observing.Notified.{most}
 use Rattle.coap_client.proofs.Places.PlaceLemmas.{hit_self}
 use Rattle.coap_client.proofs.Queueing.InTurn.{turns}
-use Rattle.coap_client.proofs.Sending.Tokens.{AllLive, Registered, live}
+use Rattle.coap_client.proofs.Sending.Tokens.{Registered, live}
+use Rattle.coap_client.proofs.Sending.LiveTokens.{AllLive}
 use Rattle.coap_client.proofs.Turning.Leading.{client_back}
 use Rattle.coap_client.proofs.Turning.Turns.{Turned, fed_turned, ticked_turned}
 

@@ -23,7 +23,8 @@ use Rattle.coap_client.specs.Follows.Newer.{Newly, notifies}
 use Rattle.coap_client.proofs.Places.PlaceLemmas.{same_number, number_self, hit_self}
 use Rattle.coap_client.proofs.Turning.ExchangeCame.{came}
 use Rattle.coap_client.proofs.Places.Once.{law_back, law_front, done_right, beneath, Known, known, sound_of}
-use Rattle.coap_client.proofs.Places.Once.{from_place, reported_once, both_one}
+use Rattle.coap_client.proofs.Places.Once.{from_place, reported_once}
+use Rattle.coap_client.proofs.Places.NumberSteps.{both_one}
 use Rattle.coap_client.proofs.Uploading.Holding.{steadied, happened_steady, passes_steady}
 use Rattle.coap_client.proofs.Turning.Leading.{client_back}
 use Rattle.coap_client.specs.Follows.Notified.{is_newly_of}
@@ -32,7 +33,8 @@ use Rattle.coap_client.specs.Follows.Ended.{WasForgotten, WasCancelled, AreOver}
 use Rattle.coap_client.proofs.Sending.Tokens.{cancel_runs}
 use Rattle.coap_client.proofs.Places.PlaceEvents.{apart_of}
 use Rattle.coap_client.proofs.Observing.Notified.{registers_as, renews_as}
-use Rattle.coap_client.proofs.Observing.Values.{value_in, shows_first}
+use Rattle.coap_client.proofs.Observing.Values.{shows_first}
+use Rattle.coap_client.proofs.Observing.ValueParts.{value_in}
 
 -- reports of other numbers
 

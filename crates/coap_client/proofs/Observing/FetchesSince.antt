@@ -5,10 +5,9 @@ use Rattle.std.specs.Prelude.{◌==◌}
 use Rattle.coap_block.specs.Sizes.{Sizes}
 use Rattle.coap_exchange.specs.declared.asker.Event.{Event}
 use Rattle.coap_observe.specs.Newer.{is_newer}
-use Rattle.coap_client.specs.Trace.{Report, NoIds, Call, Calls, Observes, Cancels, Forgets, Feeds}
-use Rattle.coap_client.specs.Trace.{Ticks, NextOut, NextReport, Asked}
-use Rattle.coap_client.specs.Own.{Transfer, Operation, Calling, Registering, Fetching, Cancelling}
-use Rattle.coap_client.specs.Own.{Dropped, Own}
+use Rattle.coap_client.specs.Trace.{Report, NoIds, Call, Calls, Observes, Cancels, Forgets, Feeds, Ticks, NextOut}
+use Rattle.coap_client.specs.Trace.{NextReport, Asked}
+use Rattle.coap_client.specs.Own.{Transfer, Operation, Calling, Registering, Fetching, Cancelling, Dropped, Own}
 use Rattle.coap_client.specs.Observations.{dropped}
 use Rattle.coap_client.specs.Responses.{sequence_in}
 use Rattle.coap_client.specs.Reports.{lapse}
@@ -49,18 +48,12 @@ failed_idle : (u : Transfer → Bool) (report : Report) (s : Own) (running : Opt
     → (failed u report s running).own.running ≡ None
 failed_idle u report s None is = is
 failed_idle u report s (Some (Calling k r t)) is = refl
-failed_idle u report s (Some (Registering k path)) is = refl
-failed_idle u report s (Some (Fetching k)) is = refl
-failed_idle u report s (Some (Cancelling k)) is = refl
-failed_idle u report s (Some Dropped) is = refl
+failed_idle u report s _ is = refl
 
 pub failed_some : (u : Transfer → Bool) (report : Report) (s : Own) (op : Operation)
     → (failed u report s (Some op)).own.running ≡ None
 failed_some u report s (Calling k r t) = refl
-failed_some u report s (Registering k path) = refl
-failed_some u report s (Fetching k) = refl
-failed_some u report s (Cancelling k) = refl
-failed_some u report s Dropped = refl
+failed_some u report s _ = refl
 
 no_fetch : {X : Type 0} (running : Option Operation) (k : ℕ) → running ≡ None → Runs running k → X
 no_fetch running k none h = let e : None ≡ Some (Fetching k) = sym none ∙ h in absurd (cc e)
@@ -165,16 +158,10 @@ module _ (sizes : Sizes) where
       turned_since t (Ticks now w below turn sent token kept answer)
       (ticked_turned sizes t now w below turn sent token kept answer) k (since t k) x runs last
   since (Calls now r (Ok n) ∷ t) k x runs last = (refl, inr (since t k x runs last))
-  since (Calls now r (Err why) ∷ t) k x runs last = (refl, inr (since t k x runs last))
   since (Observes now path (Ok n) ∷ t) k x runs last = (refl, inr (since t k x runs last))
-  since (Observes now path (Err why) ∷ t) k x runs last = (refl, inr (since t k x runs last))
   since (Cancels now n None ∷ t) k x runs last = (refl, inr (since t k x runs last))
-  since (Cancels now n (Some why) ∷ t) k x runs last = (refl, inr (since t k x runs last))
   since (Forgets n was true ∷ t) k x runs last = forgotten_since t n k was (since t k) x runs last
-  since (Forgets n was false ∷ t) k x runs last = (refl, inr (since t k x runs last))
-  since (NextOut answer ∷ t) k x runs last = (refl, inr (since t k x runs last))
-  since (NextReport answer ∷ t) k x runs last = (refl, inr (since t k x runs last))
-  since (Asked answer ∷ t) k x runs last = (refl, inr (since t k x runs last))
+  since (_ ∷ t) k x runs last = (refl, inr (since t k x runs last))
 
   pub fetch_since : (t : List Call) (k : ℕ) (x : Sending) → (own_of sizes t).running ≡ Some (Fetching k)
       → last_sent sizes t ≡ Some x → SentSince sizes k x t

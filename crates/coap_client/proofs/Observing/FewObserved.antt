@@ -195,7 +195,6 @@ module _ (sizes : Sizes) where
       let ih = few_count t rows.1 in
       let a = reg_append (own_of sizes t).queue (calling (own_of sizes t).sizes n r ∷ []) in
       omega (arith, ih, a)
-  few_count (Calls now r (Err why) ∷ t) rows = few_count t rows.1
   few_count (Observes now path (Ok n) ∷ t) rows =
       let s : Own = own_of sizes t in
       let a = reg_append s.queue (Registering n path ∷ []) in
@@ -205,18 +204,12 @@ module _ (sizes : Sizes) where
       let d = leb-false max_observations (observed s) b in
       let e = count_is s in
       omega (arith, a, d, e)
-  few_count (Observes now path (Err why) ∷ t) rows = few_count t rows.1
   few_count (Cancels now k None ∷ t) rows =
       let ih = few_count t rows.1 in
       let a = reg_append (own_of sizes t).queue (Cancelling k ∷ []) in
       omega (arith, ih, a)
-  few_count (Cancels now k (Some why) ∷ t) rows = few_count t rows.1
   few_count (Forgets k was true ∷ t) rows =
       let ih = few_count t rows.1 in let a = count_over k (own_of sizes t) in omega (arith, ih, a)
-  few_count (Forgets k was false ∷ t) rows = few_count t rows.1
-  few_count (NextOut answer ∷ t) rows = few_count t rows.1
-  few_count (NextReport answer ∷ t) rows = few_count t rows.1
-  few_count (Asked answer ∷ t) rows = few_count t rows.1
   few_count (Feeds now from bytes w up settled event sent token was ∷ t) rows =
       let ih = few_count t rows.1 in
       let a = count_turned t (Feeds now from bytes w up settled event sent token was)
@@ -227,3 +220,4 @@ module _ (sizes : Sizes) where
       let a = count_turned t (Ticks now w below turn sent token was answer)
       (ticked_turned sizes t now w below turn sent token was answer) in
       omega (arith, ih, a)
+  few_count (_ ∷ t) rows = few_count t rows.1

@@ -14,8 +14,7 @@ use Rattle.coap_exchange.specs.Tokens.{same_token, is_kept, max_kept, kept_with,
 use Rattle.coap_exchange.proofs.Facts.SameToken.{same_token_is}
 use Rattle.coap_observe.specs.Newer.{arrived}
 use Rattle.coap_client.specs.Trace.{Report, Ended, Cancelled, Reported, NoIds}
-use Rattle.coap_client.specs.Own.{Transfer, Operation, Calling, Registering, Fetching, Cancelling}
-use Rattle.coap_client.specs.Own.{Observation, Own}
+use Rattle.coap_client.specs.Own.{Transfer, Operation, Calling, Registering, Fetching, Cancelling, Observation, Own}
 use Rattle.coap_client.specs.Observations.{observation_of}
 use Rattle.coap_client.specs.Requests.{message_of}
 use Rattle.coap_client.specs.Responses.{sequence_in}
@@ -27,8 +26,8 @@ use Rattle.coap_client.specs.Events.{failed, closed}
 use Rattle.coap_client.specs.Deeds.{deeds}
 use Rattle.coap_client.specs.Turns.Moves as mv
 use Rattle.coap_client.specs.Turns.Moves.{Move, left_by, Hears}
-use Rattle.coap_client.proofs.Observing.ObservationOrigins.{In}
-use Rattle.coap_client.proofs.Places.PlaceEvents.{ran}
+use Rattle.coap_client.proofs.Observing.ObservationSources.{In}
+use Rattle.coap_client.proofs.Places.PlaceDeeds.{ran}
 use Rattle.coap_client.proofs.Places.PlaceLemmas.{token_if}
 
 abbrev pub tokens_of : List Observation → List (List ℕ)
@@ -36,10 +35,9 @@ tokens_of os = map (λ (o : Observation). o.token) os
 
 -- the tokens that a deed leaves kept
 abbrev pub kept_by : Deed → List (List ℕ) → List (List ℕ)
-kept_by Rests kept = kept
-kept_by (Asks op) kept = kept
 kept_by (Keeps token) kept = kept_with token kept
 kept_by (Releases token) kept = kept_without token kept
+kept_by _ kept = kept
 
 -- of the exchanges
 
@@ -185,11 +183,10 @@ closed_keeps now e token tell = by e.deed refl token
   where
     by : (d : Deed) → e.deed ≡ d → (token : Result (List ℕ) AskRefusal) → Keeping e.own (closed now e d token)
     by Rests is token = ap (λ d. kept_by d (tokens_of e.own.observations)) (sym is)
-    by (Keeps key) is token = refl
-    by (Releases key) is token = refl
     by (Asks op) is (Ok key) = refl
     by (Asks op) is (Err why) =
         failed_keeps e.own has_sent NoIds (Some op) (λ k same. tell k (is ∙ asked k same))
       where
         asked : (k : ℕ) → Some op ≡ Some (Cancelling k) → Asks op ≡ Asks (Cancelling k)
         asked k same = cc same
+    by _ is token = refl

@@ -1,6 +1,6 @@
 -- The mark of each live observation is that of the newest notification that was taken of it.
-use Rattle.std.proofs.Common.{◌≡◌, ◌≤◌, ℕ, max, Bool, true, false, cond, not, ◌&&◌, Option, Some, None, List, ◌∷◌}
-use Rattle.std.proofs.Common.{◌++◌, [], map, refl, ap, sym, subst, ◌∙◌, Result, Ok, Err, arith}
+use Rattle.std.proofs.Common.{◌≡◌, ◌≤◌, ℕ, max, Bool, true, false, cond, not, ◌&&◌, Option, Some, None, List, ◌∷◌, ◌++◌}
+use Rattle.std.proofs.Common.{[], map, refl, ap, sym, subst, ◌∙◌, Result, Ok, Err, arith}
 use Rattle.std.specs.Prelude.{◌==◌, filter}
 use Rattle.coap_types.specs.declared.endpoint.Endpoint.{Endpoint}
 use Rattle.coap_layer.specs.declared.setup.Setup.{Setup}
@@ -13,11 +13,10 @@ use Rattle.coap_block.specs.declared.fetch_verdict.Verdict.TheVariants as verdic
 use Rattle.coap_exchange.specs.Tokens.{same_token}
 use Rattle.coap_observe.specs.Newer.{Mark, IsNewer, is_newer, arrived}
 use Rattle.coap_observe.proofs.Facts.Newer.{newer_is_decided}
-use Rattle.coap_client.specs.Trace.{Report, NoIds, Call, Calls, Observes, Cancels, Forgets, Feeds}
-use Rattle.coap_client.specs.Trace.{Ticks}
-use Rattle.coap_client.specs.Trace.{NextOut, NextReport, Asked}
-use Rattle.coap_client.specs.Own.{Transfer, Operation, Calling, Fetching, Cancelling}
-use Rattle.coap_client.specs.Own.{Dropped, Notified, Observation, Own}
+use Rattle.coap_client.specs.Trace.{Report, NoIds, Call, Calls, Observes, Cancels, Forgets, Feeds, Ticks, NextOut}
+use Rattle.coap_client.specs.Trace.{NextReport, Asked}
+use Rattle.coap_client.specs.Own.{Transfer, Operation, Calling, Fetching, Cancelling, Dropped, Notified, Observation}
+use Rattle.coap_client.specs.Own.{Own}
 use Rattle.coap_client.specs.Observations.{observation_with}
 use Rattle.coap_client.specs.Reports.{lapse}
 use Rattle.coap_client.specs.Effects.{Effect, has_sent, ends, of, is_upload}
@@ -33,8 +32,8 @@ use Rattle.coap_client.proofs.Places.PlaceLemmas.{same_number, number_self, hit_
 use Rattle.coap_client.proofs.Places.PlaceEffects.{flip_other}
 use Rattle.coap_client.proofs.Places.Once.{known, sound_of}
 use Rattle.coap_client.proofs.Turning.Leading.{client_back}
-use Rattle.coap_client.specs.Follows.Newer.{Newly, newly, registers, renews, taken_by, notifies, mark_if}
-use Rattle.coap_client.specs.Follows.Newer.{last_mark, AreNewer}
+use Rattle.coap_client.specs.Follows.Newer.{Newly, newly, registers, renews, taken_by, notifies, mark_if, last_mark}
+use Rattle.coap_client.specs.Follows.Newer.{AreNewer}
 use Rattle.coap_client.specs.Turns.Moves as mv
 use Rattle.coap_client.specs.Turns.Moves.{Move, left_by, Unheard, Hears}
 use Rattle.coap_client.specs.Turns.Closing.{Closing, quiet, goes_out, is_refused}
@@ -296,22 +295,16 @@ module _ (server : Endpoint) (sizes : Sizes) (setup : Setup) where
 
   marked_step : (t : List Call) (c : Call) → ((n : ℕ) → places n (own_of sizes t) ≤ 1) → Marked t → Marked (c ∷ t)
   marked_step t (Calls now r (Ok n)) at_most h = h
-  marked_step t (Calls now r (Err why)) at_most h = h
   marked_step t (Observes now path (Ok n)) at_most h = h
-  marked_step t (Observes now path (Err why)) at_most h = h
   marked_step t (Cancels now k None) at_most h = h
-  marked_step t (Cancels now k (Some why)) at_most h = h
   marked_step t (Forgets k was true) at_most h = marked_without (IsLast (lasts t)) k (own_of sizes t).observations h
-  marked_step t (Forgets k was false) at_most h = h
-  marked_step t (NextOut answer) at_most h = h
-  marked_step t (NextReport answer) at_most h = h
-  marked_step t (Asked answer) at_most h = h
   marked_step t (Feeds now from bytes w up settled event sent token was) at_most h =
       marked_turned t (Feeds now from bytes w up settled event sent token was)
       (fed_turned sizes t now from bytes w up settled event sent token was) at_most h
   marked_step t (Ticks now w below turn sent token was answer) at_most h =
       marked_turned t (Ticks now w below turn sent token was answer)
       (ticked_turned sizes t now w below turn sent token was answer) at_most h
+  marked_step t _ at_most h = h
 
   pub marked : (t : List Call) → ClientLaw server sizes setup t → Marked t
   marked [] law = tt

@@ -13,10 +13,11 @@ use Rattle.coap_client.specs.Follows.LastValue.{HaveAll}
 use Rattle.coap_client.specs.Follows.NoneFetched.{NoneFetched}
 use Rattle.coap_client.specs.Follows.Words.{Sending, sends}
 use Rattle.coap_client.proofs.Observing.LastValue.{was_shown}
-use Rattle.coap_client.proofs.Observing.ObservationOrigins.{In}
+use Rattle.coap_client.proofs.Observing.ObservationSources.{In}
 use Rattle.coap_client.proofs.Observing.OfObservations.{AskSource, of_queue, of_call, of_fetch, of_part, SentAs, sent_as}
 use Rattle.coap_client.proofs.Observing.OfObservations.{waits_there}
-use Rattle.coap_client.proofs.Observing.Values.{found_rest, Fetched, fetched}
+use Rattle.coap_client.proofs.Observing.Values.{Fetched, fetched}
+use Rattle.coap_client.proofs.Observing.ValueParts.{found_rest}
 use Rattle.coap_client.proofs.Places.Once.{known}
 use Rattle.coap_client.proofs.Places.PlaceEffects.{AllWait}
 use Rattle.coap_client.proofs.Turning.Leading.{client_back}

@@ -33,7 +33,7 @@ use Rattle.coap_client.specs.Turns.Closing.{Closing, quiet, goes_out, is_refused
 use Rattle.coap_client.proofs.Observing.AllOf.{all_shown}
 use Rattle.coap_client.proofs.Observing.Notified.{registers_as, renews_as, registered_to}
 use Rattle.coap_client.proofs.Observing.Notified.{registered_effect, renewed_effect, has_newest, most}
-use Rattle.coap_client.proofs.Observing.ObservationOrigins.{In}
+use Rattle.coap_client.proofs.Observing.ObservationSources.{In}
 use Rattle.coap_client.proofs.Observing.OneToken.{found_with}
 use Rattle.coap_client.proofs.Observing.StaysLive.{found_in}
 use Rattle.coap_client.proofs.Places.PlaceLemmas.{number_self, hit_self}

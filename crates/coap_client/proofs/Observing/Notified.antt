@@ -12,32 +12,31 @@ use Rattle.coap_exchange.specs.Tokens.{same_token}
 use Rattle.coap_observe.specs.Newer.{IsNewer, is_newer, arrived}
 use Rattle.coap_observe.proofs.Facts.Newer.{newer_is_decided}
 use Rattle.coap_client.specs.Trace.{Ended, Call, Feeds}
-use Rattle.coap_client.specs.Own.{Operation, Registering}
-use Rattle.coap_client.specs.Own.{Observation, Own}
+use Rattle.coap_client.specs.Own.{Operation, Registering, Observation, Own}
 use Rattle.coap_client.specs.Observations.{observation_with}
 use Rattle.coap_client.specs.Responses.{is_notification, sequence_in}
 use Rattle.coap_client.specs.Effects.{Keeps, Effect, stays, ends, of}
-use Rattle.coap_client.specs.Observing.{begun, first_value, first_rest, is_over, renewed, passed}
-use Rattle.coap_client.specs.Observing.{noticed_by}
+use Rattle.coap_client.specs.Observing.{begun, first_value, first_rest, is_over, renewed, passed, noticed_by}
 use Rattle.coap_client.specs.Events.{answered, happened, closed}
 use Rattle.coap_client.specs.Deeds.{at}
 use Rattle.coap_client.specs.Steps.{lower, reports}
 use Rattle.coap_client.specs.Law.{ClientLaw, own_of, lower_of}
-use Rattle.coap_client.specs.Follows.Places.{in_running, in_observations, places}
-use Rattle.coap_client.specs.Follows.Places.{gone}
+use Rattle.coap_client.specs.Follows.Places.{in_running, in_observations, places, gone}
 use Rattle.coap_client.specs.Follows.Words.{Sending, hears}
 use Rattle.coap_client.specs.Follows.AnswersLastRequest.{Answers}
 use Rattle.coap_client.specs.Follows.Newer.{Newly, newly, registers, renews, notifies}
-use Rattle.coap_client.proofs.Places.PlaceLemmas.{same_number, number_self, hit_self, in_map}
-use Rattle.coap_client.proofs.Places.PlaceLemmas.{in_observations_append}
+use Rattle.coap_client.proofs.Places.PlaceLemmas.{same_number, number_self, hit_self, in_map, in_observations_append}
 use Rattle.coap_client.proofs.Places.PlaceLemmas.{number_if, found_by_token}
 use Rattle.coap_client.proofs.Places.Once.{law_back, beneath, known, sound_of}
-use Rattle.coap_client.proofs.Uploading.Pieces.{Tracked, IfTracked, all_sends, answers_last}
+use Rattle.coap_client.proofs.Uploading.SentSoFar.{Tracked, IfTracked}
+use Rattle.coap_client.proofs.Uploading.AllSent.{all_sends}
+use Rattle.coap_client.proofs.Uploading.Pieces.{answers_last}
 use Rattle.coap_client.proofs.Turning.Leading.{client_back}
-use Rattle.coap_client.proofs.Sending.Tokens.{AllLive, Registered, live, last_was_sent}
-use Rattle.coap_client.specs.Follows.Notified.{is_newly_of, newest_if, newest, WasRegistered}
-use Rattle.coap_client.specs.Follows.Notified.{IsTaken, AreTaken}
-use Rattle.coap_client.proofs.Observing.ObservationOrigins.{In, Same, Source, kept, rests, goes_on, comes, source}
+use Rattle.coap_client.proofs.Sending.Tokens.{Registered, live}
+use Rattle.coap_client.proofs.Sending.LiveTokens.{AllLive, last_was_sent}
+use Rattle.coap_client.specs.Follows.Notified.{is_newly_of, newest_if, newest, WasRegistered, IsTaken, AreTaken}
+use Rattle.coap_client.proofs.Observing.ObservationOrigins.{source}
+use Rattle.coap_client.proofs.Observing.ObservationSources.{In, Same, Source, kept, rests, goes_on, comes}
 use Rattle.coap_client.proofs.Places.LiveOrGone.{stays_live}
 
 -- what is taken: the answer to a registration, or a newer notification

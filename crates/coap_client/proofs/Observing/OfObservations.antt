@@ -1,7 +1,6 @@
 -- What is sent for an observation asks for the path that is observed.
 use Rattle.std.proofs.Common.{◌≡◌, ◌≤◌, inl, inr, ℕ, max, Bool, true, false, cond, Option, Some}
-use Rattle.std.proofs.Common.{None, is_some, List, ◌∷◌, ◌++◌, [], map, refl, ap, sym, subst, ◌∙◌}
-use Rattle.std.proofs.Common.{arith}
+use Rattle.std.proofs.Common.{None, is_some, List, ◌∷◌, ◌++◌, [], map, refl, ap, sym, subst, ◌∙◌, arith}
 use Rattle.std.specs.Prelude.{◌==◌}
 use Rattle.std.specs.Option.{option_map}
 use Rattle.coap_types.specs.Past.{Ever}
@@ -48,9 +47,10 @@ use Rattle.coap_client.proofs.Turning.Moves.{releases_none}
 use Rattle.coap_client.proofs.Turning.Turns.{Turned, fed_turned, ticked_turned}
 use Rattle.coap_client.specs.Follows.OfObservations.{WasObserved, observation_for, AsksFor}
 use Rattle.coap_client.specs.Follows.OfObservations.{IsOfObservation, AreOfObservations}
-use Rattle.coap_client.proofs.Observing.ObservationOrigins.{In, in_count}
+use Rattle.coap_client.proofs.Observing.ObservationSources.{In, in_count}
 use Rattle.coap_client.proofs.Observing.Notified.{live_in, most}
-use Rattle.coap_client.proofs.Observing.Values.{found_rest, Fetched, fetched}
+use Rattle.coap_client.proofs.Observing.Values.{Fetched, fetched}
+use Rattle.coap_client.proofs.Observing.ValueParts.{found_rest}
 
 -- lists
 
@@ -388,8 +388,7 @@ module _ (sizes : Sizes) where
             (fetch_here t (client_back server sizes setup (c ∷ []) t law) x k (sent_as t c x is) e)
         by (Cancelling k) e h = let n : k ≡ number =
             cc h in subst (λ i. IsOfObservation sizes i x t) n (cancel_here t c law x k is (sent_as t c x is) e)
-        by (Calling k r tr) e h = absurd (cc h)
-        by Dropped e h = absurd (cc h)
+        by _ e h = absurd (cc h)
 
     pub are_of_observations : (t : List Call) → ClientLaw server sizes setup t → AreOfObservations sizes t
     are_of_observations [] law = tt

@@ -1,6 +1,5 @@
 -- A live observation is the one that has its token.
-use Rattle.std.proofs.Common.{◌≡◌, inl, inr, ℕ, Bool, true, false, cond, Some, List, ◌∷◌, [], refl, ap, sym}
-use Rattle.std.proofs.Common.{◌∙◌}
+use Rattle.std.proofs.Common.{◌≡◌, inl, inr, ℕ, Bool, true, false, cond, Some, List, ◌∷◌, [], refl, ap, sym, ◌∙◌}
 use Rattle.coap_types.specs.declared.endpoint.Endpoint.{Endpoint}
 use Rattle.coap_layer.specs.declared.setup.Setup.{Setup}
 use Rattle.coap_block.specs.Sizes.{Sizes}
@@ -13,7 +12,7 @@ use Rattle.coap_client.specs.Law.{ClientLaw, own_of}
 use Rattle.coap_client.specs.Follows.Live.{IsLive}
 use Rattle.coap_client.specs.Follows.Words.{Sending}
 use Rattle.coap_client.proofs.Observing.Notified.{in_found, live_in}
-use Rattle.coap_client.proofs.Observing.ObservationOrigins.{In}
+use Rattle.coap_client.proofs.Observing.ObservationSources.{In}
 use Rattle.coap_client.proofs.Observing.StaysLive.{found_in, one_found, once_there}
 use Rattle.coap_client.proofs.Places.PlaceLemmas.{found_by_token}
 use Rattle.coap_client.proofs.Sending.Tokens.{Registered, live, one_of_token}

@@ -24,7 +24,7 @@ use Rattle.coap_client.proofs.Places.Once.{beneath, known}
 use Rattle.coap_client.proofs.Places.PlaceEffects.{Linked}
 use Rattle.coap_client.proofs.Places.PlaceLemmas.{hit_self}
 use Rattle.coap_client.proofs.Sending.RegisteredOnce.{NoneOf, none_waits, registered_once}
-use Rattle.coap_client.proofs.Sending.Tokens.{last_was_sent}
+use Rattle.coap_client.proofs.Sending.LiveTokens.{last_was_sent}
 
 not_among : (n : ℕ) (path : List (List ℕ)) (ops : List Operation) → NoneOf n ops
     → Ever (λ op. op ≡ Registering n path) ops → ⊥

@@ -1,6 +1,5 @@
 -- Of two values of an observation the notification of the later one came after that of the earlier one.
-use Rattle.std.proofs.Common.{◌≡◌, ◌⊎◌, inl, inr, ℕ, Bool, true, false, Some, None, List, ◌∷◌, [], refl, ap}
-use Rattle.std.proofs.Common.{sym, ◌∙◌}
+use Rattle.std.proofs.Common.{◌≡◌, ◌⊎◌, inl, inr, ℕ, Bool, true, false, Some, None, List, ◌∷◌, [], refl, ap, sym, ◌∙◌}
 use Rattle.coap_types.specs.Past.{Sometime}
 use Rattle.coap_types.proofs.Facts.Traces.{Sometime_of_Sometime}
 use Rattle.coap_types.specs.declared.endpoint.Endpoint.{Endpoint}

@@ -17,11 +17,11 @@ use Rattle.coap_client.specs.Follows.Gives.{forgotten}
 use Rattle.coap_client.specs.Follows.Live.{IsLive, StayLive}
 use Rattle.coap_client.specs.Follows.Places.{hit, in_running, in_observations, final_of, forgotten_by}
 use Rattle.coap_client.proofs.Observing.Notified.{live_in, most}
-use Rattle.coap_client.proofs.Observing.ObservationOrigins.{In, in_count}
+use Rattle.coap_client.proofs.Observing.ObservationSources.{In, in_count}
 use Rattle.coap_client.proofs.Observing.OfObservations.{of_number}
 use Rattle.coap_client.proofs.Places.LiveOrGone.{stays_live}
 use Rattle.coap_client.proofs.Places.PlaceLemmas.{same_number, hit_self}
-use Rattle.coap_client.proofs.Sending.Tokens.{AllLive, live_without, live_turned}
+use Rattle.coap_client.proofs.Sending.LiveTokens.{AllLive, live_without, live_turned}
 use Rattle.coap_client.proofs.Turning.Leading.{client_back}
 use Rattle.coap_client.proofs.Turning.Turns.{Turned, fed_turned, ticked_turned}
 
@@ -107,22 +107,16 @@ module _ (sizes : Sizes) (P : ℕ → List (List ℕ) → List ℕ → Type 0) w
   pub next_live : (t : List Call) (c : Call) → New t → AllLive P (own_of sizes t).observations
       → AllLive P (own_of sizes (c ∷ t)).observations
   next_live t (Calls now r (Ok n)) new h = h
-  next_live t (Calls now r (Err why)) new h = h
   next_live t (Observes now path (Ok n)) new h = h
-  next_live t (Observes now path (Err why)) new h = h
   next_live t (Cancels now k None) new h = h
-  next_live t (Cancels now k (Some why)) new h = h
   next_live t (Forgets k was true) new h = live_without P k (own_of sizes t).observations h
-  next_live t (Forgets k was false) new h = h
-  next_live t (NextOut answer) new h = h
-  next_live t (NextReport answer) new h = h
-  next_live t (Asked answer) new h = h
   next_live t (Feeds now from bytes w up settled event sent token was) new h =
       turned_live t (Feeds now from bytes w up settled event sent token was)
       (fed_turned sizes t now from bytes w up settled event sent token was) new h
   next_live t (Ticks now w below turn sent token was answer) new h =
       turned_live t (Ticks now w below turn sent token was answer)
       (ticked_turned sizes t now w below turn sent token was answer) new h
+  next_live t _ new h = h
 
 module _ (server : Endpoint) (sizes : Sizes) (setup : Setup) where
   -- no other observation has its number, and no registration of that runs

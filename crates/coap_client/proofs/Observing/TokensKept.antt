@@ -35,15 +35,16 @@ use Rattle.coap_client.specs.Turns.Moves.{Moved, Hears}
 use Rattle.coap_client.proofs.Observing.FewObserved.{few_count, running_one}
 use Rattle.coap_client.proofs.Observing.KeptTokens.{tokens_of, kept_by, deeds_kept, not_kept, TellApart, Keeping}
 use Rattle.coap_client.proofs.Observing.KeptTokens.{over_keeps, moves_keep, closed_keeps}
-use Rattle.coap_client.proofs.Observing.ObservationOrigins.{In}
+use Rattle.coap_client.proofs.Observing.ObservationSources.{In}
 use Rattle.coap_client.proofs.Observing.OfObservations.{of_number}
 use Rattle.coap_client.proofs.Observing.OneToken.{registered, same_number_of}
 use Rattle.coap_client.proofs.Observing.StaysLive.{found_in, one_found, once_there, no_registration}
 use Rattle.coap_client.proofs.Places.Once.{own_ran, done_ran, beneath}
-use Rattle.coap_client.proofs.Places.PlaceEvents.{ran, ran_append}
+use Rattle.coap_client.proofs.Places.PlaceDeeds.{ran, ran_append}
 use Rattle.coap_client.proofs.Places.PlaceLemmas.{same_number, number_self}
 use Rattle.coap_client.proofs.Sending.HeardOfOpen.{hears_of_open}
-use Rattle.coap_client.proofs.Sending.Tokens.{one_of_token, last_was_sent, same_observations}
+use Rattle.coap_client.proofs.Sending.Tokens.{one_of_token}
+use Rattle.coap_client.proofs.Sending.LiveTokens.{last_was_sent, same_observations}
 use Rattle.coap_client.proofs.Turning.Leading.{client_back}
 use Rattle.coap_client.proofs.Turning.Moves.{happened_moves, passes_moves}
 

@@ -15,33 +15,29 @@ use Rattle.coap_exchange.specs.declared.asker.Turn.{Turn}
 use Rattle.coap_exchange.specs.declared.asker.Turn.TheVariants as turn_of
 use Rattle.coap_exchange.specs.AskerLaw as X
 use Rattle.coap_observe.specs.Newer.{is_newer}
-use Rattle.coap_client.specs.Trace.{is_value, Request, Report, Reported, Call, Calls, Observes}
-use Rattle.coap_client.specs.Trace.{Cancels}
-use Rattle.coap_client.specs.Trace.{Forgets, Feeds, Ticks, NextOut, NextReport, Asked}
+use Rattle.coap_client.specs.Trace.{is_value, Request, Report, Reported, Call, Calls, Observes, Cancels, Forgets, Feeds}
+use Rattle.coap_client.specs.Trace.{Ticks, NextOut, NextReport, Asked}
 use Rattle.coap_client.specs.Trace as R
-use Rattle.coap_client.specs.Own.{Transfer, Operation, Calling, Registering, Fetching, Cancelling}
-use Rattle.coap_client.specs.Own.{Dropped, Notified, Observation, Own}
+use Rattle.coap_client.specs.Own.{Transfer, Operation, Calling, Registering, Fetching, Cancelling, Dropped, Notified}
+use Rattle.coap_client.specs.Own.{Observation, Own}
 use Rattle.coap_client.specs.Observations.{observation_with, rest_of, to_fetch, is_cancel_of, dropped}
 use Rattle.coap_client.specs.Responses.{content, is_notification, sequence_in, part}
 use Rattle.coap_client.specs.Reports.{lapse}
 use Rattle.coap_client.specs.Calls.{Next, answer}
 use Rattle.coap_client.specs.Calls as calls
 use Rattle.coap_client.specs.Queue.{calling}
-use Rattle.coap_client.specs.Effects.{Deed, Rests, Asks, Keeps, Releases, Effect, stays, runs, ends}
-use Rattle.coap_client.specs.Effects.{of}
-use Rattle.coap_client.specs.Effects.{is_upload, has_sent}
+use Rattle.coap_client.specs.Effects.{Deed, Rests, Asks, Keeps, Releases, Effect, stays, runs, ends, of, is_upload}
+use Rattle.coap_client.specs.Effects.{has_sent}
 use Rattle.coap_client.specs.Fetching.{fetch_by, fetch_answered}
-use Rattle.coap_client.specs.Observing.{begun, first_value, is_over, registered, renewed, passed}
-use Rattle.coap_client.specs.Observing.{noticed_by}
-use Rattle.coap_client.specs.Events.{called, cancel_over, answered, failed, happened, is_held}
-use Rattle.coap_client.specs.Events.{is_upload_op, starts, idle, passes, closed}
+use Rattle.coap_client.specs.Observing.{begun, first_value, is_over, registered, renewed, passed, noticed_by}
+use Rattle.coap_client.specs.Events.{called, cancel_over, answered, failed, happened, is_held, is_upload_op, starts}
+use Rattle.coap_client.specs.Events.{idle, passes, closed}
 use Rattle.coap_client.specs.Deeds.{at, close}
-use Rattle.coap_client.specs.Steps.{lower, reports}
+use Rattle.coap_client.specs.Steps.{lower, reports, IsRight}
 use Rattle.coap_client.specs.Law.{ClientLaw, ClientRows, own_of, lower_of}
 use Rattle.coap_client.specs.Follows.Words.{Taken, WasTaken}
 use Rattle.coap_client.specs.Follows.Places.{hit, final_of}
-use Rattle.coap_client.specs.Follows.Answered.{HasReport, IsIdleTick, WaitsFor, IsEmpty, AreResting}
-use Rattle.coap_client.specs.Follows.Answered.{AreAnswered}
+use Rattle.coap_client.specs.Follows.Answered.{HasReport, IsIdleTick, WaitsFor, IsEmpty, AreResting, AreAnswered}
 use Rattle.coap_client.proofs.Places.PlaceLemmas.{same_number, hit_self, hits}
 use Rattle.coap_client.proofs.Places.PlaceEffects.{final_hit}
 use Rattle.coap_client.proofs.Places.PlaceEvents.{answer_last, LastOnly, lapse_last}
@@ -49,7 +45,6 @@ use Rattle.coap_client.proofs.Places.Once.{law_back, known}
 use Rattle.coap_client.proofs.Uploading.Holds.{goes_fed, goes_ticked}
 use Rattle.coap_layer.specs.Trace as L
 use Rattle.coap_layer.specs.declared.setup.Setup.{Setup}
-use Rattle.coap_client.specs.Steps.{IsRight}
 use Rattle.coap_client.proofs.Rest.Resting.{rested, are_resting}
 
 -- how often a number is that of a call
@@ -137,9 +132,7 @@ called_retains s k r t is (calls.Ends final report) last =
 by_retains : (s : Own) (k : ℕ) → ((n : ℕ) → call_in n s.running ≡ 0) → (x : Notified) (m : Message) (v : Verdict)
     → Retains s (fetch_by k x s m v)
 by_retains s k z x m (verdict.Ask num szx) = aside_retains s _ z refl
-by_retains s k z x m verdict.Done = aside_retains s _ z refl
-by_retains s k z x m verdict.Again = aside_retains s _ z refl
-by_retains s k z x m (verdict.Refuse why) = aside_retains s _ z refl
+by_retains s k z x m _ = aside_retains s _ z refl
 
 fetch_retains : (s : Own) (k : ℕ) → ((n : ℕ) → call_in n s.running ≡ 0) → (o : Option Notified) (m : Message)
     → Retains s (fetch_answered k o s m)
@@ -219,8 +212,6 @@ closed_retains : (s : Own) (m : ℕ) (e : Effect) (token : Result (List ℕ) Ask
     → ((op : Operation) → e.deed ≡ Asks op → (e.report ≡ None) × (e.own.running ≡ Some op)) → Retains s e → (d : Deed)
     → e.deed ≡ d → Retains s (closed m e d token)
 closed_retains s m e token asks h Rests is = h
-closed_retains s m e token asks h (Keeps t) is = record { per = h.per }
-closed_retains s m e token asks h (Releases t) is = record { per = h.per }
 closed_retains s m e (Ok key) asks h (Asks op) is =
     record { per = λ n. let a = h.per n in let b = ap (final_of n) (asks op is).0 in omega (arith, a, b) }
 closed_retains s m e (Err why) asks h (Asks op) is = record {
@@ -231,6 +222,7 @@ closed_retains s m e (Err why) asks h (Asks op) is = record {
       let f2 = f.per n in
       omega (arith, a, b, f2);
 }
+closed_retains s m e token asks h _ is = record { per = h.per }
 
 calls_append : (n : ℕ) (xs ys : List Operation) → calls_in n (xs ++ ys) ≡ calls_in n xs + calls_in n ys
 calls_append n [] ys = omega arith

@@ -66,17 +66,9 @@ module _ (sizes : Sizes) where
   waits [] rows p none = refl
   waits (Calls now r (Ok n) ∷ t) rows p none =
       same p (made sizes t) (given t) (own_of sizes t).reports (waits t rows.1 p (λ x h e. none x h (inr e)))
-  waits (Calls now r (Err why) ∷ t) rows p none =
-      same p (made sizes t) (given t) (own_of sizes t).reports (waits t rows.1 p (λ x h e. none x h (inr e)))
   waits (Observes now path (Ok n) ∷ t) rows p none =
       same p (made sizes t) (given t) (own_of sizes t).reports (waits t rows.1 p (λ x h e. none x h (inr e)))
-  waits (Observes now path (Err why) ∷ t) rows p none =
-      same p (made sizes t) (given t) (own_of sizes t).reports (waits t rows.1 p (λ x h e. none x h (inr e)))
   waits (Cancels now number None ∷ t) rows p none =
-      same p (made sizes t) (given t) (own_of sizes t).reports (waits t rows.1 p (λ x h e. none x h (inr e)))
-  waits (Cancels now number (Some why) ∷ t) rows p none =
-      same p (made sizes t) (given t) (own_of sizes t).reports (waits t rows.1 p (λ x h e. none x h (inr e)))
-  waits (Forgets number kept false ∷ t) rows p none =
       same p (made sizes t) (given t) (own_of sizes t).reports (waits t rows.1 p (λ x h e. none x h (inr e)))
   waits (Forgets number kept true ∷ t) rows p none =
       let apart : (r : Reported) → p r ≡ true → (r.number == number)
@@ -84,11 +76,7 @@ module _ (sizes : Sizes) where
       (λ e. none r h (inl (ap (λ n. Some n) (sym (same_number r.number number e))))) in
       same p (made sizes t) (given t) (own_of sizes t).reports (waits t rows.1 p (λ x h e. none x h (inr e)))
       ∙ ap (λ l. filter p (given t ++ []) ++ l) (sym (stay p number (own_of sizes t).reports apart))
-  waits (NextOut answer ∷ t) rows p none = same p (made sizes t) (given t) (own_of sizes t).reports
-      (waits t rows.1 p (λ x h e. none x h (inr e)))
   waits (NextReport answer ∷ t) rows p none = taken p (made sizes t) (given t) (own_of sizes t).reports answer rows.0
-      (waits t rows.1 p (λ x h e. none x h (inr e)))
-  waits (Asked answer ∷ t) rows p none = same p (made sizes t) (given t) (own_of sizes t).reports
       (waits t rows.1 p (λ x h e. none x h (inr e)))
   waits (Feeds now from bytes w up settled event sent token kept ∷ t) rows p none =
       let s : Own = own_of sizes t in
@@ -106,3 +94,5 @@ module _ (sizes : Sizes) where
       let z = steadied (at now s) m e token e.deed refl (passes_steady (at now s) m turn) in
       more p (made sizes t) (given t) s.reports new (waits t rows.1 p (λ x h k. none x h (inr k)))
       ∙ ap (λ l. filter p (given t ++ []) ++ filter p (l ++ new)) (sym z.reports)
+  waits (_ ∷ t) rows p none = same p (made sizes t) (given t) (own_of sizes t).reports (waits t rows.1 p (λ x h e.
+      none x h (inr e)))

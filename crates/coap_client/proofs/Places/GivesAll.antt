@@ -43,27 +43,15 @@ module _ (sizes : Sizes) where
   all_wait [] rows none = refl
   all_wait (Calls now r (Ok n) ∷ t) rows none =
       same (made sizes t) (given t) (own_of sizes t).reports (all_wait t rows.1 none.1)
-  all_wait (Calls now r (Err why) ∷ t) rows none =
-      same (made sizes t) (given t) (own_of sizes t).reports (all_wait t rows.1 none.1)
   all_wait (Observes now path (Ok n) ∷ t) rows none =
       same (made sizes t) (given t) (own_of sizes t).reports (all_wait t rows.1 none.1)
-  all_wait (Observes now path (Err why) ∷ t) rows none =
-      same (made sizes t) (given t) (own_of sizes t).reports (all_wait t rows.1 none.1)
   all_wait (Cancels now number None ∷ t) rows none =
-      same (made sizes t) (given t) (own_of sizes t).reports (all_wait t rows.1 none.1)
-  all_wait (Cancels now number (Some why) ∷ t) rows none =
-      same (made sizes t) (given t) (own_of sizes t).reports (all_wait t rows.1 none.1)
-  all_wait (Forgets number kept false ∷ t) rows none =
       same (made sizes t) (given t) (own_of sizes t).reports (all_wait t rows.1 none.1)
   all_wait (Forgets number kept true ∷ t) rows none =
       none_drops (λ r. not (r.number == number)) (made sizes t) (given t) (own_of sizes t).reports (none.0 number refl)
       (all_wait t rows.1 none.1)
-  all_wait (NextOut answer ∷ t) rows none = same (made sizes t) (given t) (own_of sizes t).reports
-      (all_wait t rows.1 none.1)
   all_wait (NextReport answer ∷ t) rows none =
       taken (made sizes t) (given t) (own_of sizes t).reports answer rows.0 (all_wait t rows.1 none.1)
-  all_wait (Asked answer ∷ t) rows none = same (made sizes t) (given t) (own_of sizes t).reports
-      (all_wait t rows.1 none.1)
   all_wait (Feeds now from bytes w up settled event sent token kept ∷ t) rows none =
       let s : Own = own_of sizes t in
       let m : ℕ = max s.clock now in
@@ -80,3 +68,4 @@ module _ (sizes : Sizes) where
       let z = steadied (at now s) m e token e.deed refl (passes_steady (at now s) m turn) in
       more (made sizes t) (given t) s.reports new (all_wait t rows.1 none.1)
       ∙ ap (λ l. (given t ++ []) ++ (l ++ new)) (sym z.reports)
+  all_wait (_ ∷ t) rows none = same (made sizes t) (given t) (own_of sizes t).reports (all_wait t rows.1 none.1)

@@ -7,11 +7,9 @@ use Rattle.coap_block.specs.declared.fetch_verdict.Verdict.TheVariants as verdic
 use Rattle.coap_exchange.specs.declared.asker.AskRefusal.{AskRefusal}
 use Rattle.coap_exchange.specs.declared.asker.Event.{Event}
 use Rattle.coap_observe.specs.Newer.{arrived}
-use Rattle.coap_client.specs.Trace.{is_value, Report, Ended, Cancelled, NoIds, Reported, Call, Calls}
-use Rattle.coap_client.specs.Trace.{Observes, Cancels, Forgets, Feeds, Ticks, NextOut, NextReport}
-use Rattle.coap_client.specs.Trace.{Asked}
-use Rattle.coap_client.specs.Own.{Transfer, Operation, Calling, Fetching, Cancelling}
-use Rattle.coap_client.specs.Own.{Observation, Own}
+use Rattle.coap_client.specs.Trace.{is_value, Report, Ended, Cancelled, NoIds, Reported, Call, Calls, Observes, Cancels}
+use Rattle.coap_client.specs.Trace.{Forgets, Feeds, Ticks, NextOut, NextReport, Asked}
+use Rattle.coap_client.specs.Own.{Transfer, Operation, Calling, Fetching, Cancelling, Observation, Own}
 use Rattle.coap_client.specs.Observations.{observation_of}
 use Rattle.coap_client.specs.Responses.{sequence_in}
 use Rattle.coap_client.specs.Reports.{lapse}
@@ -26,8 +24,7 @@ use Rattle.coap_client.specs.Follows.Places.{hit, in_observations, final_of, for
 use Rattle.coap_client.specs.Turns.Moves as mv
 use Rattle.coap_client.specs.Turns.Moves.{Move, left_by}
 use Rattle.coap_client.specs.Turns.Closing.{Closing, quiet, goes_out, is_refused}
-use Rattle.coap_client.proofs.Places.PlaceLemmas.{in_map, in_observations_append, number_if}
-use Rattle.coap_client.proofs.Places.PlaceLemmas.{without, in_without_other}
+use Rattle.coap_client.proofs.Places.PlaceLemmas.{in_map, in_observations_append, number_if, without, in_without_other}
 use Rattle.coap_client.proofs.Places.PlaceEvents.{lapse_last}
 use Rattle.coap_client.proofs.Places.PlaceEffects.{final_hit}
 use Rattle.coap_client.proofs.Turning.Moves.{releases_none}
@@ -169,19 +166,13 @@ module _ (sizes : Sizes) where
 
   pub stays_live : (t : List Call) (c : Call) → StaysLive t c
   stays_live t (Calls now r (Ok k)) n h = omega (arith, h)
-  stays_live t (Calls now r (Err why)) n h = omega (arith, h)
   stays_live t (Observes now path (Ok k)) n h = omega (arith, h)
-  stays_live t (Observes now path (Err why)) n h = omega (arith, h)
   stays_live t (Cancels now k None) n h = omega (arith, h)
-  stays_live t (Cancels now k (Some why)) n h = omega (arith, h)
   stays_live t (Forgets k was true) n h = let a = count_without n k (own_of sizes t).observations h in omega (arith, a)
-  stays_live t (Forgets k was false) n h = omega (arith, h)
-  stays_live t (NextOut answer) n h = omega (arith, h)
-  stays_live t (NextReport answer) n h = omega (arith, h)
-  stays_live t (Asked answer) n h = omega (arith, h)
   stays_live t (Feeds now from bytes w up settled event sent token was) n h =
       live_turned t (Feeds now from bytes w up settled event sent token was)
       (fed_turned sizes t now from bytes w up settled event sent token was) n h
   stays_live t (Ticks now w below turn sent token was answer) n h =
       live_turned t (Ticks now w below turn sent token was answer)
       (ticked_turned sizes t now w below turn sent token was answer) n h
+  stays_live t _ n h = omega (arith, h)

@@ -11,15 +11,15 @@ use Rattle.coap_exchange.specs.AskerLaw as X
 use Rattle.coap_client.specs.declared.limits.TheConstants.{MAX_OBSERVATIONS as max_observations}
 use Rattle.coap_client.specs.declared.refusals.CallRefusal.TheVariants.{QueueFull, BodyTooLarge, BadPath, WatchesFull}
 use Rattle.coap_client.specs.declared.refusals.CallRefusal.TheVariants.{CallsSpent}
-use Rattle.coap_client.specs.Trace.{Call, Calls, Observes, Cancels, Forgets, Feeds, Ticks, NextOut}
-use Rattle.coap_client.specs.Trace.{NextReport, Asked}
+use Rattle.coap_client.specs.Trace.{Call, Calls, Observes, Cancels, Forgets, Feeds, Ticks, NextOut, NextReport, Asked}
 use Rattle.coap_client.specs.Own.{Own}
 use Rattle.coap_client.specs.Requests.{options_of, path_options}
 use Rattle.coap_client.specs.Queue.{max_numbers, are_long, block_option_number, is_full, observed}
 use Rattle.coap_client.specs.Steps.{lower}
 use Rattle.coap_client.specs.Law.{ClientRows, own_of, lower_of}
 use Rattle.coap_client.specs.Follows.Numbers.{number_given, NumbersOnce}
-use Rattle.coap_client.proofs.Places.Once.{Known, known, law_back, fed, ticked, given_is}
+use Rattle.coap_client.proofs.Places.Once.{Known, known, law_back, fed, ticked}
+use Rattle.coap_client.proofs.Places.NumberSteps.{given_is}
 
 module _ (server : Endpoint) (sizes : Sizes) (setup : Setup) where
   abbrev taken : List Call → ℕ
@@ -48,20 +48,14 @@ module _ (server : Endpoint) (sizes : Sizes) (setup : Setup) where
   grows : (t : List Call) (c : Call) → Known server sizes setup t → X.AskerLaw server setup (lower_of sizes (c ∷ t))
       → taken t ≤ taken (c ∷ t)
   grows t (Calls now r (Ok n)) k law = omega arith
-  grows t (Calls now r (Err why)) k law = omega arith
   grows t (Observes now path (Ok n)) k law = omega arith
-  grows t (Observes now path (Err why)) k law = omega arith
   grows t (Cancels now number None) k law = omega arith
-  grows t (Cancels now number (Some why)) k law = omega arith
   grows t (Forgets number kept true) k law = omega arith
-  grows t (Forgets number kept false) k law = omega arith
   grows t (Feeds now from bytes w up settled event sent token kept) k law = let e =
       (fed server sizes setup t now from bytes w up settled event sent token kept k law).taken_is in omega (arith, e)
   grows t (Ticks now w below turn sent token kept answer) k law = let e =
       (ticked server sizes setup t now w below turn sent token kept answer k law).taken_is in omega (arith, e)
-  grows t (NextOut answer) k law = omega arith
-  grows t (NextReport answer) k law = omega arith
-  grows t (Asked answer) k law = omega arith
+  grows t _ k law = omega arith
 
   pub below : (t : List Call) → ClientRows sizes t → X.AskerLaw server setup (lower_of sizes t) → (n : ℕ)
       → Ever (λ b. number_given b ≡ Some n) t → n + 1 ≤ taken t

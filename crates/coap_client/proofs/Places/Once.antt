@@ -1,13 +1,10 @@
 -- Each number that a client gave is in one place, and a call is reported for the last time at most once.
-use Rattle.std.proofs.Common.{◌≡◌, ◌≤◌, inl, inr, ℕ, ◌+◌, max, Bool, true, false, cond, not, ◌&&◌, ◌||◌, Option, Some}
-use Rattle.std.proofs.Common.{None, List, [], ◌∷◌, ◌++◌, refl, ap, sym, subst, ◌∙◌, arith, Result, Ok, Err}
-use Rattle.std.specs.Prelude.{◌==◌, nat_lt, nat_le, length, option_to_list}
-use Rattle.std.specs.List.{list_any}
+use Rattle.std.proofs.Common.{◌≡◌, ◌≤◌, inl, inr, ℕ, ◌+◌, max, Bool, true, false, cond, not, Option, Some, None, List}
+use Rattle.std.proofs.Common.{[], ◌∷◌, ◌++◌, refl, ap, sym, subst, ◌∙◌, arith, Result, Ok, Err}
+use Rattle.std.specs.Prelude.{◌==◌, nat_lt, nat_le, length}
 use Rattle.std.proofs.lemmas.List.{append_assoc}
-use Rattle.std.proofs.lemmas.Bool.Decides.{nat_tests}
 use Rattle.coap_types.specs.declared.endpoint.Endpoint.{Endpoint}
 use Rattle.coap_layer.specs.Trace as L
-use Rattle.std.proofs.lemmas.Bool.{ltb-true}
 use Rattle.coap_block.specs.Sizes.{Sizes}
 use Rattle.coap_exchange.specs.declared.asker.AskRefusal.{AskRefusal}
 use Rattle.coap_exchange.specs.declared.asker.Event.{Event}
@@ -20,36 +17,34 @@ use Rattle.coap_client.specs.declared.refusals.CallRefusal.{CallRefusal}
 use Rattle.coap_client.specs.declared.refusals.CallRefusal.TheVariants.{QueueFull, BodyTooLarge, BadPath, WatchesFull}
 use Rattle.coap_client.specs.declared.refusals.CallRefusal.TheVariants.{CallsSpent}
 use Rattle.coap_client.specs.declared.refusals.CancelRefusal.{CancelRefusal}
-use Rattle.coap_client.specs.declared.refusals.CancelRefusal.TheVariants as cancel
 use Rattle.coap_types.specs.declared.option_number.TheConstants.{BLOCK2 as block2}
 use Rattle.coap_layer.specs.declared.setup.Setup.{Setup}
-use Rattle.coap_client.specs.Trace.{Request, Reported, Requested, Ended, Call, Calls, Observes}
-use Rattle.coap_client.specs.Trace.{Cancels}
-use Rattle.coap_client.specs.Trace.{Forgets, Feeds, Ticks, NextOut, NextReport, Asked}
-use Rattle.coap_client.specs.Own.{Operation, Registering, Cancelling, Observation, Own}
-use Rattle.coap_client.specs.Observations.{observation_of, is_cancel_of, is_cancelled, is_live, over}
+use Rattle.coap_client.specs.Trace.{Request, Reported, Requested, Ended, Call, Calls, Observes, Cancels, Forgets}
+use Rattle.coap_client.specs.Trace.{Feeds, Ticks, NextOut, NextReport, Asked}
+use Rattle.coap_client.specs.Own.{Operation, Registering, Cancelling, Own}
+use Rattle.coap_client.specs.Observations.{observation_of, is_cancelled, is_live, over}
 use Rattle.coap_client.specs.Requests.{options_of, path_options}
 use Rattle.coap_client.specs.Effects.{Asks, Effect}
 use Rattle.coap_client.specs.Observing.{releases, is_over}
 use Rattle.coap_client.specs.Events.{happened, passes}
-use Rattle.coap_client.specs.Queue.{max_numbers, are_long, block_option_number, is_full, observed}
-use Rattle.coap_client.specs.Queue.{call_answer}
+use Rattle.coap_client.specs.Queue.{max_numbers, are_long, block_option_number, is_full, observed, call_answer}
 use Rattle.coap_client.specs.Queue.{observe_answer, cancel_answer, may_forget, calling}
 use Rattle.coap_client.specs.Deeds.{at, close, deeds, done_for}
 use Rattle.coap_client.specs.Steps.{lower, reports, reporting, asking}
 use Rattle.coap_client.specs.Law.{ClientLaw, ClientRows, own_of, lower_of}
 use Rattle.coap_client.specs.Follows.Answered.{HasReport, ReportedOnce}
-use Rattle.coap_client.specs.Follows.Places.{hit, in_op, in_running, in_queue, in_observations, places}
-use Rattle.coap_client.specs.Follows.Places.{final_of}
+use Rattle.coap_client.specs.Follows.Places.{hit, in_op, in_running, in_queue, in_observations, places, final_of}
 use Rattle.coap_client.specs.Follows.Places.{forgotten_by, gone, InOnePlace}
-use Rattle.coap_client.proofs.Places.PlaceLemmas.{same_number, number_self, hit_self, in_queue_append}
-use Rattle.coap_client.proofs.Places.PlaceLemmas.{found_by_number}
+use Rattle.coap_client.proofs.Places.PlaceLemmas.{hit_self, in_queue_append, found_by_number}
 use Rattle.coap_client.proofs.Turning.ExchangeCame.{came}
-use Rattle.coap_client.proofs.Places.PlaceEffects.{Waits, AllWait, IfRuns, Sound, Linked, Goes, NoCancel, over_goes}
-use Rattle.coap_client.proofs.Places.PlaceEvents.{happened_goes, passes_goes, ran, AreRight, ran_append}
-use Rattle.coap_client.proofs.Places.PlaceEvents.{are_right_back, are_right_front, Closes, closes, quiet_deeds}
-use Rattle.coap_client.proofs.Places.PlaceEvents.{linked_of}
+use Rattle.coap_client.proofs.Places.PlaceEffects.{AllWait, IfRuns, Sound, Linked, Goes}
+use Rattle.coap_client.proofs.Places.ObservationPlaces.{over_goes}
+use Rattle.coap_client.proofs.Places.PlaceEvents.{happened_goes, passes_goes}
+use Rattle.coap_client.proofs.Places.PlaceDeeds.{ran, AreRight, ran_append, are_right_back, are_right_front, Closes}
+use Rattle.coap_client.proofs.Places.PlaceDeeds.{closes, quiet_deeds, linked_of}
 use Rattle.coap_client.proofs.Turning.Moves.{releases_none}
+use Rattle.coap_client.proofs.Places.NumberSteps.{and_both, at_most_one, below, below_next, below_zero, both_one}
+use Rattle.coap_client.proofs.Places.NumberSteps.{given_is, live_if, no_cancel, wait_behind}
 
 -- of exchanges' calls, those behind others
 
@@ -81,78 +76,6 @@ module _ (x : E.Own) (later first : List E.Call) (input : E.Call) where
   done_right h =
       let k = subst (AreRight x) (sym (append_assoc later first (input ∷ []))) h in
       ((are_right_back x (later ++ first) (input ∷ []) k).0, are_right_front x (later ++ first) (input ∷ []) k)
-
--- how many numbers there are
-not_lt : (a b : ℕ) → nat_lt a b ≡ false → b ≤ a
-not_lt a b h = grind (arith, nat_tests)
-
-abbrev one_if : Bool → ℕ
-one_if b = cond b 1 0
-
-abbrev below : ℕ → ℕ → ℕ
-below n m = cond (nat_lt n m) 1 0
-
-below_zero : (n : ℕ) → below n 0 ≡ 0
-below_zero n = by (nat_lt n 0) refl
-  where
-    by : (b : Bool) → nat_lt n 0 ≡ b → one_if b ≡ 0
-    by true h = let k = ltb-true n 0 h in absurd (omega (arith, k))
-    by false h = refl
-
-below_next : (n m : ℕ) → cond (nat_lt n (m + 1)) 1 0 ≡ cond (nat_lt n m) 1 0 + hit m n
-below_next n m = by (nat_lt n (m + 1)) refl (nat_lt n m) refl (m == n) refl
-  where
-    by : (b : Bool) → nat_lt n (m + 1) ≡ b → (c : Bool) → nat_lt n m ≡ c → (d : Bool) → (m == n) ≡ d
-        → one_if b ≡ one_if c + one_if d
-    by true h true k false e = omega arith
-    by true h true k true e = let a = ltb-true n m k in let q = same_number m n e in absurd (omega (arith, a, q))
-    by true h false k true e = omega arith
-    by true h false k false e =
-        let a = ltb-true n (m + 1) h in
-        let q = not_lt n m k in
-        let same : m ≡ n = omega (arith, a, q) in
-        let t : (m == n) ≡ true = ap (λ i. m == i) (sym same) ∙ number_self m in
-        absurd (cc (t, e))
-    by false h true k d e = let a = not_lt n (m + 1) h in let q = ltb-true n m k in absurd (omega (arith, a, q))
-    by false h false k true e = let a = not_lt n (m + 1) h in let q = same_number m n e in absurd (omega (arith, a, q))
-    by false h false k false e = omega arith
-
-pub at_most_one : (a b : ℕ) (c : Bool) → a + b ≡ cond c 1 0 → a ≤ 1
-at_most_one a b true h = omega (arith, h)
-at_most_one a b false h = omega (arith, h)
-
-pub both_one : (a b : ℕ) (c : Bool) → a + b ≡ cond c 1 0 → 1 ≤ a → 1 ≤ b → ⊥
-both_one a b true h p q = absurd (omega (arith, h, p, q))
-both_one a b false h p q = absurd (omega (arith, h, p, q))
-
--- a number that is given
-pub given_is : (a b c d : Bool) (e f g i : CallRefusal) (k taken : ℕ)
-    → Ok k ≡ cond a (Err e) (cond b (Err f) (cond c (Err g) (cond d (Err i) (Ok taken)))) → k ≡ taken
-given_is false false false false e f g i k taken h = cc h
-given_is _ _ _ _ e f g i k taken h = absurd (cc h)
-
-live_if : (live cancelled full : Bool) → None
-    ≡ cond (not live || cancelled) (Some cancel.Unknown) (cond full (Some cancel.QueueFull) None) → live ≡ true
-live_if true cancelled full h = refl
-live_if false cancelled full h = absurd (cc h)
-
-pub and_both : (a b : Bool) → true ≡ (a && b) → (a ≡ true) × (b ≡ true)
-and_both true b h = (refl, sym h)
-and_both false b h = absurd (cc h)
-
-wait_behind : (os : List Observation) (q : List Operation) (op : Operation) → AllWait os q → Waits os op
-    → AllWait os (q ++ op ∷ [])
-wait_behind os [] op h w = (w, tt)
-wait_behind os (x ∷ q) op h w = (h.0, wait_behind os q op h.1 w)
-
--- no cancel runs where none is there
-no_cancel : (s : Own) (k : ℕ) → not (is_cancelled k s) ≡ true → NoCancel k s.running
-no_cancel s k h j is = by (j == k) (ap (λ r. not (list_any (is_cancel_of k) (option_to_list r ++ s.queue))) (sym is)
-    ∙ h)
-  where
-    by : (b : Bool) → not (b || list_any (is_cancel_of k) s.queue) ≡ true → b ≡ false
-    by true e = absurd (cc e)
-    by false e = refl
 
 module _ (server : Endpoint) (sizes : Sizes) (setup : Setup) where
   abbrev pub beneath : List Call → E.Own

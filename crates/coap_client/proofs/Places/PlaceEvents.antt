@@ -1,11 +1,10 @@
--- What each event and each turn leaves of the numbers that a client keeps, and of the exchange beneath.
+-- What each event and each turn leaves of the numbers that a client keeps.
 use Rattle.std.proofs.Common.{◌≡◌, ◌≤◌, ℕ, ◌+◌, Bool, true, false, cond, not, ◌&&◌, Option, Some, None, List, [], ◌∷◌}
-use Rattle.std.proofs.Common.{◌++◌, refl, ap, sym, subst, ◌∙◌, arith, is_some, Result, Ok, Err}
+use Rattle.std.proofs.Common.{◌++◌, refl, ap, sym, subst, ◌∙◌, arith, is_some}
 use Rattle.std.specs.Prelude.{◌==◌}
 use Rattle.coap_codec.specs.Message.{Message}
 use Rattle.coap_block.specs.FetchStep as F
-use Rattle.coap_observe.specs.Newer.{arrived}
-use Rattle.coap_exchange.specs.declared.asker.AskRefusal.{AskRefusal}
+use Rattle.coap_observe.specs.Newer.{arrived, is_newer}
 use Rattle.coap_exchange.specs.declared.asker.Event.{Event}
 use Rattle.coap_exchange.specs.declared.asker.Event.TheVariants as event
 use Rattle.coap_exchange.specs.declared.asker.Turn.{Turn}
@@ -13,17 +12,13 @@ use Rattle.coap_exchange.specs.declared.asker.Turn.TheVariants as turn
 use Rattle.coap_exchange.specs.declared.asker.Exchange.{Exchange}
 use Rattle.coap_exchange.specs.AskerArrivals.{has_token, running_unless}
 use Rattle.coap_exchange.specs.Tokens.{same_token}
-use Rattle.coap_exchange.proofs.Facts.Moves.{token_in}
 use Rattle.coap_exchange.proofs.Facts.SameToken.{same_token_self}
-use Rattle.coap_observe.specs.Newer.{is_newer}
-use Rattle.coap_block.specs.UploadStep.{continues}
-use Rattle.coap_client.specs.Trace.{is_value, Request, Report, Reported, Ended, Cancelled, NoIds}
-use Rattle.coap_client.specs.Own.{Transfer, Operation, Calling, Registering, Fetching, Cancelling}
-use Rattle.coap_client.specs.Own.{Dropped, Observation, Own}
-use Rattle.coap_client.specs.Observations.{observation_of, observation_with, token_of, rest_of}
-use Rattle.coap_client.specs.Observations.{to_fetch}
-use Rattle.coap_client.specs.Observations.{dropped}
-use Rattle.coap_client.specs.Responses.{content, is_notification, sequence_in, part}
+use Rattle.coap_block.specs.UploadStep.{continues, UploadState, moved, more_follows}
+use Rattle.coap_client.specs.Trace.{is_value, Request, Report, Ended, Cancelled}
+use Rattle.coap_client.specs.Own.{Transfer, Operation, Calling, Registering, Fetching, Cancelling, Dropped}
+use Rattle.coap_client.specs.Own.{Observation, Own, Fetches, Uploads, Single}
+use Rattle.coap_client.specs.Observations.{observation_with, token_of, rest_of, to_fetch, dropped}
+use Rattle.coap_client.specs.Responses.{content, is_notification, sequence_in, part, continue, block_at}
 use Rattle.coap_client.specs.Reports.{lapse}
 use Rattle.coap_client.specs.Reports as reports_of
 use Rattle.coap_types.specs.declared.block.Block.{Block}
@@ -32,44 +27,27 @@ use Rattle.coap_block.specs.declared.fetch_step.FetchRefusal.TheVariants as refu
 use Rattle.coap_block.specs.declared.fetch_verdict.Verdict.{Verdict}
 use Rattle.coap_block.specs.declared.fetch_verdict.Verdict.TheVariants as verdict
 use Rattle.coap_block.specs.FetchStep.{FetchState}
-use Rattle.coap_block.specs.UploadStep.{UploadState, moved, more_follows}
 use Rattle.coap_types.specs.declared.request.Method.{Method}
-use Rattle.coap_client.specs.Own.{Fetches, Uploads, Single}
 use Rattle.coap_types.specs.declared.option_number.TheConstants.{BLOCK1 as block1}
 use Rattle.coap_client.specs.Requests.{is_longer}
-use Rattle.coap_client.specs.Responses.{continue, block_at}
-use Rattle.coap_layer.specs.Trace as L
-use Rattle.coap_exchange.specs.AskerTrace as E
-use Rattle.coap_exchange.specs.AskerSteps as P
-use Rattle.coap_exchange.specs.AskerRequests as Q
-use Rattle.coap_exchange.specs.Tokens as K
-use Rattle.coap_exchange.proofs.Facts.Moves as move
-use Rattle.coap_exchange.proofs.Facts.Moves.{refused, sent as sent_it}
 use Rattle.coap_client.specs.Trace as R
 use Rattle.coap_client.specs.Responses as T
-use Rattle.coap_client.specs.Observing.{releases}
 use Rattle.std.specs.Option.{option_map}
-use Rattle.coap_client.specs.Requests.{message_of}
-use Rattle.coap_client.specs.Deeds.{deeds}
-use Rattle.coap_client.proofs.Places.PlaceLemmas.{token_there}
 use Rattle.coap_client.specs.Calls.{Next, answer}
 use Rattle.coap_client.specs.Calls as calls
-use Rattle.coap_client.specs.Effects.{Deed, Rests, Asks, Keeps, Effect, stays, runs, ends}
-use Rattle.coap_client.specs.Effects.{of}
-use Rattle.coap_client.specs.Effects.{is_upload, has_sent}
-use Rattle.coap_client.specs.Observing.{first_value, first_rest, is_over, begun, registered, renewed}
-use Rattle.coap_client.specs.Observing.{passed, noticed_by, noticed}
-use Rattle.coap_client.specs.Events.{called, answered, failed, happened, is_held, is_upload_op, starts}
-use Rattle.coap_client.specs.Events.{idle, passes, closed}
-use Rattle.coap_client.specs.Follows.Places.{hit, in_running, in_queue, in_observations, places, final_of}
+use Rattle.coap_client.specs.Effects.{Keeps, stays, runs, ends, of, is_upload}
+use Rattle.coap_client.specs.Observing.{first_value, first_rest, is_over, begun, registered, renewed, passed}
+use Rattle.coap_client.specs.Observing.{noticed_by, noticed}
+use Rattle.coap_client.specs.Events.{called, answered, failed, happened, is_held, is_upload_op, starts, idle, passes}
+use Rattle.coap_client.specs.Follows.Places.{hit, in_running, in_queue, in_observations, places}
 use Rattle.coap_client.proofs.Places.PlaceLemmas.{same_number, hit_self, in_observations_append, in_map, in_dropped}
 use Rattle.coap_client.proofs.Places.PlaceLemmas.{found_by_token, number_of_found, number_if, token_if}
 use Rattle.coap_client.proofs.Turning.ExchangeCame.{Came}
-use Rattle.coap_client.proofs.Places.PlaceEffects.{Waits, AllWait, RunsOn, IfRuns, Sound, HasToken, Linked, Leaves}
-use Rattle.coap_client.proofs.Places.PlaceEffects.{Goes, NoCancel, stays_goes, ends_goes, ends_quietly, held_goes}
-use Rattle.coap_client.proofs.Places.PlaceEffects.{again_goes, over_goes, cancel_goes, fetch_over_goes, fetch_goes}
-use Rattle.coap_client.proofs.Places.PlaceEffects.{value_quiet, value_of_number, wait_map, wait_append, runs_map}
-use Rattle.coap_client.proofs.Places.PlaceEffects.{runs_dropped, linked_map, linked_dropped, linked_same}
+use Rattle.coap_client.proofs.Places.PlaceEffects.{Waits, AllWait, RunsOn, Sound, Linked, Goes, NoCancel, stays_goes}
+use Rattle.coap_client.proofs.Places.PlaceEffects.{ends_goes, ends_quietly, held_goes, again_goes, value_quiet}
+use Rattle.coap_client.proofs.Places.PlaceEffects.{value_of_number, wait_map, wait_append, runs_map, runs_dropped}
+use Rattle.coap_client.proofs.Places.PlaceEffects.{linked_map, linked_dropped, linked_same}
+use Rattle.coap_client.proofs.Places.ObservationPlaces.{over_goes, cancel_goes, fetch_over_goes, fetch_goes}
 
 -- no call's report is a value
 
@@ -83,9 +61,7 @@ last_if false x y h k = k
 
 refused_last : (why : FetchRefusal) → is_value (reports_of.refused why) ≡ false
 refused_last refusal.Changed = refl
-refused_last refusal.BadBlock = refl
-refused_last refusal.NoTag = refl
-refused_last refusal.TooLarge = refl
+refused_last _ = refl
 
 pub done_last : (method : Method) (code : ℕ) → is_value (reports_of.done method code) ≡ false
 done_last method code = by (reports_of.is_success method code)
@@ -96,16 +72,12 @@ done_last method code = by (reports_of.is_success method code)
 
 pub lapse_last : (e : Event) → is_value (lapse e) ≡ false
 lapse_last (event.Answer m) = refl
-lapse_last (event.Notice m) = refl
-lapse_last event.Timeout = refl
-lapse_last event.Reset = refl
-lapse_last event.NoResponse = refl
+lapse_last _ = refl
 
 fetched_last : (f : FetchState) (m : Message) (v : Verdict) → LastOnly (calls.fetched f m v)
 fetched_last f m (verdict.Refuse why) = refused_last why
-fetched_last f m verdict.Again = tt
 fetched_last f m verdict.Done = refl
-fetched_last f m (verdict.Ask num szx) = tt
+fetched_last f m _ = tt
 
 continued_last : (u : UploadState) (b : Option Block) → LastOnly (calls.continued u b)
 continued_last u None = refl
@@ -298,8 +270,7 @@ happened_goes s before now sound l at (Some (event.Notice m)) came =
     (noticed_goes s before sound l at m came.0 (observation_with m.token s.observations) refl)
 happened_goes s before now sound l at (Some event.Reset) came =
     failed_goes s now sound came.2 (λ t. true) _ refl s.running refl
-happened_goes s before now sound l at (Some event.Timeout) came = absurd came
-happened_goes s before now sound l at (Some event.NoResponse) came = absurd came
+happened_goes s before now sound l at _ came = absurd came
 
 -- a turn
 
@@ -313,11 +284,10 @@ to_fetch_there (o ∷ os) k h = by (to_fetch_there os k) (is_some o.rest) h
     by f false e = let ih = f e in omega (arith, ih)
 
 waits_runs : (os : List Observation) (op : Operation) → Waits os op → RunsOn os op
-waits_runs os (Calling k r t) h = tt
-waits_runs os (Registering k path) h = tt
 waits_runs os (Fetching k) h = absurd h
 waits_runs os (Cancelling k) h = h
 waits_runs os Dropped h = absurd h
+waits_runs os _ h = tt
 
 module _ (s : Own) (x : Option Exchange) (sound : Sound s) (none : x ≡ None) (idle_is : s.running ≡ None) (at : ℕ) where
   starts_goes : (queue : List Operation) → s.queue ≡ queue → Goes s x (starts s at queue)
@@ -379,171 +349,3 @@ passes_goes s before sound l at turn.Copied =
     }
 passes_goes s before sound l at (turn.End e) =
     failed_goes s None sound refl (λ t. true) (lapse e) (lapse_last e) s.running refl
-
--- the exchanges, call by call
-
-abbrev pub ran : E.Own → List E.Call → E.Own
-ran x [] = x
-ran x (c ∷ cs) = P.after (ran x cs) c
-
-abbrev pub AreRight : E.Own → List E.Call → Type 0
-AreRight x [] = Unit {0}
-AreRight x (c ∷ cs) = P.IsRight (ran x cs) c × AreRight x cs
-
-pub ran_append : (x : E.Own) (later first : List E.Call) → ran x (later ++ first) ≡ ran (ran x first) later
-ran_append x [] first = refl
-ran_append x (c ∷ later) first = ap (λ y. P.after y c) (ran_append x later first)
-
-pub are_right_back : (x : E.Own) (later first : List E.Call) → AreRight x (later ++ first) → AreRight x first
-are_right_back x [] first h = h
-are_right_back x (c ∷ later) first h = are_right_back x later first h.1
-
-pub are_right_front : (x : E.Own) (later first : List E.Call) → AreRight x (later ++ first)
-    → AreRight (ran x first) later
-are_right_front x [] first h = tt
-are_right_front x (c ∷ later) first h = (
-  subst (λ y. P.IsRight y c) (ran_append x later first) h.0,
-  are_right_front x later first h.1,
-)
-
--- what the sending makes of an effect
-pub record Closes (s : Own) (c : Effect) (x : Option Exchange) : Type 0 where
-  pub conserved : (n : ℕ) → places n c.own + final_of n c.report ≡ places n s
-  pub waits : AllWait c.own.observations c.own.queue
-  pub runs_on : IfRuns c.own.observations c.own.running
-  pub taken_is : c.own.taken ≡ s.taken
-  pub source : (r : Reported) → c.report ≡ Some r → 1 ≤ places r.number s
-  pub linked : Linked c.own.running c.own.observations x
-
-not_asks : (u : Transfer → Bool) (report : Report) (s : Own) (running : Option Operation) (op : Operation)
-    → (failed u report s running).deed ≡ Asks op → ⊥
-not_asks u report s (Some (Cancelling k)) op h = by (observation_of k s.observations) h
-  where
-    by : (o : Option Observation) → releases o ≡ Asks op → ⊥
-    by None h = cc h
-    by (Some o) h = cc h
-not_asks u report s _ op h = cc h
-
-pub linked_of : (d : Deed) (e : Effect) (x : Option Exchange) → ((op : Operation) → d ≡ Asks op → ⊥) → Leaves d e x
-    → Linked e.own.running e.own.observations x
-linked_of (Asks op) e x f h = absurd (f op refl)
-linked_of _ e x f h = h
-
--- a deed that asks nothing leaves the exchange
-pub quiet_deeds : (at word : ℕ) (sent : L.Answer) (kept : Bool) (token : Result (List ℕ) AskRefusal) (d : Deed)
-    (o : Own) (y : E.Own) → ((op : Operation) → d ≡ Asks op → ⊥)
-    → (ran y (deeds d o at word sent token kept)).running ≡ y.running
-quiet_deeds at word sent kept token (Asks op) o y f = absurd (f op refl)
-quiet_deeds at word sent kept token _ o y f = refl
-
-module _ (s : Own) (e : Effect) (x : E.Own) (sound : Sound s) (g : Goes s x.running e) (at word : ℕ) (sent : L.Answer)
-    (kept : Bool) where
-  plainly : (y : Option Exchange) → Linked e.own.running e.own.observations y → Closes s e y
-  plainly y l = record {
-    conserved = g.conserved;
-    waits = g.waits;
-    runs_on = g.runs_on;
-    taken_is = g.taken_is;
-    source = g.source;
-    linked = l;
-  }
-
-  effect_sound : (op : Operation) → e.deed ≡ Asks op → Sound e.own
-  effect_sound op is = record {
-    at_most = λ n. let a = g.conserved n in let b = ap (final_of n) (g.asks op is).0 in let c =
-        sound.at_most n in omega (arith, a, b, c);
-    waits = g.waits;
-    runs_on = g.runs_on;
-  }
-
-  same_places : (op : Operation) → e.deed ≡ Asks op → (n : ℕ) → places n e.own ≡ places n s
-  same_places op is n = let a = g.conserved n in let b = ap (final_of n) (g.asks op is).0 in omega (arith, a, b)
-
-  -- the token that is sent is that of the observation, where it is cancelled
-  has_its : (op : Operation) → RunsOn e.own.observations op
-      → HasToken e.own.observations op (Q.request_token x (message_of e.own.observations op))
-  has_its (Cancelling k) live =
-      let t = token_there k e.own.observations live in t.1
-      ∙ ap (λ y. Some y) (sym (ap (λ o. Q.token_or o (K.token_of x.word x.given)) t.1))
-  has_its _ live = tt
-
-  asked_for : (op : Operation) → e.deed ≡ Asks op → (token : Result (List ℕ) AskRefusal)
-      → token ≡ Q.ask_answer (Q.opening_of x (message_of e.own.observations op)) sent
-      (Q.request_token x (message_of e.own.observations op))
-      → Closes s (closed at e (Asks op) token) (ran x
-      (deeds (closed at e (Asks op) token).deed (closed at e (Asks op) token).own at word sent token kept
-      ++ deeds (Asks op) e.own at word sent token kept)).running
-  asked_for op is (Ok token) right = by (move.ask_row x (message_of e.own.observations op) sent (Ok token) right)
-    where
-      by : move.AskRow x (message_of e.own.observations op) sent (Ok token)
-          → Closes s (closed at e (Asks op) (Ok token))
-          (Q.opened x (message_of e.own.observations op)
-          (Q.sent_as (Q.opening_of x (message_of e.own.observations op)) sent)).running
-      by (refused why no_answer gone) = absurd (cc no_answer)
-      by (sent_it id answer_is some opens sent_id) =
-          let a = g.asks op is in
-          record {
-            conserved = λ n. let b = same_places op is n in omega (arith, b);
-            waits = g.waits;
-            runs_on = g.runs_on;
-            taken_is = g.taken_is;
-            source = λ y h. absurd (cc h);
-            linked = subst (λ y. Linked y e.own.observations
-                (Q.opened x (message_of e.own.observations op)
-                (Q.sent_as (Q.opening_of x (message_of e.own.observations op)) sent)).running) (sym a.1) (
-                  _,
-                  ap (λ (y : E.Own). y.running) (move.opened_some x (message_of e.own.observations op) sent id some),
-                  has_its op (subst (IfRuns e.own.observations) a.1 g.runs_on),
-                );
-          }
-  asked_for op is (Err why) right = by (move.ask_row x (message_of e.own.observations op) sent (Err why) right)
-    where
-      by : move.AskRow x (message_of e.own.observations op) sent (Err why)
-          → Closes s (failed has_sent NoIds e.own (Some op))
-          (ran x (deeds (failed has_sent NoIds e.own (Some op)).deed
-          (failed has_sent NoIds e.own (Some op)).own at word sent (Err why) kept
-          ++ deeds (Asks op) e.own at word sent (Err why) kept)).running
-      by (sent_it id answer_is some opens sent_id) = absurd (cc answer_is)
-      by (refused other answer_is gone) =
-          let c : Effect = failed has_sent NoIds e.own (Some op) in
-          let f = failed_goes e.own None (effect_sound op is) refl has_sent NoIds refl (Some op) (g.asks op is).1 in
-          let none : x.running ≡ None = subst (λ d. Leaves d e x.running) is g.leaves in
-          let x2 : E.Own = ran x (deeds (Asks op) e.own at word sent (Err why) kept) in
-          let still : x2.running ≡ None = ap (λ (o : E.Own). o.running)
-          (move.opened_none x (message_of e.own.observations op) sent gone) ∙ none in
-          let quiet = quiet_deeds at word sent kept (Err why) c.deed c.own x2
-          (not_asks has_sent NoIds e.own (Some op)) in
-          let split = ap (λ (o : E.Own). o.running) (ran_append x (deeds c.deed c.own at word sent (Err why) kept)
-          (deeds (Asks op) e.own at word sent (Err why) kept)) in
-          record {
-            conserved = λ n. f.conserved n ∙ same_places op is n;
-            waits = f.waits;
-            runs_on = f.runs_on;
-            taken_is = f.taken_is ∙ g.taken_is;
-            source = λ y h. let a = f.source y h in let b = same_places op is y.number in omega (arith, a, b);
-            linked = subst (Linked c.own.running c.own.observations) (sym (split ∙ (quiet ∙ still)))
-                (linked_of c.deed c None (not_asks has_sent NoIds e.own (Some op)) f.leaves);
-          }
-
-  abbrev Closing : Result (List ℕ) AskRefusal → Deed → Type 0
-  Closing token d =
-      AreRight x (deeds (closed at e d token).deed (closed at e d token).own at word sent token kept
-      ++ deeds d e.own at word sent token kept)
-      → Closes s (closed at e d token) (ran x (deeds (closed at e d token).deed
-      (closed at e d token).own at word sent token kept ++ deeds d e.own at word sent token kept)).running
-
-  closing : (token : Result (List ℕ) AskRefusal) (d : Deed) → e.deed ≡ d → Closing token d
-  closing token Rests is right =
-      let rests : (op : Operation) → e.deed ≡ Asks op → ⊥ = λ op h. cc (h, is) in
-      let split = ap (λ (o : E.Own). o.running) (ran_append x (deeds e.deed e.own at word sent token kept) []) in
-      let quiet = quiet_deeds at word sent kept token e.deed e.own x rests in
-      plainly _ (subst (Linked e.own.running e.own.observations) (sym (split ∙ quiet))
-      (linked_of e.deed e x.running rests g.leaves))
-  closing token (Asks op) is right =
-      asked_for op is token (are_right_back x (deeds (closed at e (Asks op) token).deed
-      (closed at e (Asks op) token).own at word sent token kept)
-      (deeds (Asks op) e.own at word sent token kept) right).0
-  closing token _ is right = let l = linked_of e.deed e x.running (λ op h. cc (h, is)) g.leaves in record { conserved = g.conserved; waits = g.waits; runs_on = g.runs_on; taken_is = g.taken_is; source = g.source; linked = l }
-
-  pub closes : (token : Result (List ℕ) AskRefusal) → Closing token e.deed
-  closes token = closing token e.deed refl

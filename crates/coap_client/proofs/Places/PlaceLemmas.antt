@@ -1,15 +1,13 @@
 -- Counting numbers in what a client keeps.
-use Rattle.std.proofs.Common.{◌≡◌, ◌≤◌, ℕ, ◌+◌, Bool, true, false, cond, not, Option, Some, List, [], ◌∷◌, ◌++◌}
-use Rattle.std.proofs.Common.{map, refl, ap, sym, subst, ◌∙◌, arith, is_some}
+use Rattle.std.proofs.Common.{◌≡◌, ◌≤◌, ℕ, ◌+◌, Bool, true, false, cond, not, Option, Some, List, [], ◌∷◌, ◌++◌, map}
+use Rattle.std.proofs.Common.{refl, ap, sym, subst, ◌∙◌, arith, is_some}
 use Rattle.std.specs.Prelude.{filter, ◌==◌}
 use Rattle.std.specs.Option.{option_map}
 use Rattle.std.specs.Cmp.{unsigned_Decides}
 use Rattle.coap_exchange.specs.Tokens.{same_token}
 use Rattle.coap_exchange.proofs.Facts.SameToken.{same_token_is}
-use Rattle.coap_client.specs.Own.{Operation, Calling, Registering, Fetching, Cancelling, Dropped}
-use Rattle.coap_client.specs.Own.{Observation}
-use Rattle.coap_client.specs.Observations.{observation_of, observation_with, token_of, is_cancel_of}
-use Rattle.coap_client.specs.Observations.{dropped}
+use Rattle.coap_client.specs.Own.{Operation, Calling, Registering, Fetching, Cancelling, Dropped, Observation}
+use Rattle.coap_client.specs.Observations.{observation_of, observation_with, token_of, is_cancel_of, dropped}
 use Rattle.coap_client.specs.Follows.Places.{hit, in_running, in_queue, in_observations}
 
 pub same_number : (a b : ℕ) → (a == b) ≡ true → a ≡ b

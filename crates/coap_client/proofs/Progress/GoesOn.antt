@@ -1,11 +1,10 @@
 -- What stands in the law of a client goes on.
-use Rattle.std.proofs.Common.{◌≡◌, ◌≤◌, ◌⊎◌, inl, inr, ℕ, max, Bool, true, false, not, ◌&&◌, cond, Option, Some, None}
-use Rattle.std.proofs.Common.{List, [], ◌∷◌, ◌++◌, length, slice_get, Result, Ok, Err, refl, ap, sym, subst, ◌∙◌, arith}
-use Rattle.std.specs.Prelude.{◌==◌, ◌||◌, nat_lt, nat_le}
+use Rattle.std.proofs.Common.{◌≡◌, ◌≤◌, ℕ, max, Bool, true, false, not, cond, Option, Some, None, List, [], ◌∷◌, ◌++◌}
+use Rattle.std.proofs.Common.{length, slice_get, Result, Ok, Err, refl, ap, sym, subst, ◌∙◌, arith}
+use Rattle.std.specs.Prelude.{◌||◌, nat_lt, nat_le}
 use Rattle.std.proofs.lemmas.List.{append_assoc}
 use Rattle.coap_types.specs.declared.endpoint.Endpoint.{Endpoint}
 use Rattle.coap_types.specs.declared.option_number.TheConstants.{BLOCK2 as block2}
-use Rattle.coap_types.specs.Bytes.{AreBytes}
 use Rattle.coap_types.specs.declared.request.Method.{Method}
 use Rattle.coap_types.specs.declared.request.Method.TheVariants.{Get, Post, Put, Delete}
 use Rattle.coap_layer.specs.Rows.{IsSpelled}
@@ -24,135 +23,30 @@ use Rattle.coap_exchange.specs.Tokens.{may_keep, is_kept, token_of as given_toke
 use Rattle.coap_client.specs.declared.limits.TheConstants.{MAX_OBSERVATIONS as max_observations}
 use Rattle.coap_client.specs.declared.refusals.CallRefusal.{CallRefusal}
 use Rattle.coap_client.specs.declared.refusals.CallRefusal.TheVariants.{QueueFull, BodyTooLarge, BadPath, WatchesFull}
-use Rattle.coap_client.specs.Trace.{Request, Report, Reported, NoIds, Call, Calls, Observes, Cancels}
-use Rattle.coap_client.specs.Trace.{Forgets, Feeds, Ticks, NextOut, NextReport, Asked}
-use Rattle.coap_client.specs.Own.{Transfer, Operation, Calling, Registering, Fetching, Cancelling}
-use Rattle.coap_client.specs.Own.{Dropped, Observation, Own}
-use Rattle.coap_client.specs.Observations.{observation_of, token_of, dropped, over}
+use Rattle.coap_client.specs.Trace.{Request, NoIds, Call, Calls, Observes, Cancels, Forgets, Feeds, Ticks, NextOut}
+use Rattle.coap_client.specs.Trace.{NextReport, Asked}
+use Rattle.coap_client.specs.Own.{Operation, Calling, Registering, Fetching, Cancelling, Dropped, Observation, Own}
+use Rattle.coap_client.specs.Observations.{observation_of, token_of, over}
 use Rattle.coap_client.specs.Requests.{before_path, after_path, options_of, path_options, message_of}
-use Rattle.coap_client.specs.Reports.{lapse}
-use Rattle.coap_client.specs.Queue.{are_long, block_option_number, is_full, observed, taken_by}
-use Rattle.coap_client.specs.Queue.{call_answer}
+use Rattle.coap_client.specs.Queue.{are_long, block_option_number, is_full, observed, taken_by, call_answer}
 use Rattle.coap_client.specs.Queue.{observe_answer, cancel_answer, may_forget, calling, numbered}
-use Rattle.coap_client.specs.Effects.{Deed, Rests, Asks, Keeps, Releases, Effect, ends, of, is_upload}
-use Rattle.coap_client.specs.Effects.{has_sent}
+use Rattle.coap_client.specs.Effects.{Deed, Rests, Asks, Keeps, Releases, Effect, of, has_sent}
 use Rattle.coap_client.specs.Observing.{releases}
 use Rattle.coap_client.specs.Events.{failed, happened, passes, closed}
 use Rattle.coap_client.specs.Deeds.{at, deeds}
 use Rattle.coap_client.specs.Steps.{IsRight, is_idle, asks as is_asked}
 use Rattle.coap_client.specs.Law.{ClientLaw, ClientRows, own_of, lower_of}
-use Rattle.coap_client.specs.Turns.Moves as mv
-use Rattle.coap_client.specs.Turns.Moves.{Move, Moved, left_by}
-use Rattle.coap_client.specs.Turns.Closing.{Closing, quiet, goes_out, is_refused}
-use Rattle.coap_client.proofs.Turning.BlockByBlock.{AllOf, all_uncancelled}
+use Rattle.coap_client.specs.Turns.Moves.{Moved, left_by}
 use Rattle.coap_client.proofs.Turning.Moves.{happened_moves, passes_moves}
 use Rattle.coap_client.proofs.Turning.Turns.{Turned, fed_turned, ticked_turned}
-use Rattle.coap_client.proofs.Queueing.OneByOne.{asks_runs}
-use Rattle.coap_client.proofs.Sending.Tokens.{live, live_found, short_tokens}
+use Rattle.coap_client.proofs.Sending.Tokens.{live, short_tokens}
+use Rattle.coap_client.proofs.Sending.LiveTokens.{live_found, live_without}
 use Rattle.coap_client.specs.Follows.GoesOn.{GoesOn}
 use Rattle.coap_common.proofs.Facts.AskerGoing.{takes, ticks, asks, receives}
-use Rattle.coap_client.proofs.Sending.Tokens.{live_without, live_failed, live_moves, same_observations}
 use Rattle.coap_client.proofs.Turning.AllWaiting.{all_more}
-use Rattle.coap_client.proofs.Progress.RequestsSpelled.{IsShortPath, IsShortOp, AreShortPaths, request_spelled}
-
--- What waits, what runs and what is observed has options that are few.
-
-abbrev IfShort : Option Operation → Type 0
-IfShort None = Unit {0}
-IfShort (Some op) = IsShortOp op
-
-abbrev Shorts : Own → Type 0
-Shorts s = AllOf IsShortOp s.queue × IfShort s.running × AreShortPaths s.observations
-
-short_dropped : (k : ℕ) (running : Option Operation) → IfShort running → IfShort (dropped k running)
-short_dropped k (Some (Calling j r t)) h = h
-short_dropped k (Some (Registering j path)) h = h
-short_dropped k (Some (Fetching j)) h = by (j == k)
-  where
-    by : (b : Bool) → IfShort (cond b (Some Dropped) (Some (Fetching j)))
-    by true = tt
-    by false = tt
-short_dropped k _ h = tt
-
--- the operations, and the paths of what is observed
-
-abbrev ShortOps : Own → Type 0
-ShortOps s = AllOf IsShortOp s.queue × IfShort s.running
-
-abbrev ShortPath : ℕ → List (List ℕ) → List ℕ → Type 0
-ShortPath number path token = IsShortPath path
-
-ops_held : (s : Own) (c : Bool) (report : Option Reported) → ShortOps s
-    → ShortOps (ends report (cond c (record s { hold = Some s.sent }) s)).own
-ops_held s true report h = (h.0, tt)
-ops_held s false report h = (h.0, tt)
-
-ops_over : (k : ℕ) (s : Own) → ShortOps s → ShortOps (over k s)
-ops_over k s h = (all_uncancelled k IsShortOp s.queue h.0, short_dropped k s.running h.1)
-
-ops_failed : (s : Own) (u : Transfer → Bool) (report : Report) (running : Option Operation) → ShortOps s
-    → ShortOps (failed u report s running).own
-ops_failed s u report None h = h
-ops_failed s u report (Some (Calling k r t)) h = ops_held s (u t && is_upload t) (of k report) h
-ops_failed s u report (Some (Cancelling k)) h = ops_over k (record s { running = None }) (h.0, tt)
-ops_failed s u report _ h = (h.0, tt)
-
-module _ (s : Own) (now : ℕ) (told : Option Event) where
-  ran : IfShort s.running → (op : Operation) → s.running ≡ Some op → IsShortOp op
-  ran h op is = subst IfShort is h
-
-  ops_moves : ShortOps s → (mo : Move s now told) → ShortOps (left_by s now told mo).own
-  ops_moves h (mv.rests un) = h
-  ops_moves h (mv.copies quiet_so) = h
-  ops_moves h (mv.starts_next op queue none rest first quiet_so) = let k : AllOf IsShortOp (op ∷ queue) =
-      subst (AllOf IsShortOp) first h.0 in (k.1, k.0)
-  ops_moves h (mv.goes_on k r tr next a hears runs asks) = (h.0, ran h.1 (Calling k r tr) runs)
-  ops_moves h (mv.is_done k r tr final rep a hears runs ends_so) = ops_held s (not final && is_upload tr) (of k rep) h
-  ops_moves h (mv.cancels k a hears runs) = ops_over k (record s { running = None }) (h.0, tt)
-  ops_moves h (mv.fails e un) = ops_failed s (λ t. true) (lapse e) s.running h
-  ops_moves h (mv.is_ended o a notes found note) = ops_over o.number s h
-  ops_moves h (mv.renews o a notes found note newer) = (h.0, short_dropped o.number s.running h.1)
-  ops_moves h (mv.passes_by o a notes found note newer) = h
-  ops_moves h _ = (h.0, tt)
-
-  shorts_moves : Shorts s → (mo : Move s now told) → Shorts (left_by s now told mo).own
-  shorts_moves h mo = let ops = ops_moves (h.0, h.1) mo
-      in (
-        ops.0,
-        ops.1,
-        live_moves ShortPath s now told h.2
-            (λ k path a hears runs. ran h.1 (Registering k path) runs) mo,
-      )
-
-  -- What is asked for runs; the token of a cancel is that which its observation had before.
-  record AsksSo (e : Effect) (op : Operation) : Type 0 where
-    runs : e.own.running ≡ Some op
-    token : (k : ℕ) → op ≡ Cancelling k → token_of k e.own.observations ≡ token_of k s.observations
-
-  asks_so : (mo : Move s now told) (op : Operation) → (left_by s now told mo).deed ≡ Asks op
-      → AsksSo (left_by s now told mo) op
-  asks_so mo op h = record {
-    runs = asks_runs s now told mo op h;
-    token = λ k is. by k is (same_observations s now told mo op h);
-  }
-    where
-      by : (k : ℕ) → op ≡ Cancelling k → ((left_by s now told mo).own.observations ≡ s.observations)
-          ⊎ ((j : ℕ) × (op ≡ Fetching j)) → token_of k (left_by s now told mo).own.observations
-          ≡ token_of k s.observations
-      by k is (inl same) = ap (token_of k) same
-      by k is (inr f) = absurd (let z : Cancelling k ≡ Fetching f.0 = sym is ∙ f.1 in cc z)
-
-shorts_failed : (s : Own) (u : Transfer → Bool) (report : Report) (running : Option Operation) → Shorts s
-    → Shorts (failed u report s running).own
-shorts_failed s u report running h = let ops =
-    ops_failed s u report running (h.0, h.1) in (ops.0, ops.1, live_failed ShortPath s u report running h.2)
-
-shorts_closed : (now : ℕ) (e : Effect) (token : Result (List ℕ) AskRefusal) → Shorts e.own → Closing now e token
-    → Shorts (closed now e e.deed token).own
-shorts_closed now e token z (quiet q none own_same report_same) = subst Shorts (sym own_same) z
-shorts_closed now e token z (goes_out op key asks given sends_it own_same report_same) = subst Shorts (sym own_same) z
-shorts_closed now e token z (is_refused op why asks given none all) =
-    subst (λ (c : Effect). Shorts c.own) (sym all) (shorts_failed e.own has_sent NoIds (Some op) z)
+use Rattle.coap_client.proofs.Progress.RequestsSpelled.{IsShortOp, request_spelled}
+use Rattle.coap_client.proofs.Progress.ShortPaths.{IfShort, ShortPath, Shorts, asks_so, ops_over, shorts_closed}
+use Rattle.coap_client.proofs.Progress.ShortPaths.{shorts_moves}
 
 module _ (sizes : Sizes) where
   shorts_turned : (t : List Call) (c : Call) (k : Turned sizes t c) → Shorts (own_of sizes t)
@@ -165,15 +59,11 @@ module _ (sizes : Sizes) where
 
   same_before : (m : Method) (r : Request) → before_path m (record r { body = [] }) ≡ before_path m r
   same_before Get r = refl
-  same_before Post r = refl
-  same_before Put r = refl
-  same_before Delete r = refl
+  same_before _ r = refl
 
   same_after : (m : Method) (r : Request) → after_path m (record r { body = [] }) ≡ after_path m r
   same_after Get r = refl
-  same_after Post r = refl
-  same_after Put r = refl
-  same_after Delete r = refl
+  same_after _ r = refl
 
   same_options : (r : Request) → options_of (record r { body = [] }) ≡ options_of r
   same_options r =
@@ -254,15 +144,12 @@ token_short x os op few = by op few
 
     by : (op : Operation) → ((k : ℕ) → op ≡ Cancelling k → (token : List ℕ) → token_of k os ≡ Some token
         → length token ≤ 8) → length (Q.request_token x (message_of os op)) ≤ 8
-    by (Calling k r t) f = eight
-    by (Registering k path) f = eight
-    by (Fetching k) f = eight
-    by Dropped f = eight
     by (Cancelling k) f = given (token_of k os) refl
       where
         given : (o : Option (List ℕ)) → token_of k os ≡ o → length (Q.token_or o (given_token x.word x.given)) ≤ 8
         given None is = eight
         given (Some token) is = f k refl token is
+    by _ f = eight
 
 -- the request of an operation has a spelling
 abbrev Spelled : A.Own → Effect → Operation → Type 0
@@ -314,15 +201,12 @@ module _ (server : Endpoint) (setup : Setup) where
       where
         refused : (sent : L.Answer) (why : AskRefusal) (op : Operation)
             → Law (A.Ask m (message_of e.own.observations op) w sent (Err why) ∷ calls) → Answers (Asks op)
-        refused sent why (Calling k r t) l = record { sent = sent; token = Err why; kept = false; law_of = l }
-        refused sent why (Registering k path) l = record { sent = sent; token = Err why; kept = false; law_of = l }
-        refused sent why (Fetching k) l = record { sent = sent; token = Err why; kept = false; law_of = l }
-        refused sent why Dropped l = record { sent = sent; token = Err why; kept = false; law_of = l }
         refused sent why (Cancelling k) l =
             let s : Own = (failed has_sent NoIds e.own (Some (Cancelling k))).own in
             let r = ends_on (observation_of k e.own.observations) s m w sent (Err why)
             (A.Ask m (message_of e.own.observations (Cancelling k)) w sent (Err why) ∷ calls) l in
             record { sent = sent; token = Err why; kept = r.0; law_of = r.1 }
+        refused sent why _ l = record { sent = sent; token = Err why; kept = false; law_of = l }
 
         by : (sent : L.Answer) (token : Result (List ℕ) AskRefusal)
             → Law (A.Ask m (message_of e.own.observations op) w sent token ∷ calls) → Answers (Asks op)
@@ -386,13 +270,13 @@ module _ (server : Endpoint) (sizes : Sizes) (setup : Setup) (t : List Call) (la
       by true is = let r = ends_on server setup (observation_of number mine.observations) mine 0 0 L.Nothing
           (Ok []) under law.exchanges in (r.0, true, record { rows = (is, law.rows); exchanges = r.1 })
 
-  feeds_on : (now : ℕ) (from : Endpoint) (bytes : List ℕ) (w : ℕ) → AreBytes bytes
+  feeds_on : (now : ℕ) (from : Endpoint) (bytes : List ℕ) (w : ℕ)
       → (up : L.Answer) × (settled : Bool) × (event : Option Event) × (sent : L.Answer)
       × (token : Result (List ℕ) AskRefusal) × (kept : Bool)
       × ClientLaw server sizes setup (Feeds now from bytes w up settled event sent token kept ∷ t)
-  feeds_on now from bytes w are =
+  feeds_on now from bytes w =
       let m : ℕ = max mine.clock now in
-      let k = receives server setup under law.exchanges m from bytes are in
+      let k = receives server setup under law.exchanges m from bytes in
       let e : Effect = happened (at now mine) m k.2 in
       let input : A.Call = A.Receive m from bytes k.0 k.1 k.2 in
       let a = answers server setup m w (input ∷ under) k.3 e e.deed refl

@@ -23,15 +23,13 @@ use Rattle.coap_block.specs.UploadStep.{UploadState, block_to_send}
 use Rattle.coap_layer.specs.Rows.{IsSpelled}
 use Rattle.coap_exchange.specs.AskerRequests.{content_of}
 use Rattle.coap_client.specs.Trace.{Request}
-use Rattle.coap_client.specs.Own.{Transfer, Fetches, Uploads, Single, Operation, Calling, Registering}
-use Rattle.coap_client.specs.Own.{Fetching, Cancelling, Dropped, Observation}
+use Rattle.coap_client.specs.Own.{Transfer, Fetches, Uploads, Single, Operation, Calling, Registering, Fetching}
+use Rattle.coap_client.specs.Own.{Cancelling, Dropped, Observation}
 use Rattle.coap_client.specs.Observations.{observation_of, observed_path, token_of, fetch_of}
 use Rattle.coap_client.specs.Queue.{are_long, block_option_number}
-use Rattle.coap_client.specs.Requests.{flag_option, path_options, before_path, after_path, options_of}
-use Rattle.coap_client.specs.Requests.{block2_option, block1_option, block_option, is_longer}
-use Rattle.coap_client.specs.Requests.{payload_of}
-use Rattle.coap_client.specs.Requests.{message_of}
-use Rattle.coap_client.proofs.Sending.Tokens.{AllLive}
+use Rattle.coap_client.specs.Requests.{flag_option, path_options, before_path, after_path, options_of, block2_option}
+use Rattle.coap_client.specs.Requests.{block1_option, block_option, is_longer, payload_of, message_of}
+use Rattle.coap_client.proofs.Sending.LiveTokens.{AllLive}
 use Rattle.coap_client.proofs.Calls.AskableRequests.{uint_short}
 use Rattle.coap_client.proofs.Progress.Spelled.{short_front, code_of, not_more}
 
@@ -178,9 +176,7 @@ IsShortPath path = are_long block2 (path_options path) ≡ false
 abbrev pub IsShortOp : Operation → Type 0
 IsShortOp (Calling number r t) = are_long (block_option_number r.method) (options_of r) ≡ false
 IsShortOp (Registering number path) = IsShortPath path
-IsShortOp (Fetching number) = Unit {0}
-IsShortOp (Cancelling number) = Unit {0}
-IsShortOp Dropped = Unit {0}
+IsShortOp _ = Unit {0}
 
 abbrev pub AreShortPaths : List Observation → Type 0
 AreShortPaths os = AllLive (λ number path token. IsShortPath path) os

@@ -29,9 +29,7 @@ short_front (o ∷ os) tail base h =
 -- the code of a method is one byte other than 0.00
 pub code_of : (m : Method) → ((method_code m).0 < 256) × (0 < (method_code m).0)
 code_of Get = (omega arith, omega arith)
-code_of Post = (omega arith, omega arith)
-code_of Put = (omega arith, omega arith)
-code_of Delete = (omega arith, omega arith)
+code_of _ = (omega arith, omega arith)
 
 pub not_more : (n : ℕ) → nat_lt max_options n ≡ false → n ≤ 115
 not_more n h = grind (arith, nat_tests)

@@ -1,6 +1,6 @@
 -- The requests of a call go out one by one, each where those before it were answered.
-use Rattle.std.proofs.Common.{◌≡◌, ◌≤◌, inl, inr, ℕ, max, Bool, true, false, cond, not, ◌&&◌, Option, Some, None}
-use Rattle.std.proofs.Common.{List, ◌∷◌, [], refl, ap, sym, subst, ◌∙◌, Result, arith}
+use Rattle.std.proofs.Common.{◌≡◌, ◌≤◌, inl, inr, ℕ, max, Bool, true, false, cond, not, ◌&&◌, Option, Some, None, List}
+use Rattle.std.proofs.Common.{◌∷◌, [], refl, ap, sym, subst, ◌∙◌, Result, arith}
 use Rattle.std.specs.Prelude.{◌==◌}
 use Rattle.coap_types.specs.Past.{Ever}
 use Rattle.coap_types.specs.declared.endpoint.Endpoint.{Endpoint}
@@ -12,10 +12,9 @@ use Rattle.coap_block.specs.Sizes.{Sizes}
 use Rattle.coap_block.specs.UploadStep.{UploadState, more_follows, moved, continues}
 use Rattle.coap_exchange.specs.declared.asker.AskRefusal.{AskRefusal}
 use Rattle.coap_exchange.specs.declared.asker.Event.{Event}
-use Rattle.coap_client.specs.Trace.{Request, Requested, BadBlock, Call}
-use Rattle.coap_client.specs.Trace.{Feeds, Ticks}
-use Rattle.coap_client.specs.Own.{Transfer, Fetches, Uploads, Single, Operation, Calling, Registering}
-use Rattle.coap_client.specs.Own.{Fetching, Cancelling, Dropped, Own}
+use Rattle.coap_client.specs.Trace.{Request, Requested, BadBlock, Call, Feeds, Ticks}
+use Rattle.coap_client.specs.Own.{Transfer, Fetches, Uploads, Single, Operation, Calling, Registering, Fetching}
+use Rattle.coap_client.specs.Own.{Cancelling, Dropped, Own}
 use Rattle.coap_client.specs.Requests.{is_longer}
 use Rattle.coap_client.specs.Responses.{continue, block_at}
 use Rattle.coap_client.specs.Reports.{done}
@@ -32,7 +31,8 @@ use Rattle.coap_client.specs.Follows.Places.{hit, in_op, in_running, places, gon
 use Rattle.coap_client.specs.Follows.Words.{Sending, sends, sent_by, hears, last_sent}
 use Rattle.coap_client.proofs.Places.PlaceLemmas.{hit_self}
 use Rattle.coap_client.proofs.Uploading.UploadSteps.{continues_is}
-use Rattle.coap_client.proofs.Places.Once.{known, both_one}
+use Rattle.coap_client.proofs.Places.Once.{known}
+use Rattle.coap_client.proofs.Places.NumberSteps.{both_one}
 use Rattle.coap_client.proofs.Uploading.Pieces.{answers_last}
 use Rattle.coap_client.proofs.Turning.Leading.{client_back}
 use Rattle.coap_client.specs.Follows.Begins.{WasSent}

@@ -1,7 +1,6 @@
 -- What each effect leaves of what waits.
 use Rattle.std.proofs.Common.{◌≡◌, ℕ, Bool, true, false, cond, not, ◌&&◌, ◌==◌, Option, Some, None, List, [], ◌∷◌, ◌++◌}
-use Rattle.std.proofs.Common.{refl, ap, sym, subst, ◌∙◌}
-use Rattle.std.proofs.Common.{Result}
+use Rattle.std.proofs.Common.{refl, ap, sym, subst, ◌∙◌, Result}
 use Rattle.std.specs.Prelude.{filter}
 use Rattle.coap_codec.specs.Message.{Message}
 use Rattle.coap_block.specs.declared.fetch_step.FetchRefusal.TheVariants as refusal
@@ -12,8 +11,8 @@ use Rattle.coap_exchange.specs.declared.asker.AskRefusal.{AskRefusal}
 use Rattle.coap_exchange.specs.declared.asker.Event.{Event}
 use Rattle.coap_exchange.specs.declared.asker.Event.TheVariants as event_of
 use Rattle.coap_client.specs.Trace.{is_value, Request, Report, Ended, Cancelled, NoIds}
-use Rattle.coap_client.specs.Own.{Transfer, Operation, Calling, Registering, Fetching, Cancelling}
-use Rattle.coap_client.specs.Own.{Dropped, Notified, Observation, Own}
+use Rattle.coap_client.specs.Own.{Transfer, Operation, Calling, Registering, Fetching, Cancelling, Dropped, Notified}
+use Rattle.coap_client.specs.Own.{Observation, Own}
 use Rattle.coap_client.specs.Observations.{observation_with, rest_of, is_cancel_of}
 use Rattle.coap_client.specs.Responses.{content, part, is_notification, sequence_in}
 use Rattle.coap_client.specs.Reports.{lapse}
@@ -48,9 +47,7 @@ called_queued k r t s (calls.Ends final report) = same (held_queue (not final &&
 
 fetch_queued : (k : ℕ) (n : Notified) (s : Own) (m : Message) (v : Verdict) → Queued s.queue (fetch_by k n s m v)
 fetch_queued k n s m (verdict.Refuse why) = same refl
-fetch_queued k n s m verdict.Done = same refl
-fetch_queued k n s m verdict.Again = same refl
-fetch_queued k n s m (verdict.Ask num size) = same refl
+fetch_queued k n s m _ = same refl
 
 fetched_queued : (k : ℕ) (o : Option Notified) (s : Own) (m : Message) → Queued s.queue (fetch_answered k o s m)
 fetched_queued k None s m = same refl
@@ -59,7 +56,6 @@ fetched_queued k (Some n) s m = fetch_queued k n s m
 
 answered_queued : (s : Own) (now : ℕ) (m : Message) (running : Option Operation)
     → Queued s.queue (answered s now m running)
-answered_queued s now m None = same refl
 answered_queued s now m (Some (Calling k r t)) = called_queued k r t s (answer r t m)
 answered_queued s now m (Some (Registering k path)) =
     queued_if s.queue (is_notification m)
@@ -71,7 +67,7 @@ answered_queued s now m (Some (Registering k path)) =
     (ends (of k (Ended m.code)) s) (same refl) (same refl)
 answered_queued s now m (Some (Fetching k)) = fetched_queued k (rest_of k s.observations) s m
 answered_queued s now m (Some (Cancelling k)) = over k Cancelled refl refl refl
-answered_queued s now m (Some Dropped) = same refl
+answered_queued s now m _ = same refl
 
 noticed_queued : (o : Option Observation) (s : Own) (now : ℕ) (m : Message) → Queued s.queue (noticed_by o s now m)
 noticed_queued None s now m = same refl

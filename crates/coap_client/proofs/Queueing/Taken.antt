@@ -1,7 +1,6 @@
 -- A call and an observation are taken, and refused, by what waits; and what waits starts in its order.
 use Rattle.std.proofs.Common.{not, ◌||◌, ◌≡◌, ◌≤◌, ℕ, ◌+◌, max, Bool, true, false, cond, ◌&&◌, ◌==◌, Option, Some, None}
-use Rattle.std.proofs.Common.{List, [], ◌∷◌, ◌++◌, refl}
-use Rattle.std.proofs.Common.{ap, sym, subst, ◌∙◌, Result, Ok, Err, arith, append-nil}
+use Rattle.std.proofs.Common.{List, [], ◌∷◌, ◌++◌, refl, ap, sym, subst, ◌∙◌, Result, Ok, Err, arith, append-nil}
 use Rattle.std.specs.Prelude.{nat_le, nat_lt, length, drop, is_some, option_to_list}
 use Rattle.std.specs.Option.{option_map}
 use Rattle.coap_types.specs.declared.endpoint.Endpoint.{Endpoint}
@@ -16,23 +15,18 @@ use Rattle.coap_exchange.specs.declared.asker.AskRefusal.{AskRefusal}
 use Rattle.coap_exchange.specs.declared.asker.Turn.{Turn}
 use Rattle.coap_exchange.specs.declared.asker.Turn.TheVariants as turn_is
 use Rattle.coap_exchange.specs.AskerLaw as X
-use Rattle.coap_client.specs.Trace.{is_value, Request, Report, Reported, Call, Calls, Observes}
-use Rattle.coap_client.specs.Trace.{Cancels}
-use Rattle.coap_client.specs.Trace.{Forgets, Feeds, Ticks, NextOut}
-use Rattle.coap_client.specs.Trace.{NextReport, Asked}
-use Rattle.coap_client.specs.Own.{Transfer, Operation, Registering, Fetching, Cancelling}
-use Rattle.coap_client.specs.Own.{Observation, Own}
-use Rattle.coap_client.specs.Observations.{to_fetch, observation_of}
+use Rattle.coap_client.specs.Trace.{is_value, Request, Report, Reported, Call, Calls, Observes, Cancels, Forgets, Feeds}
+use Rattle.coap_client.specs.Trace.{Ticks, NextOut, NextReport, Asked}
+use Rattle.coap_client.specs.Own.{Transfer, Operation, Registering, Fetching, Cancelling, Observation, Own}
+use Rattle.coap_client.specs.Observations.{to_fetch, observation_of, is_live, is_cancelled}
 use Rattle.coap_client.specs.Observing.{releases}
 use Rattle.coap_client.specs.declared.refusals.CancelRefusal.TheVariants as cancel
-use Rattle.coap_client.specs.Observations.{is_live, is_cancelled}
-use Rattle.coap_client.specs.Queue.{cancel_answer, max_numbers, are_long, block_option_number, is_full}
-use Rattle.coap_client.specs.Queue.{observed, call_answer, observe_answer, calling}
+use Rattle.coap_client.specs.Queue.{cancel_answer, max_numbers, are_long, block_option_number, is_full, observed}
+use Rattle.coap_client.specs.Queue.{call_answer, observe_answer, calling}
 use Rattle.coap_client.specs.Requests.{path_options, options_of}
 use Rattle.coap_client.specs.Reports.{lapse}
 use Rattle.coap_client.specs.Effects.{Deed, Rests, Asks, Keeps, Releases, Effect, stays, runs}
-use Rattle.coap_client.specs.Events.{failed, happened, passes, starts as starts_queue, idle, is_held}
-use Rattle.coap_client.specs.Events.{is_upload_op}
+use Rattle.coap_client.specs.Events.{failed, happened, passes, starts as starts_queue, idle, is_held, is_upload_op}
 use Rattle.coap_client.specs.Deeds.{at, close}
 use Rattle.coap_client.specs.Follows.Places.{hit, in_running, in_queue, in_observations, final_of, gone}
 use Rattle.coap_client.specs.Steps.{lower, IsRight, reports}
@@ -46,13 +40,10 @@ use Rattle.coap_client.proofs.Places.PlaceEffects.{AllWait}
 use Rattle.coap_client.proofs.Places.PlaceEvents.{lapse_last}
 use Rattle.coap_client.proofs.Places.PlaceLemmas.{hit_self}
 use Rattle.coap_client.specs.Follows.Ends.{Unsent, unsent_by}
-use Rattle.coap_client.specs.Follows.Taken.{Waiting, ACall, ARegistration, ACancel, waiting_of, is_turn}
-use Rattle.coap_client.specs.Follows.Taken.{starts}
-use Rattle.coap_client.specs.Follows.Taken.{last_of, over_in}
-use Rattle.coap_client.specs.Follows.Taken.{without, numbers_in, next_number, waiting_in, taking_of, observing_of}
-use Rattle.coap_client.specs.Follows.Taken.{cancelling_of, StartsFirst, TakesRight, AllTaken}
-use Rattle.coap_client.proofs.Queueing.Queued.{Queued, same, over, failed_queued, happened_queued}
-use Rattle.coap_client.proofs.Queueing.Queued.{closed_queued}
+use Rattle.coap_client.specs.Follows.Taken.{Waiting, ACall, ARegistration, ACancel, waiting_of, is_turn, starts}
+use Rattle.coap_client.specs.Follows.Taken.{last_of, over_in, without, numbers_in, next_number, waiting_in, taking_of}
+use Rattle.coap_client.specs.Follows.Taken.{observing_of, cancelling_of, StartsFirst, TakesRight, AllTaken}
+use Rattle.coap_client.proofs.Queueing.Queued.{Queued, same, over, failed_queued, happened_queued, closed_queued}
 use Rattle.coap_client.proofs.Queueing.WaitingLists.{waits, waits_append, waits_without, none_cancelled, waits_length}
 use Rattle.coap_client.proofs.Queueing.WaitingLists.{waits_some}
 use Rattle.coap_client.proofs.Sending.OfCalls.{size_is}
@@ -69,11 +60,9 @@ pub asked_is : (e : Effect) (d : Deed) (token : Result (List ℕ) AskRefusal)
       | None ↦ option_map (λ (u : Unsent). u.operation)
           (unsent_by d token)
     ] ≡ asks_op d
-asked_is e Rests token = refl
-asked_is e (Keeps t) token = refl
-asked_is e (Releases t) token = refl
 asked_is e (Asks op) (Ok key) = refl
 asked_is e (Asks op) (Err why) = refl
+asked_is e _ token = refl
 
 released_none : (o : Option Observation) → asks_op (releases o) ≡ None
 released_none None = refl
@@ -199,15 +188,9 @@ module _ (server : Endpoint) (sizes : Sizes) (setup : Setup) where
   told [] rows law = refl
   told (Calls now r (Ok n) ∷ t) rows law = more t (calling (own_of sizes t).sizes n r) (ACall n) refl
       (told t rows.1 law)
-  told (Calls now r (Err why) ∷ t) rows law = plain t (told t rows.1 law)
   told (Observes now path (Ok n) ∷ t) rows law = more t (Registering n path) (ARegistration n) refl (told t rows.1 law)
-  told (Observes now path (Err why) ∷ t) rows law = plain t (told t rows.1 law)
   told (Cancels now n None ∷ t) rows law = more t (Cancelling n) (ACancel n) refl (told t rows.1 law)
-  told (Cancels now n (Some why) ∷ t) rows law = plain t (told t rows.1 law)
   told (NextOut answer ∷ t) rows law = plain t (told t rows.1 law.1)
-  told (NextReport answer ∷ t) rows law = plain t (told t rows.1 law)
-  told (Asked answer ∷ t) rows law = plain t (told t rows.1 law)
-  told (Forgets n was false ∷ t) rows law = plain t (told t rows.1 law)
   told (Forgets n was true ∷ t) rows law =
       let h = told t rows.1 (under t (Forgets n was true) law) in
       waits_without n (own_of sizes t).queue ∙ (ap (without (Some n)) h
@@ -245,21 +228,16 @@ module _ (server : Endpoint) (sizes : Sizes) (setup : Setup) where
       ∙ (ap (without (over_in (own_of sizes t) c)) so
       ∙ sym (append-nil (without (over_in (own_of sizes t) c)
       (cond (starts (own_of sizes t) c) (drop 1 (waiting_in sizes t)) (waiting_in sizes t)))))
+  told (_ ∷ t) rows law = plain t (told t rows.1 law)
 
   counted : (t : List Call) → ClientRows sizes t → Laws t → (own_of sizes t).taken ≡ numbers_in t
   counted [] rows law = refl
   counted (Calls now r (Ok n) ∷ t) rows law = let h = counted t rows.1 law in omega (arith, h)
-  counted (Calls now r (Err why) ∷ t) rows law = let h = counted t rows.1 law in omega (arith, h)
   counted (Observes now path (Ok n) ∷ t) rows law = let h = counted t rows.1 law in omega (arith, h)
-  counted (Observes now path (Err why) ∷ t) rows law = let h = counted t rows.1 law in omega (arith, h)
   counted (Cancels now n None ∷ t) rows law = let h = counted t rows.1 law in omega (arith, h)
-  counted (Cancels now n (Some why) ∷ t) rows law = let h = counted t rows.1 law in omega (arith, h)
   counted (Forgets n was true ∷ t) rows law = let h =
       counted t rows.1 (under t (Forgets n was true) law) in omega (arith, h)
-  counted (Forgets n was false ∷ t) rows law = let h = counted t rows.1 law in omega (arith, h)
   counted (NextOut answer ∷ t) rows law = let h = counted t rows.1 law.1 in omega (arith, h)
-  counted (NextReport answer ∷ t) rows law = let h = counted t rows.1 law in omega (arith, h)
-  counted (Asked answer ∷ t) rows law = let h = counted t rows.1 law in omega (arith, h)
   counted (Feeds now from bytes w up settled event sent token was ∷ t) rows law =
       let below = under t (Feeds now from bytes w up settled event sent token was) law in
       let a = (fed server sizes setup t now from bytes w up settled event sent token was
@@ -272,6 +250,7 @@ module _ (server : Endpoint) (sizes : Sizes) (setup : Setup) where
       (known server sizes setup t rows.1 below) law).taken_is in
       let h = counted t rows.1 below in
       omega (arith, a, h)
+  counted (_ ∷ t) rows law = let h = counted t rows.1 law in omega (arith, h)
 
   module _ (t : List Call) (rows : ClientRows sizes t) (law : Laws t) where
     abbrev own : Own

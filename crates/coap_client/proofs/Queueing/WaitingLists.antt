@@ -1,10 +1,8 @@
 -- Lists of what waits, of the operations of a queue.
 use Rattle.std.proofs.Common.{◌≡◌, ℕ, Bool, true, false, cond, not, ◌==◌, Some, List, [], ◌∷◌, ◌++◌, refl, ap, sym, ◌∙◌}
-use Rattle.std.proofs.Common.{arith}
-use Rattle.std.proofs.Common.{append_assoc}
+use Rattle.std.proofs.Common.{arith, append_assoc}
 use Rattle.std.specs.Prelude.{length, option_to_list}
-use Rattle.coap_client.specs.Own.{Operation, Calling, Registering, Fetching, Cancelling, Dropped}
-use Rattle.coap_client.specs.Own.{Observation}
+use Rattle.coap_client.specs.Own.{Operation, Calling, Registering, Fetching, Cancelling, Dropped, Observation}
 use Rattle.coap_client.specs.Follows.Places.{in_observations}
 use Rattle.coap_client.proofs.Places.PlaceEffects.{Waits, AllWait}
 use Rattle.coap_client.proofs.Places.PlaceLemmas.{same_number}
@@ -62,5 +60,4 @@ pub waits_some : (os : List Observation) (op : Operation) → Waits os op → (w
 waits_some os (Calling n r t) h = (ACall n, refl)
 waits_some os (Registering n path) h = (ARegistration n, refl)
 waits_some os (Cancelling n) h = (ACancel n, refl)
-waits_some os (Fetching n) h = absurd h
-waits_some os Dropped h = absurd h
+waits_some os _ h = absurd h

@@ -24,7 +24,7 @@ use Rattle.coap_client.specs.Follows.Newer.{Newly, notifies}
 use Rattle.coap_client.specs.Follows.Places.{in_observations}
 use Rattle.coap_client.proofs.Observing.Notified.{most, registers_as, renews_as, registered_effect, renewed_effect}
 use Rattle.coap_client.proofs.Observing.Notified.{in_found}
-use Rattle.coap_client.proofs.Observing.ObservationOrigins.{In}
+use Rattle.coap_client.proofs.Observing.ObservationSources.{In}
 use Rattle.coap_client.proofs.Observing.OfObservations.{of_number}
 use Rattle.coap_client.proofs.Places.PlaceLemmas.{number_self, number_if}
 use Rattle.coap_client.proofs.Sending.OfCalls.{size_is}

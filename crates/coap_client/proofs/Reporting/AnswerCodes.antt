@@ -1,7 +1,6 @@
 -- What the answer to a request of a call comes to, by its code.
 use Rattle.std.proofs.Common.{◌≡◌, ◌≢◌, ◌≤◌, ◌⊎◌, inl, inr, ℕ, Bool, true, false, cond, ◌&&◌, ◌||◌, Option, Some, None}
-use Rattle.std.proofs.Common.{List, [], ◌∷◌, refl, ap, sym, ◌∙◌}
-use Rattle.std.proofs.Common.{arith}
+use Rattle.std.proofs.Common.{List, [], ◌∷◌, refl, ap, sym, ◌∙◌, arith}
 use Rattle.std.specs.Prelude.{◌==◌, nat_lt}
 use Rattle.std.proofs.lemmas.Bool.Decides.{nat_tests}
 use Rattle.coap_types.specs.declared.block.Block.{Block}
@@ -21,8 +20,7 @@ use Rattle.coap_client.specs.Trace.{Request, Report, Valid, Failed, Done, BadBlo
 use Rattle.coap_client.specs.Own.{Transfer, Fetches, Uploads, Single, Calling}
 use Rattle.coap_client.specs.Follows.OfCalls.{CarriesBody}
 use Rattle.coap_client.specs.Requests.{is_longer}
-use Rattle.coap_client.specs.Responses.{created, deleted, changed, content, valid, continue, tag_in}
-use Rattle.coap_client.specs.Responses.{block_at, part}
+use Rattle.coap_client.specs.Responses.{created, deleted, changed, content, valid, continue, tag_in, block_at, part}
 use Rattle.coap_client.specs.Reports.{refused, done, is_success}
 use Rattle.coap_client.specs.Calls.{answer, has_tags}
 use Rattle.coap_client.specs.Calls as calls
@@ -46,9 +44,7 @@ next_report (calls.Ends final report) = report
 
 refused_none : (why : FetchRefusal) → is_code (refused why) ≡ false
 refused_none refusal.Changed = refl
-refused_none refusal.BadBlock = refl
-refused_none refusal.NoTag = refl
-refused_none refusal.TooLarge = refl
+refused_none _ = refl
 
 fetched_none : (f : FetchState) (m : Message) (v : Verdict) → next_code (calls.fetched f m v) ≡ false
 fetched_none f m (verdict.Refuse why) = refused_none why
@@ -107,17 +103,15 @@ failed_code false n code h = (refl, cc h)
 
 single_code : (sizes : Sizes) (method : Method) (body : List ℕ) (code : ℕ) → CarriesBody sizes method body Single
     → is_success method code ≡ (code == deleted)
-single_code sizes Get body code h = refl
 single_code sizes Post body code h = absurd h
 single_code sizes Put body code h = absurd h
-single_code sizes Delete body code h = refl
+single_code sizes _ body code h = refl
 
 upload_code : (sizes : Sizes) (method : Method) (body : List ℕ) (u : UploadState) (code : ℕ)
     → CarriesBody sizes method body (Uploads u) → is_success method code ≡ ((code == created) || (code == changed))
-upload_code sizes Get body u code h = absurd h
 upload_code sizes Post body u code h = refl
 upload_code sizes Put body u code h = refl
-upload_code sizes Delete body u code h = absurd h
+upload_code sizes _ body u code h = absurd h
 
 module _ (sizes : Sizes) (k : ℕ) (r : Request) (body : List ℕ) (m : Message) where
   -- the answer to a block

@@ -1,6 +1,6 @@
 -- Which reports an answer alone gives: a body, a 2.03, success and failure come of the answer to the call that runs.
-use Rattle.std.proofs.Common.{◌≡◌, ◌⊎◌, inl, inr, ℕ, max, Bool, true, false, Option, Some, None, List, refl}
-use Rattle.std.proofs.Common.{ap, sym, subst, ◌∙◌}
+use Rattle.std.proofs.Common.{◌≡◌, ◌⊎◌, inl, inr, ℕ, max, Bool, true, false, Option, Some, None, List, refl, ap, sym}
+use Rattle.std.proofs.Common.{subst, ◌∙◌}
 use Rattle.coap_codec.specs.Message.{Message}
 use Rattle.coap_block.specs.Sizes.{Sizes}
 use Rattle.coap_block.specs.declared.fetch_verdict.Verdict.{Verdict}
@@ -9,10 +9,8 @@ use Rattle.coap_block.specs.FetchStep.{FetchState}
 use Rattle.coap_block.specs.FetchStep as F
 use Rattle.coap_exchange.specs.declared.asker.Event.{Event}
 use Rattle.coap_exchange.specs.declared.asker.Event.TheVariants as event_of
-use Rattle.coap_client.specs.Trace.{Request, Report, NoIds, Reported, Call}
-use Rattle.coap_client.specs.Trace.{Feeds, Ticks}
-use Rattle.coap_client.specs.Own.{Transfer, Operation, Calling, Registering, Cancelling}
-use Rattle.coap_client.specs.Own.{Own}
+use Rattle.coap_client.specs.Trace.{Request, Report, NoIds, Reported, Call, Feeds, Ticks}
+use Rattle.coap_client.specs.Own.{Transfer, Operation, Calling, Registering, Cancelling, Own}
 use Rattle.coap_client.specs.Responses.{part}
 use Rattle.coap_client.specs.Reports.{lapse}
 use Rattle.coap_client.specs.Calls.{answer}
@@ -39,17 +37,12 @@ answer_reported (Some x) = is_by_answer x.report
 
 lapse_none : (e : Event) → is_by_answer (lapse e) ≡ false
 lapse_none (event_of.Answer m) = refl
-lapse_none (event_of.Notice m) = refl
-lapse_none event_of.Timeout = refl
-lapse_none event_of.Reset = refl
-lapse_none event_of.NoResponse = refl
+lapse_none _ = refl
 
 value_none : (k sequence : ℕ) (f : FetchState) (m : Message) (v : Verdict)
     → answer_reported (value k sequence f m v) ≡ false
 value_none k sequence f m (verdict.Refuse why) = refl
-value_none k sequence f m verdict.Done = refl
-value_none k sequence f m verdict.Again = refl
-value_none k sequence f m (verdict.Ask num size) = refl
+value_none k sequence f m _ = refl
 
 failed_none : (u : Transfer → Bool) (report : Report) (s : Own) (running : Option Operation)
     → is_by_answer report ≡ false → answer_reported (failed u report s running).report ≡ false

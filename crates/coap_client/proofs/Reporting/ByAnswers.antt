@@ -1,8 +1,8 @@
 -- Which reports the answers to the requests of a call give.
-use Rattle.std.proofs.Common.{◌≡◌, inl, inr, ℕ, ◌+◌, nat_lt, Bool, true, false, cond, ◌&&◌, Option, Some, None, List, []}
-use Rattle.std.proofs.Common.{◌∷◌, length, refl, ap, sym, subst, ◌∙◌, arith}
+use Rattle.std.proofs.Common.{◌≡◌, inl, inr, ℕ, ◌+◌, nat_lt, Bool, true, false, cond, ◌&&◌, Option, Some, None, List}
+use Rattle.std.proofs.Common.{[], ◌∷◌, length, refl, ap, sym, subst, ◌∙◌, arith}
 use Rattle.std.specs.Prelude.{◌==◌}
-use Rattle.std.proofs.lemmas.Bool.{ltb-true}
+use Rattle.std.proofs.lemmas.Bool.{ltb-true, and_parts as both}
 use Rattle.std.proofs.lemmas.Bool.Decides.{nat_tests}
 use Rattle.coap_types.specs.Piece.{size_of, offset_of}
 use Rattle.coap_types.specs.declared.block.Block.{Block}
@@ -16,8 +16,8 @@ use Rattle.coap_block.specs.Sizes.{Sizes}
 use Rattle.coap_block.specs.FetchStep.{FetchState}
 use Rattle.coap_block.specs.UploadStep.{UploadState, more_follows, continues, moved}
 use Rattle.coap_block.proofs.Facts.Laws.{continues_is_tested}
-use Rattle.coap_client.specs.Trace.{Request, Report, Body, Valid, Done, Failed, Changed}
-use Rattle.coap_client.specs.Trace.{BadBlock, NoTag, TooLarge, Call}
+use Rattle.coap_client.specs.Trace.{Request, Report, Body, Valid, Done, Failed, Changed, BadBlock, NoTag, TooLarge}
+use Rattle.coap_client.specs.Trace.{Call}
 use Rattle.coap_client.specs.Own.{Transfer, Fetches, Uploads, Single}
 use Rattle.coap_client.specs.Requests.{is_longer}
 use Rattle.coap_client.specs.Reports.{done, is_success}
@@ -37,7 +37,6 @@ use Rattle.coap_client.proofs.Reporting.Codes.{runs_as}
 use Rattle.coap_client.proofs.Reporting.AnswerCodes.{done_of, failed_of}
 use Rattle.coap_client.proofs.Turning.Leading.{client_back}
 use Rattle.coap_client.proofs.Uploading.Pieces.{answers_last}
-use Rattle.std.proofs.lemmas.Bool.{and_parts as both}
 
 -- what fits one message has no block behind it
 no_more : (u : UploadState) → is_longer u ≡ false → more_follows u ≡ false

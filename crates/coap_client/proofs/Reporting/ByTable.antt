@@ -1,6 +1,5 @@
 -- What is reported of a response is what the table of reports says.
-use Rattle.std.proofs.Common.{◌≡◌, inl, inr, ℕ, max, Bool, true, false, cond, not, ◌&&◌, Option, Some, None}
-use Rattle.std.proofs.Common.{List, []}
+use Rattle.std.proofs.Common.{◌≡◌, inl, inr, ℕ, max, Bool, true, false, cond, not, ◌&&◌, Option, Some, None, List, []}
 use Rattle.std.proofs.Common.{◌∷◌, ◌++◌, refl, ap, sym, subst, ◌∙◌, Result, Ok, Err}
 use Rattle.std.specs.Prelude.{◌==◌}
 use Rattle.coap_types.specs.declared.endpoint.Endpoint.{Endpoint}
@@ -16,18 +15,13 @@ use Rattle.coap_layer.specs.declared.setup.Setup.{Setup}
 use Rattle.coap_exchange.specs.declared.asker.Event.TheVariants as event_of
 use Rattle.coap_exchange.specs.declared.asker.Turn.TheVariants as turn_is
 use Rattle.coap_observe.specs.Newer.{is_newer}
-use Rattle.coap_client.specs.Trace.{Request, Done, Value, Ended, Cancelled}
-use Rattle.coap_client.specs.Trace.{BadBlock}
-use Rattle.coap_client.specs.Trace.{Reported, Call, Calls, Observes, Cancels, Forgets, Feeds, Ticks}
-use Rattle.coap_client.specs.Trace.{NextOut, NextReport, Asked}
+use Rattle.coap_client.specs.Trace.{Request, Done, Value, Ended, Cancelled, BadBlock, Reported, Call, Calls, Observes}
+use Rattle.coap_client.specs.Trace.{Cancels, Forgets, Feeds, Ticks, NextOut, NextReport, Asked}
 use Rattle.coap_client.specs.Trace as R
 use Rattle.coap_client.specs.Own.{Transfer, Fetches, Uploads, Single, Operation, Calling, Registering, Fetching}
-use Rattle.coap_client.specs.Own.{Cancelling}
-use Rattle.coap_client.specs.Own.{Dropped, Notified, Observation, Own}
+use Rattle.coap_client.specs.Own.{Cancelling, Dropped, Notified, Observation, Own}
 use Rattle.coap_client.specs.Observations.{rest_of, observation_of, observation_with, to_fetch}
-use Rattle.coap_client.specs.Responses.{content, tag_in, format_in}
-use Rattle.coap_client.specs.Responses.{sequence_in}
-use Rattle.coap_client.specs.Responses.{part, is_notification}
+use Rattle.coap_client.specs.Responses.{content, tag_in, format_in, sequence_in, part, is_notification}
 use Rattle.coap_client.specs.Reports.{is_success}
 use Rattle.coap_client.specs.Calls.{answer}
 use Rattle.coap_client.specs.Calls as calls
@@ -41,10 +35,8 @@ use Rattle.coap_client.specs.Law.{ClientLaw, own_of}
 use Rattle.coap_client.specs.Follows.Clock.{moment_of}
 use Rattle.coap_client.specs.Follows.Ends.{ends_as, unsent_by, unsent}
 use Rattle.coap_client.specs.Follows.Notified.{notes}
-use Rattle.coap_client.specs.Follows.Table.{line, first_of, is_whole}
-use Rattle.coap_client.specs.Follows.Table.{notified_lines}
-use Rattle.coap_client.specs.Follows.Table.{fetched_lines, answer_lines, number_in, reported_as}
-use Rattle.coap_client.specs.Follows.Table.{ReportsByTable}
+use Rattle.coap_client.specs.Follows.Table.{line, first_of, is_whole, notified_lines, fetched_lines, answer_lines}
+use Rattle.coap_client.specs.Follows.Table.{number_in, reported_as, ReportsByTable}
 use Rattle.coap_client.specs.Follows.Words.{hears}
 use Rattle.coap_client.specs.Turns.Closing.{Closing, quiet, goes_out, is_refused}
 use Rattle.coap_client.proofs.Hearing.HeardRuns.{fed_came, ticked_turn}
@@ -62,9 +54,7 @@ notified_by : (k sequence : ℕ) (sizes : Sizes) (m : Message) (v : Verdict)
     ≡ reported_as k (first_of (line (true && (true && is_whole v)) (Value sequence (tag_in m) (format_in m) m.payload)
     ∷ line false (Ended m.code) ∷ []))
 notified_by k sequence sizes m verdict.Done = refl
-notified_by k sequence sizes m verdict.Again = refl
-notified_by k sequence sizes m (verdict.Ask num size) = refl
-notified_by k sequence sizes m (verdict.Refuse why) = refl
+notified_by k sequence sizes m _ = refl
 
 module _ (i : ℕ) (token : Result (List ℕ) AskRefusal) where
   abbrev reported : Effect → Option Reported

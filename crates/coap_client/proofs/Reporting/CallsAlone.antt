@@ -85,15 +85,12 @@ next_if false x y h k = k
 
 refused_tells : (why : FetchRefusal) → is_of_observation (refused why) ≡ false
 refused_tells refusal.Changed = refl
-refused_tells refusal.BadBlock = refl
-refused_tells refusal.NoTag = refl
-refused_tells refusal.TooLarge = refl
+refused_tells _ = refl
 
 fetched_tells : (f : FetchState) (m : Message) (v : Verdict) → NextTells (fetched f m v)
 fetched_tells f m (verdict.Refuse why) = refused_tells why
-fetched_tells f m verdict.Again = tt
 fetched_tells f m verdict.Done = refl
-fetched_tells f m (verdict.Ask num szx) = tt
+fetched_tells f m _ = tt
 
 done_tells : (b : Bool) (code : ℕ) → is_of_observation (cond b (Done code) (Failed code)) ≡ false
 done_tells true code = refl
@@ -177,10 +174,7 @@ idle_alone s now k None = starts_alone s now k s.queue k.queue
 
 lapse_tells : (e : Event) → is_of_observation (lapse e) ≡ false
 lapse_tells (event.Answer m) = refl
-lapse_tells (event.Notice m) = refl
-lapse_tells event.Timeout = refl
-lapse_tells event.Reset = refl
-lapse_tells event.NoResponse = refl
+lapse_tells _ = refl
 
 passes_alone : (s : Own) (now : ℕ) → Alone s → (t : Turn) → StaysAlone (passes s now t)
 passes_alone s now k turn.Idle =
@@ -196,8 +190,7 @@ closed_alone now e k (Asks op) h (Ok token) = quiet (record e.own { sent = now }
     (record { running = k.own.running; queue = k.own.queue; none = k.own.none })
 closed_alone now e k (Asks op) h (Err why) = failed_alone has_sent NoIds e.own refl k.own (Some op) h
 closed_alone now e k Rests h token = k
-closed_alone now e k (Keeps t) h token = record { own = k.own; report = k.report; deed = tt }
-closed_alone now e k (Releases t) h token = record { own = k.own; report = k.report; deed = tt }
+closed_alone now e k _ h token = record { own = k.own; report = k.report; deed = tt }
 
 -- each call
 

@@ -1,15 +1,12 @@
 -- Success and failure are reported of a call where its request is answered so, and there alone.
-use Rattle.std.proofs.Common.{◌≡◌, ◌⊎◌, inl, inr, ℕ, max, Bool, true, Some, List, ◌∷◌, [], refl}
-use Rattle.std.proofs.Common.{ap, sym, subst, ◌∙◌}
+use Rattle.std.proofs.Common.{◌≡◌, ◌⊎◌, inl, inr, ℕ, max, Bool, true, Some, List, ◌∷◌, [], refl, ap, sym, subst, ◌∙◌}
 use Rattle.coap_types.specs.declared.endpoint.Endpoint.{Endpoint}
 use Rattle.coap_layer.specs.declared.setup.Setup.{Setup}
 use Rattle.coap_codec.specs.Message.{Message}
 use Rattle.coap_block.specs.Sizes.{Sizes}
 use Rattle.coap_exchange.specs.declared.asker.Event.TheVariants as event_of
-use Rattle.coap_client.specs.Trace.{Request, Report, Failed, Done, Call}
-use Rattle.coap_client.specs.Trace.{Feeds}
-use Rattle.coap_client.specs.Own.{Transfer, Operation, Calling}
-use Rattle.coap_client.specs.Own.{Dropped, Own}
+use Rattle.coap_client.specs.Trace.{Request, Report, Failed, Done, Call, Feeds}
+use Rattle.coap_client.specs.Own.{Transfer, Operation, Calling, Dropped, Own}
 use Rattle.coap_client.specs.Calls.{answer}
 use Rattle.coap_client.specs.Calls as calls
 use Rattle.coap_client.specs.Effects.{of}
@@ -25,8 +22,10 @@ use Rattle.coap_client.specs.Follows.Words.{Sending, hears, last_sent}
 use Rattle.coap_client.proofs.Turning.Leading.{client_back}
 use Rattle.coap_client.proofs.Sending.OfCalls.{are_of_calls}
 use Rattle.coap_client.proofs.Places.Once.{beneath}
-use Rattle.coap_client.proofs.Uploading.Pieces.{IfTracked, Tracked, all_sends, answers_last}
-use Rattle.coap_client.proofs.Sending.Tokens.{last_was_sent}
+use Rattle.coap_client.proofs.Uploading.SentSoFar.{IfTracked, Tracked}
+use Rattle.coap_client.proofs.Uploading.AllSent.{all_sends}
+use Rattle.coap_client.proofs.Uploading.Pieces.{answers_last}
+use Rattle.coap_client.proofs.Sending.LiveTokens.{last_was_sent}
 use Rattle.coap_client.specs.Follows.Codes.{Succeeds, Fails, IsOfCode, ReportsCodes}
 use Rattle.coap_client.proofs.Reporting.AnswerReports.{GivesReport, gives_of}
 use Rattle.coap_client.proofs.Reporting.AnswerCodes.{done_of, failed_of, each_done_of, each_failed_of}

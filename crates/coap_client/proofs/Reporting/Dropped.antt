@@ -12,10 +12,9 @@ use Rattle.coap_exchange.specs.declared.asker.Event.{Event}
 use Rattle.coap_exchange.specs.declared.asker.Exchange.{Exchange}
 use Rattle.coap_observe.specs.Newer.{is_newer}
 use Rattle.coap_client.specs.Trace.{NoIds, Report, Ended, Reported, Call, Calls, Observes, Cancels, Forgets, Feeds}
-use Rattle.coap_client.specs.Trace.{Ticks}
-use Rattle.coap_client.specs.Trace.{NextOut, NextReport, Asked}
-use Rattle.coap_client.specs.Own.{Transfer, Operation, Calling, Registering, Fetching, Cancelling}
-use Rattle.coap_client.specs.Own.{Dropped, Observation, Own}
+use Rattle.coap_client.specs.Trace.{Ticks, NextOut, NextReport, Asked}
+use Rattle.coap_client.specs.Own.{Transfer, Operation, Calling, Registering, Fetching, Cancelling, Dropped, Observation}
+use Rattle.coap_client.specs.Own.{Own}
 use Rattle.coap_client.specs.Observations.{observation_with, dropped}
 use Rattle.coap_client.specs.Responses.{is_notification, sequence_in}
 use Rattle.coap_client.specs.Effects.{Asks, Effect, has_sent}
@@ -41,7 +40,8 @@ use Rattle.coap_client.proofs.Places.PlaceLemmas.{same_number, number_self, hit_
 use Rattle.coap_client.proofs.Queueing.OneByOne.{asks_runs, last_same}
 use Rattle.coap_client.proofs.Turning.Moves.{releases_none}
 use Rattle.coap_client.proofs.Turning.Turns.{Turned, fed_turned, ticked_turned}
-use Rattle.coap_client.proofs.Uploading.Pieces.{IfTracked, all_sends}
+use Rattle.coap_client.proofs.Uploading.SentSoFar.{IfTracked}
+use Rattle.coap_client.proofs.Uploading.AllSent.{all_sends}
 use Rattle.coap_client.proofs.Observing.FetchesSince.{failed_some as failed_none}
 
 -- no request is asked for that no longer counts

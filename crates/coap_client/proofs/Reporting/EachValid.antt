@@ -38,8 +38,7 @@ got_valid r f m tags code =
 answer_valid : (sizes : Sizes) (r : Request) (body : List ℕ) (tr : Transfer) (m : Message)
     → CarriesBody sizes Get body tr → r.etags ≢ [] → m.code ≡ valid → answer r tr m ≡ calls.Ends true (Valid (tag_in m))
 answer_valid sizes r body (Fetches f) m carries tags code = got_valid r f m tags code
-answer_valid sizes r body (Uploads u) m carries tags code = absurd carries
-answer_valid sizes r body Single m carries tags code = absurd carries
+answer_valid sizes r body _ m carries tags code = absurd carries
 
 valid_here : (server : Endpoint) (sizes : Sizes) (setup : Setup) (t : List Call) (c : Call)
     → ClientLaw server sizes setup (c ∷ t)

@@ -1,6 +1,6 @@
 -- What is whole is reported: the body of a call, and the value of an observation.
-use Rattle.std.proofs.Common.{◌≡◌, ◌≤◌, inl, inr, ℕ, max, true, cond, ◌&&◌, Some, List}
-use Rattle.std.proofs.Common.{[], ◌∷◌, refl, ap, sym, subst, ◌∙◌, arith}
+use Rattle.std.proofs.Common.{◌≡◌, ◌≤◌, inl, inr, ℕ, max, true, cond, ◌&&◌, Some, List, [], ◌∷◌, refl, ap, sym, subst}
+use Rattle.std.proofs.Common.{◌∙◌, arith}
 use Rattle.std.specs.Prelude.{◌==◌}
 use Rattle.coap_types.specs.declared.endpoint.Endpoint.{Endpoint}
 use Rattle.coap_layer.specs.declared.setup.Setup.{Setup}
@@ -11,8 +11,7 @@ use Rattle.coap_block.specs.declared.fetch_step.FetchRefusal.TheVariants as refu
 use Rattle.coap_block.specs.FetchStep.{FetchState}
 use Rattle.coap_block.specs.FetchStep as F
 use Rattle.coap_exchange.specs.declared.asker.Event.TheVariants as event_of
-use Rattle.coap_client.specs.Trace.{Request, Body, Value, Valid, Failed, Call}
-use Rattle.coap_client.specs.Trace.{Feeds}
+use Rattle.coap_client.specs.Trace.{Request, Body, Value, Valid, Failed, Call, Feeds}
 use Rattle.coap_client.specs.Own.{Fetches, Operation, Calling, Registering, Fetching, Cancelling, Dropped, Notified}
 use Rattle.coap_client.specs.Own.{Own}
 use Rattle.coap_client.specs.Observations.{rest_of, observation_with}
@@ -34,17 +33,19 @@ use Rattle.coap_client.specs.Follows.Values.{SentSince, HeardToFetch}
 use Rattle.coap_client.specs.Follows.Words.{Sending, hears}
 use Rattle.coap_client.specs.Follows.Whole.{MakesWhole, ReportsWhole, WholeAreReported}
 use Rattle.coap_client.proofs.Hearing.HeardRuns.{HeardRuns, heard_runs, sent_last}
-use Rattle.coap_client.proofs.Observing.Notified.{registers_as, renews_as}
-use Rattle.coap_client.proofs.Observing.Notified.{registered_effect, renewed_effect}
-use Rattle.coap_client.proofs.Observing.ObservationOrigins.{in_count}
-use Rattle.coap_client.proofs.Observing.Values.{found_rest, fetched}
-use Rattle.coap_client.proofs.Places.Once.{known, both_one}
+use Rattle.coap_client.proofs.Observing.Notified.{registers_as, renews_as, registered_effect, renewed_effect}
+use Rattle.coap_client.proofs.Observing.ObservationSources.{in_count}
+use Rattle.coap_client.proofs.Observing.Values.{fetched}
+use Rattle.coap_client.proofs.Observing.ValueParts.{found_rest}
+use Rattle.coap_client.proofs.Places.Once.{known}
+use Rattle.coap_client.proofs.Places.NumberSteps.{both_one}
 use Rattle.coap_client.proofs.Reporting.Codes.{reports_answer}
 use Rattle.coap_client.proofs.Reporting.Dropped.{if_dropped}
 use Rattle.coap_client.proofs.Reporting.LastParts.{last_part}
 use Rattle.coap_client.proofs.Sending.OfCalls.{fetch_sizes, running_taken, size_is}
 use Rattle.coap_client.proofs.Sending.SentFor.{sent_call}
-use Rattle.coap_client.proofs.Sending.Tokens.{last_was_sent, one_of_token}
+use Rattle.coap_client.proofs.Sending.Tokens.{one_of_token}
+use Rattle.coap_client.proofs.Sending.LiveTokens.{last_was_sent}
 use Rattle.coap_client.proofs.Turning.Leading.{client_back}
 
 -- the last part of a GET

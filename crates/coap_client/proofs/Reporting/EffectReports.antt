@@ -14,25 +14,19 @@ use Rattle.coap_block.specs.FetchStep as F
 use Rattle.coap_block.specs.UploadStep.{UploadState, more_follows, moved, continues}
 use Rattle.coap_observe.specs.Newer.{is_newer}
 use Rattle.coap_exchange.specs.declared.asker.AskRefusal.{AskRefusal}
-use Rattle.coap_client.specs.Trace.{Request, Report, Valid, Failed, Done, BadBlock, NoIds, Ended}
-use Rattle.coap_client.specs.Trace.{Reported}
-use Rattle.coap_client.specs.Own.{Transfer, Fetches, Uploads, Single, Operation, Calling, Registering}
-use Rattle.coap_client.specs.Own.{Fetching, Cancelling, Dropped, Notified, Observation, Own}
+use Rattle.coap_client.specs.Trace.{Request, Report, Valid, Failed, Done, BadBlock, NoIds, Ended, Reported}
+use Rattle.coap_client.specs.Own.{Transfer, Fetches, Uploads, Single, Operation, Calling, Registering, Fetching}
+use Rattle.coap_client.specs.Own.{Cancelling, Dropped, Notified, Observation, Own}
 use Rattle.coap_client.specs.Requests.{is_longer}
-use Rattle.coap_client.specs.Responses.{content, valid, continue, tag_in, block_at, part}
-use Rattle.coap_client.specs.Responses.{is_notification, sequence_in}
+use Rattle.coap_client.specs.Responses.{content, valid, continue, tag_in, block_at, part, is_notification, sequence_in}
 use Rattle.coap_client.specs.Reports.{refused, done, is_success}
 use Rattle.coap_client.specs.Calls.{answer, has_tags}
 use Rattle.coap_client.specs.Calls as calls
-use Rattle.coap_client.specs.Effects.{Deed, Asks, Effect, runs, stays, ends, of, has_sent}
+use Rattle.coap_client.specs.Effects.{Deed, Asks, Effect, runs, stays, ends, of, has_sent, Keeps}
 use Rattle.coap_client.specs.Fetching.{value, fetch_by, fetch_answered}
 use Rattle.coap_client.specs.Observations.{observation_with, rest_of}
-use Rattle.coap_client.specs.Observing.{registered, renewed, passed, is_over, noticed, noticed_by}
-use Rattle.coap_client.specs.Observing.{begun}
-use Rattle.coap_client.specs.Observing.{first_value}
-use Rattle.coap_client.specs.Effects.{Keeps}
-use Rattle.coap_client.specs.Events.{called, answered, failed, closed, starts, idle, is_held}
-use Rattle.coap_client.specs.Events.{is_upload_op}
+use Rattle.coap_client.specs.Observing.{registered, renewed, passed, is_over, noticed, noticed_by, begun, first_value}
+use Rattle.coap_client.specs.Events.{called, answered, failed, closed, starts, idle, is_held, is_upload_op}
 use Rattle.coap_client.specs.Turns.Closing.{Closing, quiet, goes_out, is_refused}
 use Rattle.coap_client.specs.Follows.Ends.{is_end, reported_of, report_to, Unsent, unsent_by}
 
@@ -52,12 +46,8 @@ reported_in (Some op) = reported_of op
 -- what fails is reported so, of what is reported so
 pub failed_report : (u : Transfer → Bool) (report : Report) (s : Own) (running : Option Operation)
     → (failed u report s running).report ≡ report_to report (reported_in running)
-failed_report u report s None = refl
 failed_report u report s (Some (Calling k r t)) = refl
-failed_report u report s (Some (Registering k path)) = refl
-failed_report u report s (Some (Fetching k)) = refl
-failed_report u report s (Some (Cancelling k)) = refl
-failed_report u report s (Some Dropped) = refl
+failed_report u report s _ = refl
 
 pub reported_is : (report : Report) (o : Option ℕ) (x : Reported) → report_to report o ≡ Some x
     → (x.report ≡ report) × (o ≡ Some x.number)
@@ -70,9 +60,7 @@ reported_is report (Some n) x h =
 
 refused_none : (why : FetchRefusal) → is_lapse (refused why) ≡ false
 refused_none refusal.Changed = refl
-refused_none refusal.BadBlock = refl
-refused_none refusal.NoTag = refl
-refused_none refusal.TooLarge = refl
+refused_none _ = refl
 
 abbrev next_lapse : calls.Next → Bool
 next_lapse (calls.Asks t) = false
@@ -120,15 +108,11 @@ called_none k r t s (calls.Ends final report) h = h
 
 value_none : (k sequence : ℕ) (f : FetchState) (m : Message) (v : Verdict) → lapse_in (value k sequence f m v) ≡ false
 value_none k sequence f m (verdict.Refuse why) = refl
-value_none k sequence f m verdict.Done = refl
-value_none k sequence f m verdict.Again = refl
-value_none k sequence f m (verdict.Ask num size) = refl
+value_none k sequence f m _ = refl
 
 fetch_none : (k : ℕ) (n : Notified) (s : Own) (m : Message) (v : Verdict) → lapse_in (fetch_by k n s m v).report ≡ false
 fetch_none k n s m (verdict.Refuse why) = refl
-fetch_none k n s m verdict.Done = refl
-fetch_none k n s m verdict.Again = refl
-fetch_none k n s m (verdict.Ask num size) = refl
+fetch_none k n s m _ = refl
 
 fetched_by_none : (k : ℕ) (o : Option Notified) (s : Own) (m : Message)
     → lapse_in (fetch_answered k o s m).report ≡ false

@@ -1,15 +1,9 @@
--- Each report is of a number that was given; an exchange that ends without a response is reported so, and nothing else
--- is.
-use Rattle.std.proofs.Common.{◌≡◌, ◌⊎◌, ◌≤◌, inl, inr, ℕ, ◌+◌, max, Bool, true, false, cond, Option, Some, None, List}
-use Rattle.std.proofs.Common.{[], ◌∷◌, ◌++◌, refl, ap, sym, subst}
-use Rattle.std.proofs.Common.{◌∙◌, Result, Ok, Err, arith, append_assoc}
-use Rattle.std.specs.Prelude.{◌==◌, nat_lt, nat_le, length}
-use Rattle.std.proofs.lemmas.Bool.{ltb-true}
-use Rattle.std.proofs.lemmas.Bool.Decides.{nat_tests}
-use Rattle.coap_types.specs.Past.{Ever, Always}
+-- An exchange that ends without a response is reported so, and nothing else is.
+use Rattle.std.proofs.Common.{◌≡◌, ◌⊎◌, inl, inr, ℕ, ◌+◌, max, Bool, true, false, Option, Some, None, List, [], ◌∷◌}
+use Rattle.std.proofs.Common.{◌++◌, refl, ap, sym, subst, ◌∙◌, Result, Err, append_assoc}
+use Rattle.coap_types.specs.Past.{Always}
 use Rattle.coap_types.proofs.Facts.Traces.{Always_back}
 use Rattle.coap_types.specs.declared.endpoint.Endpoint.{Endpoint}
-use Rattle.coap_types.specs.declared.option_number.TheConstants.{BLOCK2 as block2}
 use Rattle.coap_layer.specs.Trace as L
 use Rattle.coap_layer.specs.declared.setup.Setup.{Setup}
 use Rattle.coap_block.specs.Sizes.{Sizes}
@@ -17,7 +11,6 @@ use Rattle.coap_exchange.specs.declared.asker.AskRefusal.{AskRefusal}
 use Rattle.coap_exchange.specs.declared.asker.AskRefusal.TheVariants as refusal
 use Rattle.coap_exchange.specs.declared.asker.Event.{Event}
 use Rattle.coap_exchange.specs.declared.asker.Event.TheVariants as event_of
-use Rattle.coap_exchange.specs.declared.asker.Exchange.{Exchange}
 use Rattle.coap_exchange.specs.declared.asker.Turn.{Turn}
 use Rattle.coap_exchange.specs.declared.asker.Turn.TheVariants as turn_is
 use Rattle.coap_exchange.specs.AskerTrace as E
@@ -29,148 +22,35 @@ use Rattle.coap_exchange.specs.AskerTells.{TellsRunning, AreRefused}
 use Rattle.coap_exchange.proofs.Facts.Exchanges as exchanges
 use Rattle.coap_exchange.proofs.Facts.ClientSide.{are_refused}
 use Rattle.coap_exchange.proofs.Facts.Moves.{token_in}
-use Rattle.coap_client.specs.declared.limits.TheConstants.{MAX_OBSERVATIONS as max_observations}
-use Rattle.coap_client.specs.declared.refusals.CallRefusal.TheVariants.{QueueFull, BodyTooLarge, BadPath, WatchesFull}
-use Rattle.coap_client.specs.declared.refusals.CallRefusal.TheVariants.{CallsSpent}
-use Rattle.coap_client.specs.Trace.{Report, Reset, NoIds, Reported, Call, Calls, Observes, Cancels}
-use Rattle.coap_client.specs.Trace.{Forgets, Feeds, Ticks, NextOut}
-use Rattle.coap_client.specs.Trace.{NextReport, Asked}
+use Rattle.coap_client.specs.Trace.{Report, Reset, NoIds, Reported, Call, Calls, Feeds, Ticks}
 use Rattle.coap_client.specs.Own.{Operation, Own}
 use Rattle.coap_client.specs.Observations.{to_fetch}
-use Rattle.coap_client.specs.Requests.{message_of, options_of, path_options}
-use Rattle.coap_client.specs.Queue.{max_numbers, are_long, block_option_number, is_full, observed}
+use Rattle.coap_client.specs.Requests.{message_of}
 use Rattle.coap_client.specs.Reports.{lapse}
 use Rattle.coap_client.specs.Effects.{Asks, Effect}
 use Rattle.coap_client.specs.Events.{happened, passes}
 use Rattle.coap_client.specs.Deeds.{at, close, deeds, done_for}
-use Rattle.coap_client.specs.Follows.Numbers.{number_given}
-use Rattle.coap_client.specs.Follows.Places.{places, gone}
-use Rattle.coap_client.specs.Steps.{lower, reports}
+use Rattle.coap_client.specs.Steps.{reports}
 use Rattle.coap_client.specs.Law.{ClientLaw, ClientRows, own_of, lower_of}
 use Rattle.coap_client.specs.Follows.Words.{Sending, last_sent}
 use Rattle.coap_client.proofs.Uploading.Holds.{goes_fed, goes_ticked}
 use Rattle.coap_client.proofs.Turning.Leading.{client_back}
-use Rattle.coap_client.proofs.Places.Once.{beneath, law_back, law_front, done_right, given_is, known, fed}
-use Rattle.coap_client.proofs.Places.Once.{ticked, from_place}
-use Rattle.coap_client.proofs.Uploading.Pieces.{IfTracked, all_sends}
+use Rattle.coap_client.proofs.Places.Once.{beneath, law_back, law_front, done_right, known}
 use Rattle.coap_client.proofs.Turning.Turns.{closing}
 use Rattle.coap_client.proofs.Turning.ExchangeCame.{Came, came}
-use Rattle.coap_client.proofs.Places.PlaceEffects.{Linked, Leaves}
-use Rattle.coap_client.proofs.Places.PlaceEvents.{AreRight}
-use Rattle.coap_client.specs.Follows.Ends.{ends_as, is_end, reported_of, report_to, Unsent, unsent, IsWant}
-use Rattle.coap_client.specs.Follows.Ends.{ReportsEnds, AllEnds}
-use Rattle.coap_client.proofs.Reporting.Dropped.{if_dropped}
-use Rattle.coap_client.proofs.Reporting.ExchangeEnds.{failed_closed, ByTime, EndedBy, ended_by, end_lapse}
-use Rattle.coap_client.proofs.Reporting.ExchangeEnds.{want_or_runs}
+use Rattle.coap_client.proofs.Places.PlaceEffects.{Leaves}
+use Rattle.coap_client.proofs.Places.PlaceDeeds.{AreRight}
+use Rattle.coap_client.specs.Follows.Ends.{ends_as, is_end, reported_of, report_to, Unsent, unsent, IsWant, ReportsEnds}
+use Rattle.coap_client.specs.Follows.Ends.{AllEnds}
+use Rattle.coap_client.proofs.Reporting.ExchangeEnds.{failed_closed, ByTime, EndedBy, ended_by, end_lapse, want_or_runs}
 use Rattle.coap_client.proofs.Reporting.EffectReports.{is_lapse, lapse_in, reported_in, reported_is, answered_none}
-use Rattle.coap_client.proofs.Reporting.EffectReports.{noticed_none, idle_none, Refuses}
-use Rattle.coap_client.proofs.Reporting.EffectReports.{refuses_so, unsent_asks, unsent_report}
-
--- numbers are given one by one
-
-split : (n m : ℕ) → nat_lt n (m + 1) ≡ true → (nat_lt n m ≡ true) ⊎ (n ≡ m)
-split n m h = by (nat_lt n m) refl
-  where
-    by : (b : Bool) → nat_lt n m ≡ b → (nat_lt n m ≡ true) ⊎ (n ≡ m)
-    by true e = inl e
-    by false e = inr (let a = ltb-true n (m + 1) h in grind (arith, nat_tests, a, e))
-
-in_place : (a b : ℕ) (c : Bool) → a + b ≡ cond c 1 0 → 1 ≤ a → c ≡ true
-in_place a b true h p = refl
-in_place a b false h p = absurd (omega (arith, h, p))
+use Rattle.coap_client.proofs.Reporting.EffectReports.{noticed_none, idle_none, Refuses, refuses_so, unsent_asks}
+use Rattle.coap_client.proofs.Reporting.EffectReports.{unsent_report}
+use Rattle.coap_client.proofs.Reporting.GivenNumbers.{below_of, last_is, numbered_so}
 
 module _ (server : Endpoint) (sizes : Sizes) (setup : Setup) where
   abbrev Laws : List E.Call → Type 0
   Laws calls = X.AskerLaw server setup calls
-
-  below_of : (t : List Call) (c : Call) → Laws (lower_of sizes (c ∷ t)) → Laws (lower_of sizes t)
-  below_of t c law = law_back server setup (lower (own_of sizes t) c) (lower_of sizes t) law
-
-  -- each number below those to come was given
-  abbrev Given : ℕ → List Call → Type 0
-  Given n t = Ever (λ b. number_given b ≡ Some n) t
-
-  next_given : (t : List Call) (c : Call) (k n : ℕ) → number_given c ≡ Some k → k ≡ (own_of sizes t).taken
-      → (nat_lt n (own_of sizes t).taken ≡ true → Given n t) → nat_lt n ((own_of sizes t).taken + 1) ≡ true
-      → Given n (c ∷ t)
-  next_given t c k n gives is ih h = elim (split n (own_of sizes t).taken h)
-      [ inl low ↦ inr (ih low) | inr same ↦ inl (gives ∙ ap (λ i. Some i) (is ∙ sym same)) ]
-
-  given : (t : List Call) → ClientRows sizes t → Laws (lower_of sizes t) → (n : ℕ)
-      → nat_lt n (own_of sizes t).taken ≡ true
-      → Given n t
-  given [] rows law n h = let a = ltb-true n 0 h in absurd (omega (arith, a))
-  given (Calls now r (Ok k) ∷ t) rows law n h =
-      let s : Own = own_of sizes t in
-      let is = given_is (is_full s) (nat_lt s.sizes.limit (length r.body))
-      (are_long (block_option_number r.method) (options_of r))
-      (s.taken == max_numbers) QueueFull BodyTooLarge BadPath CallsSpent k s.taken rows.0 in
-      next_given t (Calls now r (Ok k)) k n refl is (λ low. given t rows.1 law n low) h
-  given (Calls now r (Err why) ∷ t) rows law n h = inr (given t rows.1 law n h)
-  given (Observes now path (Ok k) ∷ t) rows law n h =
-      let s : Own = own_of sizes t in
-      let is = given_is (is_full s) (are_long block2 (path_options path)) (nat_le max_observations (observed s))
-      (s.taken == max_numbers) QueueFull BadPath WatchesFull CallsSpent k s.taken rows.0 in
-      next_given t (Observes now path (Ok k)) k n refl is (λ low. given t rows.1 law n low) h
-  given (Observes now path (Err why) ∷ t) rows law n h = inr (given t rows.1 law n h)
-  given (Cancels now k None ∷ t) rows law n h = inr (given t rows.1 law n h)
-  given (Cancels now k (Some why) ∷ t) rows law n h = inr (given t rows.1 law n h)
-  given (Forgets k was true ∷ t) rows law n h = inr (given t rows.1 (below_of t (Forgets k was true) law) n h)
-  given (Forgets k was false ∷ t) rows law n h = inr (given t rows.1 law n h)
-  given (NextOut answer ∷ t) rows law n h = inr (given t rows.1 law.1 n h)
-  given (NextReport answer ∷ t) rows law n h = inr (given t rows.1 law n h)
-  given (Asked answer ∷ t) rows law n h = inr (given t rows.1 law n h)
-  given (Feeds now from bytes w up settled event sent token was ∷ t) rows law n h =
-      let c : Call = Feeds now from bytes w up settled event sent token was in
-      let under = below_of t c law in
-      let k = known server sizes setup t rows.1 under in
-      inr (given t rows.1 under n (ap (nat_lt n) (sym
-      (fed server sizes setup t now from bytes w up settled event sent token was k law).taken_is) ∙ h))
-  given (Ticks now w below turn sent token was answer ∷ t) rows law n h =
-      let c : Call = Ticks now w below turn sent token was answer in
-      let under = below_of t c law in
-      let k = known server sizes setup t rows.1 under in
-      inr (given t rows.1 under n (ap (nat_lt n) (sym
-      (ticked server sizes setup t now w below turn sent token was answer k law).taken_is) ∙ h))
-
-  numbered_so : (t : List Call) (c : Call) → ClientLaw server sizes setup (c ∷ t) → (x : Reported)
-      → reports (own_of sizes t) c ≡ Some x → Given x.number t
-  numbered_so t c law x made =
-      let under = below_of t c law.exchanges.rows in
-      let k = known server sizes setup t law.rows.1 under in
-      given t law.rows.1 under x.number (in_place (places x.number (own_of sizes t)) (gone sizes x.number t)
-      (nat_lt x.number (own_of sizes t).taken) (k.one x.number)
-      (from_place server sizes setup t c k law.exchanges.rows x made))
-
-  -- the exchange that runs is that of the request that was sent last
-  record LastIs (t : List Call) : Type 0 where
-    sending : Sending
-    last : last_sent sizes t ≡ Some sending
-    same : reported_in (own_of sizes t).running ≡ reported_of sending.operation
-
-  last_is : (t : List Call) → ClientRows sizes t → Laws (lower_of sizes t) → (x : Exchange)
-      → (beneath server sizes setup t).running ≡ Some x → LastIs t
-  last_is t rows law x runs = by (own_of sizes t).running refl (known server sizes setup t rows law).linked
-      (all_sends sizes server setup t rows law).tracked
-    where
-      by : (o : Option Operation) → (own_of sizes t).running ≡ o
-          → Linked o (own_of sizes t).observations (beneath server sizes setup t).running
-          → IfTracked sizes t o (beneath server sizes setup t).running → LastIs t
-      by None is link tr = let none : None ≡ Some x = sym link ∙ runs in absurd (cc none)
-      by (Some op) is link tr = elim tr.same [
-        | inr same ↦ record {
-          sending = tr.sending;
-          last = tr.last;
-          same = ap reported_in is ∙ ap reported_of (sym same);
-        }
-        | inl gone_op ↦ (
-            let d = if_dropped sizes server setup t rows law (is ∙ ap (λ z. Some z) gone_op) in
-            record {
-              sending = d.sending;
-              last = d.last;
-              same = ap reported_in is ∙ (ap reported_of gone_op ∙ sym (ap reported_of d.fetches));
-            })
-      ]
 
   -- what is handed in to the exchanges, and asked of them then
   module _ (t : List Call) (now w : ℕ) (sent : L.Answer) (token : Result (List ℕ) AskRefusal) (kept : Bool) (e : Effect)
@@ -190,7 +70,8 @@ module _ (server : Endpoint) (sizes : Sizes) (setup : Setup) where
     right : Laws calls → P.IsRight (beneath server sizes setup t) input
         × AreRight x1 (later ++ deeds e.deed e.own m w sent token kept)
     right law = done_right (beneath server sizes setup t) later (deeds e.deed e.own m w sent token kept) input
-        (law_front server setup (later ++ (deeds e.deed e.own m w sent token kept ++ input ∷ [])) (lower_of sizes t) law)
+        (law_front server setup (later ++ (deeds e.deed e.own m w sent token kept ++ input ∷ [])) (lower_of sizes t)
+        law)
 
     -- a request that is asked for and not sent
     module _ (law : Laws calls) (told : AreRefused calls) (op : Operation) (why : AskRefusal) (asks : e.deed ≡ Asks op)
@@ -251,7 +132,7 @@ module _ (server : Endpoint) (sizes : Sizes) (setup : Setup) where
     fed_effect = happened s moment event
 
     under : Laws (lower_of sizes t)
-    under = below_of t feed law
+    under = below_of server sizes setup t feed law
 
     came_so : Came (beneath server sizes setup t).running (P.after (beneath server sizes setup t) input).running event
     came_so = came (beneath server sizes setup t) from _ up event (right t now w sent token kept fed_effect input law).0
@@ -279,8 +160,6 @@ module _ (server : Endpoint) (sizes : Sizes) (setup : Setup) where
         by None is h = quiet_so None is refl
         by (Some (event_of.Answer a)) is h = quiet_so (Some (event_of.Answer a)) is (answered_none s moment a s.running)
         by (Some (event_of.Notice a)) is h = quiet_so (Some (event_of.Notice a)) is (noticed_none s moment a)
-        by (Some event_of.Timeout) is h = absurd h
-        by (Some event_of.NoResponse) is h = absurd h
         by (Some event_of.Reset) is h =
             let e : (close moment (happened s moment (Some event_of.Reset)) token).report
             ≡ Some x = ap (λ z. (close moment (happened s moment z) token).report) (sym is) ∙ made in
@@ -291,6 +170,7 @@ module _ (server : Endpoint) (sizes : Sizes) (setup : Setup) where
               ap (λ z. ends_as (Feeds now from bytes w up settled z sent token kept)) is
                   ∙ ap (λ z. Some z) (sym k.0),
             )
+        by _ is h = absurd h
 
     abbrev Ended : Report → Type 0
     Ended r = (x : Sending) × (last_sent sizes t ≡ Some x)
@@ -302,20 +182,18 @@ module _ (server : Endpoint) (sizes : Sizes) (setup : Setup) where
         by : (o : Option Event) → event ≡ o → Came (beneath server sizes setup t).running
             (P.after (beneath server sizes setup t) input).running o
             → ends_as (Feeds now from bytes w up settled o sent token kept) ≡ Some r → Ended r
-        by None is h end_is = absurd (cc end_is)
-        by (Some (event_of.Answer a)) is h end_is = absurd (cc end_is)
-        by (Some (event_of.Notice a)) is h end_is = absurd (cc end_is)
         by (Some event_of.Timeout) is h end_is = absurd h
         by (Some event_of.NoResponse) is h end_is = absurd h
         by (Some event_of.Reset) is h end_is =
             let same : Reset ≡ r = cc end_is in
-            let k = last_is t rows under h.0 h.1 in (
+            let k = last_is server sizes setup t rows under h.0 h.1 in (
               k.sending,
               k.last,
               ap (λ z. (close moment (happened s moment z) token).report) is
                   ∙ (failed_closed moment Reset s s.running token
                   ∙ (ap (report_to Reset) k.same ∙ ap (λ z. report_to z (reported_of k.sending.operation)) same)),
             )
+        by _ is h end_is = absurd (cc end_is)
 
   -- time passes
   module _ (t : List Call) (now w : ℕ) (below : L.Answer) (turn : Turn) (sent : L.Answer)
@@ -338,7 +216,7 @@ module _ (server : Endpoint) (sizes : Sizes) (setup : Setup) where
     tick_effect = passes ts tick_moment turn
 
     tick_under : Laws (lower_of sizes t)
-    tick_under = below_of t tick law
+    tick_under = below_of server sizes setup t tick law
 
     tick_right : turn ≡ turn_of (beneath server sizes setup t)
         (max (beneath server sizes setup t).clock tick_moment) below
@@ -400,15 +278,13 @@ module _ (server : Endpoint) (sizes : Sizes) (setup : Setup) where
     tick_ends r ends_so = by turn refl ends_so
       where
         by : (v : Turn) → turn ≡ v → ends_as (Ticks now w below v sent token kept answer) ≡ Some r → TickEnded r
-        by turn_is.Idle is end_is = absurd (cc end_is)
-        by turn_is.Copied is end_is = absurd (cc end_is)
         by (turn_is.End e) is end_is =
             let z = ended_here e is in
             let said = end_said e z.by_time is in
             let same : Some (lapse e) ≡ Some r = sym said.1
             ∙ (ap (λ v. ends_as (Ticks now w below v sent token kept answer)) is ∙ end_is) in
             let report_is : lapse e ≡ r = cc same in
-            let k = last_is t rows tick_under z.exchange z.runs in (
+            let k = last_is server sizes setup t rows tick_under z.exchange z.runs in (
               k.sending,
               k.last,
               ap (λ v. (close tick_moment (passes ts tick_moment v) token).report) is
@@ -416,6 +292,7 @@ module _ (server : Endpoint) (sizes : Sizes) (setup : Setup) where
                   ∙ (ap (report_to (lapse e)) k.same ∙ ap
                   (λ v. report_to v (reported_of k.sending.operation)) report_is)),
             )
+        by _ is end_is = absurd (cc end_is)
 
   -- each call
   abbrev AllSo : List Call → Call → Type 0
@@ -468,7 +345,7 @@ module _ (server : Endpoint) (sizes : Sizes) (setup : Setup) where
   ends_here t c law =
       let k = all_so t c law in
       record {
-        numbered = numbered_so t c law;
+        numbered = numbered_so server sizes setup t c law;
         each = k.0;
         only = λ x made h. elim (k.1 x made (end_lapse x.report h))
             [ inl z ↦ z.1 | inr z ↦ absurd (cc (sym (ap is_end z.2) ∙ h)) ];

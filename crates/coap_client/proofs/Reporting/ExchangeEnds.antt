@@ -17,8 +17,7 @@ use Rattle.coap_exchange.specs.AskerTrace as E
 use Rattle.coap_exchange.specs.AskerArrivals.{turn_of, is_of_request, has_waited, acked_in}
 use Rattle.coap_exchange.specs.AskerRequests.{ask_answer, sent_answer, send_refusal, is_busied, is_yes}
 use Rattle.coap_client.specs.Trace.{Report, Timeout, Reset, NoResponse, NoIds}
-use Rattle.coap_client.specs.Own.{Operation, Cancelling}
-use Rattle.coap_client.specs.Own.{Observation, Own}
+use Rattle.coap_client.specs.Own.{Operation, Cancelling, Observation, Own}
 use Rattle.coap_client.specs.Observations.{observation_of}
 use Rattle.coap_client.specs.Observing.{releases}
 use Rattle.coap_client.specs.Effects.{Effect}

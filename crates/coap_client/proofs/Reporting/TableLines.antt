@@ -1,7 +1,6 @@
 -- The lines of the table of reports say what a call makes of an answer.
-use Rattle.std.proofs.Common.{◌≡◌, ◌≤◌, ℕ, Bool, true, false, cond, not, ◌&&◌, ◌||◌, Option, Some, None}
-use Rattle.std.proofs.Common.{[]}
-use Rattle.std.proofs.Common.{◌∷◌, ◌++◌, refl, ap, ◌∙◌, arith}
+use Rattle.std.proofs.Common.{◌≡◌, ◌≤◌, ℕ, Bool, true, false, cond, not, ◌&&◌, ◌||◌, Option, Some, None, [], ◌∷◌, ◌++◌}
+use Rattle.std.proofs.Common.{refl, ap, ◌∙◌, arith}
 use Rattle.std.specs.Prelude.{◌==◌, nat_lt}
 use Rattle.std.proofs.lemmas.Bool.Decides.{nat_tests}
 use Rattle.coap_types.specs.declared.block.Block.{Block}
@@ -15,9 +14,7 @@ use Rattle.coap_block.specs.declared.fetch_verdict.Verdict.{Verdict}
 use Rattle.coap_block.specs.declared.fetch_verdict.Verdict.TheVariants as verdict
 use Rattle.coap_block.specs.FetchStep.{FetchState}
 use Rattle.coap_block.specs.UploadStep.{UploadState, more_follows, continues, moved}
-use Rattle.coap_client.specs.Trace.{Request, Report, Body, Valid, Done, Failed, Changed}
-use Rattle.coap_client.specs.Trace.{BadBlock}
-use Rattle.coap_client.specs.Trace.{NoTag, TooLarge}
+use Rattle.coap_client.specs.Trace.{Request, Report, Body, Valid, Done, Failed, Changed, BadBlock, NoTag, TooLarge}
 use Rattle.coap_client.specs.Own.{Uploads}
 use Rattle.coap_client.specs.Responses.{content, valid, continue, created, changed, deleted, tag_in, format_in}
 use Rattle.coap_client.specs.Responses.{block_at, part}
@@ -79,9 +76,7 @@ sent_by n false false below false g h k l = refl
 
 continue_none : (method : Method) → is_success method continue ≡ false
 continue_none Get = refl
-continue_none Post = refl
-continue_none Put = refl
-continue_none Delete = refl
+continue_none _ = refl
 
 not_below : (n : ℕ) → nat_lt n codes.BAD_REQUEST.0 ≡ false → codes.BAD_REQUEST.0 ≤ n
 not_below n h = grind (arith, nat_tests, h)
@@ -93,10 +88,9 @@ none_gone : (n : ℕ) → codes.BAD_REQUEST.0 ≤ n → (n == deleted) ≡ false
 none_gone n h = grind (arith, nat_tests, h)
 
 error_none : (method : Method) (n : ℕ) → is_below_errors n ≡ false → is_success method n ≡ false
-error_none Get n h = none_gone n (not_below n h)
 error_none Post n h = none_made n (not_below n h)
 error_none Put n h = none_made n (not_below n h)
-error_none Delete n h = none_gone n (not_below n h)
+error_none _ n h = none_gone n (not_below n h)
 
 module _ (method : Method) (u : UploadState) (m : Message) where
   abbrev fits : Option Block → Bool

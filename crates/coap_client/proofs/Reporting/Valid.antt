@@ -1,6 +1,6 @@
 -- A representation is reported as valid where the call is a GET and carries ETags, and a 2.03 was heard.
-use Rattle.std.proofs.Common.{◌≡◌, inl, inr, ℕ, Bool, true, false, cond, ◌&&◌, Option, Some, None, List}
-use Rattle.std.proofs.Common.{◌∷◌, [], refl, ap, sym, subst, ◌∙◌}
+use Rattle.std.proofs.Common.{◌≡◌, ℕ, Bool, true, false, cond, ◌&&◌, Option, Some, None, List, ◌∷◌, [], refl, ap, sym}
+use Rattle.std.proofs.Common.{subst, ◌∙◌}
 use Rattle.std.specs.Prelude.{◌==◌}
 use Rattle.coap_types.specs.declared.block.Block.{Block}
 use Rattle.coap_types.specs.declared.endpoint.Endpoint.{Endpoint}
@@ -16,9 +16,8 @@ use Rattle.coap_block.specs.declared.fetch_verdict.Verdict.{Verdict}
 use Rattle.coap_block.specs.declared.fetch_verdict.Verdict.TheVariants as verdict
 use Rattle.coap_block.specs.FetchStep.{FetchState}
 use Rattle.coap_block.specs.UploadStep.{UploadState, more_follows, moved, continues}
-use Rattle.coap_client.specs.Trace.{Request, Report, Valid, Failed, Done, BadBlock, NoIds}
-use Rattle.coap_client.specs.Trace.{Call}
-use Rattle.coap_client.specs.Own.{Transfer, Fetches, Uploads, Single, Operation, Calling}
+use Rattle.coap_client.specs.Trace.{Request, Report, Valid, Failed, Done, BadBlock, NoIds, Call}
+use Rattle.coap_client.specs.Own.{Transfer, Fetches, Uploads, Single, Calling}
 use Rattle.coap_client.specs.Requests.{is_longer}
 use Rattle.coap_client.specs.Responses.{content, valid, continue, tag_in, block_at, part}
 use Rattle.coap_client.specs.Reports.{refused, done, is_success}
@@ -28,19 +27,17 @@ use Rattle.coap_client.specs.Effects.{of}
 use Rattle.coap_client.specs.Steps.{reports}
 use Rattle.coap_client.specs.Law.{ClientLaw, own_of}
 use Rattle.coap_client.specs.Follows.OfCalls.{CarriesBody}
-use Rattle.coap_client.specs.Follows.Words.{Taken, WasTaken}
+use Rattle.coap_client.specs.Follows.Words.{Taken}
 use Rattle.coap_client.proofs.Hearing.HeardRuns.{runs_call}
 use Rattle.coap_client.proofs.Turning.Leading.{client_back}
 use Rattle.coap_client.proofs.Places.PlaceLemmas.{same_number}
-use Rattle.coap_client.proofs.Turning.BlockByBlock.{AllOf}
 use Rattle.coap_client.proofs.Uploading.Pieces.{answers_last}
 use Rattle.coap_client.specs.Follows.Bodies.{HeardFor}
 use Rattle.coap_client.specs.Follows.Valid.{IsValidated, ValidOfTags}
 use Rattle.coap_client.proofs.Reporting.AnswerReports.{gives_of}
-use Rattle.coap_client.proofs.Turning.Origins.{Origin, kept, begins, follows, origin}
 use Rattle.coap_client.proofs.Reporting.Bodies.{heard_for}
-use Rattle.coap_client.proofs.Turning.AllWaiting.{all_wait}
 use Rattle.std.proofs.lemmas.Bool.{and_parts as and_split}
+use Rattle.coap_client.proofs.Sending.OfCalls.{running_taken}
 
 -- whether it is such a report
 
@@ -52,9 +49,7 @@ is_valid report = false
 
 refused_none : (why : FetchRefusal) → is_valid (refused why) ≡ false
 refused_none refusal.Changed = refl
-refused_none refusal.BadBlock = refl
-refused_none refusal.NoTag = refl
-refused_none refusal.TooLarge = refl
+refused_none _ = refl
 
 done_none : (method : Method) (code : ℕ) → is_valid (done method code) ≡ false
 done_none method code = by (is_success method code)
@@ -116,15 +111,6 @@ valid_as r (Fetches f) m final report h is = by (m.code == content) ((m.code == 
     by false true e h = let k = and_split (m.code == valid) (has_tags r.etags) e in record
         { fetch = f; fetches = refl; code = same_number m.code valid k.0; tags = k.1; is = sym (ap next_report h) }
 
--- what waits and what runs is of a call that was taken
-abbrev IsTaken : List Call → Operation → Type 0
-IsTaken t (Calling k r tr) = (q : Request) × WasTaken (record { number = k; request = q }) t × (r.etags ≡ q.etags)
-IsTaken t op = Unit {0}
-
-taken_later : (t : List Call) (c : Call) (op : Operation) → IsTaken t op → IsTaken (c ∷ t) op
-taken_later t c (Calling k r tr) h = (h.0, inr h.1, h.2)
-taken_later t c _ h = tt
-
 -- a call that fetches is a GET
 get_of : (sizes : Sizes) (method : Method) (body : List ℕ) (tr : Transfer) (f : FetchState)
     → CarriesBody sizes method body tr
@@ -139,31 +125,13 @@ some_tags [] h none = cc h
 some_tags (x ∷ tags) h none = cc none
 
 module _ (sizes : Sizes) where
-  all_taken : (t : List Call) → AllOf (IsTaken t) (own_of sizes t).queue
-  all_taken = all_wait sizes IsTaken taken_later (λ t now r n. (r, inl refl, refl)) (λ t now path n. tt) (λ t now n. tt)
-
-  taken_here : (t : List Call) (c : Call) (k : ℕ) (r : Request) (tr : Transfer) → Origin sizes t c k r tr
-      → ((old : Transfer) → (own_of sizes t).running ≡ Some (Calling k r old) → IsTaken t (Calling k r old))
-      → IsTaken (c ∷ t) (Calling k r tr)
-  taken_here t c k r tr (kept runs none) ih = let h = ih tr runs in (h.0, inr h.1, h.2)
-  taken_here t c k r tr (follows old m x runs heard asks sends_it op_is) ih = let h = ih old runs in (h.0, inr h.1, h.2)
-  taken_here t c k r tr (begins queue is) ih = let h : AllOf (IsTaken t) (Calling k r tr ∷ queue) =
-      subst (AllOf (IsTaken t)) is (all_taken t) in let g = h.0 in (g.0, inr g.1, g.2)
-
-  running_taken : (t : List Call) (k : ℕ) (r : Request) (tr : Transfer)
-      → (own_of sizes t).running ≡ Some (Calling k r tr)
-      → IsTaken t (Calling k r tr)
-  running_taken [] k r tr is = absurd (cc is)
-  running_taken (c ∷ t) k r tr is = taken_here t c k r tr (origin sizes t c k r tr is)
-      (λ old runs. running_taken t k r old runs)
-
   validated : (server : Endpoint) (setup : Setup) (t : List Call) (c : Call) → ClientLaw server sizes setup (c ∷ t) → (k : ℕ)
       (tag : Option (List ℕ)) → reports (own_of sizes t) c ≡ of k (Valid tag) → IsValidated sizes k tag t c
   validated server setup t c law k tag made =
       let answers = answers_last sizes server setup (c ∷ t) law in
       let g = gives_of sizes t c k (Valid tag) refl made in
       let shown = valid_as g.request g.transfer g.message g.final (Valid tag) g.ends_so refl in
-      let q = running_taken t k g.request g.transfer g.runs in
+      let q = running_taken sizes t k g.request g.transfer g.runs in
       let heard : HeardFor sizes k g.message t c =
       heard_for sizes t c g.message k g.request g.transfer (answers.0 g.message g.heard_it) g.runs g.heard_it in
       let x : Taken = record { number = k; request = q.0 } in
@@ -176,7 +144,7 @@ module _ (sizes : Sizes) where
         taken = q.1;
         method = get_of sizes (q.0).method (q.0).body run.transfer shown.fetch run.carries (transfer_is
             ∙ shown.fetches);
-        etags = λ none. some_tags g.request.etags shown.tags (q.2 ∙ none);
+        etags = λ none. some_tags g.request.etags shown.tags (ap (λ (z : Request). z.etags) q.2 ∙ none);
         message = g.message;
         heard = heard;
         code = shown.code;

@@ -1,7 +1,6 @@
 -- What a tick of a client's exchanges takes, and that a request leaves as many steps due (RFC 7252, sections 4.2 and
 -- 5.2.2).
-use Rattle.std.proofs.Common.{◌≡◌, ◌⊎◌, inl, inr, ℕ, max, Bool, true, false, refl, ap}
-use Rattle.std.proofs.Common.{cond}
+use Rattle.std.proofs.Common.{◌≡◌, ◌⊎◌, inl, inr, ℕ, max, Bool, true, false, refl, ap, cond}
 use Rattle.coap_types.specs.declared.endpoint.Endpoint.{Endpoint}
 use Rattle.coap_layer.specs.Machine.State as S
 use Rattle.coap_layer.specs.Trace as L

@@ -17,8 +17,7 @@ use Rattle.coap_exchange.specs.AskerFollows as A
 use Rattle.coap_exchange.specs.AskerDue.{EndWhenDue}
 use Rattle.coap_exchange.specs.AskerLaw as X
 use Rattle.coap_exchange.proofs.Facts.ClientSide.{when_due}
-use Rattle.coap_client.specs.Trace.{Call, Calls, Observes, Cancels, Forgets, Feeds, Ticks, NextOut}
-use Rattle.coap_client.specs.Trace.{NextReport, Asked}
+use Rattle.coap_client.specs.Trace.{Call, Calls, Observes, Cancels, Forgets, Feeds, Ticks, NextOut, NextReport, Asked}
 use Rattle.coap_types.specs.declared.transmission.TheConstants.{EXCHANGE_LIFETIME_MS as exchange_lifetime}
 use Rattle.coap_types.specs.declared.transmission.TheConstants.{FAILURE_TIMEOUTS as failure_timeouts}
 use Rattle.coap_layer.specs.declared.setup.Setup.{Setup}
@@ -29,14 +28,13 @@ use Rattle.coap_client.specs.Observing.{releases}
 use Rattle.coap_client.specs.Events.{happened, passes, idle, starts, is_held, is_upload_op}
 use Rattle.coap_client.specs.Queue.{calling, numbered, cancelling}
 use Rattle.coap_client.specs.Deeds.{at, close, deeds, done_for}
-use Rattle.coap_client.specs.Steps.{lower, IsRight, is_idle, asks}
+use Rattle.coap_client.specs.Steps.{lower, IsRight, is_idle, asks, reporting}
 use Rattle.coap_client.specs.Law.{ClientLaw, ClientRows, own_of, lower_of}
 use Rattle.coap_exchange.specs.AskerArrivals as R
-use Rattle.coap_client.specs.Steps.{reporting}
 use Rattle.coap_client.specs.Follows.Answered.{IsNotDue, WaitsFor, IsEmpty, IsIdleTick, AreResting}
 use Rattle.coap_client.proofs.Sending.SentFor.{SentFor, sent_for}
 use Rattle.coap_client.proofs.Places.PlaceEffects.{Linked}
-use Rattle.coap_client.proofs.Places.PlaceEvents.{ran, ran_append}
+use Rattle.coap_client.proofs.Places.PlaceDeeds.{ran, ran_append}
 use Rattle.coap_client.proofs.Places.Once.{law_back, own_ran, beneath, Known, known}
 use Rattle.coap_client.proofs.Uploading.Holding.{steadied, happened_steady, passes_steady}
 use Rattle.coap_client.proofs.Uploading.Causes.{held_for}
@@ -84,16 +82,12 @@ module _ (server : Endpoint) (sizes : Sizes) (setup : Setup) where
       clocks t in omega (arith, a, b)
   clocks (Cancels now k answer ∷ t) = let a = cancel_clock answer k (at now (own_of sizes t)) in let b =
       clocks t in omega (arith, a, b)
-  clocks (Forgets k kept false ∷ t) = clocks t
   clocks (Forgets k kept true ∷ t) =
       let d : Deed = releases (observation_of k (own_of sizes t).observations) in
       let same = ap (λ (y : E.Own). y.clock) (own_ran server setup (deeds d (own_of sizes t) 0 0 L.Nothing (Ok []) kept)
       (lower_of sizes t)) ∙ release_clock d (own_of sizes t) kept (beneath server sizes setup t)
       (releases_none (observation_of k (own_of sizes t).observations)) in
       let b = clocks t in omega (arith, same, b)
-  clocks (NextOut answer ∷ t) = clocks t
-  clocks (NextReport answer ∷ t) = clocks t
-  clocks (Asked answer ∷ t) = clocks t
   clocks (Feeds now from bytes w up settled event sent token kept ∷ t) =
       let m : ℕ = max (own_of sizes t).clock now in
       let s : Own = at now (own_of sizes t) in
@@ -113,12 +107,12 @@ module _ (server : Endpoint) (sizes : Sizes) (setup : Setup) where
       let c = st.clock in
       let a = done_clock t m w sent token kept e (E.Ticks m below turn) (omega (arith, b)) in
       subst (λ i. (beneath server sizes setup (Ticks now w below turn sent token kept answer ∷ t)).clock ≤ i) (sym c) a
+  clocks (_ ∷ t) = clocks t
 
   -- a tick that did nothing
   idle_turn : (t : Turn) (b : Bool) → false ≡ (not (is_idle t) || b) → (t ≡ turn_of.Idle) × (b ≡ false)
   idle_turn turn_of.Idle b h = (refl, sym h)
-  idle_turn turn_of.Copied b h = absurd (cc h)
-  idle_turn (turn_of.End e) b h = absurd (cc h)
+  idle_turn _ b h = absurd (cc h)
 
   -- it leaves all as it is
   pub record Rested (t : List Call) (now w : ℕ) (below : L.Answer) (turn : Turn) (sent : L.Answer)

@@ -1,15 +1,13 @@
 -- What a call of a client sends is what it asks of its exchanges, and the other way round.
-use Rattle.std.proofs.Common.{◌≡◌, inl, inr, ℕ, max, Bool, true, Option, Some, None, List, [], ◌∷◌, ◌++◌, refl}
-use Rattle.std.proofs.Common.{ap, sym, subst, ◌∙◌, Result, Ok, Err}
+use Rattle.std.proofs.Common.{◌≡◌, inl, inr, ℕ, max, Bool, true, Option, Some, None, List, [], ◌∷◌, ◌++◌, refl, ap, sym}
+use Rattle.std.proofs.Common.{subst, ◌∙◌, Result, Ok, Err}
 use Rattle.coap_types.specs.Past.{Ever}
 use Rattle.coap_types.proofs.Facts.Traces.{Ever_append}
 use Rattle.coap_layer.specs.Trace as L
 use Rattle.coap_exchange.specs.declared.asker.AskRefusal.{AskRefusal}
 use Rattle.coap_exchange.specs.AskerTrace as E
-use Rattle.coap_client.specs.Trace.{Call, Forgets, Feeds, Ticks}
-use Rattle.coap_client.specs.Trace.{NextOut}
-use Rattle.coap_client.specs.Own.{Operation}
-use Rattle.coap_client.specs.Own.{Observation, Own}
+use Rattle.coap_client.specs.Trace.{Call, Forgets, Feeds, Ticks, NextOut}
+use Rattle.coap_client.specs.Own.{Operation, Observation, Own}
 use Rattle.coap_client.specs.Observations.{observation_of}
 use Rattle.coap_client.specs.Requests.{message_of}
 use Rattle.coap_client.specs.Effects.{Deed, Rests, Asks, Keeps, Releases, Effect}
@@ -40,12 +38,10 @@ module _ (r : E.Request) (token : List ℕ) where
   no_refused : (d : Deed) (s : Own) (now w : ℕ) (sent : L.Answer) (why : AskRefusal) (kept : Bool)
       → Ever (AsksFor r token) (deeds d s now w sent (Err why) kept) → ⊥
   no_refused Rests s now w sent why kept h = h
-  no_refused (Asks op) s now w sent why kept (inl h) = cc (h.is)
   no_refused (Asks op) s now w sent why kept (inr h) = h
-  no_refused (Keeps t) s now w sent why kept (inl h) = cc (h.is)
   no_refused (Keeps t) s now w sent why kept (inr h) = h
-  no_refused (Releases t) s now w sent why kept (inl h) = cc (h.is)
   no_refused (Releases t) s now w sent why kept (inr h) = h
+  no_refused _ s now w sent why kept (inl h) = cc (h.is)
 
 -- what an effect sends
 pub record SendsAs (e : Effect) (t : Result (List ℕ) AskRefusal) (r : E.Request) (token : List ℕ) : Type 0 where
@@ -72,9 +68,7 @@ module _ (e : Effect) (m w : ℕ) (sent : L.Answer) (kept : Bool) (input : E.Cal
       → Ever (AsksFor r token) (asked_behind e m w sent kept input d t) → SendsAs e t r token
   sent_as t Rests is h = absurd (elim (Ever_append (AsksFor r token) (deeds e.deed e.own m w sent t kept)
       (input ∷ []) h) [ inl p ↦ quiet_here e.deed t is p | inr q ↦ no_input q ])
-  sent_as t (Keeps k) is (inl h) = absurd (cc (h.is))
   sent_as t (Keeps k) is (inr h) = absurd (no_input h)
-  sent_as t (Releases k) is (inl h) = absurd (cc (h.is))
   sent_as t (Releases k) is (inr h) = absurd (no_input h)
   sent_as (Ok k) (Asks op) is (inl h) =
       let same : message_of e.own.observations op ≡ r = cc (h.is) in
@@ -91,6 +85,7 @@ module _ (e : Effect) (m w : ℕ) (sent : L.Answer) (kept : Bool) (input : E.Cal
           | inr y ↦ no_input y
         ]
       ])
+  sent_as t _ is (inl h) = absurd (cc (h.is))
 
 sending_of : (e : Effect) (t : Result (List ℕ) AskRefusal) (r : E.Request) (token : List ℕ) (k : SendsAs e t r token)
     → sent_by e e.deed t ≡ Some (record { operation = k.operation; token = token; request = r })

@@ -16,7 +16,7 @@ use Rattle.coap_client.proofs.Observing.OfObservations.{AskSource, of_queue, of_
 use Rattle.coap_client.proofs.Places.Once.{beneath, known}
 use Rattle.coap_client.proofs.Places.PlaceEffects.{Linked}
 use Rattle.coap_client.proofs.Sending.OpenSince.{open_runs}
-use Rattle.coap_client.proofs.Sending.Tokens.{last_was_sent}
+use Rattle.coap_client.proofs.Sending.LiveTokens.{last_was_sent}
 use Rattle.coap_client.proofs.Turning.AllWaiting.{all_wait}
 use Rattle.coap_client.proofs.Turning.BlockByBlock.{AllOf}
 

@@ -54,8 +54,6 @@ module _ (server : Endpoint) (setup : Setup) where
       → s.server ≡ server → answer ≡ Q.ask_answer o below (Q.request_token s r)
       → Asks con (Q.asked now (Q.beneath o s.server (Q.content_of (Q.request_token s r) r) w) below)
       → Begins server con (E.Ask now r w below answer)
-  opens con s Running now w r below answer at right h = absurd (cc (h.call))
-  opens con s Spent now w r below answer at right h = absurd (cc (h.call))
   opens con s Sends now w r below answer at right h =
       let token : List ℕ = Q.request_token s r in
       let content_is : Q.content_of token r ≡ h.content = cc (h.call) in
@@ -73,6 +71,7 @@ module _ (server : Endpoint) (setup : Setup) where
         bytes = h.bytes ∙ ap (λ k. message_bytes (with_head Con con.id k)) (sym content_is);
         spelled = subst IsSpelled (sym content_is) h.spelled;
       }
+  opens con s _ now w r below answer at right h = absurd (cc (h.call))
 
   pub begins_here : (con : Open) (t : List E.Call) (c : E.Call) → P.IsRight (own t) c
       → Ever (Asks con) (P.lower (own t) c) → Begins server con c
@@ -90,10 +89,9 @@ module _ (server : Endpoint) (setup : Setup) where
             ]
         | inr q ↦ cc ((one_of con _ q).call)
       ])
-  begins_here con t (E.Ticks now below answer) right h = absurd (cc ((one_of con _ h).call))
   begins_here con t (E.Keep token answer) right h = absurd h
   begins_here con t (E.Release token answer) right h = absurd h
-  begins_here con t (E.Take answer) right h = absurd (cc ((one_of con _ h).call))
+  begins_here con t _ right h = absurd (cc ((one_of con _ h).call))
 
   pub in_exchange : (con : Open) (later past : List E.Call) → W.AskerLaw server setup (later ++ past)
       → Ever (Asks con) (asked_by_client server setup past later) → Ever (Begins server con) later

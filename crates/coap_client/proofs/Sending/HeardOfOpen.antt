@@ -1,6 +1,5 @@
 -- What a client hears answers the exchange that is open, and it hears whatever does.
-use Rattle.std.proofs.Common.{◌≡◌, ℕ, max, Bool, Option, Some, List, [], ◌∷◌, ◌++◌, refl, ap, sym, subst, ◌∙◌}
-use Rattle.std.proofs.Common.{Result}
+use Rattle.std.proofs.Common.{◌≡◌, ℕ, max, Bool, Option, Some, List, [], ◌∷◌, ◌++◌, refl, ap, sym, subst, ◌∙◌, Result}
 use Rattle.coap_types.proofs.Facts.Traces.{Always_back}
 use Rattle.coap_types.specs.declared.endpoint.Endpoint.{Endpoint}
 use Rattle.coap_codec.specs.Message.{Message}

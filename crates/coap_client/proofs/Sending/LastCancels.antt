@@ -1,6 +1,6 @@
 -- Whether the exchange that runs is of a cancel: as the request that was sent last.
-use Rattle.std.proofs.Common.{◌≡◌, ℕ, max, Bool, true, false, Option, Some, None, is_some, List, [], ◌∷◌, ◌++◌, refl, ap, sym, ◌∙◌}
-use Rattle.std.proofs.Common.{Result, Ok, Err}
+use Rattle.std.proofs.Common.{◌≡◌, ℕ, max, Bool, true, false, Option, Some, None, is_some, List, [], ◌∷◌, ◌++◌, refl}
+use Rattle.std.proofs.Common.{ap, sym, ◌∙◌, Result, Ok, Err}
 use Rattle.std.proofs.lemmas.List.{append_assoc}
 use Rattle.coap_types.specs.declared.endpoint.Endpoint.{Endpoint}
 use Rattle.coap_layer.specs.Trace as L
@@ -11,16 +11,15 @@ use Rattle.coap_exchange.specs.declared.asker.Exchange.{Exchange}
 use Rattle.coap_exchange.specs.declared.asker.Turn.{Turn}
 use Rattle.coap_exchange.specs.declared.asker.Turn.TheVariants as turn_is
 use Rattle.coap_exchange.specs.declared.matching.Verdict.{Verdict}
-use Rattle.coap_exchange.specs.declared.matching.Verdict.TheVariants.{AnswerCon, Answer}
-use Rattle.coap_exchange.specs.declared.matching.Verdict.TheVariants.{Await, EndByReset}
+use Rattle.coap_exchange.specs.declared.matching.Verdict.TheVariants.{AnswerCon, Answer, Await, EndByReset}
 use Rattle.coap_exchange.specs.AskerArrivals.{running_after, running_unless, verdict_on}
 use Rattle.coap_exchange.specs.AskerRequests.{request_token}
 use Rattle.coap_exchange.specs.AskerTrace as E
 use Rattle.coap_exchange.specs.AskerLaw as X
 use Rattle.coap_exchange.proofs.Facts.Moves as move
-use Rattle.coap_client.specs.Trace.{NoIds, Call, Calls, Observes, Cancels, Forgets, Feeds, Ticks, NextOut, NextReport, Asked}
-use Rattle.coap_client.specs.Own.{Transfer, Operation, Cancelling, Observation}
-use Rattle.coap_client.specs.Own.{Own}
+use Rattle.coap_client.specs.Trace.{NoIds, Call, Calls, Observes, Cancels, Forgets, Feeds, Ticks, NextOut, NextReport}
+use Rattle.coap_client.specs.Trace.{Asked}
+use Rattle.coap_client.specs.Own.{Transfer, Operation, Cancelling, Observation, Own}
 use Rattle.coap_client.specs.Observations.{observation_of}
 use Rattle.coap_client.specs.Observing.{releases}
 use Rattle.coap_client.specs.Effects.{Deed, Rests, Asks, Effect, has_sent}
@@ -60,9 +59,8 @@ received_as at _ before x h = (x, h, refl)
 
 ticked_as : (turn : Turn) (before : Option Exchange) (x : Exchange) → running_unless turn before ≡ Some x
     → before ≡ Some x
-ticked_as turn_is.Idle before x h = h
-ticked_as turn_is.Copied before x h = h
 ticked_as (turn_is.End e) before x h = absurd (cc h)
+ticked_as _ before x h = h
 
 module _ (server : Endpoint) (setup : Setup) where
   pub cancels_last : (t : List E.Call) → X.AskerLaw server setup t → (x : Exchange)
@@ -95,9 +93,7 @@ module _ (server : Endpoint) (setup : Setup) where
       k.2 ∙ cancels_last t law.1 k.0 k.1
   cancels_last (E.Ticks now below answer ∷ t) law x runs =
       cancels_last t law.1 x (ticked_as answer (X.own_of server setup t).running x runs)
-  cancels_last (E.Keep token answer ∷ t) law x runs = cancels_last t law.1 x runs
-  cancels_last (E.Release token answer ∷ t) law x runs = cancels_last t law.1 x runs
-  cancels_last (E.Take answer ∷ t) law x runs = cancels_last t law.1 x runs
+  cancels_last (_ ∷ t) law x runs = cancels_last t law.1 x runs
 
 -- what asks for no request leaves it
 quiet_cancels : (d : Deed) (o : Own) (m w : ℕ) (sent : L.Answer) (token : Result (List ℕ) AskRefusal) (kept : Bool)
@@ -140,17 +136,10 @@ module _ (sizes : Sizes) where
   pub cancels_sent : (t : List Call) (z : Sending) → last_sent sizes t ≡ Some z
       → last_cancels (lower_of sizes t) ≡ is_some z.request.token
   cancels_sent [] z h = absurd (cc h)
-  cancels_sent (Calls now r answer ∷ t) z h = cancels_sent t z h
-  cancels_sent (Observes now path answer ∷ t) z h = cancels_sent t z h
-  cancels_sent (Cancels now number answer ∷ t) z h = cancels_sent t z h
-  cancels_sent (Forgets number kept false ∷ t) z h = cancels_sent t z h
   cancels_sent (Forgets number kept true ∷ t) z h =
       let o = observation_of number (own_of sizes t).observations in
       quiet_cancels (releases o) (own_of sizes t) 0 0 L.Nothing (Ok []) kept (lower_of sizes t) (releases_none o)
       ∙ cancels_sent t z h
-  cancels_sent (NextOut answer ∷ t) z h = cancels_sent t z h
-  cancels_sent (NextReport answer ∷ t) z h = cancels_sent t z h
-  cancels_sent (Asked answer ∷ t) z h = cancels_sent t z h
   cancels_sent (Feeds now from bytes w up settled event sent token kept ∷ t) z h =
       let m : ℕ = max (own_of sizes t).clock now in
       let e : Effect = happened (at now (own_of sizes t)) m event in
@@ -165,6 +154,7 @@ module _ (sizes : Sizes) where
       done_cancels e m w sent kept input (lower_of sizes t) e.deed token refl
       ∙ by_sending e m w sent kept input (lower_of sizes t) (sent_by e e.deed token) z (last_sent sizes t) h
       (cancels_sent t z)
+  cancels_sent (_ ∷ t) z h = cancels_sent t z h
 
 pub exchange_cancels : (server : Endpoint) (sizes : Sizes) (setup : Setup) (t : List Call)
     → X.AskerLaw server setup (lower_of sizes t) → (x : Exchange)

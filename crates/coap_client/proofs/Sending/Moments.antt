@@ -40,15 +40,7 @@ use Rattle.coap_client.proofs.Sending.ApartLists.{Every, every_join}
 -- a call of the layer has the moment of its entry, or an earlier one
 not_after : (s : State) (now : ℕ) (call : L.Call) (t : ℕ) → s.clock ≤ t → now ≤ t → moment_at s now call ≤ t
 not_after s now (L.Receive from bytes) t h k = omega (arith, h, k)
-not_after s now L.Ticks t h k = omega (arith, h, k)
-not_after s now (L.Reply to id bytes) t h k = omega (arith, h, k)
-not_after s now (L.Confirm to content word) t h k = omega (arith, h, k)
-not_after s now (L.Plain to content) t h k = omega (arith, h, k)
-not_after s now (L.Settle to id) t h k = omega (arith, h, k)
-not_after s now L.Take t h k = omega (arith, h, k)
-not_after s now (L.Room to) t h k = omega (arith, h, k)
-not_after s now L.AsksFree t h k = omega (arith, h, k)
-not_after s now L.Pass t h k = omega (arith, h, k)
+not_after s now _ t h k = omega (arith, h, k)
 
 -- an arrival, and what begins a CON, have the moment that they are handed, where the clock isn't past it
 
@@ -72,9 +64,7 @@ module _ (m : ℕ) where
   Timed (E.Ask now r word below answer) = now ≡ m
   Timed (E.Receive now from bytes up settled answer) = now ≡ m
   Timed (E.Ticks now below answer) = now ≡ m
-  Timed (E.Keep token answer) = Unit {0}
-  Timed (E.Release token answer) = Unit {0}
-  Timed (E.Take answer) = Unit {0}
+  Timed _ = Unit {0}
 
   replies : (from : Endpoint) (id : ℕ) (o : Option (List ℕ)) → Every AskedAt (R.replying from id o)
   replies from id None = tt
@@ -95,8 +85,7 @@ module _ (m : ℕ) where
   beneath_at : (now : ℕ) (o : Opening) (server : Endpoint) (content : L.Content) (word : ℕ) (sent : L.Answer) → now ≡ m
       → AskedAt (Q.asked now (Q.beneath o server content word) sent)
   beneath_at now Running server content word sent h = record { by = omega (arith, h); from = λ k. omega (arith, h) }
-  beneath_at now Spent server content word sent h = record { by = omega (arith, h); from = λ k. omega (arith, h) }
-  beneath_at now Sends server content word sent h = record { by = omega (arith, h); from = λ k. omega (arith, h) }
+  beneath_at now _ server content word sent h = record { by = omega (arith, h); from = λ k. omega (arith, h) }
 
   lower_at : (s : E.Own) (c : E.Call) → Timed c → Every AskedAt (P.lower s c)
   lower_at s (E.Ask now r word below answer) h =
@@ -108,9 +97,8 @@ module _ (m : ℕ) where
       (settles (R.settles v) s.server s.running settled) (replies from (R.id_in up) (R.reply_by v (R.id_in up))))
       (record { by = omega (arith, h); from = λ k. omega (arith, h) }, tt)
   lower_at s (E.Ticks now below answer) h = (record { by = omega (arith, h); from = λ k. absurd k }, tt)
-  lower_at s (E.Keep token answer) h = tt
-  lower_at s (E.Release token answer) h = tt
   lower_at s (E.Take answer) h = (record { by = omega arith; from = λ k. absurd k }, tt)
+  lower_at s _ h = tt
 
   asked_at : (server : Endpoint) (setup : Setup) (past later : List E.Call) → Every Timed later
       → Every AskedAt (asked_by_client server setup past later)
@@ -123,8 +111,7 @@ module _ (m : ℕ) where
       → Every Timed (deeds d s m word sent token kept)
   deeds_timed Rests s word sent token kept = tt
   deeds_timed (Asks op) s word sent token kept = (refl, tt)
-  deeds_timed (Keeps key) s word sent token kept = (tt, tt)
-  deeds_timed (Releases key) s word sent token kept = (tt, tt)
+  deeds_timed _ s word sent token kept = (tt, tt)
 
   done_timed : (e : Effect) (word : ℕ) (sent : L.Answer) (token : Result (List ℕ) AskRefusal) (kept : Bool)
       (input : E.Call) → Timed input → Every Timed (done_for e m word sent token kept input)
@@ -188,13 +175,9 @@ lower_timed s _ = tt
 
 pub moment_same : (s : Own) (c : Call) → (after s c).clock ≡ moment s c
 moment_same s (Calls now r (Ok number)) = refl
-moment_same s (Calls now r (Err why)) = refl
 moment_same s (Observes now path (Ok number)) = refl
-moment_same s (Observes now path (Err why)) = refl
 moment_same s (Cancels now number None) = refl
-moment_same s (Cancels now number (Some why)) = refl
 moment_same s (Forgets number kept true) = refl
-moment_same s (Forgets number kept false) = refl
 moment_same s (Feeds now from bytes word up settled event sent token kept) =
     let e = effect s (Feeds now from bytes word up settled event sent token kept) in
     (steadied (at now s) (max s.clock now) e token e.deed refl
@@ -202,20 +185,11 @@ moment_same s (Feeds now from bytes word up settled event sent token kept) =
 moment_same s (Ticks now word below turn sent token kept answer) =
     let e = effect s (Ticks now word below turn sent token kept answer) in
     (steadied (at now s) (max s.clock now) e token e.deed refl (passes_steady (at now s) (max s.clock now) turn)).clock
-moment_same s (NextOut answer) = refl
-moment_same s (NextReport answer) = refl
-moment_same s (AskedFor answer) = refl
+moment_same s _ = refl
 
 pub moment_from : (s : Own) (c : Call) → s.clock ≤ moment s c
 moment_from s (Calls now r answer) = omega arith
-moment_from s (Observes now path answer) = omega arith
-moment_from s (Cancels now number answer) = omega arith
-moment_from s (Forgets number kept answer) = omega arith
-moment_from s (Feeds now from bytes word up settled event sent token kept) = omega arith
-moment_from s (Ticks now word below turn sent token kept answer) = omega arith
-moment_from s (NextOut answer) = omega arith
-moment_from s (NextReport answer) = omega arith
-moment_from s (AskedFor answer) = omega arith
+moment_from s _ = omega arith
 
 module _ (server : Endpoint) (sizes : Sizes) (setup : Setup) where
   asks_at : (past : List Call) (c : Call) → Every (AskedAt (moment (own_of sizes past) c))

@@ -62,12 +62,11 @@ none_here s (E.Receive now from bytes up settled answer) h =
     one : Ever AsksNon (Q.asked now (L.Receive from bytes) up ∷ []) → ⊥
     one (inl k) = cc (k.2)
     one (inr k) = k
-none_here s (E.Ticks now below answer) (inl h) = cc (h.2)
 none_here s (E.Ticks now below answer) (inr h) = h
 none_here s (E.Keep token answer) h = h
 none_here s (E.Release token answer) h = h
-none_here s (E.Take answer) (inl h) = cc (h.2)
 none_here s (E.Take answer) (inr h) = h
+none_here s _ (inl h) = cc (h.2)
 
 none_in : (server : Endpoint) (setup : Setup) (t : List E.Call) → Ever AsksNon (W.lower_of server setup t) → ⊥
 none_in server setup [] h = h

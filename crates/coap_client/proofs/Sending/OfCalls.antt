@@ -15,10 +15,9 @@ use Rattle.coap_block.specs.FetchStep.{FetchState}
 use Rattle.coap_block.specs.FetchStep as F
 use Rattle.coap_block.specs.UploadStep.{UploadState, more_follows, moved, continues, Continues}
 use Rattle.coap_exchange.specs.declared.asker.Event.{Event}
-use Rattle.coap_client.specs.Trace.{Request, NoIds, BadBlock, Failed, Valid, Call, Calls, Observes}
-use Rattle.coap_client.specs.Trace.{Cancels, Forgets, Feeds, Ticks, NextOut, NextReport, Asked}
-use Rattle.coap_client.specs.Own.{Transfer, Fetches, Uploads, Single, Operation, Calling}
-use Rattle.coap_client.specs.Own.{Observation, Own}
+use Rattle.coap_client.specs.Trace.{Request, NoIds, BadBlock, Failed, Valid, Call, Calls, Observes, Cancels, Forgets}
+use Rattle.coap_client.specs.Trace.{Feeds, Ticks, NextOut, NextReport, Asked}
+use Rattle.coap_client.specs.Own.{Transfer, Fetches, Uploads, Single, Operation, Calling, Observation, Own}
 use Rattle.coap_client.specs.Requests.{message_of, is_longer}
 use Rattle.coap_client.specs.Responses.{content, valid, continue, tag_in, block_at, part}
 use Rattle.coap_client.specs.Reports.{done, lapse}
@@ -84,22 +83,16 @@ turn_size sizes t c z = ap (λ (o : Own). o.sizes) z.own_is ∙ by z.closes
 
 size_step : (sizes : Sizes) (t : List Call) (c : Call) → (own_of sizes (c ∷ t)).sizes ≡ (own_of sizes t).sizes
 size_step sizes t (Calls now r (Ok n)) = refl
-size_step sizes t (Calls now r (Err why)) = refl
 size_step sizes t (Observes now path (Ok n)) = refl
-size_step sizes t (Observes now path (Err why)) = refl
 size_step sizes t (Cancels now k None) = refl
-size_step sizes t (Cancels now k (Some why)) = refl
 size_step sizes t (Forgets k was true) = refl
-size_step sizes t (Forgets k was false) = refl
-size_step sizes t (NextOut did) = refl
-size_step sizes t (NextReport did) = refl
-size_step sizes t (Asked did) = refl
 size_step sizes t (Feeds now from bytes w up settled event sent token was) =
     turn_size sizes t (Feeds now from bytes w up settled event sent token was)
     (fed_turned sizes t now from bytes w up settled event sent token was)
 size_step sizes t (Ticks now w below turn sent token was did) =
     turn_size sizes t (Ticks now w below turn sent token was did)
     (ticked_turned sizes t now w below turn sent token was did)
+size_step sizes t _ = refl
 
 pub size_is : (sizes : Sizes) (t : List Call) → (own_of sizes t).sizes ≡ sizes
 size_is sizes [] = refl
@@ -109,9 +102,8 @@ size_is sizes (c ∷ t) = size_step sizes t c ∙ size_is sizes t
 
 fresh_carries : (sizes : Sizes) (r : Request) (m : Method) → CarriesBody sizes m r.body (transfer_of sizes r m)
 fresh_carries sizes r Get = refl
-fresh_carries sizes r Post = record { body_is = refl; num = omega arith; size = omega arith }
-fresh_carries sizes r Put = record { body_is = refl; num = omega arith; size = omega arith }
 fresh_carries sizes r Delete = tt
+fresh_carries sizes r _ = record { body_is = refl; num = omega arith; size = omega arith }
 
 fetches_on : (sizes : Sizes) (m : Method) (body : List ℕ) (f g : FetchState) → F.sizes_of g ≡ F.sizes_of f
     → CarriesBody sizes m body (Fetches f) → CarriesBody sizes m body (Fetches g)
@@ -130,10 +122,9 @@ moved_on sizes body u b k h =
 
 uploads_on : (sizes : Sizes) (m : Method) (body : List ℕ) (u : UploadState) (b : Block) → Continues u b
     → CarriesBody sizes m body (Uploads u) → CarriesBody sizes m body (Uploads (moved u b))
-uploads_on sizes Get body u b k h = h
 uploads_on sizes Post body u b k h = moved_on sizes body u b k h
 uploads_on sizes Put body u b k h = moved_on sizes body u b k h
-uploads_on sizes Delete body u b k h = h
+uploads_on sizes _ body u b k h = h
 
 module _ (sizes : Sizes) (method : Method) (body : List ℕ) where
   abbrev Carried : Transfer → Type 0
@@ -144,10 +135,9 @@ module _ (sizes : Sizes) (method : Method) (body : List ℕ) where
 
   fetched_next : (f : FetchState) (m : Message) (v : Verdict) (next : Transfer) → Carried (Fetches f)
       → calls.fetched f m v ≡ calls.Asks next → Carried next
-  fetched_next f m (verdict.Refuse why) next h is = absurd (cc is)
-  fetched_next f m verdict.Done next h is = absurd (cc is)
   fetched_next f m verdict.Again next h is = asked_next _ next (fetches_on sizes method body f _ refl h) is
   fetched_next f m (verdict.Ask num size) next h is = asked_next _ next (fetches_on sizes method body f _ refl h) is
+  fetched_next f m _ next h is = absurd (cc is)
 
   continued_next : (u : UploadState) (o : Option Block) (next : Transfer) → Carried (Uploads u)
       → calls.continued u o ≡ calls.Asks next → Carried next

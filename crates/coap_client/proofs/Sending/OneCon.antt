@@ -5,7 +5,6 @@ use Rattle.coap_types.specs.Past.{Ever, Always}
 use Rattle.coap_types.proofs.Facts.Traces.{Ever_append, Ever_map}
 use Rattle.coap_types.specs.declared.endpoint.Endpoint.{Endpoint}
 use Rattle.coap_types.specs.declared.message.Kind.TheVariants.{Con}
-use Rattle.coap_types.specs.Bytes.{AreBytes}
 use Rattle.coap_codec.specs.Message.{Message, Spells}
 use Rattle.coap_codec.proofs.Facts.EveryDatagram.{one_message}
 use Rattle.coap_layer.specs.Trace as L
@@ -27,11 +26,9 @@ use Rattle.coap_exchange.specs.AskerArrivals as R
 use Rattle.coap_exchange.specs.AskerSteps as P
 use Rattle.coap_exchange.specs.AskerLaw as W
 use Rattle.coap_common.specs.Adds.{asked_by_client}
-use Rattle.coap_client.specs.Trace.{Call, Calls, Observes, Cancels, Forgets, Feeds, Ticks, NextOut}
-use Rattle.coap_client.specs.Trace.{NextReport}
+use Rattle.coap_client.specs.Trace.{Call, Calls, Observes, Cancels, Forgets, Feeds, Ticks, NextOut, NextReport}
 use Rattle.coap_client.specs.Trace as C
-use Rattle.coap_client.specs.Own.{Operation, Cancelling, Own}
-use Rattle.coap_client.specs.Own.{Observation}
+use Rattle.coap_client.specs.Own.{Operation, Cancelling, Own, Observation}
 use Rattle.coap_client.specs.Observations.{observation_of}
 use Rattle.coap_client.specs.Requests.{message_of}
 use Rattle.coap_client.specs.Effects.{Deed, Rests, Asks, Keeps, Releases, Effect, has_sent}
@@ -90,12 +87,11 @@ quiet_call s (E.Receive now from bytes up settled answer) apart h =
           ]
       | inr q ↦ elim q [ inl x ↦ cc (x.3) | inr y ↦ y ]
     ]
-quiet_call s (E.Ticks now below answer) apart (inl h) = cc (h.3)
 quiet_call s (E.Ticks now below answer) apart (inr h) = h
 quiet_call s (E.Keep token answer) apart h = h
 quiet_call s (E.Release token answer) apart h = h
-quiet_call s (E.Take answer) apart (inl h) = cc (h.3)
 quiet_call s (E.Take answer) apart (inr h) = h
+quiet_call s _ apart (inl h) = cc (h.3)
 
 module _ (server : Endpoint) (setup : Setup) where
   abbrev beneath_of : List E.Call → List E.Call → List Asked
@@ -121,12 +117,11 @@ module _ (server : Endpoint) (setup : Setup) where
       let c : E.Call = E.Ticks now below answer in
       single_none Confirms (P.lower (W.own_of server setup (later ++ past)) c) (beneath_of past later)
       (quiet_call (W.own_of server setup (later ++ past)) c (λ z. z)) (single_beneath past later h.1)
-  single_beneath past (E.Keep token answer ∷ later) h = single_beneath past later h.1
-  single_beneath past (E.Release token answer ∷ later) h = single_beneath past later h.1
   single_beneath past (E.Take answer ∷ later) h =
       let c : E.Call = E.Take answer in
       single_none Confirms (P.lower (W.own_of server setup (later ++ past)) c) (beneath_of past later)
       (quiet_call (W.own_of server setup (later ++ past)) c (λ z. z)) (single_beneath past later h.1)
+  single_beneath past (_ ∷ later) h = single_beneath past later h.1
 
 -- a call of the client asks for one request at most
 
@@ -150,8 +145,6 @@ single_asked : (now w : ℕ) (sent : L.Answer) (kept : Bool) (input : E.Call) �
 single_asked now w sent kept input apart e token Rests is =
     single_none IsAsk (deeds e.deed e.own now w sent token kept) (input ∷ [])
     (λ h. subst (λ d. Ever IsAsk (deeds d e.own now w sent token kept)) is h) (λ a b. b, tt)
-single_asked now w sent kept input apart e token (Keeps k) is = (λ a b. a, (λ a b. b, tt))
-single_asked now w sent kept input apart e token (Releases k) is = (λ a b. a, (λ a b. b, tt))
 single_asked now w sent kept input apart e (Ok key) (Asks op) is =
     (λ a b. (elim b [ inl x ↦ apart x | inr y ↦ y ]), (λ a b. b, tt))
 single_asked now w sent kept input apart e (Err why) (Asks op) is =
@@ -159,6 +152,7 @@ single_asked now w sent kept input apart e (Err why) (Asks op) is =
     (failed has_sent C.NoIds e.own (Some op)).own now w sent (Err why) kept)
     (E.Ask now (message_of e.own.observations op) w sent (Err why) ∷ input ∷ [])
     (no_ask_failed e op now w sent (Err why) kept) (λ a b. (elim b [ inl x ↦ apart x | inr y ↦ y ]), (λ a b. b, tt))
+single_asked now w sent kept input apart e token _ is = (λ a b. a, (λ a b. b, tt))
 
 single_lower : (s : Own) (c : Call) → Single IsAsk (lower s c)
 single_lower s (Feeds now from bytes w up settled event sent token kept) =
@@ -195,11 +189,11 @@ begun_once a b old new (c ∷ earlier) once steps (inr h) (inl k) =
 begun_once a b old new (c ∷ earlier) once steps (inr h) (inr k) = begun_once a b old steps.0 earlier once.1 steps.1 h k
 
 -- the token of what it spells
-token_of_con : (server : Endpoint) (con : Open) (m : Message) (x : Sending) → AreBytes con.bytes → Spells con.bytes m
+token_of_con : (server : Endpoint) (con : Open) (m : Message) (x : Sending) → Spells con.bytes m
     → con.id < 65536 → IsRequestOf server con x → m.token ≡ x.token
-token_of_con server con m x are s small h =
+token_of_con server con m x s small h =
     let whole = with_head Con con.id (Q.content_of x.token x.request) in
-    let same : m ≡ whole = one_message con.bytes m whole are s
+    let same : m ≡ whole = one_message con.bytes m whole s
     (subst (λ z. Spells z whole) (sym h.bytes) (h.spelled Con con.id small)) in
     ap (λ (z : Message). z.token) same
 
@@ -208,8 +202,7 @@ small_id : (setup : Setup) (t : List L.Entry) (con : Open) → LayerLaw setup t 
 small_id setup t con law h = let k : SpellsCon con = spelled_begun setup t con law h in let low = k.1.id in let e =
     k.3 in omega (arith, low, e)
 
-module _ (server : Endpoint) (sizes : Sizes) (setup : Setup) (a b : Open) (x y : Message) (ab : AreBytes a.bytes)
-    (bb : AreBytes b.bytes)
+module _ (server : Endpoint) (sizes : Sizes) (setup : Setup) (a b : Open) (x y : Message)
     (sa : Spells a.bytes x) (sb : Spells b.bytes y) (same : x.token ≡ y.token) (small_a : a.id < 65536)
     (small_b : b.id < 65536) where
   abbrev OfOne : List Call → Type 0
@@ -232,8 +225,8 @@ module _ (server : Endpoint) (sizes : Sizes) (setup : Setup) (a b : Open) (x y :
   one_later t c (inr (inr k)) = inr (inr (ends_later t c b a k))
 
   same_token : (u v : Sending) → IsRequestOf server a u → IsRequestOf server b v → u.token ≡ v.token
-  same_token u v h k = sym (token_of_con server a x u ab sa small_a h)
-      ∙ (same ∙ token_of_con server b y v bb sb small_b k)
+  same_token u v h k = sym (token_of_con server a x u sa small_a h)
+      ∙ (same ∙ token_of_con server b y v sb small_b k)
 
   con_here : (t : List Call) (c : Call) → ClientLaw server sizes setup (c ∷ t)
       → Ever (λ e. begun e ≡ Some a) (call_adds server sizes setup t c)
@@ -294,8 +287,8 @@ module _ (server : Endpoint) (sizes : Sizes) (setup : Setup) (a b : Open) (x y :
 
 pub one_con : (server : Endpoint) (sizes : Sizes) (setup : Setup) (t : List Call) → ClientLaw server sizes setup t
     → OneConOrCancel server sizes setup t
-one_con server sizes setup t law a b h k x y ab bb sa sb same =
+one_con server sizes setup t law a b h k x y sa sb same =
     let layer = client_layer server sizes setup t law in
-    two_cons server sizes setup a b x y ab bb sa sb same (small_id setup
+    two_cons server sizes setup a b x y sa sb same (small_id setup
     (layer_of server sizes setup t) a layer h)
     (small_id setup (layer_of server sizes setup t) b layer k) t law h k

@@ -102,13 +102,10 @@ module _ (server : Endpoint) (setup : Setup) where
       let at_is = ap (λ (z : A.Begun). z.at) same in
       let timeout_is = ap (λ (z : A.Begun). z.timeout) same in
       (omega (arith, at_is), omega (arith, timeout_is))
-  begun_by (E.Ask now r w below (Err why) ∷ t) b h = let k = begun_by t b h in let l = k.0 in (omega (arith, l), k.1)
-  begun_by (E.Receive now from bytes up settled answer ∷ t) b h =
-      let k = begun_by t b h in let l = k.0 in (omega (arith, l), k.1)
-  begun_by (E.Ticks now below answer ∷ t) b h = let k = begun_by t b h in let l = k.0 in (omega (arith, l), k.1)
   begun_by (E.Keep token answer ∷ t) b h = begun_by t b h
   begun_by (E.Release token answer ∷ t) b h = begun_by t b h
   begun_by (E.Take answer ∷ t) b h = begun_by t b h
+  begun_by (_ ∷ t) b h = let k = begun_by t b h in let l = k.0 in (omega (arith, l), k.1)
 
   acked_here : (t : List E.Call) (now : ℕ) (b : A.Begun) → A.last_begun server setup t ≡ Some b → (a : Moment) (c : Bool)
       → (last_acked server setup t ≡ Some a → b.at ≤ a.0)
@@ -125,7 +122,6 @@ module _ (server : Endpoint) (setup : Setup) where
       → A.last_begun server setup t ≡ Some b → b.at ≤ a.0
   acked_after [] a b h k = absurd (cc h)
   acked_after (E.Ask now r w below (Ok token) ∷ t) a b h k = absurd (cc h)
-  acked_after (E.Ask now r w below (Err why) ∷ t) a b h k = acked_after t a b h k
   acked_after (E.Receive now from bytes (L.Becomes (L.Acked id)) settled answer ∷ t) a b h k =
       acked_here t now b k a (is_of_request (X.own_of server setup t) from id)
       (λ e. acked_after t a b e k) h
@@ -138,16 +134,4 @@ module _ (server : Endpoint) (setup : Setup) where
       acked_after t a b h k
   acked_after (E.Receive now from bytes (L.Becomes L.Replayed) settled answer ∷ t) a b h k = acked_after t a b h k
   acked_after (E.Receive now from bytes (L.Becomes L.Rejected) settled answer ∷ t) a b h k = acked_after t a b h k
-  acked_after (E.Receive now from bytes L.Nothing settled answer ∷ t) a b h k = acked_after t a b h k
-  acked_after (E.Receive now from bytes (L.Is holds) settled answer ∷ t) a b h k = acked_after t a b h k
-  acked_after (E.Receive now from bytes (L.Sent id) settled answer ∷ t) a b h k = acked_after t a b h k
-  acked_after (E.Receive now from bytes L.Busied settled answer ∷ t) a b h k = acked_after t a b h k
-  acked_after (E.Receive now from bytes L.NoIds settled answer ∷ t) a b h k = acked_after t a b h k
-  acked_after (E.Receive now from bytes L.Idle settled answer ∷ t) a b h k = acked_after t a b h k
-  acked_after (E.Receive now from bytes (L.Copied to id) settled answer ∷ t) a b h k = acked_after t a b h k
-  acked_after (E.Receive now from bytes (L.Expired to id) settled answer ∷ t) a b h k = acked_after t a b h k
-  acked_after (E.Receive now from bytes (L.Gives packet) settled answer ∷ t) a b h k = acked_after t a b h k
-  acked_after (E.Ticks now below answer ∷ t) a b h k = acked_after t a b h k
-  acked_after (E.Keep token answer ∷ t) a b h k = acked_after t a b h k
-  acked_after (E.Release token answer ∷ t) a b h k = acked_after t a b h k
-  acked_after (E.Take answer ∷ t) a b h k = acked_after t a b h k
+  acked_after (_ ∷ t) a b h k = acked_after t a b h k

@@ -1,6 +1,6 @@
 -- An exchange is open exactly where one runs beneath, and it ends without an answer in time.
-use Rattle.std.proofs.Common.{◌≡◌, inl, inr, ℕ, max, Bool, true, false, cond, Option, Some, None}
-use Rattle.std.proofs.Common.{List, [], ◌∷◌, ◌++◌, refl, ap, sym, subst, ◌∙◌, arith, Result, Ok, Err}
+use Rattle.std.proofs.Common.{◌≡◌, inl, inr, ℕ, max, Bool, true, false, cond, Option, Some, None, List, [], ◌∷◌, ◌++◌}
+use Rattle.std.proofs.Common.{refl, ap, sym, subst, ◌∙◌, arith, Result, Ok, Err}
 use Rattle.std.proofs.lemmas.List.{append_assoc}
 use Rattle.coap_types.specs.declared.endpoint.Endpoint.{Endpoint}
 use Rattle.coap_layer.specs.Trace as L
@@ -17,8 +17,7 @@ use Rattle.coap_exchange.specs.AskerFollows as A
 use Rattle.coap_exchange.specs.AskerSteps as P
 use Rattle.coap_exchange.specs.AskerLaw as X
 use Rattle.coap_exchange.proofs.Facts.Moves as move
-use Rattle.coap_client.specs.Trace.{Call, Calls, Observes, Cancels, Forgets, Feeds, Ticks, NextOut, NextReport}
-use Rattle.coap_client.specs.Trace.{Asked}
+use Rattle.coap_client.specs.Trace.{Call, Calls, Observes, Cancels, Forgets, Feeds, Ticks, NextOut, NextReport, Asked}
 use Rattle.coap_client.specs.Own.{Operation, Own}
 use Rattle.coap_client.specs.Observations.{observation_of}
 use Rattle.coap_client.specs.Observing.{releases}
@@ -33,13 +32,13 @@ use Rattle.coap_client.specs.Follows.Ends.{ends_as}
 use Rattle.coap_client.specs.Follows.Open.{IsOpenSince, RunsSince, OpenRuns}
 use Rattle.coap_client.specs.Follows.Words.{Sending, sends, sent_by, hears}
 use Rattle.coap_client.proofs.Places.Once.{law_back, law_front, done_right, beneath}
-use Rattle.coap_client.proofs.Places.PlaceEvents.{AreRight, are_right_back}
+use Rattle.coap_client.proofs.Places.PlaceDeeds.{AreRight, are_right_back}
 use Rattle.coap_client.proofs.Reporting.ExchangeEnds.{ended_by, ByTime}
 use Rattle.coap_client.proofs.Rest.Resting.{clocks}
 use Rattle.coap_client.proofs.Sending.LastCancels.{exchange_cancels, failed_quiet}
 use Rattle.coap_client.proofs.Sending.OpenBeneath.{running_in, open_at, IsOpened, opened}
 use Rattle.coap_client.proofs.Sending.SentFor.{sent_for}
-use Rattle.coap_client.proofs.Uploading.Holds.{sent_of}
+use Rattle.coap_client.proofs.Uploading.FirstBlocks.{sent_of}
 use Rattle.coap_client.proofs.Turning.Moves.{releases_none}
 
 module _ (server : Endpoint) (setup : Setup) where
@@ -199,15 +198,13 @@ module _ (server : Endpoint) (sizes : Sizes) (setup : Setup) where
 
     ticked_off : (turn : Turn) → P.IsRight (beneath server sizes setup t) (turning turn) → ends_as (tick turn) ≡ None
         → A.ends (turning turn) ≡ false
-    ticked_off turn_is.Idle so e = refl
-    ticked_off turn_is.Copied so e = refl
     ticked_off (turn_is.End x) so e =
         absurd (by_time x (ended_by (beneath server sizes setup t) _ below x so).by_time e)
+    ticked_off _ so e = refl
 
     ticked_on : (turn : Turn) → A.ends (turning turn) ≡ false → ends_as (tick turn) ≡ None
-    ticked_on turn_is.Idle h = refl
-    ticked_on turn_is.Copied h = refl
     ticked_on (turn_is.End x) h = absurd (cc h)
+    ticked_on _ h = refl
 
   turns : (t : List Call) (c : Call) → X.AskerLaw server setup (lower_of sizes (c ∷ t)) → Turns server sizes setup t c
   turns t (Calls now r answer) law = plainly t (Calls now r answer) refl refl refl refl

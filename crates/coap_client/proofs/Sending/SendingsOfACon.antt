@@ -1,8 +1,7 @@
 -- Each sending of a client's CON is of a call that sends its request, or of a tick that sends it again while its
 -- operation runs.
 use Rattle.std.proofs.Common.{◌≡◌, ◌≢◌, inl, inr, ℕ, max, Bool, true, false, Option, Some, None, List, [], ◌∷◌, ◌++◌}
-use Rattle.std.proofs.Common.{refl, ap, sym, subst, ◌∙◌}
-use Rattle.std.proofs.Common.{append_assoc, Result, Ok}
+use Rattle.std.proofs.Common.{refl, ap, sym, subst, ◌∙◌, append_assoc, Result, Ok}
 use Rattle.coap_types.specs.Past.{Always}
 use Rattle.coap_types.proofs.Facts.Traces.{Ever_front, Ever_back}
 use Rattle.coap_types.specs.declared.endpoint.Endpoint.{Endpoint}
@@ -27,8 +26,8 @@ use Rattle.coap_exchange.specs.AskerArrivals as R
 use Rattle.coap_exchange.specs.AskerSteps as P
 use Rattle.coap_exchange.specs.AskerLaw as W
 use Rattle.coap_common.specs.Adds.{asked_by_client}
-use Rattle.coap_client.specs.Trace.{Call, Calls, Observes, Cancels, Forgets, Feeds, Ticks, NextOut}
-use Rattle.coap_client.specs.Trace.{NextReport, Asked as AskedFor}
+use Rattle.coap_client.specs.Trace.{Call, Calls, Observes, Cancels, Forgets, Feeds, Ticks, NextOut, NextReport}
+use Rattle.coap_client.specs.Trace.{Asked as AskedFor}
 use Rattle.coap_client.specs.Own.{Own, Observation}
 use Rattle.coap_client.specs.Observations.{observation_of}
 use Rattle.coap_client.specs.Observing.{releases}
@@ -49,11 +48,7 @@ NoTick a = a.call ≢ L.Ticks
 
 abbrev pub NoTurn : E.Call → Type 0
 NoTurn (E.Ticks now below answer) = ⊥
-NoTurn (E.Ask now r word below answer) = Unit {0}
-NoTurn (E.Receive now from bytes up settled answer) = Unit {0}
-NoTurn (E.Keep token answer) = Unit {0}
-NoTurn (E.Release token answer) = Unit {0}
-NoTurn (E.Take answer) = Unit {0}
+NoTurn _ = Unit {0}
 
 replies_none : (from : Endpoint) (id : ℕ) (o : Option (List ℕ)) → Every NoTick (R.replying from id o)
 replies_none from id None = tt
@@ -68,8 +63,7 @@ settles_none false server o settled = tt
 beneath_none : (o : Opening) (server : Endpoint) (content : L.Content) (word : ℕ)
     → Q.beneath o server content word ≢ L.Ticks
 beneath_none Running server content word h = cc h
-beneath_none Spent server content word h = cc h
-beneath_none Sends server content word h = cc h
+beneath_none _ server content word h = cc h
 
 lower_none : (s : E.Own) (c : E.Call) → NoTurn c → Every NoTick (P.lower s c)
 lower_none s (E.Ask now r word below answer) h =
@@ -82,9 +76,8 @@ lower_none s (E.Receive now from bytes up settled answer) h =
     (replies_none from (R.id_in up) (R.reply_by v (R.id_in up))))
     (λ k. cc k, tt)
 lower_none s (E.Ticks now below answer) h = absurd h
-lower_none s (E.Keep token answer) h = tt
-lower_none s (E.Release token answer) h = tt
 lower_none s (E.Take answer) h = (λ k. cc k, tt)
+lower_none s _ h = tt
 
 asked_none : (server : Endpoint) (setup : Setup) (past later : List E.Call) → Every NoTurn later
     → Every NoTick (asked_by_client server setup past later)

@@ -13,7 +13,8 @@ use Rattle.coap_client.specs.Follows.Words.{Sending, last_sent}
 use Rattle.coap_client.proofs.Places.Once.{beneath, known}
 use Rattle.coap_client.proofs.Places.PlaceEffects.{Linked}
 use Rattle.coap_client.proofs.Reporting.Dropped.{if_dropped}
-use Rattle.coap_client.proofs.Uploading.Pieces.{Tracked, IfTracked, all_sends}
+use Rattle.coap_client.proofs.Uploading.SentSoFar.{Tracked, IfTracked}
+use Rattle.coap_client.proofs.Uploading.AllSent.{all_sends}
 
 -- what was sent for a call is of the operation that runs
 pub sent_call : (op : Operation) (x : Sending) (k : ℕ) (r : Request) (tr : Transfer) → IsSentFor op x

@@ -86,12 +86,8 @@ module _ (server : Endpoint) (sizes : Sizes) (setup : Setup) where
       (event : Option Event) (sent : L.Answer) (token : Result (List ℕ) AskRefusal) (kept : Bool)
       → ends (E.Receive m from bytes up settled event)
       ≡ is_over (Feeds now from bytes w up settled event sent token kept)
-  fed_ends now from bytes w up settled m None sent token kept = refl
   fed_ends now from bytes w up settled m (Some (event_of.Answer x)) sent token kept = refl
-  fed_ends now from bytes w up settled m (Some (event_of.Notice x)) sent token kept = refl
-  fed_ends now from bytes w up settled m (Some event_of.Reset) sent token kept = refl
-  fed_ends now from bytes w up settled m (Some event_of.Timeout) sent token kept = refl
-  fed_ends now from bytes w up settled m (Some event_of.NoResponse) sent token kept = refl
+  fed_ends now from bytes w up settled m _ sent token kept = refl
 
   tick_ends : (now w : ℕ) (below : L.Answer) (m : ℕ) (turn : Turn) (sent : L.Answer)
       (token : Result (List ℕ) AskRefusal) (kept answer : Bool) (s : E.Own) (at_m : ℕ) → TurnFits s at_m below turn

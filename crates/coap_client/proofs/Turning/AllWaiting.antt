@@ -11,7 +11,7 @@ use Rattle.coap_client.specs.Law.{own_of}
 use Rattle.coap_client.proofs.Turning.BlockByBlock.{AllOf, all_uncancelled, happened_runs, passes_runs}
 use Rattle.coap_client.proofs.Turning.Turns.{closing}
 use Rattle.coap_client.proofs.Reporting.Bodies.{waits_closed}
-pub use Rattle.coap_client.proofs.Uploading.Pieces.{all_behind as all_more, map_all as all_to}
+pub use Rattle.coap_client.proofs.Uploading.SentSoFar.{all_behind as all_more, map_all as all_to}
 
 module _ (sizes : Sizes) (P : List Call → Operation → Type 0)
     (later : (t : List Call) (c : Call) (op : Operation) → P t op → P (c ∷ t) op)

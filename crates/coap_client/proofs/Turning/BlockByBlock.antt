@@ -6,7 +6,7 @@ use Rattle.coap_codec.specs.Message.{Message}
 use Rattle.coap_types.specs.declared.block.Block.{Block}
 use Rattle.coap_block.specs.declared.fetch_verdict.Verdict.{Verdict}
 use Rattle.coap_block.specs.declared.fetch_verdict.Verdict.TheVariants as verdict
-use Rattle.coap_block.specs.UploadStep.{UploadState, moved, more_follows}
+use Rattle.coap_block.specs.UploadStep.{UploadState, moved, more_follows, continues}
 use Rattle.coap_layer.specs.Trace as L
 use Rattle.coap_exchange.specs.declared.asker.Event.{Event}
 use Rattle.coap_exchange.specs.declared.asker.Event.TheVariants as event_of
@@ -16,22 +16,18 @@ use Rattle.coap_exchange.specs.declared.asker.Exchange.{Exchange}
 use Rattle.coap_exchange.specs.AskerTrace as E
 use Rattle.coap_exchange.specs.AskerRequests as Q
 use Rattle.coap_exchange.specs.AskerArrivals as A
-use Rattle.coap_exchange.proofs.Facts.Moves.{token_in}
-use Rattle.coap_exchange.proofs.Facts.Moves.{refused, sent as sent_it}
+use Rattle.coap_exchange.proofs.Facts.Moves.{token_in, refused, sent as sent_it}
 use Rattle.coap_exchange.proofs.Facts.Moves as move
 use Rattle.coap_types.specs.declared.option_number.TheConstants.{BLOCK1 as block1}
 use Rattle.coap_observe.specs.Newer.{is_newer}
-use Rattle.coap_block.specs.UploadStep.{continues}
-use Rattle.coap_client.specs.Trace.{Request, Report, Reported, Call, Calls, Observes, Cancels, Forgets}
-use Rattle.coap_client.specs.Trace.{Feeds, Ticks, NextOut, NextReport, Asked}
+use Rattle.coap_client.specs.Trace.{Request, Report, Reported, Call, Calls, Observes, Cancels, Forgets, Feeds, Ticks}
+use Rattle.coap_client.specs.Trace.{NextOut, NextReport, Asked}
 use Rattle.coap_client.specs.Trace as R
-use Rattle.coap_client.specs.Own.{Transfer, Fetches, Uploads, Operation, Calling, Registering}
-use Rattle.coap_client.specs.Own.{Fetching, Cancelling, Dropped, Notified, Observation, Own}
-use Rattle.coap_client.specs.Observations.{observation_of, observation_with, rest_of, to_fetch}
-use Rattle.coap_client.specs.Observations.{is_cancel_of, dropped}
+use Rattle.coap_client.specs.Own.{Transfer, Fetches, Uploads, Operation, Calling, Registering, Fetching, Cancelling}
+use Rattle.coap_client.specs.Own.{Dropped, Notified, Observation, Own}
+use Rattle.coap_client.specs.Observations.{observation_of, observation_with, rest_of, to_fetch, is_cancel_of, dropped}
 use Rattle.coap_client.specs.Requests.{is_longer}
-use Rattle.coap_client.specs.Responses.{content, continue, block_at, is_notification, sequence_in}
-use Rattle.coap_client.specs.Responses.{part}
+use Rattle.coap_client.specs.Responses.{content, continue, block_at, is_notification, sequence_in, part}
 use Rattle.coap_client.specs.Responses as T
 use Rattle.coap_client.specs.Reports.{lapse}
 use Rattle.coap_client.specs.Reports as reports_of
@@ -39,10 +35,9 @@ use Rattle.coap_client.specs.Calls.{Next, answer}
 use Rattle.coap_client.specs.Calls as calls
 use Rattle.coap_client.specs.Effects.{Asks, Keeps, Effect, stays, runs, ends, of, is_upload}
 use Rattle.coap_client.specs.Fetching.{fetch_by, fetch_answered}
-use Rattle.coap_client.specs.Observing.{begun, first_value, is_over, registered, releases, renewed}
-use Rattle.coap_client.specs.Observing.{passed, noticed_by}
-use Rattle.coap_client.specs.Events.{called, answered, failed, happened, is_held, is_upload_op, starts}
-use Rattle.coap_client.specs.Events.{idle, passes, closed}
+use Rattle.coap_client.specs.Observing.{begun, first_value, is_over, registered, releases, renewed, passed, noticed_by}
+use Rattle.coap_client.specs.Events.{called, answered, failed, happened, is_held, is_upload_op, starts, idle, passes}
+use Rattle.coap_client.specs.Events.{closed}
 use Rattle.coap_client.proofs.Places.PlaceLemmas.{same_number}
 use Rattle.coap_client.specs.Follows.Places.{gone}
 use Rattle.coap_client.specs.Follows.Blocks.{Carried, carried}
@@ -119,10 +114,9 @@ fetch_from s heard k (Some n) m = fetch_by_from s heard k n m
 -- of a call
 module _ (s : Own) (k : ℕ) (r : Request) (m : Message) where
   fetched_from : (f : _) (v : Verdict) → From s (Some m) (called k r (Fetches f) s (calls.fetched f m v))
-  fetched_from f (verdict.Refuse why) = quiet_from s (Some m) _ (λ op h. cc h)
-  fetched_from f verdict.Done = quiet_from s (Some m) _ (λ op h. cc h)
   fetched_from f verdict.Again = no_carry s (Some m) _ (Calling k r _) refl refl
   fetched_from f (verdict.Ask num szx) = no_carry s (Some m) _ (Calling k r _) refl refl
+  fetched_from f _ = quiet_from s (Some m) _ (λ op h. cc h)
 
   got_from : (f : _) → From s (Some m) (called k r (Fetches f) s (answer r (Fetches f) m))
   got_from f = by (m.code == content) ((m.code == T.valid) && calls.has_tags r.etags)
@@ -355,13 +349,11 @@ came_stays before now None c x is = same_token_stays before now c x is
 came_stays before now (Some (event_of.Answer m)) c x is = absurd (cc (is, c.3))
 came_stays before now (Some (event_of.Notice m)) c x is = (x, sym c.1 ∙ is, refl)
 came_stays before now (Some event_of.Reset) c x is = absurd (cc (is, c.2))
-came_stays before now (Some event_of.Timeout) c x is = absurd c
-came_stays before now (Some event_of.NoResponse) c x is = absurd c
+came_stays before now _ c x is = absurd c
 
 pub turned_stays : (before : Option Exchange) (t : Turn) → TokenStays before (A.running_unless t before)
-turned_stays before turn_of.Idle x is = (x, is, refl)
-turned_stays before turn_of.Copied x is = (x, is, refl)
 turned_stays before (turn_of.End e) x is = absurd (cc is)
+turned_stays before _ x is = (x, is, refl)
 
 -- the token of a request that was sent is that of the exchange
 pub token_sent : (x : E.Own) (r : E.Request) (below : L.Answer) (token : List ℕ)

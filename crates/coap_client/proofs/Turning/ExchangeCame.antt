@@ -84,8 +84,7 @@ Came before now None = token_in now ≡ token_in before
 Came before now (Some (event.Answer m)) = (x : Exchange) × (before ≡ Some x) × (m.token ≡ x.token) × (now ≡ None)
 Came before now (Some (event.Notice m)) = (has_token before m.token ≡ false) × (now ≡ before)
 Came before now (Some event.Reset) = (x : Exchange) × (before ≡ Some x) × (now ≡ None)
-Came before now (Some event.Timeout) = ⊥
-Came before now (Some event.NoResponse) = ⊥
+Came before now _ = ⊥
 
 acked_token : (running : Option Exchange) (at : ℕ)
     → token_in (option_map (λ (x : Exchange). record x { acked = Some (record { 0 = at }) }) running) ≡ token_in running

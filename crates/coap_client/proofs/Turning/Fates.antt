@@ -1,16 +1,13 @@
 -- What becomes of a call, and of a cancel, that runs.
-use Rattle.std.proofs.Common.{◌≡◌, ◌≤◌, ℕ, max, Bool, true, false, Option, Some, None, List, ◌∷◌, refl}
-use Rattle.std.proofs.Common.{ap, sym, subst, ◌∙◌, Result, Ok, Err, arith}
+use Rattle.std.proofs.Common.{◌≡◌, ◌≤◌, ℕ, max, Bool, true, false, Option, Some, None, List, ◌∷◌, refl, ap, sym, subst}
+use Rattle.std.proofs.Common.{◌∙◌, Result, Ok, Err, arith}
 use Rattle.coap_codec.specs.Message.{Message}
 use Rattle.coap_block.specs.Sizes.{Sizes}
 use Rattle.coap_exchange.specs.declared.asker.AskRefusal.{AskRefusal}
 use Rattle.coap_exchange.specs.declared.asker.Event.{Event}
-use Rattle.coap_client.specs.Trace.{is_value, Report, Cancelled, NoIds, Reported, Requested, Call}
-use Rattle.coap_client.specs.Trace.{Calls}
-use Rattle.coap_client.specs.Trace.{Observes, Cancels, Forgets, Feeds, Ticks, NextOut, NextReport}
-use Rattle.coap_client.specs.Trace.{Asked}
-use Rattle.coap_client.specs.Own.{Transfer, Operation, Calling, Registering, Fetching, Cancelling}
-use Rattle.coap_client.specs.Own.{Dropped, Own}
+use Rattle.coap_client.specs.Trace.{is_value, Report, Cancelled, NoIds, Reported, Requested, Call, Calls, Observes}
+use Rattle.coap_client.specs.Trace.{Cancels, Forgets, Feeds, Ticks, NextOut, NextReport, Asked}
+use Rattle.coap_client.specs.Own.{Transfer, Operation, Calling, Registering, Fetching, Cancelling, Dropped, Own}
 use Rattle.coap_client.specs.Observations.{observation_of, dropped}
 use Rattle.coap_client.specs.Observing.{is_over}
 use Rattle.coap_client.specs.Reports.{lapse}
@@ -120,8 +117,6 @@ module _ (sizes : Sizes) (t : List Call) (c : Call) (op : Operation) (lone : IsL
       → sends (own_of sizes t) c ≡ sent_by (left_by s m told mo) (left_by s m told mo).deed token
       → reports (own_of sizes t) c ≡ (closed m (left_by s m told mo) (left_by s m told mo).deed token).report
       → hears c ≡ heard_in told → (own_of sizes t).running ≡ Some op → Fate sizes t c op
-  fate_by (mv.rests un) cl own sending report heard is = runs_on (ap (λ (o : Own). o.running) own ∙ is) sending
-  fate_by (mv.copies quiet_so) cl own sending report heard is = runs_on (ap (λ (o : Own). o.running) own ∙ is) sending
   fate_by (mv.starts_next o queue none rest first quiet_so) cl own sending report heard is = let k : None
       ≡ Some op = sym none ∙ is in absurd (cc k)
   fate_by (mv.fetches k none rest quiet_so) cl own sending report heard is = let e : None ≡ Some op = sym none
@@ -173,6 +168,7 @@ module _ (sizes : Sizes) (t : List Call) (c : Call) (op : Operation) (lone : IsL
       runs_on (ap (λ (z : Own). z.running) own ∙ (ap (dropped o.number) is ∙ dropped_lone o.number op lone)) sending
   fate_by (mv.passes_by o a notes found note newer) cl own sending report heard is =
       runs_on (ap (λ (z : Own). z.running) own ∙ is) sending
+  fate_by _ cl own sending report heard is = runs_on (ap (λ (o : Own). o.running) own ∙ is) sending
 
 fate_turned : (sizes : Sizes) (t : List Call) (c : Call) (op : Operation) → IsLone op
     → (own_of sizes t).running ≡ Some op
@@ -183,19 +179,13 @@ fate_turned sizes t c op lone is k = fate_by sizes t c op lone k.now k.told k.to
 pub fate : (sizes : Sizes) (t : List Call) (c : Call) (op : Operation) → IsLone op → (own_of sizes t).running ≡ Some op
     → Fate sizes t c op
 fate sizes t (Calls now r (Ok n)) op lone is = runs_on is refl
-fate sizes t (Calls now r (Err why)) op lone is = runs_on is refl
 fate sizes t (Observes now path (Ok n)) op lone is = runs_on is refl
-fate sizes t (Observes now path (Err why)) op lone is = runs_on is refl
 fate sizes t (Cancels now k None) op lone is = runs_on is refl
-fate sizes t (Cancels now k (Some why)) op lone is = runs_on is refl
 fate sizes t (Forgets k kept true) op lone is = runs_on (ap (dropped k) is ∙ dropped_lone k op lone) refl
-fate sizes t (Forgets k kept false) op lone is = runs_on is refl
-fate sizes t (NextOut answer) op lone is = runs_on is refl
-fate sizes t (NextReport answer) op lone is = runs_on is refl
-fate sizes t (Asked answer) op lone is = runs_on is refl
 fate sizes t (Feeds now from bytes w up settled event sent token kept) op lone is =
     fate_turned sizes t (Feeds now from bytes w up settled event sent token kept) op lone is
     (fed_turned sizes t now from bytes w up settled event sent token kept)
 fate sizes t (Ticks now w below turn sent token kept answer) op lone is =
     fate_turned sizes t (Ticks now w below turn sent token kept answer) op lone is
     (ticked_turned sizes t now w below turn sent token kept answer)
+fate sizes t _ op lone is = runs_on is refl

@@ -23,10 +23,7 @@ OnOrOver op s = (s.running ≡ Some op) ⊎ (s.running ≡ None)
 -- what is refused is over
 failed_over : (s : Own) (op : Operation) → (failed has_sent NoIds s (Some op)).own.running ≡ None
 failed_over s (Calling k r t) = refl
-failed_over s (Registering k path) = refl
-failed_over s (Fetching k) = refl
-failed_over s (Cancelling k) = refl
-failed_over s Dropped = refl
+failed_over s _ = refl
 
 module _ (op : Operation) (lone : IsLone op) (s : Own) (is : s.running ≡ Some op) (m : ℕ) (e : Effect)
     (runs : Runs s e) where
@@ -55,16 +52,9 @@ pub left_running : (sizes : Sizes) (t : List Call) (c : Call) (op : Operation) �
     → (own_of sizes t).running ≡ Some op
     → sends (own_of sizes t) c ≡ None → OnOrOver op (own_of sizes (c ∷ t))
 left_running sizes t (Calls now r (Ok n)) op lone is none = inl is
-left_running sizes t (Calls now r (Err why)) op lone is none = inl is
 left_running sizes t (Observes now path (Ok n)) op lone is none = inl is
-left_running sizes t (Observes now path (Err why)) op lone is none = inl is
 left_running sizes t (Cancels now k None) op lone is none = inl is
-left_running sizes t (Cancels now k (Some why)) op lone is none = inl is
 left_running sizes t (Forgets k kept true) op lone is none = inl (ap (dropped k) is ∙ dropped_lone k op lone)
-left_running sizes t (Forgets k kept false) op lone is none = inl is
-left_running sizes t (NextOut answer) op lone is none = inl is
-left_running sizes t (NextReport answer) op lone is none = inl is
-left_running sizes t (Asked answer) op lone is none = inl is
 left_running sizes t (Feeds now from bytes w up settled event sent token kept) op lone is none =
     let m : ℕ = max (own_of sizes t).clock now in
     let s : Own = at now (own_of sizes t) in
@@ -75,3 +65,4 @@ left_running sizes t (Ticks now w below turn sent token kept answer) op lone is 
     let s : Own = at now (own_of sizes t) in
     let e : Effect = passes s m turn in
     closed_on op lone s is m e (passes_runs s m turn) token none (closing m e token)
+left_running sizes t _ op lone is none = inl is

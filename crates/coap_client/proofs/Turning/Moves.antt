@@ -12,23 +12,19 @@ use Rattle.coap_exchange.specs.declared.asker.Turn.{Turn}
 use Rattle.coap_exchange.specs.declared.asker.Turn.TheVariants as turn_of
 use Rattle.coap_observe.specs.Newer.{is_newer}
 use Rattle.coap_client.specs.Trace.{Request, Ended}
-use Rattle.coap_client.specs.Own.{Transfer, Operation, Calling, Registering, Fetching, Cancelling}
-use Rattle.coap_client.specs.Own.{Dropped, Notified, Observation, Own}
+use Rattle.coap_client.specs.Own.{Transfer, Operation, Calling, Registering, Fetching, Cancelling, Dropped, Notified}
+use Rattle.coap_client.specs.Own.{Observation, Own}
 use Rattle.coap_client.specs.Observations.{observation_with, rest_of, to_fetch}
 use Rattle.coap_client.specs.Responses.{content, is_notification, sequence_in, part}
 use Rattle.coap_client.specs.Calls.{Next, answer}
 use Rattle.coap_client.specs.Calls as calls
 use Rattle.coap_client.specs.Effects.{Asks, Keeps, stays, runs, ends, of}
 use Rattle.coap_client.specs.Fetching.{fetch_by, fetch_answered}
-use Rattle.coap_client.specs.Observing.{begun, first_value, is_over, releases, registered, renewed}
-use Rattle.coap_client.specs.Observing.{passed, noticed_by}
-use Rattle.coap_client.specs.Events.{called, answered, happened, is_held}
-use Rattle.coap_client.specs.Events.{is_upload_op, starts, idle, passes}
-use Rattle.coap_client.specs.Turns.Moves.{Hears, Notes, Unheard, Moved, rests, copies, starts_next, fetches}
-use Rattle.coap_client.specs.Turns.Moves.{goes_on, is_done, registers, refuses, fetches_on, fetched}
-use Rattle.coap_client.specs.Turns.Moves.{gives_up}
-use Rattle.coap_client.specs.Turns.Moves.{fetched_none, cancels, is_dropped, fails, is_ended, renews}
-use Rattle.coap_client.specs.Turns.Moves.{passes_by}
+use Rattle.coap_client.specs.Observing.{begun, first_value, is_over, releases, registered, renewed, passed, noticed_by}
+use Rattle.coap_client.specs.Events.{called, answered, happened, is_held, is_upload_op, starts, idle, passes}
+use Rattle.coap_client.specs.Turns.Moves.{Hears, Notes, Unheard, Moved, rests, copies, starts_next, fetches, goes_on}
+use Rattle.coap_client.specs.Turns.Moves.{is_done, registers, refuses, fetches_on, fetched, gives_up, fetched_none}
+use Rattle.coap_client.specs.Turns.Moves.{cancels, is_dropped, fails, is_ended, renews, passes_by}
 use Rattle.coap_client.proofs.Places.PlaceLemmas.{same_number}
 
 -- a release asks for no request
@@ -67,8 +63,7 @@ module _ (s : Own) (now : ℕ) (m : Message) where
       → m.code ≡ content → (v : Verdict) → part n.fetch m ≡ v → Moved s now told (fetch_by k n s m v)
   part_moves k n is rest code (verdict.Ask num szx) h = (fetches_on k n m num szx refl is rest code h, refl)
   part_moves k n is rest code verdict.Done h = (fetched k n m refl is rest code h, refl)
-  part_moves k n is rest code verdict.Again h = (gives_up k m refl is, refl)
-  part_moves k n is rest code (verdict.Refuse why) h = (gives_up k m refl is, refl)
+  part_moves k n is rest code _ h = (gives_up k m refl is, refl)
 
   fetch_moves : (k : ℕ) → s.running ≡ Some (Fetching k) → (o : Option Notified) → rest_of k s.observations ≡ o
       → Moved s now told (fetch_answered k o s m)

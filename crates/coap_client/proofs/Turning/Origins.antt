@@ -1,15 +1,14 @@
 -- Where the call that runs comes from, and what a report comes from.
-use Rattle.std.proofs.Common.{◌≡◌, ℕ, max, Bool, true, false, cond, Option, Some, None, List}
-use Rattle.std.proofs.Common.{◌∷◌, refl, ap, sym, ◌∙◌, Result, Ok, Err}
+use Rattle.std.proofs.Common.{◌≡◌, ℕ, max, Bool, true, false, cond, Option, Some, None, List, ◌∷◌, refl, ap, sym, ◌∙◌}
+use Rattle.std.proofs.Common.{Result, Ok, Err}
 use Rattle.std.specs.Prelude.{◌==◌}
 use Rattle.coap_codec.specs.Message.{Message}
 use Rattle.coap_block.specs.Sizes.{Sizes}
 use Rattle.coap_exchange.specs.declared.asker.AskRefusal.{AskRefusal}
 use Rattle.coap_exchange.specs.declared.asker.Event.{Event}
-use Rattle.coap_client.specs.Trace.{Request, Report, NoIds, Requested, Call, Calls, Observes, Cancels}
-use Rattle.coap_client.specs.Trace.{Forgets, Feeds, Ticks, NextOut, NextReport, Asked}
-use Rattle.coap_client.specs.Own.{Transfer, Operation, Calling, Registering, Fetching, Cancelling}
-use Rattle.coap_client.specs.Own.{Dropped, Own}
+use Rattle.coap_client.specs.Trace.{Request, Report, NoIds, Requested, Call, Calls, Observes, Cancels, Forgets, Feeds}
+use Rattle.coap_client.specs.Trace.{Ticks, NextOut, NextReport, Asked}
+use Rattle.coap_client.specs.Own.{Transfer, Operation, Calling, Registering, Fetching, Cancelling, Dropped, Own}
 use Rattle.coap_client.specs.Observations.{observation_of, dropped}
 use Rattle.coap_client.specs.Reports.{lapse}
 use Rattle.coap_client.specs.Calls.{answer}
@@ -48,18 +47,12 @@ failed_over : (u : Transfer → Bool) (report : Report) (s : Own) (running : Opt
     → s.running ≡ running → (failed u report s running).own.running ≡ Some op → ⊥
 failed_over u report s None op is h = let k : None ≡ Some op = sym is ∙ h in cc k
 failed_over u report s (Some (Calling k r t)) op is h = cc h
-failed_over u report s (Some (Registering k path)) op is h = cc h
-failed_over u report s (Some (Fetching k)) op is h = cc h
-failed_over u report s (Some (Cancelling k)) op is h = cc h
-failed_over u report s (Some Dropped) op is h = cc h
+failed_over u report s _ op is h = cc h
 
 failed_now : (u : Transfer → Bool) (report : Report) (o : Own) (op other : Operation)
     → (failed u report o (Some op)).own.running ≡ Some other → ⊥
 failed_now u report o (Calling k r t) other h = cc h
-failed_now u report o (Registering k path) other h = cc h
-failed_now u report o (Fetching k) other h = cc h
-failed_now u report o (Cancelling k) other h = cc h
-failed_now u report o Dropped other h = cc h
+failed_now u report o _ other h = cc h
 
 module _ (sizes : Sizes) (t : List Call) (c : Call) (k : ℕ) (r : Request) (tr : Transfer) (now : ℕ)
     (told : Option Event)
@@ -184,19 +177,13 @@ origin_turned sizes t c k r tr z = origin_by sizes t c k r tr z.now z.told z.tok
 pub origin : (sizes : Sizes) (t : List Call) (c : Call) (k : ℕ) (r : Request) (tr : Transfer)
     → (own_of sizes (c ∷ t)).running ≡ Some (Calling k r tr) → Origin sizes t c k r tr
 origin sizes t (Calls now q (Ok n)) k r tr is = kept is refl
-origin sizes t (Calls now q (Err why)) k r tr is = kept is refl
 origin sizes t (Observes now path (Ok n)) k r tr is = kept is refl
-origin sizes t (Observes now path (Err why)) k r tr is = kept is refl
 origin sizes t (Cancels now n None) k r tr is = kept is refl
-origin sizes t (Cancels now n (Some why)) k r tr is = kept is refl
 origin sizes t (Forgets n was true) k r tr is = kept (dropped_call n (own_of sizes t).running k r tr is) refl
-origin sizes t (Forgets n was false) k r tr is = kept is refl
-origin sizes t (NextOut answer) k r tr is = kept is refl
-origin sizes t (NextReport answer) k r tr is = kept is refl
-origin sizes t (Asked answer) k r tr is = kept is refl
 origin sizes t (Feeds now from bytes w up settled event sent token was) k r tr is =
     origin_turned sizes t (Feeds now from bytes w up settled event sent token was) k r tr
     (fed_turned sizes t now from bytes w up settled event sent token was) is
 origin sizes t (Ticks now w below turn sent token was answer) k r tr is =
     origin_turned sizes t (Ticks now w below turn sent token was answer) k r tr
     (ticked_turned sizes t now w below turn sent token was answer) is
+origin sizes t _ k r tr is = kept is refl

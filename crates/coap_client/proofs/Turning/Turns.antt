@@ -1,7 +1,6 @@
 -- What a call of a client makes of it: a datagram or time moves it, and then the request that is asked for is sent or
 -- refused.
-use Rattle.std.proofs.Common.{◌≡◌, ℕ, max, Bool, Option, Some, None, List, ◌∷◌, refl, ap, sym, ◌∙◌, Result}
-use Rattle.std.proofs.Common.{Ok, Err}
+use Rattle.std.proofs.Common.{◌≡◌, ℕ, max, Bool, Option, Some, None, List, ◌∷◌, refl, ap, sym, ◌∙◌, Result, Ok, Err}
 use Rattle.coap_block.specs.Sizes.{Sizes}
 use Rattle.coap_exchange.specs.declared.asker.AskRefusal.{AskRefusal}
 use Rattle.coap_exchange.specs.declared.asker.Event.{Event}
@@ -98,12 +97,8 @@ module _ (sizes : Sizes) (t : List Call) (c : Call) (now : ℕ) (told : Option E
 hears_same : (now : ℕ) (from : Endpoint) (bytes : List ℕ) (w : ℕ) (up : L.Answer) (settled : Bool)
     (event : Option Event) (sent : L.Answer) (token : Result (List ℕ) AskRefusal) (kept : Bool)
     → hears (Feeds now from bytes w up settled event sent token kept) ≡ heard_in event
-hears_same now from bytes w up settled None sent token kept = refl
 hears_same now from bytes w up settled (Some (event_of.Answer m)) sent token kept = refl
-hears_same now from bytes w up settled (Some (event_of.Notice m)) sent token kept = refl
-hears_same now from bytes w up settled (Some event_of.Reset) sent token kept = refl
-hears_same now from bytes w up settled (Some event_of.Timeout) sent token kept = refl
-hears_same now from bytes w up settled (Some event_of.NoResponse) sent token kept = refl
+hears_same now from bytes w up settled _ sent token kept = refl
 
 pub fed_turned : (sizes : Sizes) (t : List Call) (now : ℕ) (from : Endpoint) (bytes : List ℕ) (w : ℕ) (up : L.Answer)
     (settled : Bool) (event : Option Event) (sent : L.Answer) (token : Result (List ℕ) AskRefusal) (kept : Bool)

@@ -1,7 +1,6 @@
 -- Where a block of an upload is sent, each block of another was answered, or is quiet.
 use Rattle.std.proofs.Common.{◌≡◌, ◌≢◌, ◌≤◌, ◌<◌, ◌⊎◌, inl, inr, ℕ, ◌+◌, ◌&&◌, not, Bool, true, false, Some, None, List}
-use Rattle.std.proofs.Common.{[], ◌∷◌, refl, ap, sym}
-use Rattle.std.proofs.Common.{subst, ◌∙◌, arith, length}
+use Rattle.std.proofs.Common.{[], ◌∷◌, refl, ap, sym, subst, ◌∙◌, arith, length}
 use Rattle.std.specs.Prelude.{nat_lt, ◌==◌}
 use Rattle.std.proofs.Math.Nat.{lt_of_not-le}
 use Rattle.std.proofs.Math.Arith.{lt_of_le-ne}

@@ -1,6 +1,5 @@
 -- A further block is sent where the first one was answered with 2.31.
-use Rattle.std.proofs.Common.{◌≡◌, ◌<◌, ◌⊎◌, inl, inr, ℕ, ◌*◌, Some, List, ◌∷◌, [], refl, subst}
-use Rattle.std.proofs.Common.{arith}
+use Rattle.std.proofs.Common.{◌≡◌, ◌<◌, ◌⊎◌, inl, inr, ℕ, ◌*◌, Some, List, ◌∷◌, [], refl, subst, arith}
 use Rattle.std.specs.Prelude.{zero, suc}
 use Rattle.std.proofs.Math.Nat.{suc-mul}
 use Rattle.coap_types.specs.declared.endpoint.Endpoint.{Endpoint}
@@ -17,7 +16,7 @@ use Rattle.coap_client.specs.Follows.Words.{Sending}
 use Rattle.coap_client.proofs.Uploading.Pieces.{sends_pieces}
 use Rattle.coap_client.specs.Follows.Begins.{WasSent}
 use Rattle.coap_client.specs.Follows.Continued.{FirstContinued, AreContinued}
-use Rattle.coap_client.proofs.Sending.Tokens.{last_was_sent}
+use Rattle.coap_client.proofs.Sending.LiveTokens.{last_was_sent}
 
 -- what begins at the start of a body is its first block
 zero_first : (num size : ℕ) → 0 < size → num * size ≡ 0 → num ≡ 0

@@ -6,7 +6,7 @@ use Rattle.coap_codec.specs.Message.{Message}
 use Rattle.coap_types.specs.declared.block.Block.{Block}
 use Rattle.coap_block.specs.declared.fetch_verdict.Verdict.{Verdict}
 use Rattle.coap_block.specs.declared.fetch_verdict.Verdict.TheVariants as verdict
-use Rattle.coap_block.specs.UploadStep.{UploadState, moved, more_follows}
+use Rattle.coap_block.specs.UploadStep.{UploadState, moved, more_follows, continues}
 use Rattle.coap_exchange.specs.declared.asker.AskRefusal.{AskRefusal}
 use Rattle.coap_exchange.specs.declared.asker.Event.{Event}
 use Rattle.coap_exchange.specs.declared.asker.Event.TheVariants as event
@@ -14,26 +14,23 @@ use Rattle.coap_exchange.specs.declared.asker.Turn.{Turn}
 use Rattle.coap_exchange.specs.declared.asker.Turn.TheVariants as turn
 use Rattle.coap_types.specs.declared.option_number.TheConstants.{BLOCK1 as block1}
 use Rattle.coap_observe.specs.Newer.{is_newer}
-use Rattle.coap_block.specs.UploadStep.{continues}
 use Rattle.coap_client.specs.Trace.{is_value, Request, Report, Reported}
 use Rattle.coap_client.specs.Trace as R
-use Rattle.coap_client.specs.Own.{Transfer, Uploads, Operation, Calling, Registering}
-use Rattle.coap_client.specs.Own.{Fetching, Notified, Observation, Own}
-use Rattle.coap_client.specs.Observations.{observation_of, observation_with, rest_of, to_fetch}
-use Rattle.coap_client.specs.Observations.{dropped}
+use Rattle.coap_client.specs.Own.{Transfer, Uploads, Operation, Calling, Registering, Fetching, Notified, Observation}
+use Rattle.coap_client.specs.Own.{Own}
+use Rattle.coap_client.specs.Observations.{observation_of, observation_with, rest_of, to_fetch, dropped}
 use Rattle.coap_client.specs.Requests.{is_longer}
 use Rattle.coap_client.specs.Responses.{continue, block_at, is_notification, sequence_in}
 use Rattle.coap_client.specs.Reports.{lapse}
 use Rattle.coap_client.specs.Reports as reports_of
 use Rattle.coap_client.specs.Calls.{Next, answer}
 use Rattle.coap_client.specs.Calls as calls
-use Rattle.coap_client.specs.Effects.{Deed, Rests, Asks, Keeps, Releases, Effect, stays, runs, ends}
-use Rattle.coap_client.specs.Effects.{of}
-use Rattle.coap_client.specs.Effects.{is_upload, held_by, has_sent}
+use Rattle.coap_client.specs.Effects.{Deed, Rests, Asks, Keeps, Releases, Effect, stays, runs, ends, of, is_upload}
+use Rattle.coap_client.specs.Effects.{held_by, has_sent}
 use Rattle.coap_client.specs.Fetching.{fetch_by, fetch_answered}
 use Rattle.coap_client.specs.Observing.{is_over, releases, renewed, passed, noticed_by}
-use Rattle.coap_client.specs.Events.{called, answered, failed, happened, is_held, is_upload_op, starts}
-use Rattle.coap_client.specs.Events.{idle, passes, closed}
+use Rattle.coap_client.specs.Events.{called, answered, failed, happened, is_held, is_upload_op, starts, idle, passes}
+use Rattle.coap_client.specs.Events.{closed}
 use Rattle.coap_client.specs.Follows.Holds.{is_upload_of}
 use Rattle.coap_client.proofs.Uploading.UploadSteps.{and_parts, longer_moved, later_moved}
 use Rattle.coap_client.proofs.Places.PlaceLemmas.{same_number}
@@ -67,9 +64,7 @@ if_steady s at false e f h k = k
 
 by_steady : (s : Own) (at k : ℕ) (n : Notified) (m : Message) (v : Verdict) → Steady s at (fetch_by k n s m v)
 by_steady s at k n m (verdict.Ask num szx) = steady s at _ refl refl refl refl
-by_steady s at k n m verdict.Done = steady s at _ refl refl refl refl
-by_steady s at k n m verdict.Again = steady s at _ refl refl refl refl
-by_steady s at k n m (verdict.Refuse why) = steady s at _ refl refl refl refl
+by_steady s at k n m _ = steady s at _ refl refl refl refl
 
 fetch_steady : (s : Own) (at k : ℕ) (o : Option Notified) (m : Message) → Steady s at (fetch_answered k o s m)
 fetch_steady s at k None m = steady s at _ refl refl refl refl
@@ -337,10 +332,6 @@ module _ (other : ℕ) (s : Own) (at : ℕ) (up : is_upload_of other s.running �
       → ((op : Operation) → e.deed ≡ Asks op → e.report ≡ None) → (d : Deed) → e.deed ≡ d
       → Closed final (closed at e d token)
   closed_fate final e token (inl o) none Rests is = inl o
-  closed_fate final e token (inl o) none (Keeps t) is =
-      inl (record { report = o.report; made = o.made; last = o.last; holds = o.holds })
-  closed_fate final e token (inl o) none (Releases t) is =
-      inl (record { report = o.report; made = o.made; last = o.last; holds = o.holds })
   closed_fate final e token (inl o) none (Asks op) is = absurd (cc (none op is, o.made))
   closed_fate final e token (inr (inl g)) none Rests is = absurd (cc (is, g.asks))
   closed_fate final e token (inr (inl g)) none (Keeps t) is = absurd (cc (is, g.asks))
@@ -362,3 +353,10 @@ module _ (other : ℕ) (s : Own) (at : ℕ) (up : is_upload_of other s.running �
   closed_fate final e token (inr (inr q)) none (Keeps t) is = inr q.is
   closed_fate final e token (inr (inr q)) none (Releases t) is = inr q.is
   closed_fate final e token (inr (inr q)) none (Asks op) is = absurd (q.quiet op is)
+  closed_fate final e token (inl o) none _ is = inl (record {
+    report = o.report;
+    made = o.made;
+    last = o.last;
+    holds
+        = o.holds;
+  })

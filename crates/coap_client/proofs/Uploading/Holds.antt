@@ -1,15 +1,10 @@
 -- No first block is sent at most 100,000 ms after a datagram of an upload that ended without a final response.
-use Rattle.std.proofs.Common.{◌≡◌, ◌≤◌, ◌⊎◌, inl, inr, ℕ, ◌+◌, max, Bool, true, false, cond, ◌&&◌, Option, Some}
-use Rattle.std.proofs.Common.{None, List, [], ◌∷◌, ◌++◌, refl, ap, sym, subst, ◌∙◌, arith, Result, Ok, Err}
-use Rattle.std.specs.Prelude.{◌==◌, nat_le}
+use Rattle.std.proofs.Common.{◌≡◌, ◌≤◌, ◌⊎◌, inl, inr, ℕ, ◌+◌, max, Bool, true, false, cond, Option, Some, None, List}
+use Rattle.std.proofs.Common.{[], ◌∷◌, ◌++◌, refl, ap, sym, subst, ◌∙◌, arith, Result, Ok, Err}
+use Rattle.std.specs.Prelude.{nat_le}
 use Rattle.coap_types.specs.Past.{Sometime}
 use Rattle.coap_types.specs.declared.endpoint.Endpoint.{Endpoint}
-use Rattle.coap_codec.specs.Message.{Message}
-use Rattle.coap_types.specs.declared.block.Block.{Block}
 use Rattle.coap_block.specs.Sizes.{Sizes}
-use Rattle.coap_block.specs.declared.fetch_verdict.Verdict.{Verdict}
-use Rattle.coap_block.specs.declared.fetch_verdict.Verdict.TheVariants as verdict
-use Rattle.coap_block.specs.UploadStep.{UploadState, moved, more_follows}
 use Rattle.coap_layer.specs.Trace as L
 use Rattle.std.proofs.lemmas.Bool.{le-leb}
 use Rattle.coap_exchange.specs.declared.asker.AskRefusal.{AskRefusal}
@@ -21,235 +16,33 @@ use Rattle.coap_exchange.specs.AskerTrace as E
 use Rattle.coap_exchange.specs.AskerArrivals as A
 use Rattle.coap_exchange.specs.AskerSteps as P
 use Rattle.coap_exchange.specs.AskerLaw as X
-use Rattle.coap_types.specs.declared.option_number.TheConstants.{BLOCK1 as block1}
-use Rattle.coap_block.specs.UploadStep.{continues}
-use Rattle.coap_client.specs.Trace.{is_value, Request, Call, Calls, Observes, Cancels}
-use Rattle.coap_client.specs.Trace.{Forgets, Feeds, Ticks, NextOut, NextReport, Asked}
-use Rattle.coap_client.specs.Trace as R
+use Rattle.coap_client.specs.Trace.{Call, Calls, Observes, Cancels, Forgets, Feeds, Ticks, NextOut, NextReport, Asked}
 use Rattle.coap_types.specs.declared.transmission.TheConstants.{MAX_LATENCY_MS as max_latency}
 use Rattle.coap_layer.specs.declared.setup.Setup.{Setup}
-use Rattle.coap_client.specs.Own.{Transfer, Fetches, Uploads, Single, Operation, Calling, Registering}
-use Rattle.coap_client.specs.Own.{Fetching, Cancelling, Dropped, Notified, Own}
-use Rattle.coap_client.specs.Observations.{observation_of, observation_with, rest_of, to_fetch}
-use Rattle.coap_client.specs.Observations.{dropped}
+use Rattle.coap_client.specs.Own.{Operation, Registering, Own}
 use Rattle.coap_client.specs.Observations.{over}
-use Rattle.coap_client.specs.Requests.{is_longer, message_of}
-use Rattle.coap_client.specs.Responses.{content, continue, block_at, is_notification, part}
-use Rattle.coap_client.specs.Responses as T
-use Rattle.coap_client.specs.Reports.{lapse}
-use Rattle.coap_client.specs.Reports as reports_of
-use Rattle.coap_client.specs.Calls.{Next, answer}
-use Rattle.coap_client.specs.Calls as calls
-use Rattle.coap_client.specs.Effects.{Deed, Rests, Asks, Keeps, Releases, Effect, stays, runs, of}
-use Rattle.coap_client.specs.Fetching.{fetch_by, fetch_answered}
-use Rattle.coap_client.specs.Observing.{begun, first_value, registered}
-use Rattle.coap_client.specs.Events.{called, answered, happened, is_held, is_upload_op, starts}
-use Rattle.coap_client.specs.Events.{idle, passes, closed}
+use Rattle.coap_client.specs.Requests.{is_longer}
+use Rattle.coap_client.specs.Calls.{answer}
+use Rattle.coap_client.specs.Effects.{Effect, runs, of}
+use Rattle.coap_client.specs.Events.{happened, is_held, passes}
 use Rattle.coap_client.specs.Deeds.{at, close, deeds}
 use Rattle.coap_client.specs.Steps.{lower, reports}
 use Rattle.coap_client.specs.Law.{ClientLaw, ClientRows, own_of, lower_of}
-use Rattle.coap_client.specs.Follows.Words.{Sending, sends, sent_by}
+use Rattle.coap_client.specs.Follows.Words.{Sending, sends}
 use Rattle.coap_client.specs.Follows.Blocks.{Carried, carried}
-use Rattle.coap_client.specs.Follows.Places.{hit, in_running, places, final_of, gone}
-use Rattle.coap_client.specs.Follows.Holds.{moment, is_copy, is_final, is_upload_of, sends_of, SendsOf}
-use Rattle.coap_client.specs.Follows.Holds.{EndsUnanswered, Holds, AllHold}
-use Rattle.coap_client.proofs.Turning.BlockByBlock.{failed_quiet, keeps_or_ends, noticed_quiet}
-use Rattle.coap_client.proofs.Places.PlaceLemmas.{same_number, hit_self}
-use Rattle.coap_client.proofs.Uploading.UploadSteps.{number_moved}
+use Rattle.coap_client.specs.Follows.Places.{hit, places, final_of, gone}
+use Rattle.coap_client.specs.Follows.Holds.{moment, is_copy, is_final, is_upload_of, sends_of, SendsOf, EndsUnanswered}
+use Rattle.coap_client.specs.Follows.Holds.{Holds, AllHold}
+use Rattle.coap_client.proofs.Places.PlaceLemmas.{hit_self}
 use Rattle.coap_client.proofs.Turning.ExchangeCame.{came}
 use Rattle.coap_client.proofs.Places.PlaceEffects.{Goes}
 use Rattle.coap_client.proofs.Places.PlaceEvents.{happened_goes, passes_goes}
-use Rattle.coap_client.proofs.Places.Once.{law_back, law_front, done_right, both_one, beneath, Known}
-use Rattle.coap_client.proofs.Places.Once.{sound_of}
-use Rattle.coap_client.proofs.Places.Once.{known, from_place}
+use Rattle.coap_client.proofs.Places.Once.{law_back, law_front, done_right, beneath, Known, sound_of, known, from_place}
+use Rattle.coap_client.proofs.Places.NumberSteps.{both_one}
 use Rattle.coap_client.proofs.Uploading.Holding.{Steadied, steadied, happened_steady, passes_steady, IsOver}
-use Rattle.coap_client.proofs.Uploading.Holding.{up_of}
 use Rattle.coap_client.proofs.Uploading.Holding.{happened_fate, passes_fate, finality, closed_fate}
-use Rattle.coap_client.proofs.Turning.Moves.{releases_none}
-
--- what is sent on an answer is no first block
-
-abbrev Later : Deed → Type 0
-Later d = (op : Operation) (y : Carried) → d ≡ Asks op → carried op ≡ Some y → y.upload.num ≡ 0 → ⊥
-
-abbrev LaterNext : Next → Type 0
-LaterNext (calls.Asks (Uploads u)) = u.num ≡ 0 → ⊥
-LaterNext (calls.Asks (Fetches f)) = Unit {0}
-LaterNext (calls.Asks Single) = Unit {0}
-LaterNext (calls.Ends final report) = Unit {0}
-
-later_if : (b : Bool) (x y : Next) → LaterNext x → LaterNext y → LaterNext (cond b x y)
-later_if true x y h k = h
-later_if false x y h k = k
-
-fetched_later : (f : _) (m : Message) (v : Verdict) → LaterNext (calls.fetched f m v)
-fetched_later f m (verdict.Refuse why) = tt
-fetched_later f m verdict.Again = tt
-fetched_later f m verdict.Done = tt
-fetched_later f m (verdict.Ask num szx) = tt
-
-continued_later : (u : UploadState) (o : Option Block) → LaterNext (calls.continued u o)
-continued_later u None = tt
-continued_later u (Some b) = by (continues u b) refl
-  where
-    by : (c : Bool) → continues u b ≡ c → LaterNext
-        (cond c (calls.Asks (Uploads (moved u b))) (calls.Ends false R.BadBlock))
-    by true h = number_moved u b h
-    by false h = tt
-
-answer_later : (r : Request) (t : Transfer) (m : Message) → LaterNext (answer r t m)
-answer_later r (Fetches f) m =
-    later_if (m.code == content) (calls.fetched f m (part f m))
-    (cond ((m.code == T.valid) && calls.has_tags r.etags) (calls.Ends true (R.Valid (T.tag_in m)))
-    (calls.Ends true (R.Failed m.code))) (fetched_later f m (part f m))
-    (later_if ((m.code == T.valid) && calls.has_tags r.etags) (calls.Ends true (R.Valid (T.tag_in m)))
-    (calls.Ends true (R.Failed m.code)) tt tt)
-answer_later r (Uploads u) m =
-    later_if ((m.code == continue) && is_longer u) (calls.continued u (block_at block1 m))
-    (cond (more_follows u && calls.is_below_errors m.code) (calls.Ends true R.BadBlock)
-    (calls.Ends true (reports_of.done r.method m.code))) (continued_later u (block_at block1 m))
-    (later_if (more_follows u && calls.is_below_errors m.code) (calls.Ends true R.BadBlock)
-    (calls.Ends true (reports_of.done r.method m.code)) tt tt)
-answer_later r Single m = tt
-
-called_later : (k : ℕ) (r : Request) (t : Transfer) (s : Own) (next : Next) → LaterNext next
-    → Later (called k r t s next).deed
-called_later k r t s (calls.Ends final report) h op y is c zero = cc is
-called_later k r t s (calls.Asks (Fetches f)) h op y is c zero = let same : Calling k r (Fetches f)
-    ≡ op = cc is in let e : None ≡ Some y = ap carried same ∙ c in cc e
-called_later k r t s (calls.Asks Single) h op y is c zero = let same : Calling k r Single ≡ op = cc is in let e : None
-    ≡ Some y = ap carried same ∙ c in cc e
-called_later k r t s (calls.Asks (Uploads u)) h op y is c zero =
-    let same : Calling k r (Uploads u) ≡ op = cc is in
-    let e : ◌≡◌ {A = Option Carried} (Some (record { number = k; upload = u })) (Some y) = ap carried same ∙ c in
-    let e2 : ◌≡◌ {A = Carried} (record { number = k; upload = u }) y = cc e in
-    h (ap (λ (z : Carried). z.upload.num) e2 ∙ zero)
-
-quiet_later : (d : Deed) → ((op : Operation) → d ≡ Asks op → ⊥) → Later d
-quiet_later d q op y is c zero = q op is
-
-by_later : (k : ℕ) (n : Notified) (s : Own) (m : Message) (v : Verdict) → Later (fetch_by k n s m v).deed
-by_later k n s m (verdict.Ask num szx) op y is c zero = let same : Fetching k ≡ op = cc is in let e : None
-    ≡ Some y = ap carried same ∙ c in cc e
-by_later k n s m _ op y is c zero = cc is
-
-fetch_later : (k : ℕ) (o : Option Notified) (s : Own) (m : Message) → Later (fetch_answered k o s m).deed
-fetch_later k None s m op y is c zero = cc is
-fetch_later k (Some n) s m op y is c zero = by_later k n s m _ op y is c zero
-
-registered_quiet : (k : ℕ) (path : List (List ℕ)) (s : Own) (m : ℕ) (a : Message) (op : Operation)
-    → (registered k path s m a).deed ≡ Asks op → ⊥
-registered_quiet k path s m a op h =
-    keeps_or_ends (is_notification a) (record s {
-      running = None;
-      observations = s.observations ++ begun k path s.sizes m a ∷ [];
-    }) (first_value k s.sizes a)
-    (of k (R.Ended a.code)) a.token s op h
-
-registered_later : (k : ℕ) (path : List (List ℕ)) (s : Own) (m : ℕ) (a : Message) → Later (registered k path s m a).deed
-registered_later k path s m a op y is c zero = registered_quiet k path s m a op is
-
-answered_later : (s : Own) (m : ℕ) (a : Message) (running : Option Operation) → Later (answered s m a running).deed
-answered_later s m a None = quiet_later _ (λ op h. cc h)
-answered_later s m a (Some (Calling k r t)) = called_later k r t s (answer r t a) (answer_later r t a)
-answered_later s m a (Some (Registering k path)) = registered_later k path s m a
-answered_later s m a (Some (Fetching k)) = fetch_later k (rest_of k s.observations) s a
-answered_later s m a (Some (Cancelling k)) = quiet_later _ (releases_none (observation_of k s.observations))
-answered_later s m a (Some Dropped) = quiet_later _ (λ op h. cc h)
-
-happened_later : (s : Own) (m : ℕ) (e : Option Event) → Later (happened s m e).deed
-happened_later s m None = quiet_later _ (λ op h. cc h)
-happened_later s m (Some (event_of.Answer a)) = answered_later s m a s.running
-happened_later s m (Some (event_of.Notice a)) =
-    quiet_later _ (noticed_quiet s m a (observation_with a.token s.observations))
-happened_later s m (Some event_of.Reset) = quiet_later _ (failed_quiet (λ t. true) R.Reset s s.running)
-happened_later s m (Some event_of.Timeout) = quiet_later _ (failed_quiet (λ t. true) R.Timeout s s.running)
-happened_later s m (Some event_of.NoResponse) = quiet_later _ (failed_quiet (λ t. true) R.NoResponse s s.running)
-
--- what a turn starts, nothing runs and it is not held back
-abbrev IsFree : Own → ℕ → Deed → Type 0
-IsFree s m d = (op : Operation) (y : Carried) → d ≡ Asks op → carried op ≡ Some y → is_longer y.upload ≡ true
-    → (s.running ≡ None) × (is_held s m ≡ false)
-
-upload_op : (op : Operation) (y : Carried) → carried op ≡ Some y → is_longer y.upload ≡ true → is_upload_op op ≡ true
-upload_op (Calling k r (Uploads u)) y c h = let e : ◌≡◌ {A = Carried} (record { number = k; upload = u }) y =
-    cc c in ap (λ (z : Carried). is_longer z.upload) e ∙ h
-upload_op _ y c h = absurd (cc c)
-
-module _ (s : Own) (m : ℕ) where
-  starts_free : (queue : List Operation) → s.running ≡ None → IsFree s m (starts s m queue).deed
-  starts_free [] none op y is c l = absurd (cc is)
-  starts_free (first ∷ queue) none op y is c l = by (is_upload_op first) refl (is_held s m) refl is
-    where
-      by : (a : Bool) → is_upload_op first ≡ a → (b : Bool) → is_held s m ≡ b
-          → (cond (a && b) (stays s) (runs first (record s { queue = queue }))).deed ≡ Asks op
-          → (s.running ≡ None) × (is_held s m ≡ false)
-      by true e true k i = absurd (cc i)
-      by true e false k i = (none, k)
-      by false e b k i =
-          let same : first ≡ op = cc i in
-          let up : is_upload_op first ≡ true = ap is_upload_op same ∙ upload_op op y c l in
-          absurd (cc (e, up))
-
-  idle_free : (running : Option Operation) → s.running ≡ running → (number : Option ℕ)
-      → IsFree s m (idle s m running number).deed
-  idle_free (Some x) r number op y is c l = absurd (cc is)
-  idle_free None r (Some k) op y is c l = let same : Fetching k ≡ op = cc is in let e : None ≡ Some y = ap carried same
-      ∙ c in absurd (cc e)
-  idle_free None r None op y is c l = starts_free s.queue r op y is c l
-
-  passes_free : (t : Turn) → IsFree s m (passes s m t).deed
-  passes_free turn_of.Idle op y is c l = idle_free s.running refl (to_fetch s.observations) op y is c l
-  passes_free turn_of.Copied op y is c l = absurd (cc is)
-  passes_free (turn_of.End e) op y is c l = absurd (failed_quiet (λ t. true) (lapse e) s s.running op is)
-
--- a sending is that of the deed
-pub record SentOf (e : Effect) (d : Deed) (token : Result (List ℕ) AskRefusal) (x : Sending) : Type 0 where
-  pub asks : d ≡ Asks x.operation
-  pub given : token ≡ Ok x.token
-  pub request : x.request ≡ message_of e.own.observations x.operation
-
-pub sent_of : (e : Effect) (d : Deed) (token : Result (List ℕ) AskRefusal) (x : Sending) → sent_by e d token ≡ Some x
-    → SentOf e d token x
-sent_of e (Asks op) (Ok token) x h =
-    let same : ◌≡◌ {A = Sending} (record { operation = op; token = token; request = message_of e.own.observations op })
-    x = cc h in
-    record {
-      asks = ap (λ (z : Sending). Asks z.operation) same;
-      given = ap (λ (z : Sending). Ok z.token) same;
-      request = sym (ap (λ (z : Sending). z.request) same)
-          ∙ ap (λ (z : Sending). message_of e.own.observations z.operation) same;
-    }
-sent_of e _ _ x h = absurd (cc h)
-
--- where a transfer's block is sent, it runs from then on
-sends_now : (m other : ℕ) (e : Effect) (token : Result (List ℕ) AskRefusal) (d : Deed)
-    → ((op : Operation) → d ≡ Asks op → e.own.running ≡ Some op) → sends_of other (sent_by e d token) ≡ true
-    → ((closed m e d token).own.sent ≡ m) × (is_upload_of other (closed m e d token).own.running ≡ true)
-sends_now m other e (Ok token) (Asks op) f h = (refl, ap (is_upload_of other) (f op refl) ∙ h)
-sends_now m other e (Err why) (Asks op) f h = absurd (cc h)
-sends_now m other e token Rests f h = absurd (cc h)
-sends_now m other e token (Keeps t) f h = absurd (cc h)
-sends_now m other e token (Releases t) f h = absurd (cc h)
-
-copies_now : (m other : ℕ) (s : Own) (t : Turn) (token : Result (List ℕ) AskRefusal) → t ≡ turn_of.Copied
-    → is_upload_of other s.running ≡ true → ((close m (passes s m t) token).own.sent ≡ m)
-    × (is_upload_of other (close m (passes s m t) token).own.running ≡ true)
-copies_now m other s t token is up = subst (λ u. ((close m (passes s m u) token).own.sent ≡ m)
-    × (is_upload_of other (close m (passes s m u) token).own.running ≡ true)) (sym is) (refl, up)
-
--- an upload that runs has its place
-pub up_place : (other : ℕ) (s : Own) → is_upload_of other s.running ≡ true → 1 ≤ places other s
-up_place other s h =
-    let u = up_of other s.running h in
-    let a : in_running other s.running ≡ hit u.number other = ap (in_running other) u.runs_it in
-    let b : hit u.number other ≡ 1 = ap (λ i. hit i other) (same_number u.number other u.same) ∙ hit_self other in
-    omega (arith, a, b)
-
-dropped_up : (other k : ℕ) (running : Option Operation) → is_upload_of other running ≡ true
-    → is_upload_of other (dropped k running) ≡ true
-dropped_up other k running h = let u = up_of other running h in subst (λ r. is_upload_of other (dropped k r) ≡ true)
-    (sym u.runs_it) (ap (is_upload_of other) (sym u.runs_it) ∙ h)
+use Rattle.coap_client.proofs.Uploading.FirstBlocks.{copies_now, dropped_up, happened_later, passes_free, sends_now}
+use Rattle.coap_client.proofs.Uploading.FirstBlocks.{sent_of, up_place}
 
 module _ (server : Endpoint) (sizes : Sizes) (setup : Setup) where
   abbrev own : List Call → Own
@@ -422,18 +215,13 @@ module _ (server : Endpoint) (sizes : Sizes) (setup : Setup) where
       (event : Option Event) (sent : L.Answer) (token : Result (List ℕ) AskRefusal) (kept : Bool) (other : ℕ) (s : Own)
       (m : ℕ) (u : is_upload_of other s.running ≡ true)
       → is_final (Feeds now from bytes w up settled event sent token kept) ≡ finality other s m u event
-  final_of_event now from bytes w up settled None sent token kept other s m u = refl
   final_of_event now from bytes w up settled (Some (event_of.Answer a)) sent token kept other s m u = refl
-  final_of_event now from bytes w up settled (Some (event_of.Notice a)) sent token kept other s m u = refl
-  final_of_event now from bytes w up settled (Some event_of.Reset) sent token kept other s m u = refl
-  final_of_event now from bytes w up settled (Some event_of.Timeout) sent token kept other s m u = refl
-  final_of_event now from bytes w up settled (Some event_of.NoResponse) sent token kept other s m u = refl
+  final_of_event now from bytes w up settled _ sent token kept other s m u = refl
 
   copy_is : (now w : ℕ) (below : L.Answer) (turn : Turn) (sent : L.Answer) (token : Result (List ℕ) AskRefusal)
       (kept answer : Bool) → is_copy (Ticks now w below turn sent token kept answer) ≡ true → turn ≡ turn_of.Copied
   copy_is now w below turn_of.Copied sent token kept answer h = refl
-  copy_is now w below turn_of.Idle sent token kept answer h = absurd (cc h)
-  copy_is now w below (turn_of.End e) sent token kept answer h = absurd (cc h)
+  copy_is now w below _ sent token kept answer h = absurd (cc h)
 
   answer_keeps : (o : Result ℕ _) (f : ℕ → Operation) (s : Own)
       → ((Rattle.coap_client.specs.Queue.numbered f o s).sent ≡ s.sent)

@@ -26,11 +26,10 @@ use Rattle.coap_block.proofs.Facts.Sizes.{aligned, aligned_to}
 use Rattle.coap_client.specs.Responses.{said, tag_in, part, part_by}
 use Rattle.coap_client.specs.Follows.Bounds.{max_blocks}
 use Rattle.coap_client.proofs.Counting.Blocks.{blocks_hold, one_block, within_blocks}
-use Rattle.coap_client.proofs.Reporting.Bodies.{part_asks}
+use Rattle.coap_client.proofs.Reporting.FetchedParts.{part_asks}
 use Rattle.coap_client.proofs.Places.PlaceLemmas.{same_number}
-use Rattle.coap_client.proofs.Uploading.UploadSteps.{continues_is}
+use Rattle.coap_client.proofs.Uploading.UploadSteps.{continues_is, at_most as no_larger}
 pub use Rattle.coap_common.proofs.Facts.Comparisons.{lt_not}
-use Rattle.coap_client.proofs.Uploading.UploadSteps.{at_most as no_larger}
 
 pub size_least : (szx : ℕ) → 16 ≤ size_of szx
 size_least szx = pow_mono {i = 4} {j = szx + 4} (omega arith)

@@ -1,14 +1,13 @@
 -- The steps of an upload, by their tests.
-use Rattle.std.proofs.Common.{◌≡◌, inl, inr, ◌≤◌, ◌<◌, ℕ, ◌+◌, ◌*◌, Bool, true, false, ◌&&◌, nat_lt, length}
-use Rattle.std.proofs.Common.{refl, ap, ◌∙◌, arith}
+use Rattle.std.proofs.Common.{◌≡◌, inl, inr, ◌≤◌, ◌<◌, ℕ, ◌+◌, ◌*◌, Bool, true, false, ◌&&◌, nat_lt, length, refl, ap}
+use Rattle.std.proofs.Common.{◌∙◌, arith}
 use Rattle.std.proofs.lemmas.Bool.Decides.{nat_tests}
 use Rattle.std.proofs.Math.Pow.{pow_mono}
 use Rattle.coap_types.specs.declared.block.Block.{Block}
 use Rattle.coap_types.specs.Piece.{size_of}
-use Rattle.coap_block.specs.UploadStep.{UploadState, number_after, KeepsSize, Continues, moved}
+use Rattle.coap_block.specs.UploadStep.{UploadState, number_after, KeepsSize, Continues, moved, continues}
 use Rattle.coap_block.proofs.Facts.Laws.{continues_is_tested}
 use Rattle.coap_block.proofs.Facts.Sizes.{size_some, aligned_to}
-use Rattle.coap_block.specs.UploadStep.{continues}
 use Rattle.coap_client.specs.Requests.{is_longer}
 pub use Rattle.std.proofs.lemmas.Bool.{and_parts}
 

@@ -1,7 +1,6 @@
 -- Where an upload begins, each block of another was answered, or that ended and sends no more.
 use Rattle.std.proofs.Common.{◌≡◌, ◌≤◌, ◌<◌, ◌⊎◌, inl, inr, ℕ, ◌+◌, not, cond, Bool, true, false, Option, Some, None}
-use Rattle.std.proofs.Common.{List, [], ◌∷◌, refl, ap, sym}
-use Rattle.std.proofs.Common.{subst, ◌∙◌, arith}
+use Rattle.std.proofs.Common.{List, [], ◌∷◌, refl, ap, sym, subst, ◌∙◌, arith}
 use Rattle.std.specs.Prelude.{◌==◌}
 use Rattle.std.proofs.Math.Nat.{lt_of_not-le}
 use Rattle.coap_types.specs.Past.{Ever, Sometime, Always}
@@ -11,8 +10,7 @@ use Rattle.coap_layer.specs.declared.setup.Setup.{Setup}
 use Rattle.coap_codec.specs.Message.{Message}
 use Rattle.coap_block.specs.Sizes.{Sizes}
 use Rattle.coap_client.specs.Trace.{is_value, Reported, Call}
-use Rattle.coap_client.specs.Own.{Uploads, Operation, Calling, Registering, Fetching}
-use Rattle.coap_client.specs.Own.{Cancelling, Dropped, Own}
+use Rattle.coap_client.specs.Own.{Uploads, Operation, Calling, Registering, Fetching, Cancelling, Dropped, Own}
 use Rattle.coap_client.specs.Requests.{is_longer}
 use Rattle.coap_client.specs.Responses.{continue}
 use Rattle.coap_client.specs.Steps.{reports}
@@ -30,12 +28,12 @@ use Rattle.coap_client.proofs.Uploading.Holds.{all_hold}
 use Rattle.coap_client.proofs.Uploading.Pieces.{answers_last}
 use Rattle.coap_client.proofs.Turning.Fates.{IsLone, Fate, runs_on, goes_on, ends_it, fate}
 use Rattle.coap_client.proofs.Uploading.Holding.{up_of}
-use Rattle.coap_client.proofs.Places.Once.{known, both_one}
-use Rattle.coap_client.proofs.Queueing.OneByOne.{are_in_order, sent_now, last_same}
+use Rattle.coap_client.proofs.Places.Once.{known}
+use Rattle.coap_client.proofs.Places.NumberSteps.{both_one}
+use Rattle.coap_client.proofs.Queueing.OneByOne.{are_in_order, sent_now, last_same, lone_call}
 use Rattle.coap_client.proofs.Places.PlaceLemmas.{same_number, hit_self}
 use Rattle.coap_client.proofs.Sending.Moments.{moment_same, moment_from}
-use Rattle.coap_client.proofs.Uploading.Holds.{up_place}
-use Rattle.coap_client.proofs.Queueing.OneByOne.{lone_call}
+use Rattle.coap_client.proofs.Uploading.FirstBlocks.{up_place}
 
 -- an upload that runs has its place
 -- the last report that is there

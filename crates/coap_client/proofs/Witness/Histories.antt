@@ -3,25 +3,18 @@ use Rattle.std.proofs.Common.{◌≡◌, ℕ, true, List, [], ◌∷◌, refl, a
 use Rattle.std.specs.Prelude.{nat_lt}
 use Rattle.std.specs.List.{list_all}
 use Rattle.std.proofs.lemmas.Bool.{and_parts, ltb-true}
-use Rattle.coap_types.specs.Bytes.{AreBytes}
 use Rattle.coap_types.proofs.Facts.Bytes.{AreBytes-nil, AreBytes-cons}
 use Rattle.coap_codec.specs.Spelling.{option_bytes, options_bytes}
 use Rattle.coap_codec.specs.Reading.{extended, value_at, nibbles_at, option_at, walk_of, walk, payload_at, frame_fault}
 use Rattle.coap_codec.specs.Reading.{body_at}
 use Rattle.coap_codec.specs.Decoded.{decoded}
+use Rattle.coap_codec.specs.IsSpelled.{has_spelling, is_spelled}
 use Rattle.coap_layer.specs.Machine.State as L
 use Rattle.coap_layer.specs.Machine.Steps.{Asked, Steps, left_after}
 use Rattle.coap_layer.proofs.Facts.Sendable.{sendable_when_short}
 use Rattle.coap_exchange.specs.AskerLaw as X
 use Rattle.coap_client.specs.Law.{ClientLaw, ClientRows, lower_of}
-use Rattle.coap_client.specs.Examples.Histories.{server, first, second, sizes, run, continue, upload}
-use Rattle.coap_client.specs.Examples.Histories.{upload_sizes}
-
-bytes_are : (bytes : List ℕ) → list_all (λ b. nat_lt b 256) bytes ≡ true → AreBytes bytes
-bytes_are [] e = AreBytes-nil
-bytes_are (b ∷ bytes) e =
-    let k = and_parts (nat_lt b 256) (list_all (λ x. nat_lt x 256) bytes) e in
-    AreBytes-cons b bytes (ltb-true b 256 k.0) (bytes_are bytes k.1)
+use Rattle.coap_client.specs.Examples.Histories.{server, first, second, sizes, run, continue, upload, upload_sizes}
 
 abbrev below : List Asked
 below = X.lower_of server (L.usual 0) (lower_of sizes run)
@@ -34,8 +27,7 @@ asked_of : X.AskerLaw server (L.usual 0) (lower_of sizes run)
 asked_of = (tt, (refl, (refl, (refl, (tt, (refl, (refl, (refl, tt))))))))
 
 steps_of : Steps (L.start (L.usual 0)) below (left_after (L.start (L.usual 0)) below)
-unfolding decoded frame_fault body_at walk walk_of option_at nibbles_at value_at extended payload_at option_bytes
-    options_bytes
+unfolding decoded frame_fault body_at walk walk_of option_at nibbles_at value_at extended payload_at option_bytes is_spelled has_spelling options_bytes
 steps_of = (
   _,
   (
@@ -71,11 +63,11 @@ steps_of = (
             ),
             record { may = tt; right = refl; new_is = refl },
           ),
-          record { may = bytes_are first refl; right = refl; new_is = refl },
+          record { may = tt; right = refl; new_is = refl },
         ),
         record { may = tt; right = refl; new_is = refl },
       ),
-      record { may = bytes_are second refl; right = refl; new_is = refl },
+      record { may = tt; right = refl; new_is = refl },
     ),
     record { may = refl; right = refl; new_is = refl },
   ),
@@ -102,8 +94,7 @@ upload_asked : X.AskerLaw server (L.usual 0) (lower_of upload_sizes upload)
 upload_asked = (tt, (refl, (refl, (tt, (refl, (refl, tt))))))
 
 upload_steps : Steps (L.start (L.usual 0)) below_upload (left_after (L.start (L.usual 0)) below_upload)
-unfolding decoded frame_fault body_at walk walk_of option_at nibbles_at value_at extended payload_at option_bytes
-    options_bytes
+unfolding decoded frame_fault body_at walk walk_of option_at nibbles_at value_at extended payload_at option_bytes is_spelled has_spelling options_bytes
 upload_steps = (
   _,
   (
@@ -133,7 +124,7 @@ upload_steps = (
           ),
           record { may = tt; right = refl; new_is = refl },
         ),
-        record { may = bytes_are continue refl; right = refl; new_is = refl },
+        record { may = tt; right = refl; new_is = refl },
       ),
       record { may = tt; right = refl; new_is = refl },
     ),

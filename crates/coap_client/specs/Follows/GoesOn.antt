@@ -2,7 +2,6 @@
 -- too.
 use Rattle.std.specs.Prelude.{ℕ, Bool, Option, List, ◌∷◌, Result}
 use Rattle.coap_types.specs.declared.endpoint.Endpoint.{Endpoint}
-use Rattle.coap_types.specs.Bytes.{AreBytes}
 use Rattle.coap_layer.specs.Trace as L
 use Rattle.coap_layer.specs.declared.setup.Setup.{Setup}
 use Rattle.coap_block.specs.Sizes.{Sizes}
@@ -25,7 +24,7 @@ pub record GoesOn (server : Endpoint) (sizes : Sizes) (setup : Setup) (t : List 
   pub forgets : (number : ℕ) → (kept : Bool) × (answer : Bool)
       × ClientLaw server sizes setup (Forgets number kept answer ∷ t)
   pub feeds :
-      (now : ℕ) (from : Endpoint) (bytes : List ℕ) (w : ℕ) → AreBytes bytes
+      (now : ℕ) (from : Endpoint) (bytes : List ℕ) (w : ℕ)
       → (up : L.Answer) × (settled : Bool) × (event : Option Event) × (sent : L.Answer)
       × (token : Result (List ℕ) AskRefusal) × (kept : Bool)
       × ClientLaw server sizes setup (Feeds now from bytes w up settled event sent token kept ∷ t)

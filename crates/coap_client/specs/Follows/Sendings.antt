@@ -2,7 +2,6 @@
 use Rattle.std.specs.Prelude.{◌≡◌, Some, List}
 use Rattle.coap_types.specs.Past.{Ever}
 use Rattle.coap_types.specs.declared.endpoint.Endpoint.{Endpoint}
-use Rattle.coap_types.specs.Bytes.{AreBytes}
 use Rattle.coap_codec.specs.Message.{Message, Spells}
 use Rattle.coap_layer.specs.Trace as L
 use Rattle.coap_layer.specs.Words.{Open, begun}
@@ -18,6 +17,5 @@ NoNons t = Ever SendsNon t → ⊥
 -- One CON at most has a token: what it spells is not begun again (section 5.3.1).
 abbrev pub OneCon : List L.Entry → Type 0
 OneCon t =
-    (a b : Open) → Ever (λ e. begun e ≡ Some a) t → Ever (λ e. begun e ≡ Some b) t → (x y : Message) → AreBytes a.bytes
-    → AreBytes b.bytes
+    (a b : Open) → Ever (λ e. begun e ≡ Some a) t → Ever (λ e. begun e ≡ Some b) t → (x y : Message)
     → Spells a.bytes x → Spells b.bytes y → x.token ≡ y.token → a ≡ b

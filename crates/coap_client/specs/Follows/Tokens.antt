@@ -1,7 +1,6 @@
 -- The tokens of a client's requests (RFC 7252, section 5.3.1; RFC 7641, section 3.6).
 use Rattle.std.specs.Prelude.{◌≡◌, ◌≤◌, ◌⊎◌, ℕ, Some, List, length}
 use Rattle.coap_types.specs.Past.{Ever, Always}
-use Rattle.coap_types.specs.Bytes.{AreBytes}
 use Rattle.coap_types.specs.declared.endpoint.Endpoint.{Endpoint}
 use Rattle.coap_types.specs.declared.token.TheConstants.{MAX_TOKEN_LEN as max_token_len}
 use Rattle.coap_codec.specs.Message.{Message, Spells}
@@ -49,7 +48,6 @@ pub record Ends (server : Endpoint) (sizes : Sizes) (t : List Call) (a b : Open)
 abbrev pub OneConOrCancel : Endpoint → (sizes : Sizes) (setup : Setup) → List Call → Type 0
 OneConOrCancel server sizes setup t =
     (a b : Open) → Ever (λ e. begun e ≡ Some a) (layer_of server sizes setup t)
-    → Ever (λ e. begun e ≡ Some b) (layer_of server sizes setup t) → (x y : Message) → AreBytes a.bytes
-    → AreBytes b.bytes
+    → Ever (λ e. begun e ≡ Some b) (layer_of server sizes setup t) → (x y : Message)
     → Spells a.bytes x → Spells b.bytes y → x.token ≡ y.token
     → (a ≡ b) ⊎ (Ends server sizes t a b ⊎ Ends server sizes t b a)

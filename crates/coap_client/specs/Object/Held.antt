@@ -5,6 +5,9 @@ use Rattle.coap_types.specs.declared.endpoint.Moment.{Moment}
 use Rattle.coap_block.specs.Sizes.{Sizes}
 use Rattle.coap_client.specs.Own.{Own}
 use Rattle.coap_client.specs.declared.client.held.Held.{Held}
+use Rattle.coap_client.specs.declared.client.parts.Parts.{Parts}
+use Rattle.coap_client.specs.Led.{State}
+use Rattle.coap_client.specs.Object.Happens.{left}
 use Rattle.coap_client.specs.Object.Shown.{shown_operation, shown_queued, shown_observation, shown_reported}
 use Rattle.coap_client.specs.Object.Shown.{shown_asked}
 
@@ -31,3 +34,7 @@ module _ {A : Type 0} where
         reports = map shown_reported h.reports.items;
         asked = shown_asked h.asked;
       }
+
+-- .. and with its exchanges
+abbrev pub seen : {A H X : Type 0} → Parts A H X → State
+seen p = left (own_of p.held) p.asker.state

@@ -8,8 +8,7 @@ ghost use Rattle.coap_client.specs.Object.Starts.{may_start as may_start_lem};
 ghost use Rattle.coap_client.specs.Turns.Due.{begins};
 
 use crate::client::held::Held;
-use crate::client::passing::may_start;
-use crate::client::starting::to_fetch;
+use crate::client::scheduler::{may_start, to_fetch};
 use coap_types::transmission::MAX_LATENCY_MS;
 use coap_types::{Moment, after};
 use std::alloc::Allocator;

@@ -1,8 +1,9 @@
-//! The live observations of a client (RFC 7641, section 3.2).
-ghost use Rattle.std.specs.Prelude.{◌≡◌, ◌≤◌, ◌==◌, ◌+◌, not, drop, filter, map, if◌then◌else◌, None};
+//! The live observations of a client (RFC 7641, section 3.2): which there are, how many, and which is being cancelled.
+ghost use Rattle.std.specs.Prelude.{◌≡◌, ◌≤◌, ◌==◌, ◌+◌, not, drop, filter, map, if◌then◌else◌, None, nat_le, length};
+ghost use Rattle.std.specs.Prelude.{option_to_list};
 ghost use Rattle.std.specs.Option.{option_map};
-ghost use Rattle.coap_client.specs.Observations.{fetch_of, observation_of, observation_with};
-ghost use Rattle.coap_client.specs.Observations.{observed_path, rest_of, token_of, with_rest};
+ghost use Rattle.coap_client.specs.Observations.{fetch_of, observation_of, observation_with, observed_path, rest_of};
+ghost use Rattle.coap_client.specs.Observations.{token_of, with_rest, is_cancel_of, is_cancelled, is_live};
 ghost use Rattle.coap_client.specs.Own.{Observation as Observed};
 ghost use Rattle.coap_client.specs.Requests.{block2_option};
 ghost use Rattle.coap_types.specs.OptionValues.{option_with};
@@ -10,11 +11,18 @@ ghost use Rattle.coap_types.specs.Path.{segments_of};
 ghost use Rattle.coap_client.specs.Object.CallShown.{IsFew, IsShortPath};
 ghost use Rattle.coap_client.specs.Object.CallAnswers.{place_in};
 ghost use Rattle.coap_client.specs.Follows.Places.{in_observations};
-ghost use Rattle.coap_client.specs.Object.Shown.{shown_observation, shown_rest};
+ghost use Rattle.coap_client.specs.Object.Shown.{shown_observation, shown_rest, shown_operation, shown_queued};
+ghost use Rattle.coap_client.specs.Object.Shown.{shown_waiting};
+ghost use Rattle.std.specs.List.{list_any};
+ghost use Rattle.coap_client.specs.Queue.{is_registration, observed};
+ghost use Rattle.coap_client.specs.Object.Held.{own_of};
 
-use crate::client::operation::{ClientOperations, Notified, Observation};
+use crate::MAX_OBSERVATIONS;
+use crate::client::held::Held;
+use crate::client::operation::{ClientOperations, Notified, Observation, Waiting};
 use crate::client::transfer::block2_of;
 use coap_observe::Watch;
+use coap_operations::{Queued, Running};
 use coap_types::option_number::BLOCK2;
 use coap_types::{Token, UintBytes};
 use std::alloc::Allocator;
@@ -180,4 +188,87 @@ pub fn block_asked<A: Allocator + Copy>(
     ensures few { IsFew result }
 {
     block2_of(&find(operations, number)?.rest.as_ref()?.fetch)
+}
+
+/// Whether `MAX_OBSERVATIONS` observations wait, run or are live.
+pub(crate) fn are_watches_full<A: Allocator + Copy>(held: &Held<A>) -> bool
+    ensures { result ≡ nat_le MAX_OBSERVATIONS (observed (own_of held.now)) }
+{
+    let waiting = registrations(&held.operations, 0);
+    let running = running_registrations(&held.operations);
+    reach(
+        running,
+        waiting,
+        held.operations.live_len(),
+        MAX_OBSERVATIONS,
+    )
+}
+
+// Whether the sum of three numbers reaches a bound.
+fn reach(a: usize, b: usize, c: usize, most: usize) -> bool
+    ensures { result ≡ nat_le most (a + b + c) }
+{
+    a >= most || b >= most - a || c >= most - a - b
+}
+
+// How many registrations run.
+fn running_registrations<A: Allocator + Copy>(operations: &ClientOperations<A>) -> usize
+    ensures count { result ≡ length (filter is_registration
+        (option_to_list (option_map shown_operation operations.now.running))) }
+    ensures few { result ≤ 1 }
+{
+    match operations.running() {
+        Some(Running::Started(waiting)) if is_registration(waiting) => 1,
+        _ => 0,
+    }
+}
+
+// How many registrations wait, from that place on.
+fn registrations<A: Allocator + Copy>(operations: &ClientOperations<A>, from: usize) -> usize
+    ensures count { result ≡ length (filter is_registration (map shown_queued (drop from operations.now.queue))) }
+    ensures few { result ≤ length (drop from operations.now.queue) }
+{
+    if from >= operations.waiting_len() {
+        return 0;
+    }
+    let behind = registrations(operations, from + 1);
+    match operations.waiting(from) {
+        Some(Queued::Starts(waiting)) if is_registration(waiting) => behind + 1,
+        _ => behind,
+    }
+}
+
+// Whether it is a registration.
+fn is_registration<A: Allocator + Copy>(waiting: &Waiting<A>) -> bool
+    ensures { result ≡ is_registration (shown_waiting waiting.now) }
+{
+    match waiting {
+        Waiting::Registering(_, _) => true,
+        Waiting::Calling(_, _) => false,
+    }
+}
+
+/// Whether the observation of that number is live.
+pub(crate) fn is_live<A: Allocator + Copy>(held: &Held<A>, number: u64) -> bool
+    ensures { result ≡ is_live number (own_of held.now) }
+{
+    find(&held.operations, number).is_some()
+}
+
+/// Whether the cancel of that observation waits or runs.
+pub(crate) fn is_cancelled<A: Allocator + Copy>(held: &Held<A>, number: u64) -> bool
+    ensures { result ≡ is_cancelled number (own_of held.now) }
+{
+    is_cancel_of(&held.operations, number) || held.operations.has_cancel(number)
+}
+
+// Whether what runs is the cancel of that observation.
+fn is_cancel_of<A: Allocator + Copy>(operations: &ClientOperations<A>, number: u64) -> bool
+    ensures { result ≡ list_any (is_cancel_of number)
+        (option_to_list (option_map shown_operation operations.now.running)) }
+{
+    match operations.running() {
+        Some(Running::Cancelling(other)) => other == number,
+        _ => false,
+    }
 }

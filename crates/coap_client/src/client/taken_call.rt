@@ -8,18 +8,19 @@ ghost use Rattle.coap_client.specs.Object.CallShown.{is_long, shown_request};
 ghost use Rattle.coap_client.specs.Object.Sends.{Sends};
 ghost use Rattle.coap_client.specs.Object.AnswerSteps.{Hears};
 
-use crate::client::fetching::got;
+use crate::client::fetch::got;
 use crate::client::heard::Heard;
-use crate::client::reporting::done;
+use crate::client::parts::Now;
+use crate::client::report::done;
+use crate::client::request::ask;
 use crate::client::request_options::{bytes_in, call_options, told};
-use crate::client::sending::ask;
 use crate::client::transfer::{Transfer, block_of, payload_of};
-use crate::client::uploading::{is_longer, sent};
+use crate::client::upload::{is_longer, sent};
 use bytes::Bytes;
 use coap_block::{Fetch, Upload};
 use coap_codec::View;
 use coap_exchange::{Ask, Asker};
-use coap_types::{BodyLimit, Method, Moment, Request, Szx, Token};
+use coap_types::{BodyLimit, Method, Request, Szx, Token};
 use std::alloc::{AllocError, Allocator, Global};
 use std::hash::BuildHasher;
 use std::marker::Model;
@@ -119,11 +120,11 @@ impl<A: Allocator + Copy> TakenCall<A> {
     pub fn send<H: BuildHasher>(
         &self,
         asker: &mut Asker<A, H>,
-        at: Moment,
-        word: u64,
+        now: Now,
     ) -> Result<Option<Token>, AllocError>
         ensures sends { IfOk result (λ token. (os : List Observation) (number : ℕ)
-            → Sends asker.old.state at.0 (message_of os (Calling number self.now.request self.now.transfer)) word token
+            → Sends asker.old.state now.at.0
+            (message_of os (Calling number self.now.request self.now.transfer)) now.word token
             asker.new.state) }
         ensures before { asker.new.before ≡ asker.old.before }
         ensures err { OnErr result (asker.new ≡ asker.old) }
@@ -138,6 +139,6 @@ impl<A: Allocator + Copy> TakenCall<A> {
             options: options.as_slice(),
             payload: payload_of(&self.transfer),
         };
-        ask(asker, at, &request, word)
+        ask(asker, &request, now)
     }
 }

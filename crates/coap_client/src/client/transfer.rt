@@ -5,7 +5,7 @@ ghost use Rattle.coap_types.specs.OptionValues.{option_with};
 ghost use Rattle.coap_client.specs.Requests.{block_option, block2_option, payload_of};
 ghost use Rattle.coap_client.specs.Object.CallShown.{IsFew, block_of, shown_transfer};
 
-use crate::client::uploading::is_longer;
+use crate::client::upload::is_longer;
 use coap_block::{Fetch, Upload};
 use coap_types::UintBytes;
 use coap_types::option_number::{BLOCK1, BLOCK2};

@@ -20,13 +20,13 @@ reads_found bytes (Err f) fits h = tt
 
 pub reads_only : (bytes : List ℕ) (r : Result Message Fault) → AreBytes bytes → Reads bytes r → (m : Message)
     → Spells bytes m → r ≡ Ok m
-reads_only bytes (Ok n) fits h m s = let again = spelled_again bytes m fits s in cc
-reads_only bytes (Err f) fits h m s = absurd (let again = spelled_again bytes m fits s in let h' = h.0 in cc)
+reads_only bytes (Ok n) fits h m s = let again = spelled_again bytes m s in cc
+reads_only bytes (Err f) fits h m s = absurd (let again = spelled_again bytes m s in let h' = h.0 in cc)
 
 pub reads_none : (bytes : List ℕ) (r : Result Message Fault) → AreBytes bytes → Reads bytes r
     → OnErr r ((m : Message) → Spells bytes m → ⊥)
 reads_none bytes (Ok n) fits h = tt
-reads_none bytes (Err f) fits h = λ m s. let again = spelled_again bytes m fits s in let h' = h.0 in cc
+reads_none bytes (Err f) fits h = λ m s. let again = spelled_again bytes m s in let h' = h.0 in cc
 
 pub reads_fault : (bytes : List ℕ) (r : Result Message Fault) → AreBytes bytes → Reads bytes r
     → IfErr r (λ f. Faulty bytes f.reason f.at)
@@ -49,14 +49,14 @@ each_is_read bytes fits =
 
 pub not_both : NotBoth
 not_both bytes m reason at fits s f =
-    let a = spelled_again bytes m fits s in
+    let a = spelled_again bytes m s in
     let b = faulty_again bytes reason at fits f in
     cc
 
 pub one_message : OneMessage
-one_message bytes m n fits s t =
-    let a = spelled_again bytes m fits s in
-    let b = spelled_again bytes n fits t in
+one_message bytes m n s t =
+    let a = spelled_again bytes m s in
+    let b = spelled_again bytes n t in
     cc
 
 pub one_fault : OneFault
@@ -67,7 +67,7 @@ one_fault bytes r s a b fits f g =
     (ap (λ (x : Reason × ℕ). x.0) is, ap (λ (x : Reason × ℕ). x.1) is)
 
 pub message_is_decoded : MessageIsDecoded
-message_is_decoded bytes m fits = (message_reads bytes fits m, spelled_again bytes m fits)
+message_is_decoded bytes m fits = (message_reads bytes fits m, spelled_again bytes m)
 
 pub fault_is_decoded : FaultIsDecoded
 fault_is_decoded bytes reason at fits = (message_faults bytes fits reason at, faulty_again bytes reason at fits)

@@ -16,12 +16,11 @@ use Rattle.coap_codec.specs.Header.{version, token_length, code, kind_of, id_of}
 use Rattle.coap_codec.specs.Faulty.{last_number, Leaves, BadRest, place, IsFramed, Faulty}
 use Rattle.coap_codec.specs.Reading.{option_at, walk, payload_at, behind_token, viewed, message_of, body_at}
 use Rattle.coap_codec.specs.Decoded.{decoded}
-use Rattle.coap_types.proofs.Facts.Bytes.{AreBytes-rest}
 use Rattle.coap_codec.proofs.OneOption.LongestRun.{walked, walk_again, walk_longest}
 use Rattle.coap_codec.proofs.OneOption.WhereNoneBegins.{payload_again, marked_ends, payload_bad_again}
 use Rattle.coap_codec.proofs.Datagrams.HeaderAndToken.{framed_none, short_again, version_again, token_length_again}
 use Rattle.coap_codec.proofs.Datagrams.HeaderAndToken.{empty_again, token_cut_again}
-use Rattle.coap_types.proofs.Facts.Bytes.{AreBytes-drop, AreBytes-front}
+use Rattle.coap_types.proofs.Facts.Bytes.{AreBytes-drop}
 use Rattle.coap_codec.proofs.Datagrams.SoundBytes.{body_ok, body_err}
 use Rattle.coap_codec.proofs.Datagrams.ReadAsSpelled.{message_fault, message_body}
 
@@ -109,10 +108,10 @@ module _ (m : Message) (front : List ℕ) (few : length m.token ≤ 8) where
   unfolding text
   text_code = refl
 
-  text_body : AreBytes (front ++ marked m.payload) → Options 0 front m.options → m.id < 2 ^ 16 → body_at text ≡ Ok m
-  text_body fits run small =
+  text_body : Options 0 front m.options → m.id < 2 ^ 16 → body_at text ≡ Ok m
+  text_body run small =
       let end = marked_ends (last_number 0 m.options) m.payload in
-      let w = walk_again m.options 0 front (marked m.payload) end.0 fits run end.1 in
+      let w = walk_again m.options 0 front (marked m.payload) end.0 run end.1 in
       let found : walk 0 (behind_token text) ≡ record
       { options = m.options; number = last_number 0 m.options; rest = marked m.payload; reason = end.0 } =
       ap (walk 0) text_behind ∙ w in
@@ -123,27 +122,24 @@ module _ (m : Message) (front : List ℕ) (few : length m.token ≤ 8) where
       (same_message (message_of text m.payload) m first_parts.2 text_code (text_id small) text_token options refl)
 
 -- the message that bytes spell is read
-pub spelled_again : (bytes : List ℕ) (m : Message) → AreBytes bytes → Spells bytes m → decoded bytes ≡ Ok m
+pub spelled_again : (bytes : List ℕ) (m : Message) → Spells bytes m → decoded bytes ≡ Ok m
 unfolding text
-spelled_again bytes m fits s =
+spelled_again bytes m s =
     let t = text m s.option_bytes s.token in
-    let fits' : AreBytes (s.option_bytes ++ marked m.payload) =
-    AreBytes-rest (header m ++ m.token) (s.option_bytes ++ marked m.payload) (subst AreBytes s.parts fits) in
     let bare : m.code ≡ 0 → length t ≡ 4 = λ z. sym (ap length s.parts) ∙ s.empty z in
     let framed = text_framed m s.option_bytes s.token bare in
     subst (λ (b : List ℕ). decoded b ≡ Ok m) (sym s.parts)
-    (message_body t (framed_none t framed) ∙ text_body m s.option_bytes s.token fits' s.options s.id)
+    (message_body t (framed_none t framed) ∙ text_body m s.option_bytes s.token s.options s.id)
 
 no_option : (base : ℕ) → option_at base [] ≡ Err OptionCut
 unfolding option_at
 no_option base = refl
 
 -- bytes are one run of options
-pub one_run : (bytes : List ℕ) (a b : List CoapOption) → AreBytes bytes → Options 0 bytes a → Options 0 bytes b → a ≡ b
-one_run bytes a b fits p q =
-    let fits' : AreBytes (bytes ++ []) = subst AreBytes (sym (append-nil bytes)) fits in
-    let x = ap (λ w. w.options) (walk_again a 0 bytes [] OptionCut fits' p (no_option (last_number 0 a))) in
-    let y = ap (λ w. w.options) (walk_again b 0 bytes [] OptionCut fits' q (no_option (last_number 0 b))) in
+pub one_run : (bytes : List ℕ) (a b : List CoapOption) → Options 0 bytes a → Options 0 bytes b → a ≡ b
+one_run bytes a b p q =
+    let x = ap (λ w. w.options) (walk_again a 0 bytes [] OptionCut p (no_option (last_number 0 a))) in
+    let y = ap (λ w. w.options) (walk_again b 0 bytes [] OptionCut q (no_option (last_number 0 b))) in
     sym x ∙ y
 
 -- the longest run is the walk's
@@ -162,8 +158,7 @@ leaves_walk bytes number rest fits l =
     let back : w.rest ≡ rest = sym (drop_at h.front w.rest (length l.front) n)
     ∙ ap (drop (length l.front)) (sym h.parts ∙ l.parts) ∙ drop_at l.front rest (length l.front) refl in
     let run : Options 0 l.front w.options = subst (λ (f : List ℕ). Options 0 f w.options) front h.run in
-    let front-fits : AreBytes l.front = AreBytes-front l.front rest (subst AreBytes l.parts fits) in
-    let options = one_run l.front w.options l.options front-fits run l.run in
+    let options = one_run l.front w.options l.options run l.run in
     (h.last ∙ ap (last_number 0) options ∙ sym l.last, back)
 
 rest_again : (bytes : List ℕ) (reason : Reason) (at number : ℕ) (rest : List ℕ) → AreBytes bytes → IsFramed bytes

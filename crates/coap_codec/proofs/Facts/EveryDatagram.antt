@@ -29,7 +29,7 @@ pub decoded_faulty : (bytes : List ℕ) → AreBytes bytes → (reason : Reason)
     → Faulty bytes reason at
 decoded_faulty = read.message_faults
 
-pub spelled_decoded : (bytes : List ℕ) (m : Message) → AreBytes bytes → Spells bytes m → decoded bytes ≡ Ok m
+pub spelled_decoded : (bytes : List ℕ) (m : Message) → Spells bytes m → decoded bytes ≡ Ok m
 spelled_decoded = again.spelled_again
 
 pub faulty_decoded : (bytes : List ℕ) (reason : Reason) (at : ℕ) → AreBytes bytes → Faulty bytes reason at

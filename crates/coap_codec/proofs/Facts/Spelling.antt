@@ -4,6 +4,7 @@ use Rattle.std.proofs.Common.{◌≡◌, ℕ, ◌+◌, true, List, length}
 use Rattle.std.specs.List.{list_all}
 use Rattle.coap_types.specs.CoapOption.{CoapOption}
 use Rattle.coap_codec.specs.BoundedSpelling.{BoundedSpelling, CanBeSpelled, is_numbered}
+use Rattle.coap_codec.specs.IsSpelled.{is_spelled}
 use Rattle.coap_codec.specs.Laws.{OneSpelling, SpelledByItsBytes, SpelledByNoOthers, NoOtherIsSpelled}
 use Rattle.coap_codec.specs.Message.{Message, Spells, marked}
 use Rattle.coap_codec.specs.OfBytes.{BytesSpellBytes, SpelledInBytes}
@@ -15,6 +16,7 @@ use Rattle.coap_codec.proofs.Spellings.WhatIsWritten as spell
 use Rattle.coap_codec.proofs.Spellings.ItsOwnBytes as law
 use Rattle.coap_codec.proofs.Spellings.BoundedLength as bounded
 use Rattle.coap_codec.proofs.Spellings.InBytes as in_bytes
+use Rattle.coap_codec.proofs.Spellings.IsSpelled as test
 
 -- options
 
@@ -49,6 +51,14 @@ no_other_is_spelled = law.no_other_is_spelled
 
 pub bounded_spelling : BoundedSpelling
 bounded_spelling = bounded.bounded_spelling
+
+-- the test whether bytes spell a message
+
+pub spelled_so : (bytes : List ℕ) (m : Message) → is_spelled bytes m ≡ true → Spells bytes m
+spelled_so = test.spelled_so
+
+pub spelled_it : (bytes : List ℕ) (m : Message) → Spells bytes m → is_spelled bytes m ≡ true
+spelled_it = test.spelled_it
 
 -- bytes
 

@@ -111,24 +111,21 @@ walked base bytes fits = walked_within (length bytes) base bytes fits (omega ari
 
 -- a run is walked over
 pub walk_again : (options : List CoapOption) (base : ℕ) (front rest : List ℕ) (reason : Reason)
-    → AreBytes (front ++ rest) → Options base front options
-    → option_at (last_number base options) rest ≡ Err reason
+    → Options base front options → option_at (last_number base options) rest ≡ Err reason
     → walk base (front ++ rest) ≡ record {
       options = options;
       number = last_number base options;
       rest = rest;
       reason = reason;
     }
-walk_again [] base front rest reason fits run e = rw run (walk_stop base rest reason e)
-walk_again (option ∷ options) base front rest reason fits run e =
+walk_again [] base front rest reason run e = rw run (walk_stop base rest reason e)
+walk_again (option ∷ options) base front rest reason run e =
     let first = run.0 in
     let more = run.1 in
     let parts : front ++ rest ≡ first ++ (more ++ rest) = rw run.2 (append_assoc first more rest) in
     let again = option_again base option first (more ++ rest) run.3 in
-    let fits' : AreBytes (first ++ (more ++ rest)) = subst AreBytes parts fits in
     rw parts (walk_step base (first ++ (more ++ rest)) option (more ++ rest) again
-    ∙ ap (with_first option) (walk_again options option.number more rest reason
-    (AreBytes-rest first (more ++ rest) fits') run.4 e))
+    ∙ ap (with_first option) (walk_again options option.number more rest reason run.4 e))
 
 -- no run is longer than the walk
 pub walk_longest : (options : List CoapOption) (base : ℕ) (bytes run left : List ℕ) → AreBytes bytes

@@ -25,7 +25,7 @@ options_only (o ∷ os) base bytes is =
     let same : is.0 ++ is.1 ≡ option_bytes base o ++ options_bytes o.number os = rw (first, rest) refl in
     is.2 ∙ same
 
-Options-numbered : (os : List CoapOption) (base : ℕ) (bytes : List ℕ) → Options base bytes os
+pub Options-numbered : (os : List CoapOption) (base : ℕ) (bytes : List ℕ) → Options base bytes os
     → list_all is_numbered os ≡ true
 Options-numbered [] base bytes is = refl
 Options-numbered (o ∷ os) base bytes is = rw (lt-ltb o.number (2 ^ 16) is.3.fits)

@@ -2,7 +2,6 @@
 use Rattle.std.proofs.Common.{◌≡◌, ℕ, max, Bool, true, false, Option, Some, None, List, [], ◌∷◌, ◌++◌}
 use Rattle.std.proofs.Common.{slice_get, Result, refl, ap, sym, ◌∙◌}
 use Rattle.coap_types.specs.declared.endpoint.Endpoint.{Endpoint}
-use Rattle.coap_types.specs.Bytes.{AreBytes}
 use Rattle.coap_layer.specs.Rows.{IsSpelled}
 use Rattle.coap_layer.specs.Machine.State as S
 use Rattle.coap_layer.specs.Machine.Steps.{Asked, Steps}
@@ -84,7 +83,7 @@ module _ (server : Endpoint) (setup : Setup) (calls : List A.Call) (law : Exchan
       may Spent = tt
       may Sends = spelled
 
-  module _ (at : ℕ) (from : Endpoint) (bytes : List ℕ) (are : AreBytes bytes) where
+  module _ (at : ℕ) (from : Endpoint) (bytes : List ℕ) where
     abbrev up : L.Answer
     up = answer_by law.left at (L.Receive from bytes)
 
@@ -125,7 +124,7 @@ module _ (server : Endpoint) (setup : Setup) (calls : List A.Call) (law : Exchan
         let receive : List Asked = asked at (L.Receive from bytes) up ∷ [] in
         let calls_under : List Asked = R.acts own from up s.0 v in
         let inner = steps_join law.left first s.1 calls_under receive
-        (law.left, refl, one_step law.left at (L.Receive from bytes) are) acts in (
+        (law.left, refl, one_step law.left at (L.Receive from bytes) tt) acts in (
           up,
           s.0,
           R.told v up,

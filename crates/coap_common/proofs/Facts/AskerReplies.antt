@@ -1,11 +1,11 @@
 -- Each reply of a client's message layer is given to the message that has just been handed up, as an Empty message with
 -- its Message ID: a Reset, or the acknowledgement of a CON.
 use Rattle.std.proofs.Common.{◌≡◌, ◌⊎◌, inl, inr, ℕ, ◌/◌, ◌%◌, ◌<◌, Bool, true, false, Option, Some, None, List, []}
-use Rattle.std.proofs.Common.{◌∷◌, ◌++◌, refl, ap, sym, subst, ◌∙◌, cond, arith, append_assoc, ◌&&◌, ◌||◌, not}
+use Rattle.std.proofs.Common.{◌∷◌, ◌++◌, refl, ap, sym, subst, ◌∙◌, cond, arith, append_assoc}
 use Rattle.coap_types.specs.Past.{Always}
 use Rattle.coap_types.specs.declared.endpoint.Endpoint.{Endpoint}
 use Rattle.coap_types.specs.declared.message.Kind.{Kind}
-use Rattle.coap_types.specs.declared.message.Kind.TheVariants.{Con, Non, Ack, Rst}
+use Rattle.coap_types.specs.declared.message.Kind.TheVariants.{Con, Ack, Rst}
 use Rattle.coap_codec.specs.Message.{Message, Spells}
 use Rattle.coap_layer.specs.Trace as T
 use Rattle.coap_layer.specs.Words.{is_kept, handed, handed_by, from_there}
@@ -18,8 +18,8 @@ use Rattle.coap_exchange.specs.declared.matching.Known.{Known}
 use Rattle.coap_exchange.specs.declared.matching.Opening.{Opening}
 use Rattle.coap_exchange.specs.declared.matching.Opening.TheVariants.{Running, Spent, Sends}
 use Rattle.coap_exchange.specs.declared.matching.Verdict.{Verdict}
-use Rattle.coap_exchange.specs.declared.matching.Verdict.TheVariants.{Ignore, Reject, Acknowledge, AnswerCon, Answer}
-use Rattle.coap_exchange.specs.declared.matching.Verdict.TheVariants.{NoticeCon, Notice, Await, EndByReset}
+use Rattle.coap_exchange.specs.declared.matching.Verdict.TheVariants.{Ignore, Reject, Acknowledge, AnswerCon}
+use Rattle.coap_exchange.specs.declared.matching.Verdict.TheVariants.{NoticeCon, Await, EndByReset}
 use Rattle.coap_exchange.specs.EmptyMessages.{ack_bytes, reset_bytes}
 use Rattle.coap_exchange.specs.Matching.{judged, request_judged}
 use Rattle.coap_exchange.specs.AskerTrace as E
@@ -27,6 +27,7 @@ use Rattle.coap_exchange.specs.AskerRequests as Q
 use Rattle.coap_exchange.specs.AskerArrivals as R
 use Rattle.coap_exchange.specs.AskerSteps as P
 use Rattle.coap_exchange.specs.AskerLaw as W
+use Rattle.coap_exchange.proofs.Facts.Verdicts.{Judged, judged_by}
 use Rattle.coap_layer.proofs.Facts.StepsOfLayer.{steps_split}
 use Rattle.coap_layer.specs.Machine.Calls.{message_in}
 use Rattle.coap_layer.proofs.Facts.HandedUp.{spelled}
@@ -74,76 +75,25 @@ pub record Replies (up : T.Answer) (id : ℕ) (bytes : List ℕ) : Type 0 where
 some_same : (a b : List ℕ) → Some a ≡ Some b → a ≡ b
 some_same a b h = cc h
 
-by_con : (v : Verdict) (id : ℕ) (b : List ℕ) → R.reply_by v id ≡ Some b → (b ≡ reset_bytes id) ⊎ (b ≡ ack_bytes id)
-by_con Ignore id b h = absurd (cc h)
-by_con Reject id b h = inl (sym (some_same _ _ h))
-by_con Acknowledge id b h = inr (sym (some_same _ _ h))
-by_con AnswerCon id b h = inr (sym (some_same _ _ h))
-by_con Answer id b h = absurd (cc h)
-by_con NoticeCon id b h = inr (sym (some_same _ _ h))
-by_con Notice id b h = absurd (cc h)
-by_con Await id b h = absurd (cc h)
-by_con EndByReset id b h = absurd (cc h)
+-- a response is rejected unless it is an ACK; a CON is acknowledged
+by_verdict : (m : Message) (k : Known) (v : Verdict) → Judged m.kind k v → (b : List ℕ) → R.reply_by v m.id ≡ Some b
+    → (is_kept m.kind ≡ true) × ((b ≡ reset_bytes m.id) ⊎ ((b ≡ ack_bytes m.id) × (m.kind ≡ Con)))
+by_verdict m k Reject r b h = (r, inl (sym (some_same _ _ h)))
+by_verdict m k Acknowledge r b h = (ap is_kept r, inr (sym (some_same _ _ h), r))
+by_verdict m k AnswerCon r b h = (ap is_kept r.0, inr (sym (some_same _ _ h), r.0))
+by_verdict m k NoticeCon r b h = (ap is_kept r.0, inr (sym (some_same _ _ h), r.0))
+by_verdict m k _ r b h = absurd (cc h)
 
--- a NON is rejected or not replied to, an ACK not replied to
-six : (X : Verdict → Type 0) (a b c d e f : Bool) (u v w x y z : Verdict) → X u → X v → X w → X x → X y → X z → X Ignore
-    → X (cond a u (cond b v (cond c w (cond d x (cond e y (cond f z Ignore))))))
-six X true b c d e f u v w x y z hu hv hw hx hy hz hi = hu
-six X false true c d e f u v w x y z hu hv hw hx hy hz hi = hv
-six X false false true d e f u v w x y z hu hv hw hx hy hz hi = hw
-six X false false false true e f u v w x y z hu hv hw hx hy hz hi = hx
-six X false false false false true f u v w x y z hu hv hw hx hy hz hi = hy
-six X false false false false false true u v w x y z hu hv hw hx hy hz hi = hz
-six X false false false false false false u v w x y z hu hv hw hx hy hz hi = hi
-
-abbrev OnlyReset : ℕ → Verdict → Type 0
-OnlyReset id v = (b : List ℕ) → R.reply_by v id ≡ Some b → b ≡ reset_bytes id
-
-abbrev Quiet : ℕ → Verdict → Type 0
-Quiet id v = R.reply_by v id ≡ None
-
-non_resets : (id : ℕ) (k : Known) → OnlyReset id (judged Non k)
-non_resets id k =
-    six (OnlyReset id) (not k.from_server || not (k.of_exchange || k.kept))
-    (false && not (k.of_exchange && k.same_id)) k.bad_option
-    (not false && k.cancelled) k.of_exchange k.kept Reject Ignore Ignore Ignore Answer Notice
-    (λ b h. sym (some_same _ _ h)) (λ b h. absurd (cc h)) (λ b h. absurd (cc h)) (λ b h. absurd (cc h))
-    (λ b h. absurd (cc h)) (λ b h. absurd (cc h)) (λ b h. absurd (cc h))
-
-ack_quiet : (id : ℕ) (k : Known) → Quiet id (judged Ack k)
-ack_quiet id k =
-    six (Quiet id) (not k.from_server || not (k.of_exchange || k.kept))
-    (true && not (k.of_exchange && k.same_id)) k.bad_option
-    (not true && k.cancelled) k.of_exchange k.kept Ignore Ignore Ignore Ignore Answer Ignore
-    refl refl refl refl refl refl refl
-
-rst_quiet : (id : ℕ) (k : Known) → Quiet id (judged Rst k)
-rst_quiet id k =
-    six (Quiet id) (not k.from_server || not (k.of_exchange || k.kept))
-    (false && not (k.of_exchange && k.same_id)) k.bad_option
-    (not false && k.cancelled) k.of_exchange k.kept Ignore Ignore Ignore Ignore Ignore Ignore
-    refl refl refl refl refl refl refl
-
-response_replies : (m : Message) (kind : Kind) (k : Known) (b : List ℕ) → m.kind ≡ kind
-    → R.reply_by (judged kind k) m.id ≡ Some b → Replies (T.Becomes (T.Response m)) m.id b
-response_replies m Con k b is h =
-    record {
+response_replies : (m : Message) (k : Known) (b : List ℕ) → R.reply_by (judged m.kind k) m.id ≡ Some b
+    → Replies (T.Becomes (T.Response m)) m.id b
+response_replies m k b h =
+    let shape = by_verdict m k (judged m.kind k) (judged_by m.kind k) b h in record {
       message = m;
-      up_is = ap (λ w. cond (is_kept w) (Some m) None) is;
+      up_is = ap (λ w. cond w (Some m) None) shape.0;
       in_is = refl;
       id_is = refl;
-      shape = elim (by_con (judged Con k) m.id b h) [ inl p ↦ inl p | inr q ↦ inr (q, is) ];
+      shape = shape.1;
     }
-response_replies m Non k b is h =
-    record {
-      message = m;
-      up_is = ap (λ w. cond (is_kept w) (Some m) None) is;
-      in_is = refl;
-      id_is = refl;
-      shape = inl (non_resets m.id k b h);
-    }
-response_replies m Ack k b is h = absurd (cc (h, ack_quiet m.id k))
-response_replies m Rst k b is h = absurd (cc (h, rst_quiet m.id k))
 
 request_replies : (m : Message) (kept : Bool) (kind : Kind) (b : List ℕ)
     → R.reply_by (request_judged kind) m.id ≡ Some b → Replies (T.Becomes (T.Request m kept)) m.id b
@@ -154,18 +104,16 @@ request_replies m kept Con b h = record {
   id_is = refl;
   shape = inl (sym (some_same _ _ h));
 }
-request_replies m kept Non b h = absurd (cc h)
-request_replies m kept Ack b h = absurd (cc h)
-request_replies m kept Rst b h = absurd (cc h)
+request_replies m kept _ b h = absurd (cc h)
 
-none_if : (c : Bool) (v w : Verdict) (id : ℕ) (b : List ℕ) → Quiet id v → Quiet id w
+none_if : (c : Bool) (v w : Verdict) (id : ℕ) (b : List ℕ) → R.reply_by v id ≡ None → R.reply_by w id ≡ None
     → R.reply_by (cond c v w) id ≡ Some b → ⊥
 none_if true v w id b p q h = cc (p, h)
 none_if false v w id b p q h = cc (q, h)
 
 pub what_replies : (s : E.Own) (from : Endpoint) (up : T.Answer) (b : List ℕ)
     → R.reply_by (R.verdict_on s from up) (R.id_in up) ≡ Some b → Replies up (R.id_in up) b
-what_replies s from (T.Becomes (T.Response m)) b h = response_replies m m.kind (R.known_of s from m) b refl h
+what_replies s from (T.Becomes (T.Response m)) b h = response_replies m (R.known_of s from m) b h
 what_replies s from (T.Becomes (T.Request m kept)) b h = request_replies m kept m.kind b h
 what_replies s from (T.Becomes (T.Acked id)) b h =
     absurd (none_if (R.is_of_request s from id) Await Ignore 0 b refl refl h)

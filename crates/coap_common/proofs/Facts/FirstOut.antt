@@ -1,5 +1,5 @@
 -- What a layer gives to be sent is the first of what waits; where nothing waits, nothing changes.
-use Rattle.std.proofs.Common.{◌≡◌, ℕ, Bool, true, false, cond, Some, None, List, [], ◌∷◌, ◌++◌, drop, filter, map}
+use Rattle.std.proofs.Common.{◌≡◌, Bool, true, false, cond, Some, None, List, [], ◌∷◌, ◌++◌, drop, filter, map}
 use Rattle.std.proofs.Common.{slice_get, refl, ap, sym, subst, ◌∙◌}
 use Rattle.std.specs.List.{filter_map}
 use Rattle.std.proofs.lemmas.List.{append-nil}

@@ -3,7 +3,7 @@ use Rattle.std.proofs.Common.{◌≡◌, ℕ, max, Bool, true, false, Option, So
 use Rattle.std.proofs.Common.{◌∙◌, is_some, if◌then◌else◌}
 use Rattle.coap_types.specs.declared.endpoint.Endpoint.{Endpoint}
 use Rattle.coap_types.specs.declared.message.Kind.{Kind}
-use Rattle.coap_types.specs.declared.message.Kind.TheVariants.{Con, Non, Ack, Rst}
+use Rattle.coap_types.specs.declared.message.Kind.TheVariants.{Con}
 use Rattle.coap_codec.specs.Message.{Message}
 use Rattle.coap_layer.specs.Machine.State as L
 use Rattle.coap_layer.specs.Machine.Steps.{Steps}
@@ -15,7 +15,8 @@ use Rattle.coap_exchange.specs.declared.asker.Turn.{Turn}
 use Rattle.coap_exchange.specs.declared.held.Held.{Held}
 use Rattle.coap_exchange.specs.declared.matching.Known.{Known}
 use Rattle.coap_exchange.specs.declared.matching.Verdict.{Verdict}
-use Rattle.coap_exchange.specs.declared.matching.Verdict.TheVariants.{Ignore, Await, EndByReset}
+use Rattle.coap_exchange.specs.declared.matching.Verdict.TheVariants.{Ignore, Reject, Acknowledge, AnswerCon}
+use Rattle.coap_exchange.specs.declared.matching.Verdict.TheVariants.{NoticeCon, Await, EndByReset}
 use Rattle.coap_exchange.specs.AskerArrivals.{known_of, is_of_request, verdict_on, id_in, reply_by, settles, replying}
 use Rattle.coap_exchange.specs.AskerArrivals.{settling, acts, told, running_after, turn_of, running_unless}
 use Rattle.coap_exchange.specs.AskerLaw.{State, Step}
@@ -23,40 +24,20 @@ use Rattle.coap_exchange.specs.AskerRequests.{asked}
 use Rattle.coap_exchange.specs.Machine.AskerShown.{own_with, state_of}
 use Rattle.coap_exchange.specs.AskerTrace.{Own, Receive, Ticks}
 use Rattle.coap_exchange.specs.Matching.{judged, request_judged}
+use Rattle.coap_exchange.proofs.Facts.Verdicts.{Judged, judged_by}
 use Rattle.coap_exchange.proofs.Ending.RequestIsOutstanding.{replying_opens, settling_opens}
 use Rattle.coap_layer.proofs.Facts.StepsOfLayer.{steps_join, steps_split}
 use Rattle.coap_layer.proofs.Facts.CallsOfLayer.{step_clock}
 
 -- what is answered was handed up
 
-abbrev known : (f o i p b c : Bool) → Known
-known f o i p b c = record { from_server = f; of_exchange = o; same_id = i; kept = p; bad_option = b; cancelled = c }
-
-Replies : Kind → Verdict → Type 0
-Replies kind v = (id : ℕ) → is_some (reply_by v id) ≡ true → is_kept kind ≡ true
-
-quiet : (kind : Kind) (v : Verdict) → ((id : ℕ) → reply_by v id ≡ None) → Replies kind v
-unfolding Replies
-quiet kind v f id h = let e : is_some (reply_by v id) ≡ false = ap is_some (f id) in absurd (cc (h, e))
-
-judged_replies : (kind : Kind) (f o i p b c : Bool) → Replies kind (judged kind (known f o i p b c))
-unfolding Replies
-judged_replies Con f o i p b c id h = refl
-judged_replies Non f o i p b c id h = refl
-judged_replies Ack false o i p b c id h = absurd (cc h)
-judged_replies Ack true false i false b c id h = absurd (cc h)
-judged_replies Ack true false i true b c id h = absurd (cc h)
-judged_replies Ack true true false p b c id h = absurd (cc h)
-judged_replies Ack true true true p true c id h = absurd (cc h)
-judged_replies Ack true true true p false c id h = absurd (cc h)
-judged_replies Rst false o i p b c id h = absurd (cc h)
-judged_replies Rst true false i false b c id h = absurd (cc h)
-judged_replies Rst true false i true true c id h = absurd (cc h)
-judged_replies Rst true false i true false true id h = absurd (cc h)
-judged_replies Rst true false i true false false id h = absurd (cc h)
-judged_replies Rst true true i p true c id h = absurd (cc h)
-judged_replies Rst true true i p false true id h = absurd (cc h)
-judged_replies Rst true true i p false false id h = absurd (cc h)
+kept_where : (kind : Kind) (k : Known) (v : Verdict) → Judged kind k v → (id : ℕ) → is_some (reply_by v id) ≡ true
+    → is_kept kind ≡ true
+kept_where kind k Reject r id h = r
+kept_where kind k Acknowledge r id h = ap is_kept r
+kept_where kind k AnswerCon r id h = ap is_kept r.0
+kept_where kind k NoticeCon r id h = ap is_kept r.0
+kept_where kind k _ r id h = absurd (cc h)
 
 request_replies : (kind : Kind) (id : ℕ) → is_some (reply_by (request_judged kind) id) ≡ true → is_kept kind ≡ true
 request_replies Con id h = refl
@@ -69,28 +50,14 @@ either_quiet false v id e h = cc h
 
 pub replied : (s : Own) (from : Endpoint) (up : T.Answer) → is_some (reply_by (verdict_on s from up) (id_in up)) ≡ true
     → (m : Message) × (handed_by up ≡ Some m) × (m.id ≡ id_in up)
-unfolding Replies
 replied s from (T.Becomes (T.Response m)) h =
     let k = known_of s from m in
-    let kept : is_kept m.kind ≡ true = judged_replies m.kind k.from_server k.of_exchange k.same_id k.kept k.bad_option
-    k.cancelled m.id h in
+    let kept : is_kept m.kind ≡ true = kept_where m.kind k (judged m.kind k) (judged_by m.kind k) m.id h in
     (m, rw kept refl, refl)
 replied s from (T.Becomes (T.Request m k)) h = (m, refl, refl)
 replied s from (T.Becomes (T.Acked id)) h = absurd (either_quiet (is_of_request s from id) Await 0 refl h)
 replied s from (T.Becomes (T.Reset id)) h = absurd (either_quiet (is_of_request s from id) EndByReset 0 refl h)
-replied s from (T.Becomes T.Dropped) h = absurd (cc h)
-replied s from (T.Becomes (T.Unmatched id)) h = absurd (cc h)
-replied s from (T.Becomes T.Replayed) h = absurd (cc h)
-replied s from (T.Becomes T.Rejected) h = absurd (cc h)
-replied s from T.Nothing h = absurd (cc h)
-replied s from (T.Is holds) h = absurd (cc h)
-replied s from (T.Sent id) h = absurd (cc h)
-replied s from T.Busied h = absurd (cc h)
-replied s from T.NoIds h = absurd (cc h)
-replied s from T.Idle h = absurd (cc h)
-replied s from (T.Copied to id) h = absurd (cc h)
-replied s from (T.Expired to id) h = absurd (cc h)
-replied s from (T.Gives packet) h = absurd (cc h)
+replied s from _ h = absurd (cc h)
 
 -- an arrival
 

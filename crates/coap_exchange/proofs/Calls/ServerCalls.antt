@@ -15,14 +15,9 @@ use Rattle.coap_layer.specs.Machine.Ups.{answer_as}
 use Rattle.coap_layer.specs.declared.up.Up.{Up}
 use Rattle.coap_layer.specs.declared.up.Up.TheVariants as ups
 use Rattle.coap_layer.specs.Words.{handed_by, is_kept}
-use Rattle.coap_types.specs.Roles.{role_of}
-use Rattle.coap_types.specs.declared.role.Role.{Role}
-use Rattle.coap_types.specs.declared.role.Role.TheVariants as role
-use Rattle.coap_layer.specs.Arrivals.{Arrival, Unreadable, Faulted, Whole, arrival_at}
 use Rattle.coap_layer.specs.Machine.Shown.{Shown as Below, MayReply}
-use Rattle.coap_layer.specs.Machine.State.{answer_to, is_free, next_after, uses_after}
-use Rattle.coap_layer.specs.Machine.Table.{up_of, again_or}
-use Rattle.coap_layer.specs.Words.{is_con, issued_by}
+use Rattle.coap_layer.specs.Machine.State.{is_free, next_after, uses_after}
+use Rattle.coap_layer.specs.Words.{issued_by}
 use Rattle.coap_exchange.specs.Machine.AnswererShown.{Takes}
 use Rattle.coap_exchange.specs.AnswererSteps.{asked_of}
 use Rattle.coap_exchange.specs.declared.answerer.Asked.{Asked}
@@ -44,6 +39,7 @@ use Rattle.coap_layer.specs.Machine.Calls.{message_in}
 use Rattle.coap_layer.proofs.Facts.HandedUp.{spelled}
 use Rattle.coap_layer.proofs.Facts.CallsOfLayer.{step_clock}
 use Rattle.coap_exchange.proofs.Calls.Lists.{over_is}
+use Rattle.coap_exchange.proofs.Calls.WhatArrived.{arrived}
 
 -- what is rejected was handed up
 
@@ -166,65 +162,21 @@ received l mid h pending asked_now deferred separate xs ended end unmatched foun
 
 -- what is handed up may be answered
 
-abbrev IfKept : Bool → T.Disposition → Type 0
-IfKept free (T.Request m true) = m.kind ≢ Con → free ≡ true
-IfKept free _ = Unit {0}
-
-given_kept : (n : Message) (free : Bool) → IfKept free (T.Request n free)
-given_kept n true = λ other. refl
-given_kept n false = tt
-
-again_kept : (free : Bool) (a : T.Disposition) → IfKept free a → (r f : Bool) → IfKept free (again_or r f a)
-again_kept free a h false false = h
-again_kept free a h _ _ = tt
-
-up_kept : (kind : Kind) (c : Role) (n : Message) (o r f free : Bool) → n.kind ≡ kind
-    → IfKept free (up_of kind c n o r f free)
-up_kept Con role.Request n o r f free is = again_kept free (T.Request n true) (λ other. absurd (other is)) r f
-up_kept Con role.Response n o r f free is = again_kept free (T.Response n) tt r f
-up_kept Con role.Empty n o r f free is = tt
-up_kept Con role.Reserved n o r f free is = tt
-up_kept Non role.Request n o r f free is = again_kept free (T.Request n free) (given_kept n free) r f
-up_kept Non role.Response n o r f free is = again_kept free (T.Response n) tt r f
-up_kept Non role.Empty n o r f free is = tt
-up_kept Non role.Reserved n o r f free is = tt
-up_kept Ack role.Empty n true r f free is = tt
-up_kept Ack role.Empty n false r f free is = tt
-up_kept Ack role.Response n true r f free is = tt
-up_kept Ack role.Response n false r f free is = tt
-up_kept Ack role.Request n o r f free is = tt
-up_kept Ack role.Reserved n o r f free is = tt
-up_kept Rst role.Empty n true r f free is = tt
-up_kept Rst role.Empty n false r f free is = tt
-up_kept Rst role.Request n o r f free is = tt
-up_kept Rst role.Response n o r f free is = tt
-up_kept Rst role.Reserved n o r f free is = tt
-
-fault_other : (b : Bool) (m : Message) → cond b T.Rejected T.Dropped ≡ T.Request m true → ⊥
-fault_other true m h = cc h
-fault_other false m h = cc h
-
-free_for : (s : L.State) (at : ℕ) (from : Endpoint) (what : Arrival) (m : Message)
-    → answer_to s at from what ≡ T.Request m true → m.kind ≢ Con → is_free at s.upcoming s.last_used ≡ true
-free_for s at from Unreadable m h other = absurd (cc h)
-free_for s at from (Faulted kind id) m h other = absurd (fault_other (is_con kind) m h)
-free_for s at from (Whole n) m h other =
-    let kept : IfKept (is_free at s.upcoming s.last_used) (T.Request m true) =
-    subst (IfKept (is_free at s.upcoming s.last_used)) h
-    (up_kept n.kind (role_of n.code) n _ _ _ (is_free at s.upcoming s.last_used) refl) in
-    kept other
-
-became : (a b : T.Disposition) → T.Becomes a ≡ T.Becomes b → a ≡ b
-became a b h = cc h
+free_for : (l mid : L.State) (now : ℕ) (from : Endpoint) (bytes : List ℕ) (m : Message)
+    → L.Step l now (T.Receive from bytes) (T.Becomes (T.Request m true)) mid → m.kind ≢ Con
+    → is_free (max l.clock now) l.upcoming l.last_used ≡ true
+free_for l mid now from bytes m step other =
+    elim (arrived l mid now from bytes (T.Request m true) step).1 [
+      | inl con ↦ absurd (other con.0)
+      | inr non ↦ sym non.1
+    ]
 
 still_free : (l mid : L.State) (now : ℕ) (from : Endpoint) (bytes : List ℕ) (m : Message)
     → L.Step l now (T.Receive from bytes) (T.Becomes (T.Request m true)) mid → m.kind ≢ Con
     → is_free mid.clock mid.upcoming mid.last_used ≡ true
 still_free l mid now from bytes m step other =
     let at : ℕ = max l.clock now in
-    let free : is_free at l.upcoming l.last_used
-    ≡ true = free_for l at from (arrival_at bytes) m
-    (became (answer_to l at from (arrival_at bytes)) (T.Request m true) (sym step.right)) other in
+    let free : is_free at l.upcoming l.last_used ≡ true = free_for l mid now from bytes m step other in
     let clock : mid.clock ≡ at = step_clock l mid now (T.Receive from bytes) (T.Becomes (T.Request m true)) step in
     let upcoming : mid.upcoming ≡ l.upcoming = ap (λ (s : L.State). s.upcoming) step.new_is
     ∙ ap (λ a. next_after (issued_by at a) l.upcoming) (sym step.right) in

@@ -159,6 +159,17 @@ asking_clock now (Some d) room mid h n e k =
     step_clock k.0 h now (T.Room d.asked.from) (T.Is room) k.2
     ∙ (ap (λ (s : L.State). max s.clock now) k.1 ∙ (ap (λ c. max c now) e ∙ clock_then n now))
 
+can_go : (mid h : L.State) (now : ℕ) (d : Option Deferred) (room : Bool) (a : Asked) → Steps mid (asking_room now d room) h
+    → option_map (λ (d : Deferred). d.asked) d ≡ Some a → room ≡ true
+    → (is_busy a.from h.open_cons ≡ false) × (is_free (max h.clock now) h.upcoming h.last_used ≡ true)
+can_go mid h now None room a asks is may = absurd (cc is)
+can_go mid h now (Some d) room a asks is may =
+    let same : d.asked ≡ a = cc is in (
+      subst (λ (x : Asked). is_busy x.from h.open_cons ≡ false) same
+          (room_idle asks.0 h now d.asked.from room asks.2 may),
+      room_free asks.0 h now d.asked.from room asks.2 may,
+    )
+
 -- what a deferred request that is said to be ready tells
 
 abbrev pub Readies : T.Answer → Option Deferred → Bool → Asked → Type 0
@@ -213,30 +224,28 @@ module _ (l : L.State) (pending : Option Asked) (deferred : List Deferred) (sepa
       (with_none old is mid h now done room turn xs end step asks turn_is xs_is end_is)
 
   -- what is ready may be responded to
-  pub may_respond : (h : L.State) (now : ℕ) (done : T.Answer) (room : Bool) (turn : Due) (unasked : Option Asked)
+  pub may_respond : (mid h : L.State) (now : ℕ) (done : T.Answer) (room : Bool) (turn : Due) (unasked : Option Asked)
       (xs : List Separate) (end : Option Ended) (shown : Shown) (a : Asked)
       → shown.state ≡ state_of h unasked deferred xs end unmatched → (room ≡ true → shown.room ≡ true)
       → h.clock ≡ max l.clock now → turn ≡ due_of done (ready_at s now) room → xs ≡ separate_unless done separate
-      → (room ≡ true → (x : Asked) → option_map (λ (d : Deferred). d.asked) (ready_if done (ready_at s now)) ≡ Some x
-      → is_busy x.from h.open_cons ≡ false)
-      → (room ≡ true → is_free (max h.clock now) h.upcoming h.last_used ≡ true) → turn ≡ due.Ready a
+      → Steps mid (asking_room now (ready_if done (ready_at s now)) room) h → turn ≡ due.Ready a
       → MayRespond shown now a
-  may_respond h now done room turn unasked xs end shown a state_is room_is clock turn_is xs_is idle free h_is =
+  may_respond mid h now done room turn unasked xs end shown a state_is room_is clock turn_is xs_is asks h_is =
       let k = due_ready done (ready_at s now) room a (sym turn_is ∙ h_is) in
       let at : max h.clock now ≡ max l.clock now = ap (λ c. max c now) clock ∙ clock_then l.clock now in
       let same : xs ≡ separate = xs_is ∙ ap (λ d. separate_unless d separate) k.2 in
       let ready : ready_at (own_with h.clock unasked deferred xs end unmatched) now
       ≡ ready_at s now = ap (λ n. first_ready n xs deferred) at
       ∙ ap (λ ys. first_ready (max l.clock now) ys deferred) same in
-      let asks : option_map (λ (d : Deferred). d.asked) (ready_if done (ready_at s now))
-      ≡ Some a = ap (λ x. option_map (λ (d : Deferred). d.asked) (ready_if x (ready_at s now))) k.2 ∙ k.1 in
+      let can = can_go mid h now (ready_if done (ready_at s now)) room a asks
+      (ap (λ x. option_map (λ (d : Deferred). d.asked) (ready_if x (ready_at s now))) k.2 ∙ k.1) k.0 in
       record {
         ready = ap (λ (x : State). option_map (λ (d : Deferred). d.asked) (ready_at x.own now)) state_is
             ∙ (ap (option_map (λ (d : Deferred). d.asked)) ready ∙ k.1);
         con = record {
           room = room_is k.0;
-          idle = ap (λ (x : State). is_busy a.from x.layer.open_cons) state_is ∙ idle k.0 a asks;
+          idle = ap (λ (x : State). is_busy a.from x.layer.open_cons) state_is ∙ can.0;
           free = ap (λ (x : State). is_free (max x.layer.clock now) x.layer.upcoming x.layer.last_used) state_is
-              ∙ free k.0;
+              ∙ can.1;
         };
       }

@@ -1,5 +1,5 @@
 -- What the verdicts of the client's table rest on.
-use Rattle.std.proofs.Common.{◌≡◌, ℕ, Bool, true, false, Option, Some, None, List, refl, cond, ◌&&◌}
+use Rattle.std.proofs.Common.{◌≡◌, ◌≢◌, ℕ, Bool, true, false, Option, Some, None, List, refl, cond}
 use Rattle.std.specs.Cmp.{unsigned_Decides}
 use Rattle.coap_types.specs.declared.endpoint.Endpoint.{Endpoint}
 use Rattle.coap_types.specs.declared.message.Kind.{Kind}
@@ -9,7 +9,7 @@ use Rattle.coap_codec.specs.Message.{Message}
 use Rattle.coap_layer.specs.Trace as L
 use Rattle.coap_exchange.specs.declared.matching.Known.{Known}
 use Rattle.coap_exchange.specs.declared.matching.Verdict.{Verdict}
-use Rattle.coap_exchange.specs.declared.matching.Verdict.TheVariants.{Ignore, Reject, Acknowledge, AnswerCon, Answer}
+use Rattle.coap_exchange.specs.declared.matching.Verdict.TheVariants.{Ignore, AnswerCon, Answer}
 use Rattle.coap_exchange.specs.declared.matching.Verdict.TheVariants.{NoticeCon, Notice, Await, EndByReset}
 use Rattle.coap_exchange.specs.declared.asker.Turn.TheVariants as turn
 use Rattle.coap_exchange.specs.declared.asker.Event.TheVariants as event
@@ -19,58 +19,49 @@ use Rattle.coap_exchange.specs.AskerArrivals.{has_token, has_id, known_of, is_of
 use Rattle.coap_exchange.specs.AskerArrivals.{acked_in, turn_of}
 use Rattle.coap_exchange.specs.Matching.{judged, request_judged}
 use Rattle.coap_exchange.proofs.Facts.SameToken.{same_token_is}
-use Rattle.coap_exchange.specs.Machine.VerdictFits.{Answers, OfRequest, Fits, TurnFits}
+use Rattle.coap_exchange.specs.Machine.VerdictFits.{Answers, OfRequest, Fits, Judged, Taken, TurnFits}
 use Rattle.std.proofs.lemmas.Bool.{and_parts as both}
 
--- a verdict on a response that takes it rests on its source and its token
-abbrev Rests : Known → Verdict → Type 0
-Rests k AnswerCon = (k.from_server ≡ true) × (k.of_exchange ≡ true)
-Rests k Answer = (k.from_server ≡ true) × (k.of_exchange ≡ true)
-Rests k NoticeCon = (k.from_server ≡ true) × (k.kept ≡ true)
-Rests k Notice = (k.from_server ≡ true) × (k.kept ≡ true)
-Rests k Await = ⊥
-Rests k EndByReset = ⊥
-Rests k Ignore = Unit {0}
-Rests k Reject = Unit {0}
-Rests k Acknowledge = Unit {0}
+-- each verdict of the table, by type
 
 abbrev known : (f o i p b c : Bool) → Known
 known f o i p b c = record { from_server = f; of_exchange = o; same_id = i; kept = p; bad_option = b; cancelled = c }
 
-rests_known : (kind : Kind) (f o i p b c : Bool) → Rests (known f o i p b c) (judged kind (known f o i p b c))
-rests_known Con false o i p b c = tt
-rests_known Non false o i p b c = tt
-rests_known Ack false o i p b c = tt
-rests_known Rst false o i p b c = tt
-rests_known Con true false i false b c = tt
-rests_known Non true false i false b c = tt
-rests_known Ack true false i false b c = tt
-rests_known Rst true false i false b c = tt
-rests_known Con true false i true true c = tt
-rests_known Con true false i true false true = tt
-rests_known Con true false i true false false = (refl, refl)
-rests_known Non true false i true true c = tt
-rests_known Non true false i true false true = tt
-rests_known Non true false i true false false = (refl, refl)
-rests_known Ack true false i true b c = tt
-rests_known Rst true false i true true c = tt
-rests_known Rst true false i true false true = tt
-rests_known Rst true false i true false false = tt
-rests_known Con true true i p true c = tt
-rests_known Con true true i p false true = tt
-rests_known Con true true i p false false = (refl, refl)
-rests_known Non true true i p true c = tt
-rests_known Non true true i p false true = tt
-rests_known Non true true i p false false = (refl, refl)
-rests_known Ack true true false p b c = tt
-rests_known Ack true true true p true c = tt
-rests_known Ack true true true p false c = (refl, refl)
-rests_known Rst true true i p true c = tt
-rests_known Rst true true i p false true = tt
-rests_known Rst true true i p false false = tt
+separate : (kind : Kind) (o i p : Bool) → kind ≢ Ack → Taken kind (known true o i p false false)
+separate kind o i p other =
+    record { there = refl; understood = refl; matches = λ e. absurd (other e); current = λ e. refl }
 
-rests : (kind : Kind) (k : Known) → Rests k (judged kind k)
-rests kind k = rests_known kind k.from_server k.of_exchange k.same_id k.kept k.bad_option k.cancelled
+of_con : (f o i p b c : Bool) → Judged Con (known f o i p b c) (judged Con (known f o i p b c))
+of_con true false i true false false = (refl, refl, separate Con false i true (λ e. cc e))
+of_con true true i p false false = (refl, refl, separate Con true i p (λ e. cc e))
+of_con f o i p b c = refl
+
+of_non : (f o i p b c : Bool) → Judged Non (known f o i p b c) (judged Non (known f o i p b c))
+of_non true false i true false false = (refl, refl, separate Non false i true (λ e. cc e))
+of_non true true i p false false = ((λ e. cc e), refl, separate Non true i p (λ e. cc e))
+of_non true false i false b c = refl
+of_non false o i p b c = refl
+of_non f o i p b c = tt
+
+of_ack : (f o i p b c : Bool) → Judged Ack (known f o i p b c) (judged Ack (known f o i p b c))
+of_ack true true true p false c = (
+  (λ e. cc e),
+  refl,
+  record { there = refl; understood = refl; matches = λ e. (refl, refl); current = λ other. absurd (other refl) },
+)
+of_ack true false i true b c = tt
+of_ack f o i p b c = tt
+
+of_rst : (f o i p b c : Bool) → Judged Rst (known f o i p b c) (judged Rst (known f o i p b c))
+of_rst true false i true false false = tt
+of_rst true true i p false false = tt
+of_rst f o i p b c = tt
+
+pub judged_by : (kind : Kind) (k : Known) → Judged kind k (judged kind k)
+judged_by Con k = of_con k.from_server k.of_exchange k.same_id k.kept k.bad_option k.cancelled
+judged_by Non k = of_non k.from_server k.of_exchange k.same_id k.kept k.bad_option k.cancelled
+judged_by Ack k = of_ack k.from_server k.of_exchange k.same_id k.kept k.bad_option k.cancelled
+judged_by Rst k = of_rst k.from_server k.of_exchange k.same_id k.kept k.bad_option k.cancelled
 
 with_token : (running : Option Exchange) (token : List ℕ) → has_token running token ≡ true
     → (x : Exchange) × (running ≡ Some x) × (token ≡ x.token)
@@ -93,21 +84,19 @@ answers_by : (s : Own) (from : Endpoint) (m : Message) → (known_of s from m).f
 answers_by s from m f o = let w = with_token s.running m.token o in record
     { message = m; is = refl; there = f; exchange = w.0; runs = w.1; token = w.2 }
 
-response_fits : (s : Own) (from : Endpoint) (m : Message) (v : Verdict) → Rests (known_of s from m) v
+response_fits : (s : Own) (from : Endpoint) (m : Message) (v : Verdict) → Judged m.kind (known_of s from m) v
     → Fits s from (L.Becomes (L.Response m)) v
-response_fits s from m AnswerCon r = answers_by s from m r.0 r.1
-response_fits s from m Answer r = answers_by s from m r.0 r.1
-response_fits s from m NoticeCon r = record { message = m; is = refl; there = r.0; kept = r.1 }
-response_fits s from m Notice r = record { message = m; is = refl; there = r.0; kept = r.1 }
+response_fits s from m AnswerCon r = answers_by s from m r.2.there r.1
+response_fits s from m Answer r = answers_by s from m r.2.there r.1
+response_fits s from m NoticeCon r = record { message = m; is = refl; there = r.2.there; kept = r.1 }
+response_fits s from m Notice r = record { message = m; is = refl; there = r.2.there; kept = r.1 }
 response_fits s from m Await r = absurd r
 response_fits s from m EndByReset r = absurd r
 response_fits s from m _ r = tt
 
 request_fits : (s : Own) (from : Endpoint) (up : L.Answer) (kind : Kind) → Fits s from up (request_judged kind)
 request_fits s from up Con = tt
-request_fits s from up Non = tt
-request_fits s from up Ack = tt
-request_fits s from up Rst = tt
+request_fits s from up _ = tt
 
 acked_fits : (s : Own) (from : Endpoint) (id : ℕ) (b : Bool) → is_of_request s from id ≡ b
     → Fits s from (L.Becomes (L.Acked id)) (cond b Await Ignore)
@@ -120,7 +109,7 @@ reset_fits s from id true h = (id, refl, of_request s from id h)
 reset_fits s from id false h = tt
 
 pub verdict_fits : (s : Own) (from : Endpoint) (up : L.Answer) → Fits s from up (verdict_on s from up)
-verdict_fits s from (L.Becomes (L.Response m)) = response_fits s from m _ (rests m.kind (known_of s from m))
+verdict_fits s from (L.Becomes (L.Response m)) = response_fits s from m _ (judged_by m.kind (known_of s from m))
 verdict_fits s from (L.Becomes (L.Request m remembered)) = request_fits s from _ m.kind
 verdict_fits s from (L.Becomes (L.Acked id)) = acked_fits s from id (is_of_request s from id) refl
 verdict_fits s from (L.Becomes (L.Reset id)) = reset_fits s from id (is_of_request s from id) refl

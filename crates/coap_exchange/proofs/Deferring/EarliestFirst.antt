@@ -8,12 +8,12 @@ use Rattle.coap_exchange.specs.declared.answerer.Asked.{Asked}
 use Rattle.coap_exchange.specs.declared.answerer.Due.TheVariants as due
 use Rattle.coap_exchange.specs.declared.separate.Deferred.{Deferred}
 use Rattle.coap_exchange.specs.declared.separate.Separate.{Separate}
-use Rattle.coap_exchange.specs.AnswererTrace.{Call, Incoming, Answers, Defers, Ticks, Responds, Ready, Notifies, Take}
-use Rattle.coap_exchange.specs.AnswererTrace.{NotifiesPlain}
+use Rattle.coap_exchange.specs.AnswererTrace.{Call, Defers, Ticks, Responds}
 use Rattle.coap_exchange.specs.AnswererSteps.{IsRight, is_waited_for, is_ready, first_ready, without_ready, ready_at}
 use Rattle.coap_exchange.specs.AnswererLaw.{own_of, AnswererLaw}
 use Rattle.coap_exchange.specs.AnswererDeferrals.{moment, DefersUntil, IsDueFrom, IsEarliest, EarliestReady}
 use Rattle.coap_exchange.proofs.Deferring.LongEnough.{DefersAs, AllStand, passed_by, later_clock, long_so, ready_now}
+use Rattle.coap_exchange.proofs.Deferring.LongEnough.{rises_at}
 use Rattle.coap_exchange.proofs.Calls.ServerTicks.{due_ready}
 
 -- deferred when there were n calls at most
@@ -116,26 +116,9 @@ module _ (n : ℕ) (a : Asked) (at : ℕ) where
 
   is_kept : (t : List Call) → AnswererLaw t → Keeps t
   is_kept [] law h = absurd h
-  is_kept (Incoming now from bytes up answer ∷ t) law h =
-      quiet_due (Incoming now from bytes up answer) t (later_clock (own_of t).clock now) (λ n k e. cc e)
-      (is_kept t law.1) h
-  is_kept (Answers b r below ∷ t) law h = quiet_due (Answers b r below) t (omega arith) (λ n k e. cc e)
-      (is_kept t law.1) h
   is_kept (Defers now b delay true ∷ t) law h = defers_due now b delay t (long_so t law.1).1 (is_kept t law.1) h
-  is_kept (Defers now b delay false ∷ t) law h =
-      quiet_due (Defers now b delay false) t (later_clock (own_of t).clock now) (λ n k e. cc e) (is_kept t law.1) h
-  is_kept (Ticks now below room answer ∷ t) law h =
-      quiet_due (Ticks now below room answer) t (later_clock (own_of t).clock now) (λ n k e. cc e) (is_kept t law.1) h
   is_kept (Responds now b r word id ∷ t) law h = responds_due now b r word id t law.0 (is_kept t law.1) h
-  is_kept (Ready now to answer ∷ t) law h = quiet_due (Ready now to answer) t (later_clock (own_of t).clock now)
-      (λ n k e. cc e) (is_kept t law.1) h
-  is_kept (Notifies now to token r word id ∷ t) law h =
-      quiet_due (Notifies now to token r word id) t (later_clock (own_of t).clock now) (λ n k e. cc e)
-      (is_kept t law.1) h
-  is_kept (NotifiesPlain now to token r id ∷ t) law h =
-      quiet_due (NotifiesPlain now to token r id) t (later_clock (own_of t).clock now) (λ n k e. cc e)
-      (is_kept t law.1) h
-  is_kept (Take answer ∷ t) law h = quiet_due (Take answer) t (omega arith) (λ n k e. cc e) (is_kept t law.1) h
+  is_kept (c ∷ t) law h = quiet_due c t (rises_at t c) (λ n k e. cc e) (is_kept t law.1) h
 
   -- the first that is ready is that one or one before it
   module _ (t : List Call) (clock : (own_of t).clock ≤ at) (xs : List Separate) (free : is_waited_for a.from xs ≡ false)

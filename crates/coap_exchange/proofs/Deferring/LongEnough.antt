@@ -11,8 +11,7 @@ use Rattle.coap_exchange.specs.declared.answerer.Due.{Due}
 use Rattle.coap_exchange.specs.declared.answerer.Due.TheVariants as due
 use Rattle.coap_exchange.specs.declared.separate.Deferred.{Deferred}
 use Rattle.coap_exchange.specs.declared.separate.Separate.{Separate}
-use Rattle.coap_exchange.specs.AnswererTrace.{Call, Incoming, Answers, Defers, Ticks, Responds, Ready, Notifies, Take}
-use Rattle.coap_exchange.specs.AnswererTrace.{NotifiesPlain}
+use Rattle.coap_exchange.specs.AnswererTrace.{Call, Defers, Ticks, Responds, Take}
 use Rattle.coap_exchange.specs.AnswererSteps.{IsRight, is_waited_for, is_ready, first_ready, without_ready, due_of}
 use Rattle.coap_exchange.specs.AnswererSteps.{ready_at}
 use Rattle.coap_exchange.specs.AnswererLaw.{own_of, AnswererLaw}
@@ -149,21 +148,9 @@ module _ (a : Asked) (at : ℕ) where
 
   is_kept : (t : List Call) → AnswererLaw t → IsDue a at t → Has a at (own_of t).deferred
   is_kept [] law h = absurd h
-  is_kept (Incoming now from bytes up answer ∷ t) law h =
-      quiet_due (Incoming now from bytes up answer) t (λ n k e. cc e) (is_kept t law.1) h
-  is_kept (Answers b r below ∷ t) law h = quiet_due (Answers b r below) t (λ n k e. cc e) (is_kept t law.1) h
   is_kept (Defers now b delay true ∷ t) law h = defers_due now b delay t (is_kept t law.1) h
-  is_kept (Defers now b delay false ∷ t) law h =
-      quiet_due (Defers now b delay false) t (λ n k e. cc e) (is_kept t law.1) h
-  is_kept (Ticks now below room answer ∷ t) law h =
-      quiet_due (Ticks now below room answer) t (λ n k e. cc e) (is_kept t law.1) h
   is_kept (Responds now b r word id ∷ t) law h = responds_due now b r word id t law.0 (is_kept t law.1) h
-  is_kept (Ready now to answer ∷ t) law h = quiet_due (Ready now to answer) t (λ n k e. cc e) (is_kept t law.1) h
-  is_kept (Notifies now to token r word id ∷ t) law h =
-      quiet_due (Notifies now to token r word id) t (λ n k e. cc e) (is_kept t law.1) h
-  is_kept (NotifiesPlain now to token r id ∷ t) law h =
-      quiet_due (NotifiesPlain now to token r id) t (λ n k e. cc e) (is_kept t law.1) h
-  is_kept (Take answer ∷ t) law h = quiet_due (Take answer) t (λ n k e. cc e) (is_kept t law.1) h
+  is_kept (c ∷ t) law h = quiet_due c t (λ n k e. cc e) (is_kept t law.1) h
 
   -- .. and one is ready
   module _ (xs : List Separate) (free : is_waited_for a.from xs ≡ false) where
@@ -197,6 +184,10 @@ no_ready t c n m = record {
 
 pub later_clock : (a n : ℕ) → a ≤ max a n
 later_clock a n = omega (arith)
+
+pub rises_at : (t : List Call) (c : Call) → (own_of t).clock ≤ (own_of (c ∷ t)).clock
+rises_at t (Take answer) = omega arith
+rises_at t _ = omega arith
 
 module _ (t : List Call) (stand : AllStand t (own_of t).deferred) where
   abbrev On : Call → Type 0
@@ -232,23 +223,11 @@ module _ (t : List Call) (stand : AllStand t (own_of t).deferred) where
   timed c later = stand_later c t later (own_of t).deferred stand
 
   on : (c : Call) → IsRight (own_of t) c → On c
-  on (Incoming now from bytes up answer) right = (
-    no_ready t _ (λ n b r a e. cc e) (λ n a r w i e. cc e),
-    timed (Incoming now from bytes up answer) (later_clock (own_of t).clock now),
-  )
-  on (Answers a r below) right = (
-    no_ready t _ (λ n b r a e. cc e) (λ n a r w i e. cc e),
-    timed (Answers a r below) (omega arith),
-  )
   on (Defers now a delay true) right = (
     no_ready t _ (λ n b r a e. cc e) (λ n a r w i e. cc e),
     stand_with (Defers now a delay true ∷ t) (own_of t).deferred _
         (timed (Defers now a delay true) (later_clock (own_of t).clock now))
         (inl (record { now = now; defers = refl; at = refl }), omega (arith)),
-  )
-  on (Defers now a delay false) right = (
-    no_ready t _ (λ n b r a e. cc e) (λ n a r w i e. cc e),
-    timed (Defers now a delay false) (later_clock (own_of t).clock now),
   )
   on (Ticks now below room answer) right = (
     ready_on now below room answer right,
@@ -259,19 +238,7 @@ module _ (t : List Call) (stand : AllStand t (own_of t).deferred) where
     stand_without (Responds now b r word id ∷ t) (moment t now) (own_of t).separate (own_of t).deferred
         (timed (Responds now b r word id) (later_clock (own_of t).clock now)),
   )
-  on (Ready now to answer) right = (
-    no_ready t _ (λ n b r a e. cc e) (λ n a r w i e. cc e),
-    timed (Ready now to answer) (later_clock (own_of t).clock now),
-  )
-  on (Notifies now to token r word id) right = (
-    no_ready t _ (λ n b r a e. cc e) (λ n a r w i e. cc e),
-    timed (Notifies now to token r word id) (later_clock (own_of t).clock now),
-  )
-  on (NotifiesPlain now to token r id) right = (
-    no_ready t _ (λ n b r a e. cc e) (λ n a r w i e. cc e),
-    timed (NotifiesPlain now to token r id) (later_clock (own_of t).clock now),
-  )
-  on (Take answer) right = (no_ready t _ (λ n b r a e. cc e) (λ n a r w i e. cc e), timed (Take answer) (omega arith))
+  on c right = (no_ready t c (λ n b r a e. cc e) (λ n a r w i e. cc e), timed c (rises_at t c))
 
 pub long_so : (t : List Call) → AnswererLaw t → DeferredLongEnough t × AllStand t (own_of t).deferred
 long_so [] law = (tt, tt)

@@ -14,8 +14,8 @@ use Rattle.coap_exchange.specs.declared.asker.Turn.TheVariants as turn
 use Rattle.coap_exchange.specs.declared.matching.Opening.{Opening}
 use Rattle.coap_exchange.specs.declared.matching.Opening.TheVariants.{Running, Spent, Sends}
 use Rattle.coap_exchange.specs.declared.matching.Verdict.{Verdict}
-use Rattle.coap_exchange.specs.declared.matching.Verdict.TheVariants.{Ignore, Reject, Acknowledge, AnswerCon, Answer}
-use Rattle.coap_exchange.specs.declared.matching.Verdict.TheVariants.{NoticeCon, Notice, Await, EndByReset}
+use Rattle.coap_exchange.specs.declared.matching.Verdict.TheVariants.{Ignore, AnswerCon, Answer}
+use Rattle.coap_exchange.specs.declared.matching.Verdict.TheVariants.{Await, EndByReset}
 use Rattle.coap_exchange.specs.declared.asker.Exchange.{Exchange}
 use Rattle.coap_exchange.specs.AskerTrace.{Request, Own}
 use Rattle.coap_exchange.specs.AskerRequests.{beneath, opening_of, opened, sent_as, request_token, content_of}
@@ -105,13 +105,7 @@ module _ (s : Own) (r : Request) (now w : ℕ) (below : T.Answer) (mid h : L.Sta
 abbrev Quiet : Verdict → Type 0
 Quiet Await = ⊥
 Quiet EndByReset = ⊥
-Quiet Ignore = Unit {0}
-Quiet Reject = Unit {0}
-Quiet Acknowledge = Unit {0}
-Quiet AnswerCon = Unit {0}
-Quiet Answer = Unit {0}
-Quiet NoticeCon = Unit {0}
-Quiet Notice = Unit {0}
+Quiet _ = Unit {0}
 
 module _ (s : Own) (b : Option Begun) (at : ℕ) (from : Endpoint) (bytes : List ℕ) (out : List T.Packet) (cs : List Open)
     (lone : Lone s.server s.running b cs) where
@@ -132,21 +126,7 @@ module _ (s : Own) (b : Option Begun) (at : ℕ) (from : Endpoint) (bytes : List
   quiet_lone : (up : T.Answer) → Quiet (verdict_on s from up) → Lone s.server s.running b (then_opens up)
   quiet_lone (T.Becomes (T.Acked id)) q = quiet_by id Await (is_of_request s from id) refl (λ e. cc e) q (inl refl)
   quiet_lone (T.Becomes (T.Reset id)) q = quiet_by id EndByReset (is_of_request s from id) refl (λ e. cc e) q (inr refl)
-  quiet_lone (T.Becomes (T.Response m)) q = plain_lone (T.Becomes (T.Response m)) (λ c. refl)
-  quiet_lone (T.Becomes (T.Request m k)) q = plain_lone (T.Becomes (T.Request m k)) (λ c. refl)
-  quiet_lone (T.Becomes T.Dropped) q = plain_lone (T.Becomes T.Dropped) (λ c. refl)
-  quiet_lone (T.Becomes (T.Unmatched id)) q = plain_lone (T.Becomes (T.Unmatched id)) (λ c. refl)
-  quiet_lone (T.Becomes T.Replayed) q = plain_lone (T.Becomes T.Replayed) (λ c. refl)
-  quiet_lone (T.Becomes T.Rejected) q = plain_lone (T.Becomes T.Rejected) (λ c. refl)
-  quiet_lone T.Nothing q = plain_lone T.Nothing (λ c. refl)
-  quiet_lone (T.Is holds) q = plain_lone (T.Is holds) (λ c. refl)
-  quiet_lone (T.Sent id) q = plain_lone (T.Sent id) (λ c. refl)
-  quiet_lone T.Busied q = plain_lone T.Busied (λ c. refl)
-  quiet_lone T.NoIds q = plain_lone T.NoIds (λ c. refl)
-  quiet_lone T.Idle q = plain_lone T.Idle (λ c. refl)
-  quiet_lone (T.Copied to id) q = plain_lone (T.Copied to id) (λ c. refl)
-  quiet_lone (T.Expired to id) q = plain_lone (T.Expired to id) (λ c. refl)
-  quiet_lone (T.Gives packet) q = plain_lone (T.Gives packet) (λ c. refl)
+  quiet_lone up q = plain_lone up (λ c. refl)
 
   -- the request is acknowledged or rejected: none is outstanding
   gone : (id : ℕ) (o : OfRequest s from id) → without from id cs ≡ []
@@ -238,10 +218,4 @@ module _ (s : Own) (b : Option Begun) (at l_at : ℕ) (out : List T.Packet) (cs 
   turned_lone (T.Expired to id) = expired_lone to id (is_of_request s to id) refl
   turned_lone (T.Copied to id) = copied_left s.server s.running b cs l_at to id lone
   turned_lone T.Idle = waited_lone (has_waited at (acked_in s.running)) refl
-  turned_lone (T.Becomes what) = still (T.Becomes what) (λ c. refl)
-  turned_lone T.Nothing = still T.Nothing (λ c. refl)
-  turned_lone (T.Is holds) = still (T.Is holds) (λ c. refl)
-  turned_lone (T.Sent id) = still (T.Sent id) (λ c. refl)
-  turned_lone T.Busied = still T.Busied (λ c. refl)
-  turned_lone T.NoIds = still T.NoIds (λ c. refl)
-  turned_lone (T.Gives packet) = still (T.Gives packet) (λ c. refl)
+  turned_lone below = still below (λ c. refl)

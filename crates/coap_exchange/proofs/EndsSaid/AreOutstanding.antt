@@ -114,40 +114,13 @@ module _ (at : ℕ) (out : List T.Packet) (xs : List Separate) (cs : List Open) 
       → Mirrors (separate_after from up xs) (opens_then at (T.Receive from bytes) up out cs)
   arrival_mirrors from bytes (T.Becomes (T.Acked id)) = gone_mirrors from id
   arrival_mirrors from bytes (T.Becomes (T.Reset id)) = gone_mirrors from id
-  arrival_mirrors from bytes (T.Becomes (T.Response n)) =
-      same_mirrors (T.Receive from bytes) (T.Becomes (T.Response n)) (λ c. refl) refl
-  arrival_mirrors from bytes (T.Becomes (T.Request n k)) =
-      same_mirrors (T.Receive from bytes) (T.Becomes (T.Request n k)) (λ c. refl) refl
-  arrival_mirrors from bytes (T.Becomes T.Dropped) =
-      same_mirrors (T.Receive from bytes) (T.Becomes T.Dropped) (λ c. refl) refl
-  arrival_mirrors from bytes (T.Becomes (T.Unmatched id)) =
-      same_mirrors (T.Receive from bytes) (T.Becomes (T.Unmatched id)) (λ c. refl) refl
-  arrival_mirrors from bytes (T.Becomes T.Replayed) =
-      same_mirrors (T.Receive from bytes) (T.Becomes T.Replayed) (λ c. refl) refl
-  arrival_mirrors from bytes (T.Becomes T.Rejected) =
-      same_mirrors (T.Receive from bytes) (T.Becomes T.Rejected) (λ c. refl) refl
-  arrival_mirrors from bytes T.Nothing = same_mirrors (T.Receive from bytes) T.Nothing (λ c. refl) refl
-  arrival_mirrors from bytes (T.Is holds) = same_mirrors (T.Receive from bytes) (T.Is holds) (λ c. refl) refl
-  arrival_mirrors from bytes (T.Sent id) = same_mirrors (T.Receive from bytes) (T.Sent id) (λ c. refl) refl
-  arrival_mirrors from bytes T.Busied = same_mirrors (T.Receive from bytes) T.Busied (λ c. refl) refl
-  arrival_mirrors from bytes T.NoIds = same_mirrors (T.Receive from bytes) T.NoIds (λ c. refl) refl
-  arrival_mirrors from bytes T.Idle = same_mirrors (T.Receive from bytes) T.Idle (λ c. refl) refl
-  arrival_mirrors from bytes (T.Copied to id) = same_mirrors (T.Receive from bytes) (T.Copied to id) (λ c. refl) refl
-  arrival_mirrors from bytes (T.Expired to id) = same_mirrors (T.Receive from bytes) (T.Expired to id) (λ c. refl) refl
-  arrival_mirrors from bytes (T.Gives packet) = same_mirrors (T.Receive from bytes) (T.Gives packet) (λ c. refl) refl
+  arrival_mirrors from bytes up = same_mirrors (T.Receive from bytes) up (λ c. refl) refl
 
   tick_mirrors : (below : T.Answer) → Mirrors (separate_unless below xs) (opens_then at T.Ticks below out cs)
   tick_mirrors (T.Expired to id) = gone_mirrors to id
   tick_mirrors (T.Copied to id) = subst (Mirrors xs) (sym (append-nil (copied_con at to id cs)))
       (copied_mirrors to id at xs cs m)
-  tick_mirrors (T.Becomes what) = same_mirrors T.Ticks (T.Becomes what) (λ c. refl) refl
-  tick_mirrors T.Nothing = same_mirrors T.Ticks T.Nothing (λ c. refl) refl
-  tick_mirrors (T.Is holds) = same_mirrors T.Ticks (T.Is holds) (λ c. refl) refl
-  tick_mirrors (T.Sent id) = same_mirrors T.Ticks (T.Sent id) (λ c. refl) refl
-  tick_mirrors T.Busied = same_mirrors T.Ticks T.Busied (λ c. refl) refl
-  tick_mirrors T.NoIds = same_mirrors T.Ticks T.NoIds (λ c. refl) refl
-  tick_mirrors T.Idle = same_mirrors T.Ticks T.Idle (λ c. refl) refl
-  tick_mirrors (T.Gives packet) = same_mirrors T.Ticks (T.Gives packet) (λ c. refl) refl
+  tick_mirrors below = same_mirrors T.Ticks below (λ c. refl) refl
 
 -- one call of the layer that begins and ends none
 still : (old new : L.State) (now : ℕ) (call : T.Call) (answer : T.Answer) (xs : List Separate)

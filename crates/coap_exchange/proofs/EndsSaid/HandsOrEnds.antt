@@ -5,8 +5,7 @@ use Rattle.coap_codec.specs.Message.{Message}
 use Rattle.coap_layer.specs.Trace as T
 use Rattle.coap_exchange.specs.declared.answerer.Asked.{Asked}
 use Rattle.coap_exchange.specs.declared.separate.Separate.{Separate}
-use Rattle.coap_exchange.specs.AnswererTrace.{Call, Incoming, Answers, Defers, Ticks, Responds, Ready, Notifies, Take}
-use Rattle.coap_exchange.specs.AnswererTrace.{NotifiesPlain}
+use Rattle.coap_exchange.specs.AnswererTrace.{Call, Incoming}
 use Rattle.coap_exchange.specs.AnswererSteps.{handed_up, reset_by}
 use Rattle.coap_exchange.specs.AnswererLaw.{own_of, AnswererLaw}
 use Rattle.coap_exchange.specs.AnswererFollows.{hands, end_told}
@@ -28,11 +27,4 @@ by past now from bytes up (Some p) h = let none = none_ended from up p (own_of p
 pub hands_or_ends : (t : List Call) → AnswererLaw t → HandsOrEnds t
 hands_or_ends [] law = tt
 hands_or_ends (Incoming now from bytes up answer ∷ t) law = (by t now from bytes up answer law.0, hands_or_ends t law.1)
-hands_or_ends (Answers a r below ∷ t) law = (tt, hands_or_ends t law.1)
-hands_or_ends (Defers now a delay answer ∷ t) law = (tt, hands_or_ends t law.1)
-hands_or_ends (Ticks now below room answer ∷ t) law = (tt, hands_or_ends t law.1)
-hands_or_ends (Responds now a r word id ∷ t) law = (tt, hands_or_ends t law.1)
-hands_or_ends (Ready now to answer ∷ t) law = (tt, hands_or_ends t law.1)
-hands_or_ends (Notifies now to token r word id ∷ t) law = (tt, hands_or_ends t law.1)
-hands_or_ends (NotifiesPlain now to token r id ∷ t) law = (tt, hands_or_ends t law.1)
-hands_or_ends (Take answer ∷ t) law = (tt, hands_or_ends t law.1)
+hands_or_ends (_ ∷ t) law = (tt, hands_or_ends t law.1)

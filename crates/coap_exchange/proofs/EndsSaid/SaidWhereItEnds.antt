@@ -5,28 +5,19 @@ use Rattle.std.specs.List.{list_any}
 use Rattle.std.specs.Option.{option_map}
 use Rattle.std.specs.Cmp.{unsigned_Decides}
 use Rattle.coap_types.specs.Past.{Since}
-use Rattle.coap_types.specs.Roles.{role_of}
 use Rattle.coap_types.specs.declared.endpoint.Endpoint.{Endpoint}
-use Rattle.coap_types.specs.declared.message.Kind.{Kind}
-use Rattle.coap_types.specs.declared.message.Kind.TheVariants.{Con, Non, Ack, Rst}
-use Rattle.coap_types.specs.declared.role.Role.{Role}
-use Rattle.coap_types.specs.declared.role.Role.TheVariants as role
 use Rattle.coap_types.specs.SameEndpoint.{same_endpoint}
 use Rattle.coap_types.proofs.Facts.Endpoints.{same_endpoint_is, same_endpoint_self}
-use Rattle.coap_codec.specs.Message.{Message}
 use Rattle.std.proofs.lemmas.Bool.{eqb-true}
-use Rattle.coap_layer.specs.Arrivals.{Arrival, Unreadable, Faulted, Whole, arrival_at}
 use Rattle.coap_layer.specs.Machine.State as L
-use Rattle.coap_layer.specs.Machine.State.{answer_to, is_outstanding, is_busy, is_failed, is_copy_due, tick_of, sending}
+use Rattle.coap_layer.specs.Machine.State.{is_outstanding, is_busy, is_failed, is_copy_due, tick_of, sending}
 use Rattle.coap_layer.specs.Machine.Steps.{Steps}
-use Rattle.coap_layer.specs.Machine.Table.{up_of, again_or}
 use Rattle.coap_layer.specs.Trace as T
-use Rattle.coap_layer.specs.Words.{Open, is_con, is_to}
+use Rattle.coap_layer.specs.Words.{Open, is_to}
 use Rattle.coap_exchange.specs.declared.answerer.Ended.{Ended}
 use Rattle.coap_exchange.specs.declared.separate.Separate.{Separate}
-use Rattle.coap_exchange.specs.AnswererTrace.{Own, Call, Incoming, Answers, Defers, Ticks, Responds, Ready, Notifies}
-use Rattle.coap_exchange.specs.AnswererTrace.{NotifiesPlain, Sending}
-use Rattle.coap_exchange.specs.AnswererTrace.{Take}
+use Rattle.coap_exchange.specs.AnswererTrace.{Own, Call, Incoming, Ticks, Responds, Notifies}
+use Rattle.coap_exchange.specs.AnswererTrace.{Sending}
 use Rattle.coap_exchange.specs.AnswererSteps.{lower, goes_to, found, ended_as, separate_of, without_separate}
 use Rattle.coap_exchange.specs.AnswererSteps.{separate_after, separate_unless, is_waited_for, asking_room, ready_if}
 use Rattle.coap_exchange.specs.AnswererSteps.{ready_at, reject_by}
@@ -36,56 +27,18 @@ use Rattle.coap_exchange.specs.AnswererTells.{SentIn, TellsIf, EndsTold, fails}
 use Rattle.coap_exchange.specs.AskerRequests.{asked}
 use Rattle.coap_exchange.specs.AskerArrivals.{id_in, replying}
 use Rattle.coap_layer.proofs.Facts.StepsOfLayer.{steps_split}
+use Rattle.coap_exchange.proofs.Calls.WhatArrived.{arrived}
 use Rattle.coap_exchange.proofs.EndsSaid.AreOutstanding.{waits, waits_for}
 use Rattle.std.proofs.lemmas.Bool.{and_parts}
 use Rattle.coap_layer.specs.declared.setup.Setup.{Setup}
 
 -- the layer says of an outstanding CON alone that it was rejected
-
-abbrev IfReset : ℕ → Bool → T.Disposition → Type 0
-IfReset n o (T.Reset id) = (n ≡ id) × (o ≡ true)
-IfReset n o _ = Unit {0}
-
-again_reset : (n : ℕ) (o : Bool) (a : T.Disposition) → IfReset n o a → (r f : Bool) → IfReset n o (again_or r f a)
-again_reset n o a h false false = h
-again_reset n o a h _ _ = tt
-
-up_resets : (kind : Kind) (c : Role) (m : Message) (o r f i : Bool) → IfReset m.id o (up_of kind c m o r f i)
-up_resets Con role.Empty m o r f i = tt
-up_resets Con role.Reserved m o r f i = tt
-up_resets Con role.Request m o r f i = again_reset m.id o (T.Request m true) tt r f
-up_resets Con role.Response m o r f i = again_reset m.id o (T.Response m) tt r f
-up_resets Non role.Empty m o r f i = tt
-up_resets Non role.Reserved m o r f i = tt
-up_resets Non role.Request m o r f i = again_reset m.id o (T.Request m i) tt r f
-up_resets Non role.Response m o r f i = again_reset m.id o (T.Response m) tt r f
-up_resets Ack role.Empty m true r f i = tt
-up_resets Ack role.Response m true r f i = tt
-up_resets Rst role.Empty m true r f i = (refl, refl)
-up_resets Ack role.Empty m false r f i = tt
-up_resets Ack role.Response m false r f i = tt
-up_resets Rst role.Empty m false r f i = tt
-up_resets Ack role.Request m o r f i = tt
-up_resets Ack role.Reserved m o r f i = tt
-up_resets Rst role.Request m o r f i = tt
-up_resets Rst role.Response m o r f i = tt
-up_resets Rst role.Reserved m o r f i = tt
-
-became : (a b : T.Disposition) → T.Becomes a ≡ T.Becomes b → a ≡ b
-became a b h = cc h
-
-module _ (s : L.State) (at : ℕ) (from : Endpoint) (id : ℕ) where
-  fault_other : (b : Bool) → cond b T.Rejected T.Dropped ≡ T.Reset id → ⊥
-  fault_other true h = cc h
-  fault_other false h = cc h
-
-  reset_open : (what : Arrival) → answer_to s at from what ≡ T.Reset id → is_outstanding from id s.open_cons ≡ true
-  reset_open Unreadable h = absurd (cc h)
-  reset_open (Faulted kind n) h = absurd (fault_other (is_con kind) h)
-  reset_open (Whole m) h =
-      let only : (m.id ≡ id) × (is_outstanding from m.id s.open_cons ≡ true) =
-      subst (IfReset m.id (is_outstanding from m.id s.open_cons)) h (up_resets m.kind (role_of m.code) m _ _ _ _) in
-      subst (λ n. is_outstanding from n s.open_cons ≡ true) only.0 only.1
+reset_open : (old new : L.State) (now : ℕ) (from : Endpoint) (bytes : List ℕ) (up : T.Answer) (id : ℕ)
+    → L.Step old now (T.Receive from bytes) up new → up ≡ T.Becomes (T.Reset id)
+    → is_outstanding from id old.open_cons ≡ true
+reset_open old new now from bytes up id step is =
+    (arrived old new now from bytes (T.Reset id)
+    (subst (λ u. L.Step old now (T.Receive from bytes) u new) is step)).awaited
 
 -- .. or given up
 
@@ -246,9 +199,7 @@ module _ (setup : Setup) (t : List Call) (rows : AnswererLaw t) (last : AllLast 
       let under : Steps (L.start setup) (lower_of t) more.1.0 =
       subst (Steps (L.start setup) (lower_of t)) (sym more.1.1) parts.1 in
       let k = arrives t now from bytes answer up last (λ id e. waits_for setup t more.1.0 under from id
-      ∙ reset_open more.1.0 (max more.1.0.clock now) from id (arrival_at bytes)
-      (became (answer_to more.1.0 (max more.1.0.clock now) from (arrival_at bytes)) (T.Reset id)
-      (sym more.1.2.right ∙ e))) in
+      ∙ reset_open more.1.0 more.0 now from bytes up id more.1.2 e) in
       (k.0, still_last (Incoming now from bytes up answer) refl t (separate_after from up xs) k.1)
   on (Ticks now below room answer) h steps =
       let s : Own = own_of t in
@@ -274,11 +225,7 @@ module _ (setup : Setup) (t : List Call) (rows : AnswererLaw t) (last : AllLast 
         begun_on (Notifies now to token r w id) (separate_of to id token r) refl
             (record { there = refl; sent = refl }) idle,
       )
-  on (Answers a r below) h steps = (refl, still_last (Answers a r below) refl t xs last)
-  on (Defers now a delay answer) h steps = (refl, still_last (Defers now a delay answer) refl t xs last)
-  on (Ready now to answer) h steps = (refl, still_last (Ready now to answer) refl t xs last)
-  on (NotifiesPlain now to token r id) h steps = (refl, still_last (NotifiesPlain now to token r id) refl t xs last)
-  on (Take answer) h steps = (refl, still_last (Take answer) refl t xs last)
+  on c h steps = (refl, still_last c refl t xs last)
 
 told_so : (setup : Setup) (t : List Call) → AnswererLaw t → (h : L.State) → Steps (L.start setup) (lower_of t) h
     → EndsTold t × AllLast t (own_of t).separate

@@ -1,8 +1,37 @@
--- Of an object above another: one call more, for all its calls; and what it asks of the one beneath, call by call.
-use Rattle.std.proofs.Common.{◌≡◌, inl, inr, ⊎_elim, List, [], ◌∷◌, ◌++◌, refl, ap, sym, subst, ◌∙◌}
+-- Of an object above another: calls behind others; one call more, for all its calls; and what it asks of the one beneath,
+-- call by call.
+use Rattle.std.proofs.Common.{◌≡◌, inl, inr, ⊎_elim, List, [], ◌∷◌, ◌++◌, refl, ap, sym, subst, ◌∙◌, append_assoc}
 use Rattle.coap_types.specs.Past.{Ever, Sometime}
 use Rattle.coap_types.proofs.Facts.Traces.{Ever_append, Ever_front, Ever_back}
-use Rattle.coap_exchange.specs.Above.{sum_of, asked_by, State, Step, Chain, Law, Led}
+use Rattle.coap_exchange.specs.Above.{sum_of, asked_by, Rows, State, Step, Chain, Law, Led}
+
+-- calls behind others: what they add up to, their rows, and what they ask of the object beneath
+module _ {Own Call : Type 0} (start : Own) (after : Own → Call → Own) where
+  pub sum_append : (later first : List Call)
+      → sum_of start after (later ++ first) ≡ sum_of (sum_of start after first) after later
+  sum_append [] first = refl
+  sum_append (c ∷ later) first = ap (λ s. after s c) (sum_append later first)
+
+  pub rows_back : (IsRight : Own → Call → Type 0) (later first : List Call)
+      → Rows start after IsRight (later ++ first) → Rows start after IsRight first
+  rows_back IsRight [] first h = h
+  rows_back IsRight (c ∷ later) first h = rows_back IsRight later first h.1
+
+  pub rows_front : (IsRight : Own → Call → Type 0) (later first : List Call)
+      → Rows start after IsRight (later ++ first) → Rows (sum_of start after first) after IsRight later
+  rows_front IsRight [] first h = tt
+  rows_front IsRight (c ∷ later) first h =
+      (subst (λ s. IsRight s c) (sum_append later first) h.0, rows_front IsRight later first h.1)
+
+  pub asked_append : {Below : Type 0} (lower : Own → Call → List Below) (later first : List Call)
+      → asked_by start after lower (later ++ first)
+      ≡ asked_by (sum_of start after first) after lower later ++ asked_by start after lower first
+  asked_append lower [] first = refl
+  asked_append lower (c ∷ later) first =
+      ap (λ s. lower s c ++ asked_by start after lower (later ++ first)) (sum_append later first)
+      ∙ (ap (λ xs. lower (sum_of (sum_of start after first) after later) c ++ xs) (asked_append lower later first)
+      ∙ sym (append_assoc (lower (sum_of (sum_of start after first) after later) c)
+      (asked_by (sum_of start after first) after lower later) (asked_by start after lower first)))
 
 module _ {Own Call Below Layer : Type 0} (IsRight : Own → Call → Type 0) (after : Own → Call → Own)
     (lower : Own → Call → List Below) (Steps : Layer → List Below → Layer → Type 0) where

@@ -10,7 +10,7 @@ use Rattle.coap_exchange.proofs.Exchanges.TokensOnce.{counted}
 use Rattle.coap_exchange.proofs.Exchanges.RefusedWhileOneRuns.{refused}
 use Rattle.coap_layer.specs.declared.setup.Setup.{Setup}
 pub use Rattle.coap_exchange.proofs.Leading.ClientLeads.{led_start, led_call, led_exchanged, led_law, layer_stands}
-pub use Rattle.coap_exchange.proofs.Leading.ClientLeads.{exchanged_join, exchanged_split, exchanged_own}
+pub use Rattle.coap_exchange.proofs.Leading.ClientLeads.{exchanged_join, exchanged_split, exchanged_own, exchange_back}
 pub use Rattle.coap_exchange.proofs.Exact.ClientExactly.{exact}
 pub use Rattle.coap_exchange.proofs.Telling.FromServer.{came_from, server_is}
 pub use Rattle.coap_exchange.proofs.Telling.ResponsesMatch.{matched}

@@ -1,5 +1,5 @@
 -- What each call does to the exchange that runs, to the count of tokens and to the kept tokens.
-use Rattle.std.proofs.Common.{◌≡◌, ℕ, max, Bool, true, false, Option, Some, None, List, Result, refl, ap, sym, subst}
+use Rattle.std.proofs.Common.{◌≡◌, ℕ, max, Bool, false, Option, Some, None, List, Result, refl, ap, sym, subst}
 use Rattle.std.proofs.Common.{◌∙◌, is_some}
 use Rattle.std.specs.Option.{option_map}
 use Rattle.coap_types.specs.declared.endpoint.Endpoint.{Endpoint}

@@ -5,7 +5,7 @@ use Rattle.coap_exchange.specs.AnswererLaw.{AnswererLaw}
 use Rattle.coap_exchange.specs.AnswererFollows.{AreResponses}
 use Rattle.coap_exchange.proofs.Responding.OneResponse.{counted}
 pub use Rattle.coap_exchange.proofs.Leading.ServerLeads.{led_start, led_call, led_exchanged, led_law, layer_stands}
-pub use Rattle.coap_exchange.proofs.Leading.ServerLeads.{exchanged_join, exchanged_split, exchanged_own}
+pub use Rattle.coap_exchange.proofs.Leading.ServerLeads.{exchanged_join, exchanged_split, exchanged_own, exchange_back}
 pub use Rattle.coap_exchange.proofs.Exact.ServerExactly.{exact}
 pub use Rattle.coap_exchange.proofs.Responding.OneResponse.{same_asked_self, self_hits}
 pub use Rattle.coap_exchange.proofs.Responding.RequestsCame.{came_in}

@@ -16,7 +16,7 @@ use Rattle.coap_layer.proofs.Facts.StepsOfLayer.{steps_split}
 use Rattle.coap_exchange.specs.declared.asker.Exchange.{Exchange}
 use Rattle.coap_exchange.specs.declared.matching.Opening.{Opening}
 use Rattle.coap_exchange.specs.declared.matching.Opening.TheVariants.{Running, Spent, Sends}
-use Rattle.coap_exchange.specs.AskerTrace.{Request, Own, Call, Ask, Receive, Ticks, Keep, Release, Take}
+use Rattle.coap_exchange.specs.AskerTrace.{Request, Own, Call, Ask, Receive, Ticks, Take}
 use Rattle.coap_exchange.specs.AskerSteps.{IsRight, lower}
 use Rattle.coap_exchange.specs.AskerRequests.{asked, opening_of, sent_as, request_token, content_of, beneath}
 use Rattle.coap_exchange.specs.AskerArrivals.{verdict_on, id_in, reply_by, settles, replying, settling}

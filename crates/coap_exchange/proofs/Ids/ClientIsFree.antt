@@ -20,7 +20,7 @@ use Rattle.coap_exchange.specs.declared.asker.AskRefusal.{AskRefusal}
 use Rattle.coap_exchange.specs.declared.asker.AskRefusal.TheVariants as refusal
 use Rattle.coap_exchange.specs.declared.matching.Opening.{Opening}
 use Rattle.coap_exchange.specs.declared.matching.Opening.TheVariants.{Running, Spent, Sends}
-use Rattle.coap_exchange.specs.AskerTrace.{Own, Call, Ask, Receive, Ticks, Keep, Release, Take}
+use Rattle.coap_exchange.specs.AskerTrace.{Own, Call, Ask, Take}
 use Rattle.coap_exchange.specs.AskerSteps.{lower}
 use Rattle.coap_exchange.specs.AskerRequests.{opening_of, request_token, content_of, beneath, is_yes}
 use Rattle.coap_exchange.specs.AskerRequests.{send_refusal, sent_answer, ask_answer}
@@ -38,12 +38,8 @@ all_lifetimes = 74682872027683
 
 module _ (server : Endpoint) (setup : Setup) where
   rises_at : (t : List Call) (c : Call) → clock_of server setup t ≤ clock_of server setup (c ∷ t)
-  rises_at t (Ask now r w below answer) = omega arith
-  rises_at t (Receive now from bytes up settled answer) = omega arith
-  rises_at t (Ticks now below answer) = omega arith
-  rises_at t (Keep token answer) = omega arith
-  rises_at t (Release token answer) = omega arith
   rises_at t (Take answer) = omega arith
+  rises_at t _ = omega arith
 
   pub clock_rises : (t : List Call) → Rises (clock_of server setup) ends t
   clock_rises [] = tt

@@ -9,7 +9,7 @@ use Rattle.coap_layer.specs.Machine.State.{tick_of}
 use Rattle.coap_layer.specs.Rows.{LayerLaw}
 use Rattle.coap_layer.specs.Taking.{is_then, came, came_since, issued_since, FewCome}
 use Rattle.coap_layer.specs.declared.setup.Setup.{Setup}
-use Rattle.coap_layer.specs.Trace.{Answer, Becomes, Nothing, Is, Sent, Busied, NoIds, Idle, Copied, Expired, Gives}
+use Rattle.coap_layer.specs.Trace.{Answer, Sent, Copied, Expired}
 use Rattle.coap_layer.specs.Trace.{Entry}
 use Rattle.coap_layer.specs.Words.{clock, Incoming, handed, issued_by, numbers, sent_by, Open}
 use Rattle.coap_exchange.specs.Counts.{count_since, count_then}
@@ -70,15 +70,7 @@ came_one u e t is le = by (handed e) (nat_le u e.at) is (le-leb u e.at le)
 added : (u at : ℕ) (a : Answer) (ns : List Issued) → issued_since u (issued_by at a ++ ns)
     ≡ cond (is_some (sent_by a) && nat_le u at) (1 + issued_since u ns) (issued_since u ns)
 added u at (Sent id) ns = refl
-added u at (Becomes what) ns = refl
-added u at Nothing ns = refl
-added u at (Is holds) ns = refl
-added u at Busied ns = refl
-added u at NoIds ns = refl
-added u at Idle ns = refl
-added u at (Copied to id) ns = refl
-added u at (Expired to id) ns = refl
-added u at (Gives packet) ns = refl
+added u at _ ns = refl
 
 pub at_most_one : (u : ℕ) (e : Entry) (t : List Entry)
     → issued_since u (numbers (e ∷ t)) ≤ 1 + issued_since u (numbers t)

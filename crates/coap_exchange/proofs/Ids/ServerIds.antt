@@ -137,16 +137,15 @@ module _ (setup : Setup) where
     abbrev issued_then : List Entry → ℕ
     issued_then es = issued_since u (numbers es)
 
+    -- the same of other entries, where so many wait
+    abbrev Bounded : ℕ → List Entry → Type 0
+    Bounded waiting es = issued_then es + waiting ≤ most_waiting + came_since u es + notified_since u t
+
     incoming_on : (now : ℕ) (from : Endpoint) (bytes : List ℕ) (up : T.Answer) (answer : Option (Asked × Message))
         → (made (reached t) now (T.Receive from bytes)).answer ≡ up → answer ≡ handed_up from up
-        → u ≤ max (reached t).clock now
-        → (id : ℕ) (o : Option (List ℕ))
-        → issued_then (entries begin
-        ((replying from id o ++ asked now (T.Receive from bytes) up ∷ []) ++ lower_of t))
-        + waiting_in (after s (Incoming now from bytes up answer))
-        ≤ most_waiting + came_since u (entries begin
-        ((replying from id o ++ asked now (T.Receive from bytes) up ∷ []) ++ lower_of t))
-        + notified_since u t
+        → u ≤ max (reached t).clock now → (id : ℕ) (o : Option (List ℕ))
+        → Bounded (waiting_in (after s (Incoming now from bytes up answer)))
+        (entries begin ((replying from id o ++ asked now (T.Receive from bytes) up ∷ []) ++ lower_of t))
     incoming_on now from bytes up answer told right late id o = by o (go answer right)
       where
         e : Entry
@@ -157,22 +156,16 @@ module _ (setup : Setup) where
             (handed_when from bytes up p h)
 
         go : (answer : Option (Asked × Message)) → answer ≡ handed_up from up
-            → issued_then (below_of setup t) + waiting_in (after s (Incoming now from bytes up answer))
-            ≤ most_waiting + came_since u (e ∷ below_of setup t) + notified_since u t
+            → Bounded (waiting_in (after s (Incoming now from bytes up answer))) (e ∷ below_of setup t)
         go None right = let g = came_grows u e (below_of setup t) in omega (arith, old, g)
         go (Some p) right =
             let g = came_one u e (below_of setup t) (up_is p (sym right)) late in
             omega (arith, old, g)
 
         by : (o : Option (List ℕ))
-            → issued_then (below_of setup t) + waiting_in (after s (Incoming now from bytes up answer))
-            ≤ most_waiting + came_since u (e ∷ below_of setup t) + notified_since u t
-            → issued_then (entries begin
-            ((replying from id o ++ asked now (T.Receive from bytes) up ∷ []) ++ lower_of t))
-            + waiting_in (after s (Incoming now from bytes up answer))
-            ≤ most_waiting + came_since u (entries begin
-            ((replying from id o ++ asked now (T.Receive from bytes) up ∷ []) ++ lower_of t))
-            + notified_since u t
+            → Bounded (waiting_in (after s (Incoming now from bytes up answer))) (e ∷ below_of setup t)
+            → Bounded (waiting_in (after s (Incoming now from bytes up answer)))
+            (entries begin ((replying from id o ++ asked now (T.Receive from bytes) up ∷ []) ++ lower_of t))
         by None h = h
         by (Some reply) h = h
 
@@ -186,65 +179,45 @@ module _ (setup : Setup) where
         omega (arith, old, one, g, w)
 
     defers_on : (now : ℕ) (a : Asked) (delay : ℕ) (answer : Bool) → s.pending ≡ Some a → (b : Bool)
-        → issued_then (entries begin
-        ((deferring b a ++ asked now T.Pass T.Nothing ∷ []) ++ lower_of t))
-        + waiting_in (after s (Defers now a delay answer))
-        ≤ most_waiting + came_since u (entries begin
-        ((deferring b a ++ asked now T.Pass T.Nothing ∷ []) ++ lower_of t))
-        + notified_since u t
+        → Bounded (waiting_in (after s (Defers now a delay answer)))
+        (entries begin ((deferring b a ++ asked now T.Pass T.Nothing ∷ []) ++ lower_of t))
     defers_on now a delay answer is b = by b (go answer)
       where
         d : Deferred
         d = record { asked = a; at = record { 0 = max s.clock now }; delay = delay }
 
-        go : (answer : Bool) → issued_then (below_of setup t) + waiting_in (after s (Defers now a delay answer))
-            ≤ most_waiting + came_since u (below_of setup t) + notified_since u t
+        go : (answer : Bool) → Bounded (waiting_in (after s (Defers now a delay answer))) (below_of setup t)
         go true =
             let l = longer_by_one s.deferred d in
             let w : pending_in s.pending ≡ 1 = ap pending_in is in
             omega (arith, old, l, w)
         go false = old
 
-        by : (b : Bool)
-            → issued_then (below_of setup t) + waiting_in (after s (Defers now a delay answer))
-            ≤ most_waiting + came_since u (below_of setup t) + notified_since u t
-            → issued_then (entries begin
-            ((deferring b a ++ asked now T.Pass T.Nothing ∷ []) ++ lower_of t))
-            + waiting_in (after s (Defers now a delay answer))
-            ≤ most_waiting + came_since u (entries begin
-            ((deferring b a ++ asked now T.Pass T.Nothing ∷ []) ++ lower_of t))
-            + notified_since u t
+        by : (b : Bool) → Bounded (waiting_in (after s (Defers now a delay answer))) (below_of setup t)
+            → Bounded (waiting_in (after s (Defers now a delay answer)))
+            (entries begin ((deferring b a ++ asked now T.Pass T.Nothing ∷ []) ++ lower_of t))
         by true h = h
         by false h = h
 
     ticks_on : (now : ℕ) (below : T.Answer) (room : Bool) (o : Option Deferred)
-        → issued_then (entries begin
-        ((asking_room now o room ++ asked now T.Ticks below ∷ []) ++ lower_of t)) + length s.deferred
-        ≤ most_waiting + came_since u (entries begin
-        ((asking_room now o room ++ asked now T.Ticks below ∷ []) ++ lower_of t))
-        + notified_since u t
+        → Bounded (length s.deferred)
+        (entries begin ((asking_room now o room ++ asked now T.Ticks below ∷ []) ++ lower_of t))
     ticks_on now below room o = by o
       where
         e : Entry
         e = made (reached t) now T.Ticks
 
-        none : issued_then (e ∷ below_of setup t) ≡ issued_then (below_of setup t)
-        none = gives_none u e (below_of setup t) (tick_none (max (reached t).clock now) (reached t).open_cons)
+        few : issued_then (e ∷ below_of setup t) + length s.deferred
+            ≤ most_waiting + came_since u (below_of setup t) + notified_since u t
+        few =
+            let none = gives_none u e (below_of setup t)
+            (tick_none (max (reached t).clock now) (reached t).open_cons) in
+            omega (arith, old, none)
 
-        by : (o : Option Deferred)
-            → issued_then (entries begin
-            ((asking_room now o room ++ asked now T.Ticks below ∷ []) ++ lower_of t)) + length s.deferred
-            ≤ most_waiting + came_since u (entries begin
-            ((asking_room now o room ++ asked now T.Ticks below ∷ []) ++ lower_of t))
-            + notified_since u t
-        by None =
-            let k : issued_then (e ∷ below_of setup t) + length s.deferred
-            ≤ most_waiting + came_since u (below_of setup t) + notified_since u t = omega (arith, old, none) in
-            k
-        by (Some d) =
-            let k : issued_then (e ∷ below_of setup t) + length s.deferred
-            ≤ most_waiting + came_since u (below_of setup t) + notified_since u t = omega (arith, old, none) in
-            k
+        by : (o : Option Deferred) → Bounded (length s.deferred)
+            (entries begin ((asking_room now o room ++ asked now T.Ticks below ∷ []) ++ lower_of t))
+        by None = few
+        by (Some d) = few
 
     responds_on : (now : ℕ) (a : Asked) (r : Response) (w id : ℕ)
         → option_map (λ (d : Deferred). d.asked) (ready_at s now) ≡ Some a → Potential u (Responds now a r w id ∷ t)

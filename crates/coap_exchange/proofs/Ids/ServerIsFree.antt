@@ -1,11 +1,11 @@
 -- Where few notifications are sent and few messages come, a Message ID is free at the server's side.
-use Rattle.std.proofs.Common.{◌≤◌, ℕ, ◌-◌, List, [], ◌∷◌, arith}
+use Rattle.std.proofs.Common.{ℕ, ◌-◌, List, [], ◌∷◌, arith}
 use Rattle.coap_layer.specs.Taking.{HeldIsMany}
 use Rattle.coap_layer.specs.Words.{numbers}
-use Rattle.coap_exchange.specs.AnswererTrace.{Call, Incoming, Answers, Defers, Ticks, Responds, Ready, Notifies}
-use Rattle.coap_exchange.specs.AnswererTrace.{NotifiesPlain, Take}
+use Rattle.coap_exchange.specs.AnswererTrace.{Call}
 use Rattle.coap_exchange.specs.AnswererLaw.{own_of, below_of, ResponseLaw}
 use Rattle.coap_exchange.specs.AnswererIds.{notifies, IdIsFree}
+use Rattle.coap_exchange.proofs.Deferring.LongEnough.{rises_at}
 use Rattle.coap_exchange.proofs.Ids.CountsOfFew.{Rises, since_reuse}
 use Rattle.coap_exchange.proofs.Ids.FewGive.{few_came}
 use Rattle.coap_exchange.proofs.Ids.ServerIds.{clock_is, ids_counted}
@@ -14,17 +14,6 @@ use Rattle.coap_layer.specs.declared.setup.Setup.{Setup}
 
 abbrev clock_of : List Call → ℕ
 clock_of t = (own_of t).clock
-
-rises_at : (t : List Call) (c : Call) → clock_of t ≤ clock_of (c ∷ t)
-rises_at t (Incoming now from bytes up answer) = omega arith
-rises_at t (Answers a r below) = omega arith
-rises_at t (Defers now a delay answer) = omega arith
-rises_at t (Ticks now below room answer) = omega arith
-rises_at t (Responds now a r word id) = omega arith
-rises_at t (Ready now to answer) = omega arith
-rises_at t (Notifies now to token r word id) = omega arith
-rises_at t (NotifiesPlain now to token r id) = omega arith
-rises_at t (Take answer) = omega arith
 
 clock_rises : (t : List Call) → Rises clock_of notifies t
 clock_rises [] = tt

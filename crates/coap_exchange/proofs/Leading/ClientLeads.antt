@@ -7,12 +7,12 @@ use Rattle.coap_layer.specs.Rows.{LayerLaw}
 use Rattle.coap_layer.proofs.Facts.Calls.{led_steps}
 use Rattle.coap_layer.specs.Machine.Steps.{Steps}
 use Rattle.coap_exchange.proofs.Facts.Above.{led_call as above_call, led_chain as above_chain, chain_join, chain_split}
-use Rattle.coap_exchange.proofs.Facts.Above.{chain_own}
+use Rattle.coap_exchange.proofs.Facts.Above.{chain_own, law_back}
 use Rattle.coap_exchange.specs.Above.{sum_of}
 use Rattle.coap_exchange.specs.AskerTrace.{start, Call}
 use Rattle.coap_exchange.specs.AskerSteps.{lower, IsRight, after}
 use Rattle.coap_exchange.specs.AskerLaw.{lower_of, below_of, fresh_state, ExchangeLaw, State, Step, Exchanged, Led}
-use Rattle.coap_layer.proofs.Facts.StepsOfLayer.{steps_join}
+use Rattle.coap_layer.proofs.Facts.StepsOfLayer.{steps_join, steps_split}
 use Rattle.coap_layer.specs.declared.setup.Setup.{Setup}
 
 pub led_call : (server : Endpoint) (setup : Setup) (t : List Call) (c : Call) (old new : State) → Led server setup t old
@@ -41,6 +41,12 @@ exchanged_own = chain_own IsRight after lower Steps
 pub led_law : (server : Endpoint) (setup : Setup) (t : List Call) (s : State) → Led server setup t s
     → ExchangeLaw server setup t
 led_law server setup t s led = record { rows = led.rows; left = s.layer; layer = led.layer }
+
+-- the law of the calls before
+pub exchange_back : (server : Endpoint) (setup : Setup) (calls t : List Call) → ExchangeLaw server setup (calls ++ t)
+    → ExchangeLaw server setup t
+exchange_back server setup calls t law =
+    law_back IsRight after lower Steps (start server setup.word) (L.start setup) steps_split calls t law
 
 pub led_start : (server : Endpoint) (setup : Setup) → Led server setup [] (fresh_state server setup)
 led_start server setup = record { rows = tt; own_is = refl; layer = refl }

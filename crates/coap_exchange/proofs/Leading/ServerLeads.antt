@@ -6,12 +6,12 @@ use Rattle.coap_layer.specs.Rows.{LayerLaw}
 use Rattle.coap_layer.specs.Machine.Steps.{Steps}
 use Rattle.coap_layer.proofs.Facts.Calls.{led_steps}
 use Rattle.coap_exchange.proofs.Facts.Above.{led_call as above_call, led_chain as above_chain, chain_join, chain_split}
-use Rattle.coap_exchange.proofs.Facts.Above.{chain_own}
+use Rattle.coap_exchange.proofs.Facts.Above.{chain_own, law_back}
 use Rattle.coap_exchange.specs.Above.{sum_of}
 use Rattle.coap_exchange.specs.AnswererTrace.{start, Call}
 use Rattle.coap_exchange.specs.AnswererSteps.{lower, IsRight, after}
 use Rattle.coap_exchange.specs.AnswererLaw.{lower_of, below_of, fresh_state, ResponseLaw, State, Step, Exchanged, Led}
-use Rattle.coap_layer.proofs.Facts.StepsOfLayer.{steps_join}
+use Rattle.coap_layer.proofs.Facts.StepsOfLayer.{steps_join, steps_split}
 use Rattle.coap_layer.specs.declared.setup.Setup.{Setup}
 
 pub led_start : (setup : Setup) → Led setup [] (fresh_state setup)
@@ -39,6 +39,10 @@ exchanged_split = chain_split IsRight after lower Steps
 pub exchanged_own : (old new : State) (calls : List Call) → Exchanged old calls new
     → new.own ≡ sum_of old.own after calls
 exchanged_own = chain_own IsRight after lower Steps
+
+-- the law of the calls before
+pub exchange_back : (setup : Setup) (calls t : List Call) → ResponseLaw setup (calls ++ t) → ResponseLaw setup t
+exchange_back setup calls t law = law_back IsRight after lower Steps start (L.start setup) steps_split calls t law
 
 pub led_law : (setup : Setup) (t : List Call) (s : State) → Led setup t s → ResponseLaw setup t
 led_law setup t s led = record { rows = led.rows; left = s.layer; layer = led.layer }

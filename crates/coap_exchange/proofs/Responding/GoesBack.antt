@@ -1,5 +1,5 @@
 -- What the server's side sends, by the rows of the message layer's law.
-use Rattle.std.proofs.Common.{◌≡◌, ◌≢◌, ◌⊎◌, inl, inr, ℕ, ◌<◌, true, false, Some, List, [], ◌∷◌, None, IfSome, refl, ap, sym, subst, ◌∙◌}
+use Rattle.std.proofs.Common.{◌≡◌, ◌≢◌, ◌⊎◌, inl, inr, ℕ, ◌<◌, true, false, Some, List, [], ◌∷◌, IfSome, refl, ap, sym, subst, ◌∙◌}
 use Rattle.std.proofs.Common.{arith}
 use Rattle.coap_types.specs.Past.{Ever}
 use Rattle.coap_types.specs.declared.endpoint.Endpoint.{Endpoint}
@@ -17,8 +17,8 @@ use Rattle.coap_layer.specs.Words.{numbers}
 use Rattle.coap_layer.proofs.Facts.Laws.{small}
 use Rattle.coap_layer.proofs.Facts.Calls.{steps_left}
 use Rattle.coap_exchange.specs.declared.answerer.Asked.{Asked}
-use Rattle.coap_exchange.specs.AnswererTrace.{Response, Own, Call, Incoming, Answers, Defers, Ticks, Responds, Ready}
-use Rattle.coap_exchange.specs.AnswererTrace.{Notifies, Take}
+use Rattle.coap_exchange.specs.AnswererTrace.{Response, Own, Call, Incoming, Answers, Responds, Ready}
+use Rattle.coap_exchange.specs.AnswererTrace.{Notifies}
 use Rattle.coap_exchange.specs.AnswererTrace.{NotifiesPlain}
 use Rattle.coap_exchange.specs.AnswererSteps.{lower, IsRight, IsResponse, IsSentAs, answering, content_of, content_with}
 use Rattle.coap_exchange.specs.AnswererLaw.{own_of, lower_of, below_of, AnswererLaw}

@@ -11,8 +11,7 @@ use Rattle.std.proofs.lemmas.Bool.{ltb-true}
 use Rattle.coap_exchange.specs.declared.answerer.Asked.{Asked}
 use Rattle.coap_exchange.specs.declared.separate.Deferred.{Deferred}
 use Rattle.coap_exchange.specs.declared.separate.Separate.{Separate}
-use Rattle.coap_exchange.specs.AnswererTrace.{Own, Call, Incoming, Answers, Defers, Ticks, Responds, Ready, Notifies}
-use Rattle.coap_exchange.specs.AnswererTrace.{NotifiesPlain}
+use Rattle.coap_exchange.specs.AnswererTrace.{Own, Call, Incoming, Answers, Defers, Responds, Ready}
 use Rattle.coap_exchange.specs.AnswererTrace.{Take}
 use Rattle.coap_exchange.specs.AnswererSteps.{IsRight, after, may_defer, is_ready, first_ready, without_ready}
 use Rattle.coap_exchange.specs.AnswererSteps.{max_deferred}
@@ -178,15 +177,6 @@ module _ (t : List Call) (s : Own) (known : Counted t s) where
     few = known.few;
   }
 
-  ticks_on : (now : ℕ) (below : _) (room : Bool) (answer : _)
-      → Counted (Ticks now below room answer ∷ t) (after s (Ticks now below room answer))
-  ticks_on now below room answer = record {
-    count = λ a. let k = known.count a in omega (arith, k);
-    pending = λ a h. absurd (cc h);
-    deferred = all_later (Ticks now below room answer) t s.deferred known.deferred;
-    few = known.few;
-  }
-
   responds_on : (now : ℕ) (b : Asked) (r : _) (word id : ℕ)
       → option_map (λ (d : Deferred). d.asked) (first_ready (max s.clock now) s.separate s.deferred) ≡ Some b
       → Responses t (Responds now b r word id) × Counted (Responds now b r word id ∷ t)
@@ -213,51 +203,38 @@ module _ (t : List Call) (s : Own) (known : Counted t s) where
         },
       )
 
-  ready_on : (now : ℕ) (to : Endpoint) (answer : Bool)
-      → Counted (Ready now to answer ∷ t) (after s (Ready now to answer))
-  ready_on now to answer = record {
-    count = λ a. let k = known.count a in omega (arith, k);
-    pending = λ a h. inr (known.pending a h);
-    deferred = all_later (Ready now to answer) t s.deferred known.deferred;
-    few = known.few;
-  }
-
-  notifies_on : (now : ℕ) (to : Endpoint) (token : List ℕ) (r : _) (word id : ℕ)
-      → Counted (Notifies now to token r word id ∷ t) (after s (Notifies now to token r word id))
-  notifies_on now to token r word id = record {
-    count = λ a. let k = known.count a in omega (arith, k);
-    pending = λ a h. absurd (cc h);
-    deferred = all_later (Notifies now to token r word id) t s.deferred known.deferred;
-    few = known.few;
-  }
-
-  plain_on : (now : ℕ) (to : Endpoint) (token : List ℕ) (r : _) (id : ℕ)
-      → Counted (NotifiesPlain now to token r id ∷ t) (after s (NotifiesPlain now to token r id))
-  plain_on now to token r id = record {
-    count = λ a. let k = known.count a in omega (arith, k);
-    pending = λ a h. absurd (cc h);
-    deferred = all_later (NotifiesPlain now to token r id) t s.deferred known.deferred;
-    few = known.few;
-  }
-
-  take_on : (answer : _) → Counted (Take answer ∷ t) s
-  take_on answer = record {
-    count = λ a. let k = known.count a in omega (arith, k);
-    pending = λ a h. inr (known.pending a h);
-    deferred = all_later (Take answer) t s.deferred known.deferred;
-    few = known.few;
-  }
-
   on : (c : Call) → IsRight s c → Responses t c × Counted (c ∷ t) (after s c)
   on (Incoming now from bytes up answer) right = (quiet _ refl, incoming_on now from bytes up answer)
   on (Answers b r below) right = answers_on b r below right.0
   on (Defers now b delay answer) right = (quiet _ refl, defers_on now b delay answer right.0 right.2)
-  on (Ticks now below room answer) right = (quiet _ refl, ticks_on now below room answer)
   on (Responds now b r word id) right = responds_on now b r word id right.0
-  on (Ready now to answer) right = (quiet _ refl, ready_on now to answer)
-  on (Notifies now to token r word id) right = (quiet _ refl, notifies_on now to token r word id)
-  on (NotifiesPlain now to token r id) right = (quiet _ refl, plain_on now to token r id)
-  on (Take answer) right = (quiet _ refl, take_on answer)
+  on (Ready now to answer) right = (
+    quiet _ refl,
+    record {
+      count = λ a. let k = known.count a in omega (arith, k);
+      pending = λ a h. inr (known.pending a h);
+      deferred = all_later (Ready now to answer) t s.deferred known.deferred;
+      few = known.few;
+    },
+  )
+  on (Take answer) right = (
+    quiet _ refl,
+    record {
+      count = λ a. let k = known.count a in omega (arith, k);
+      pending = λ a h. inr (known.pending a h);
+      deferred = all_later (Take answer) t s.deferred known.deferred;
+      few = known.few;
+    },
+  )
+  on c right = (
+    quiet c refl,
+    record {
+      count = λ a. let k = known.count a in omega (arith, k);
+      pending = λ a h. absurd (cc h);
+      deferred = all_later c t s.deferred known.deferred;
+      few = known.few;
+    },
+  )
 
 pub counted : (t : List Call) → AnswererLaw t → AreResponses t × Counted t (own_of t)
 counted [] law = (

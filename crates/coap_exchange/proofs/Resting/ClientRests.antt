@@ -1,11 +1,7 @@
 -- When a tick of a client's side does nothing: before the first moment at which its layer has a step or its wait is over.
-use Rattle.std.proofs.Common.{◌≡◌, ◌≢◌, inl, inr, ℕ, ◌≤◌, ◌<◌, ◌^◌, max, Bool, true, false, Option, Some, None, List, []}
-use Rattle.std.proofs.Common.{refl, ap, sym, subst, ◌∙◌, ◌&&◌, ◌||◌, cond, arith, IfNone, IfSome}
-use Rattle.std.specs.Cmp.{unsigned_Decides}
+use Rattle.std.proofs.Common.{◌≡◌, ◌≢◌, inl, inr, ℕ, max, Bool, true, false, Option, Some, None, List, []}
+use Rattle.std.proofs.Common.{refl, ap, sym, subst, ◌∙◌, ◌||◌, cond}
 use Rattle.coap_types.specs.declared.endpoint.Endpoint.{Endpoint}
-use Rattle.coap_types.specs.declared.endpoint.Moment.{Moment}
-use Rattle.coap_types.proofs.Facts.Endpoints.{same_endpoint_self}
-use Rattle.coap_types.specs.FirstMoment.{IsFirstMoment}
 use Rattle.coap_layer.specs.Machine.State as L
 use Rattle.coap_layer.specs.Machine.State.{tick_of, is_failed, is_copy_due}
 use Rattle.coap_layer.specs.Machine.Waits.{any_has_step}
@@ -16,7 +12,7 @@ use Rattle.coap_exchange.specs.declared.asker.Event.TheVariants as event
 use Rattle.coap_exchange.specs.declared.asker.Exchange.{Exchange}
 use Rattle.coap_exchange.specs.declared.asker.Turn.{Turn}
 use Rattle.coap_exchange.specs.declared.asker.Turn.TheVariants as turn
-use Rattle.coap_exchange.specs.AskerArrivals.{acked_in, has_id, has_waited, is_of_request, turn_of}
+use Rattle.coap_exchange.specs.AskerArrivals.{acked_in, has_waited, turn_of}
 use Rattle.coap_exchange.specs.AskerFollows.{Begun, last_begun}
 use Rattle.coap_exchange.specs.AskerLaw.{Led, State, Step}
 use Rattle.coap_exchange.specs.AskerTrace.{Call, Own, Ticks}
@@ -112,35 +108,6 @@ turns server setup t s now led same due below answer new h is =
     turns_where s.own at (last_begun server setup t) s.layer.open_cons s.own.running refl lone due
     (ap (λ n. turn_of s.own at (tick_of (max n now) s.layer.open_cons)) (sym same)
     ∙ (sym (turn_is s new now below answer h) ∙ is))
-
--- so of the first moment
-pub none_of : (s : State) (now : ℕ) (m : Option Moment) → s.layer.clock ≡ s.own.clock → max s.own.clock now < 2 ^ 64
-    → IsFirstMoment (has_turn s) (max s.own.clock now) m
-    → IfNone m ((later : ℕ) → now ≤ later → later < 2 ^ 64 → AskerRests s later)
-none_of s now (Some at) same range h = tt
-none_of s now None same range h = λ later le less. rests s later same
-    (h (max s.own.clock later) (omega (arith, le)) (omega (arith, range, less)))
-
-pub some_of : (s : State) (now : ℕ) (m : Option Moment) → s.layer.clock ≡ s.own.clock
-    → IsFirstMoment (has_turn s) (max s.own.clock now) m
-    → IfSome m (λ at. (later : ℕ) → now ≤ later → max s.own.clock later < at.0 → AskerRests s later)
-some_of s now None same h = tt
-some_of s now (Some at) same h = λ later le less. rests s later same
-    (h.not_before (max s.own.clock later) (omega (arith, le)) less)
-
-pub does_of : (s : State) (now : ℕ) (m : Option Moment) → s.layer.clock ≡ s.own.clock
-    → IsFirstMoment (has_turn s) (max s.own.clock now) m
-    → IfSome m (λ at. (server : Endpoint) (setup : Setup) (t : List Call) → Led server setup t s → AskerTurns s at.0)
-does_of s now None same h = tt
-does_of s now (Some at) same h = λ server setup t led.
-    let le : max s.own.clock now ≤ at.0 = h.from_on in
-    let is : at.0 ≡ max s.own.clock at.0 = omega (arith, le) in
-    turns server setup t s at.0 led same (subst (λ (n : ℕ). has_turn s n ≡ true) is h.does)
-
-pub from_of : (s : State) (from : ℕ) (m : Option Moment) → IsFirstMoment (has_turn s) from m
-    → IfSome m (λ at. from ≤ at.0)
-from_of s from None h = tt
-from_of s from (Some at) h = h.from_on
 
 -- .. where calls led to it
 module _ (server : Endpoint) (setup : Setup) (t : List Call) (s : State) (led : Led server setup t s) where

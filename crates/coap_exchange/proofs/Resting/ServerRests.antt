@@ -1,8 +1,8 @@
 -- When a tick of a server's side does nothing: before the first moment at which its layer has a step, or a deferred
 -- request is ready and a Message ID free.
-use Rattle.std.proofs.Common.{◌≡◌, ◌≢◌, ℕ, ◌+◌, ◌-◌, ◌≤◌, ◌<◌, ◌^◌, max, nat_le, Bool, true, false, Option, Some, None}
+use Rattle.std.proofs.Common.{◌≡◌, ◌≢◌, ℕ, ◌+◌, ◌-◌, ◌≤◌, ◌<◌, max, nat_le, Bool, true, false, Option, Some, None}
 use Rattle.std.proofs.Common.{List, [], ◌∷◌, ◌++◌, length, take, get_or, is_some, refl, ap, sym, subst, ◌∙◌, ◌&&◌, ◌||◌, not, cond}
-use Rattle.std.proofs.Common.{arith, add-one, IfNone, IfSome}
+use Rattle.std.proofs.Common.{arith, add-one}
 use Rattle.std.proofs.Math.Seq.{take-suc}
 use Rattle.std.proofs.lemmas.Bool.{and_parts}
 use Rattle.std.proofs.lemmas.Bool.Decides.{nat_tests}
@@ -222,35 +222,6 @@ turns setup t s now led same some below room answer new h =
         (step_is (max s.own.clock now) s.layer.open_cons step) in
         λ rest. other (sym (h.right ∙ ap (λ b. due_of b (ready_at s.own now) room) here) ∙ rest)
     go false step k = ready_one (ready_at s.own now) refl k (here ∙ idle_is (max s.own.clock now) s.layer.open_cons step)
-
--- so of the first moment
-pub none_of : (s : State) (now : ℕ) (m : Option Moment) → s.layer.clock ≡ s.own.clock → max s.own.clock now < 2 ^ 64
-    → IsFirstMoment (has_due s) (max s.own.clock now) m
-    → IfNone m ((later : ℕ) → now ≤ later → later < 2 ^ 64 → AnswererRests s later)
-none_of s now (Some at) same range h = tt
-none_of s now None same range h = λ later le less. rests s later same
-    (h (max s.own.clock later) (omega (arith, le)) (omega (arith, range, less)))
-
-pub some_of : (s : State) (now : ℕ) (m : Option Moment) → s.layer.clock ≡ s.own.clock
-    → IsFirstMoment (has_due s) (max s.own.clock now) m
-    → IfSome m (λ at. (later : ℕ) → now ≤ later → max s.own.clock later < at.0 → AnswererRests s later)
-some_of s now None same h = tt
-some_of s now (Some at) same h = λ later le less. rests s later same
-    (h.not_before (max s.own.clock later) (omega (arith, le)) less)
-
-pub does_of : (s : State) (now : ℕ) (m : Option Moment) → s.layer.clock ≡ s.own.clock
-    → IsFirstMoment (has_due s) (max s.own.clock now) m
-    → IfSome m (λ at. (setup : Setup) (t : List Call) → Led setup t s → AnswererTurns s at.0)
-does_of s now None same h = tt
-does_of s now (Some at) same h = λ setup t led.
-    let le : max s.own.clock now ≤ at.0 = h.from_on in
-    let is : at.0 ≡ max s.own.clock at.0 = omega (arith, le) in
-    turns setup t s at.0 led same (subst (λ (n : ℕ). has_due s n ≡ true) is h.does)
-
-pub from_of : (s : State) (from : ℕ) (m : Option Moment) → IsFirstMoment (has_due s) from m
-    → IfSome m (λ at. from ≤ at.0)
-from_of s from None h = tt
-from_of s from (Some at) h = h.from_on
 
 -- .. where calls led to it
 module _ (setup : Setup) (t : List Call) (s : State) (led : Led setup t s) (same : s.layer.clock ≡ s.own.clock) where

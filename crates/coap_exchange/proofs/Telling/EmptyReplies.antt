@@ -3,14 +3,16 @@ use Rattle.std.proofs.Common.{◌≡◌, ◌≢◌, inl, inr, ℕ, Bool, true, f
 use Rattle.std.proofs.Common.{ap, subst, sym, ◌∙◌, cond, ◌&&◌, ◌||◌}
 use Rattle.coap_types.specs.declared.endpoint.Endpoint.{Endpoint}
 use Rattle.coap_types.specs.declared.message.Kind.{Kind}
-use Rattle.coap_types.specs.declared.message.Kind.TheVariants.{Con, Non, Ack, Rst}
+use Rattle.coap_types.specs.declared.message.Kind.TheVariants.{Con, Non, Ack}
 use Rattle.coap_codec.specs.Message.{Message}
 use Rattle.coap_layer.specs.Trace as T
+use Rattle.coap_layer.specs.Words.{is_kept}
 use Rattle.coap_exchange.specs.declared.asker.Event.{Event}
 use Rattle.coap_exchange.specs.declared.asker.Exchange.{Exchange}
 use Rattle.coap_exchange.specs.declared.matching.Known.{Known}
 use Rattle.coap_exchange.specs.declared.matching.Verdict.{Verdict}
-use Rattle.coap_exchange.specs.declared.matching.Verdict.TheVariants.{Ignore, Await, EndByReset}
+use Rattle.coap_exchange.specs.declared.matching.Verdict.TheVariants.{Ignore, Reject, Acknowledge, AnswerCon, Answer}
+use Rattle.coap_exchange.specs.declared.matching.Verdict.TheVariants.{NoticeCon, Notice, Await, EndByReset}
 use Rattle.coap_exchange.specs.AskerTrace.{Own, Call, Ask, Receive}
 use Rattle.coap_exchange.specs.AskerRequests.{asked, opening_of, request_token, content_of, beneath}
 use Rattle.coap_exchange.specs.declared.matching.Opening.{Opening}
@@ -23,6 +25,7 @@ use Rattle.coap_exchange.specs.AskerFollows.{message_told}
 use Rattle.coap_exchange.specs.AskerEmpties.{RepliesTo, RepliesBy, RepliesRightly, AreReplied}
 use Rattle.coap_exchange.specs.EmptyMessages.{ack_bytes, reset_bytes, replies_in}
 use Rattle.coap_exchange.specs.Matching.{judged, request_judged}
+use Rattle.coap_exchange.proofs.Facts.Verdicts.{Judged, judged_by}
 use Rattle.coap_layer.specs.declared.setup.Setup.{Setup}
 
 -- what a verdict replies
@@ -47,73 +50,45 @@ replies_by from server bytes now id up settled false running (Some b) = refl
 abbrev known : (f o i p b c : Bool) → Known
 known f o i p b c = record { from_server = f; of_exchange = o; same_id = i; kept = p; bad_option = b; cancelled = c }
 
-abbrev Tells : Kind → Known → Message → Type 0
-Tells kind k m = message_told (told (judged kind k) (T.Becomes (T.Response m))) ≡ Some m
-
 module _ (id : ℕ) where
   abbrev out : Kind → Known → Option (List ℕ)
   out kind k = reply_by (judged kind k) id
 
-  told_con : (f o i p b c : Bool) (m : Message) → Tells Con (known f o i p b c) m
-      → out Con (known f o i p b c) ≡ Some (ack_bytes id)
-  told_con true false i true false false m h = refl
-  told_con true true i p false false m h = refl
-  told_con f o i p b c m h = absurd (cc h)
+  strange : (f o i p b c : Bool) → (f && (o || p)) ≡ false
+      → (out Con (known f o i p b c) ≡ Some (reset_bytes id)) × (out Non (known f o i p b c) ≡ Some (reset_bytes id))
+  strange false o i p b c h = (refl, refl)
+  strange true false i false b c h = (refl, refl)
+  strange true o i p b c h = absurd (cc h)
 
-  told_non : (f o i p b c : Bool) (m : Message) → Tells Non (known f o i p b c) m → out Non (known f o i p b c) ≡ None
-  told_non true false i true false false m h = refl
-  told_non true true i p false false m h = refl
-  told_non f o i p b c m h = absurd (cc h)
+  critical : (f o i p b c : Bool) → (f && (o || p)) ≡ true → b ≡ true
+      → (out Con (known f o i p b c) ≡ Some (reset_bytes id)) × (out Non (known f o i p b c) ≡ None)
+  critical true false i true true c h k = (refl, refl)
+  critical true true i p true c h k = (refl, refl)
+  critical f o i p b c h k = absurd (cc (h, k))
 
-  ack_none : (f o i p b c : Bool) → out Ack (known f o i p b c) ≡ None
-  ack_none false o i p b c = refl
-  ack_none true false i false b c = refl
-  ack_none true false i true b c = refl
-  ack_none true true false p b c = refl
-  ack_none true true true p true c = refl
-  ack_none true true true p false c = refl
+  late : (f o i p b c : Bool) → (f && (o || p)) ≡ true → b ≡ false → c ≡ true
+      → (out Con (known f o i p b c) ≡ Some (ack_bytes id)) × (out Non (known f o i p b c) ≡ None)
+  late true false i true false true h k l = (refl, refl)
+  late true true i p false true h k l = (refl, refl)
+  late f o i p b c h k l = absurd (cc (h, k, l))
 
-  rst_none : (f o i p b c : Bool) → out Rst (known f o i p b c) ≡ None
-  rst_none false o i p b c = refl
-  rst_none true false i false b c = refl
-  rst_none true false i true true c = refl
-  rst_none true false i true false true = refl
-  rst_none true false i true false false = refl
-  rst_none true true i p true c = refl
-  rst_none true true i p false true = refl
-  rst_none true true i p false false = refl
+  module _ (kind : Kind) (k : Known) where
+    -- what is told is acknowledged where it is a CON
+    told_by : (v : Verdict) → Judged kind k v → (m : Message) → message_told (told v (T.Becomes (T.Response m))) ≡ Some m
+        → (kind ≡ Con → reply_by v id ≡ Some (ack_bytes id)) × (kind ≢ Con → reply_by v id ≡ None)
+    told_by AnswerCon r m h = (λ con. refl, λ other. absurd (other r.0))
+    told_by NoticeCon r m h = (λ con. refl, λ other. absurd (other r.0))
+    told_by Answer r m h = (λ con. absurd (r.0 con), λ other. refl)
+    told_by Notice r m h = (λ con. absurd (cc (con, r.0)), λ other. refl)
+    told_by _ r m h = absurd (cc h)
 
-  strange_con : (f o i p b c : Bool) → (f && (o || p)) ≡ false → out Con (known f o i p b c) ≡ Some (reset_bytes id)
-  strange_con false o i p b c h = refl
-  strange_con true false i false b c h = refl
-  strange_con true o i p b c h = absurd (cc h)
-
-  strange_non : (f o i p b c : Bool) → (f && (o || p)) ≡ false → out Non (known f o i p b c) ≡ Some (reset_bytes id)
-  strange_non false o i p b c h = refl
-  strange_non true false i false b c h = refl
-  strange_non true o i p b c h = absurd (cc h)
-
-  critical_con : (f o i p b c : Bool) → (f && (o || p)) ≡ true → b ≡ true
-      → out Con (known f o i p b c) ≡ Some (reset_bytes id)
-  critical_con true false i true true c h k = refl
-  critical_con true true i p true c h k = refl
-  critical_con f o i p b c h k = absurd (cc (h, k))
-
-  critical_non : (f o i p b c : Bool) → (f && (o || p)) ≡ true → b ≡ true → out Non (known f o i p b c) ≡ None
-  critical_non true false i true true c h k = refl
-  critical_non true true i p true c h k = refl
-  critical_non f o i p b c h k = absurd (cc (h, k))
-
-  late_con : (f o i p b c : Bool) → (f && (o || p)) ≡ true → b ≡ false → c ≡ true
-      → out Con (known f o i p b c) ≡ Some (ack_bytes id)
-  late_con true false i true false true h k l = refl
-  late_con true true i p false true h k l = refl
-  late_con f o i p b c h k l = absurd (cc (h, k, l))
-
-  late_non : (f o i p b c : Bool) → (f && (o || p)) ≡ true → b ≡ false → c ≡ true → out Non (known f o i p b c) ≡ None
-  late_non true false i true false true h k l = refl
-  late_non true true i p false true h k l = refl
-  late_non f o i p b c h k l = absurd (cc (h, k, l))
+    -- an ACK is not replied to
+    ack_none : (v : Verdict) → Judged kind k v → kind ≡ Ack → reply_by v id ≡ None
+    ack_none AnswerCon r ack = absurd (cc (ack, r.0))
+    ack_none NoticeCon r ack = absurd (cc (ack, r.0))
+    ack_none Acknowledge r ack = absurd (cc (ack, r))
+    ack_none Reject r ack = let no : is_kept kind ≡ false = ap is_kept ack in absurd (cc (r, no))
+    ack_none _ r ack = refl
 
 -- a response
 
@@ -128,43 +103,34 @@ module _ (s : Own) (from : Endpoint) (m : Message) where
       → replied ≡ packets from o
   as_kind kind o is e = ap (λ x. packets from (reply_by (judged x k) m.id)) is ∙ ap (packets from) e
 
-  by_kind : (kind : Kind) → m.kind ≡ kind → kind ≢ Con → Tells kind k m → reply_by (judged kind k) m.id ≡ None
-  by_kind Con is other h = absurd (other refl)
-  by_kind Non is other h = told_non m.id k.from_server k.of_exchange k.same_id k.kept k.bad_option k.cancelled m h
-  by_kind Ack is other h = ack_none m.id k.from_server k.of_exchange k.same_id k.kept k.bad_option k.cancelled
-  by_kind Rst is other h = rst_none m.id k.from_server k.of_exchange k.same_id k.kept k.bad_option k.cancelled
+  abbrev is_told : Option Event → Type 0
+  is_told answer = (answer ≡ told (verdict_on s from (T.Becomes (T.Response m))) (T.Becomes (T.Response m)))
+      × (message_told answer ≡ Some m)
 
-  tells_as : (kind : Kind) (answer : Option Event) → m.kind ≡ kind
-      → answer ≡ told (verdict_on s from (T.Becomes (T.Response m))) (T.Becomes (T.Response m))
-      → message_told answer ≡ Some m → Tells kind k m
-  tells_as kind answer is right h = subst (λ x. Tells x k m) is (sym (ap message_told right) ∙ h)
+  by_told : (answer : Option Event) → is_told answer
+      → (m.kind ≡ Con → reply_by (judged m.kind k) m.id ≡ Some (ack_bytes m.id))
+      × (m.kind ≢ Con → reply_by (judged m.kind k) m.id ≡ None)
+  by_told answer h = told_by m.id m.kind k (judged m.kind k) (judged_by m.kind k) m (sym (ap message_told h.0) ∙ h.1)
 
   response_replied : (answer : Option Event) → answer
       ≡ told (verdict_on s from (T.Becomes (T.Response m))) (T.Becomes (T.Response m))
       → RepliesTo s from m answer replied
   response_replied answer right =
+      let strange_is = strange m.id k.from_server k.of_exchange k.same_id k.kept k.bad_option k.cancelled in
+      let critical_is = critical m.id k.from_server k.of_exchange k.same_id k.kept k.bad_option k.cancelled in
+      let late_is = late m.id k.from_server k.of_exchange k.same_id k.kept k.bad_option k.cancelled in
       record {
-        told_con = λ h kind. as_kind Con (Some (ack_bytes m.id)) kind
-            (told_con m.id k.from_server k.of_exchange k.same_id k.kept k.bad_option k.cancelled m
-            (tells_as Con answer kind right h));
-        told_other = λ h other. as_kind m.kind None refl
-            (by_kind m.kind refl other (tells_as m.kind answer refl right h));
+        told_con = λ h con. ap (packets from) ((by_told answer (right, h)).0 con);
+        told_other = λ h other. ap (packets from) ((by_told answer (right, h)).1 other);
         strange = λ kind h. elim kind [
-          | inl con ↦ as_kind Con (Some (reset_bytes m.id)) con
-              (strange_con m.id k.from_server k.of_exchange k.same_id k.kept k.bad_option k.cancelled h)
-          | inr non ↦ as_kind Non (Some (reset_bytes m.id)) non
-              (strange_non m.id k.from_server k.of_exchange k.same_id k.kept k.bad_option k.cancelled h)
+          | inl con ↦ as_kind Con (Some (reset_bytes m.id)) con (strange_is h).0
+          | inr non ↦ as_kind Non (Some (reset_bytes m.id)) non (strange_is h).1
         ];
-        critical_con = λ con h c. as_kind Con (Some (reset_bytes m.id)) con
-            (critical_con m.id k.from_server k.of_exchange k.same_id k.kept k.bad_option k.cancelled h c);
-        critical_non = λ non h c. as_kind Non None non
-            (critical_non m.id k.from_server k.of_exchange k.same_id k.kept k.bad_option k.cancelled h c);
-        late_con = λ con h c l. as_kind Con (Some (ack_bytes m.id)) con
-            (late_con m.id k.from_server k.of_exchange k.same_id k.kept k.bad_option k.cancelled h c l);
-        late_non = λ non h c l. as_kind Non None non
-            (late_non m.id k.from_server k.of_exchange k.same_id k.kept k.bad_option k.cancelled h c l);
-        ack = λ ack. as_kind Ack None ack (ack_none m.id k.from_server k.of_exchange k.same_id k.kept k.bad_option
-            k.cancelled);
+        critical_con = λ con h c. as_kind Con (Some (reset_bytes m.id)) con (critical_is h c).0;
+        critical_non = λ non h c. as_kind Non None non (critical_is h c).1;
+        late_con = λ con h c l. as_kind Con (Some (ack_bytes m.id)) con (late_is h c l).0;
+        late_non = λ non h c l. as_kind Non None non (late_is h c l).1;
+        ack = λ ack. ap (packets from) (ack_none m.id m.kind k (judged m.kind k) (judged_by m.kind k) ack);
       }
 
 -- all else that arrives

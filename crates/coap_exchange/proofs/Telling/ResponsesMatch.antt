@@ -5,14 +5,12 @@ use Rattle.std.specs.Cmp.{unsigned_Decides}
 use Rattle.coap_types.specs.Recognised.{lacks_critical, carries}
 use Rattle.coap_types.specs.declared.direction.Direction.TheVariants.{Response}
 use Rattle.coap_types.specs.declared.endpoint.Endpoint.{Endpoint}
-use Rattle.coap_types.specs.declared.message.Kind.{Kind}
-use Rattle.coap_types.specs.declared.message.Kind.TheVariants.{Con, Non, Ack, Rst}
+use Rattle.coap_types.specs.declared.message.Kind.TheVariants.{Ack}
 use Rattle.coap_codec.specs.Message.{Message}
 use Rattle.coap_layer.specs.Trace as T
 use Rattle.coap_exchange.specs.declared.asker.Event.{Event}
 use Rattle.coap_exchange.specs.declared.asker.Event.TheVariants as event
 use Rattle.coap_exchange.specs.declared.asker.Exchange.{Exchange}
-use Rattle.coap_exchange.specs.declared.matching.Known.{Known}
 use Rattle.coap_exchange.specs.declared.matching.Verdict.{Verdict}
 use Rattle.coap_exchange.specs.declared.matching.Verdict.TheVariants.{AnswerCon, Answer}
 use Rattle.coap_exchange.specs.declared.matching.Verdict.TheVariants.{NoticeCon, Notice, EndByReset}
@@ -22,67 +20,11 @@ use Rattle.coap_exchange.specs.AskerArrivals.{observe, has_id, has_token, is_can
 use Rattle.coap_exchange.specs.AskerLaw.{own_of, AskerLaw}
 use Rattle.coap_exchange.specs.AskerFollows.{answered, carried}
 use Rattle.coap_exchange.specs.AskerResponses.{Answers, AreMatched}
-use Rattle.coap_exchange.specs.Matching.{judged}
 use Rattle.coap_exchange.proofs.Exchanges.OneAtATime as held
 use Rattle.coap_exchange.proofs.Facts.Moves.{token_in}
-use Rattle.coap_exchange.proofs.Facts.Verdicts.{Fits, verdict_fits}
+use Rattle.coap_exchange.proofs.Facts.Verdicts.{Fits, Judged, Taken, judged_by, verdict_fits}
 use Rattle.coap_exchange.proofs.Facts.SameToken.{same_token_is, same_token_self}
 use Rattle.coap_layer.specs.declared.setup.Setup.{Setup}
-
--- what a response has that is told
-record Told (kind : Kind) (k : Known) : Type 0 where
-  pub understood : k.bad_option ≡ false
-  pub matches : kind ≡ Ack → (k.of_exchange ≡ true) × (k.same_id ≡ true)
-  pub current : kind ≢ Ack → k.cancelled ≡ false
-
-abbrev Tells : Kind → Known → Verdict → Type 0
-Tells kind k AnswerCon = Told kind k
-Tells kind k Answer = Told kind k
-Tells kind k NoticeCon = Told kind k
-Tells kind k Notice = Told kind k
-Tells kind k _ = Unit {0}
-
-abbrev known : (f o i p b c : Bool) → Known
-known f o i p b c = record { from_server = f; of_exchange = o; same_id = i; kept = p; bad_option = b; cancelled = c }
-
-separate : (kind : Kind) (f o i p : Bool) → kind ≢ Ack → Told kind (known f o i p false false)
-separate kind f o i p other = record { understood = refl; matches = λ e. absurd (other e); current = λ e. refl }
-
-tells_known : (kind : Kind) (f o i p b c : Bool) → Tells kind (known f o i p b c) (judged kind (known f o i p b c))
-tells_known Con false o i p b c = tt
-tells_known Non false o i p b c = tt
-tells_known Ack false o i p b c = tt
-tells_known Rst false o i p b c = tt
-tells_known Con true false i false b c = tt
-tells_known Non true false i false b c = tt
-tells_known Ack true false i false b c = tt
-tells_known Rst true false i false b c = tt
-tells_known Con true false i true true c = tt
-tells_known Con true false i true false true = tt
-tells_known Con true false i true false false = separate Con true false i true (λ e. cc e)
-tells_known Non true false i true true c = tt
-tells_known Non true false i true false true = tt
-tells_known Non true false i true false false = separate Non true false i true (λ e. cc e)
-tells_known Ack true false i true b c = tt
-tells_known Rst true false i true true c = tt
-tells_known Rst true false i true false true = tt
-tells_known Rst true false i true false false = tt
-tells_known Con true true i p true c = tt
-tells_known Con true true i p false true = tt
-tells_known Con true true i p false false = separate Con true true i p (λ e. cc e)
-tells_known Non true true i p true c = tt
-tells_known Non true true i p false true = tt
-tells_known Non true true i p false false = separate Non true true i p (λ e. cc e)
-tells_known Ack true true false p b c = tt
-tells_known Ack true true true p true c = tt
-tells_known Ack true true true p false c = record
-    { understood = refl; matches = λ e. (refl, refl); current = λ other. absurd (other refl) }
-tells_known Rst true true i p true c = tt
-tells_known Rst true true i p false true = tt
-tells_known Rst true true i p false false = tt
-
-tells : (kind : Kind) (k : Known) → Tells kind k (judged kind k)
-tells kind k = tells_known kind k.from_server k.of_exchange k.same_id k.kept k.bad_option k.cancelled
 
 -- the call that tells it
 module _ (s : Own) (now : ℕ) (from : Endpoint) (bytes : List ℕ) (up : T.Answer) (settled : Bool) (answer : Option Event)
@@ -91,37 +33,37 @@ module _ (s : Own) (now : ℕ) (from : Endpoint) (bytes : List ℕ) (up : T.Answ
   told_in a = carried (Receive now from bytes up settled a)
 
   none_told : (a : Option Event) → answer ≡ a → told_in a ≡ None → told_in answer ≡ Some m
-      → Told m.kind (known_of s from m)
+      → Taken m.kind (known_of s from m)
   none_told a is none h = let e : told_in answer ≡ None = ap told_in is ∙ none in absurd (cc (e, h))
 
-  one_told : (a : Option Event) (n : Message) → answer ≡ a → told_in a ≡ Some n → Told n.kind (known_of s from n)
-      → told_in answer ≡ Some m → Told m.kind (known_of s from m)
+  one_told : (a : Option Event) (n : Message) → answer ≡ a → told_in a ≡ Some n → Taken n.kind (known_of s from n)
+      → told_in answer ≡ Some m → Taken m.kind (known_of s from m)
   one_told a n is one has h =
       let e : Some n ≡ Some m = sym (ap told_in is ∙ one)
-      ∙ h in let same : n ≡ m = cc e in subst (λ (x : Message). Told x.kind (known_of s from x)) same has
+      ∙ h in let same : n ≡ m = cc e in subst (λ (x : Message). Taken x.kind (known_of s from x)) same has
 
   told_of : (v : Verdict) → verdict_on s from up ≡ v → (n : Message) → up ≡ T.Becomes (T.Response n)
-      → Tells n.kind (known_of s from n) v
-  told_of v is n up_is = subst (Tells n.kind (known_of s from n)) (ap (verdict_on s from) (sym up_is) ∙ is)
-      (tells n.kind (known_of s from n))
+      → Judged n.kind (known_of s from n) v
+  told_of v is n up_is = subst (Judged n.kind (known_of s from n)) (ap (verdict_on s from) (sym up_is) ∙ is)
+      (judged_by n.kind (known_of s from n))
 
   told_by : (v : Verdict) → verdict_on s from up ≡ v → Fits s from up v → answer ≡ told v up → told_in answer ≡ Some m
-      → Told m.kind (known_of s from m)
+      → Taken m.kind (known_of s from m)
   told_by EndByReset is f right h = none_told (Some event.Reset) right refl h
   told_by AnswerCon is f right h = one_told (Some (event.Answer f.message)) f.message
-      (right ∙ ap (told AnswerCon) f.is) refl (told_of AnswerCon is f.message f.is) h
+      (right ∙ ap (told AnswerCon) f.is) refl (told_of AnswerCon is f.message f.is).2 h
   told_by Answer is f right h = one_told (Some (event.Answer f.message)) f.message (right ∙ ap (told Answer) f.is) refl
-      (told_of Answer is f.message f.is) h
+      (told_of Answer is f.message f.is).2 h
   told_by NoticeCon is f right h = one_told (Some (event.Notice f.message)) f.message
-      (right ∙ ap (told NoticeCon) f.is) refl (told_of NoticeCon is f.message f.is) h
+      (right ∙ ap (told NoticeCon) f.is) refl (told_of NoticeCon is f.message f.is).2 h
   told_by Notice is f right h = one_told (Some (event.Notice f.message)) f.message (right ∙ ap (told Notice) f.is) refl
-      (told_of Notice is f.message f.is) h
+      (told_of Notice is f.message f.is).2 h
   told_by _ is f right h = none_told None right refl h
 
 -- .. and where: from an endpoint
 record IsTold (s : Own) (m : Message) : Type 0 where
   pub from : Endpoint
-  pub has : Told m.kind (known_of s from m)
+  pub has : Taken m.kind (known_of s from m)
 
 is_told : (s : Own) (c : Call) (m : Message) → IsRight s c → carried c ≡ Some m → IsTold s m
 is_told s (Receive now from bytes up settled answer) m right h =

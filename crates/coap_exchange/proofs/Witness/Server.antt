@@ -1,56 +1,20 @@
 -- The history of a server stands in its law.
 use Rattle.std.proofs.Common.{slice_index, ◌<◌, ℕ, zero, suc, List, [], ◌∷◌, refl, arith}
-use Rattle.coap_types.specs.Bytes.{AreBytes}
 use Rattle.coap_codec.specs.Reading.{extended, value_at, nibbles_at, option_at, walk_of, walk, payload_at, frame_fault}
 use Rattle.coap_codec.specs.Reading.{body_at}
 use Rattle.coap_codec.specs.Decoded.{decoded}
+use Rattle.coap_codec.specs.Spelling.{option_bytes, options_bytes}
+use Rattle.coap_codec.specs.IsSpelled.{has_spelling, is_spelled}
 use Rattle.coap_layer.specs.Rows.{IsSpelled}
 use Rattle.coap_layer.specs.Machine.State as L
 use Rattle.coap_layer.specs.Machine.Steps.{Asked as Below, Steps, left_after}
 use Rattle.coap_layer.proofs.Facts.Sendable.{sendable_when_short}
-use Rattle.coap_types.proofs.Facts.Bytes.{are_bytes}
 use Rattle.coap_exchange.specs.AnswererSteps.{content_of, content_with}
 use Rattle.coap_exchange.specs.AnswererLaw.{lower_of, ResponseLaw}
 use Rattle.coap_exchange.specs.ServerExample.{token, get, asked, content, notification, run}
 
 abbrev below : List Below
 below = lower_of run
-
-abbrev AllSmall : List ℕ → Type 0
-AllSmall [] = Unit {0}
-AllSmall (b ∷ bs) = (b < 256) × AllSmall bs
-
-bytes_when_small : (bs : List ℕ) → AllSmall bs → (n : ℕ) → slice_index bs n < 256
-bytes_when_small [] small n = omega arith
-bytes_when_small (b ∷ bs) small zero = small.0
-bytes_when_small (b ∷ bs) small (suc n) = bytes_when_small bs small.1 n
-
-get_bytes : AreBytes get
-get_bytes = are_bytes get (bytes_when_small get (
-  omega arith,
-  (
-    omega arith,
-    (
-      omega arith,
-      (
-        omega arith,
-        (
-          omega arith,
-          (
-            omega arith,
-            (
-              omega arith,
-              (
-                omega arith,
-                (omega arith, (omega arith, (omega arith, (omega arith, (omega arith, (omega arith, tt)))))),
-              ),
-            ),
-          ),
-        ),
-      ),
-    ),
-  ),
-))
 
 content_spelled : IsSpelled (content_of asked content)
 content_spelled = (sendable_when_short _ (record {
@@ -76,7 +40,7 @@ notification_spelled = (sendable_when_short _
     }) (omega arith)).spelled
 
 runs : Steps (L.start (L.usual 0)) below (left_after (L.start (L.usual 0)) below)
-unfolding decoded frame_fault body_at walk walk_of option_at nibbles_at value_at extended payload_at
+unfolding decoded frame_fault body_at walk walk_of option_at nibbles_at value_at extended payload_at is_spelled has_spelling options_bytes option_bytes
 runs = (
   _,
   (
@@ -93,7 +57,7 @@ runs = (
               _,
               (
                 _,
-                (_, refl, record { may = get_bytes; right = refl; new_is = refl }),
+                (_, refl, record { may = tt; right = refl; new_is = refl }),
                 record { may = tt; right = refl; new_is = refl },
               ),
               record { may = refl; right = refl; new_is = refl },

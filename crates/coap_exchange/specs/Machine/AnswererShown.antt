@@ -60,19 +60,19 @@ sending_as None = None
 sending_as (Some p) = Some (record { to = p.0; id = p.1.0 })
 
 -- The request is the one that the last input handed up, and nothing was sent or taken back since: what answers or
--- defers it takes no memory.
+-- defers it is not refused memory.
 pub record MayAnswer (s : Shown) (a : Asked) : Type 0 where
   pub answerable : s.answerable ≡ true
   pub pending : s.state.own.pending ≡ Some a
 
--- It was said at this moment that a CON can be sent there, and nothing was sent or taken back since: what sends it
--- takes no memory.
+-- It was said at this moment that a CON can be sent there, and nothing was sent or taken back since: what sends it is
+-- not refused memory.
 pub record MayNotify (s : Shown) (now : ℕ) (to : Endpoint) : Type 0 where
   pub room : s.room ≡ true
   pub idle : is_busy to s.state.layer.open_cons ≡ false
   pub free : is_free (max s.state.layer.clock now) s.state.layer.upcoming s.state.layer.last_used ≡ true
 
--- The last input said at this moment that the deferred request is ready: what responds to it takes no memory.
+-- The last input said at this moment that the deferred request is ready: what responds to it is not refused memory.
 pub record MayRespond (s : Shown) (now : ℕ) (a : Asked) : Type 0 where
   pub ready : option_map (λ (d : Deferred). d.asked) (ready_at s.state.own now) ≡ Some a
   pub con : MayNotify s now a.from

@@ -1,10 +1,14 @@
 -- What the verdicts of the client's table rest on: the exchange that runs, the kept tokens, and where a message comes
 -- from.
-use Rattle.std.specs.Prelude.{◌≡◌, ℕ, true, Some}
+use Rattle.std.specs.Prelude.{◌≡◌, ◌≢◌, ℕ, true, false, Some}
 use Rattle.coap_types.specs.declared.endpoint.Endpoint.{Endpoint}
+use Rattle.coap_types.specs.declared.message.Kind.{Kind}
+use Rattle.coap_types.specs.declared.message.Kind.TheVariants.{Con, Non, Ack}
 use Rattle.coap_types.specs.SameEndpoint.{same_endpoint}
 use Rattle.coap_codec.specs.Message.{Message}
 use Rattle.coap_layer.specs.Trace as L
+use Rattle.coap_layer.specs.Words as words
+use Rattle.coap_exchange.specs.declared.matching.Known.{Known}
 use Rattle.coap_exchange.specs.declared.matching.Verdict.{Verdict}
 use Rattle.coap_exchange.specs.declared.matching.Verdict.TheVariants.{Ignore, Reject, Acknowledge, AnswerCon, Answer}
 use Rattle.coap_exchange.specs.declared.matching.Verdict.TheVariants.{NoticeCon, Notice, Await, EndByReset}
@@ -15,6 +19,25 @@ use Rattle.coap_exchange.specs.declared.asker.Exchange.{Exchange}
 use Rattle.coap_exchange.specs.AskerTrace.{Own}
 use Rattle.coap_exchange.specs.AskerArrivals.{has_waited}
 use Rattle.coap_exchange.specs.Tokens.{is_kept}
+
+-- what a response has that is taken
+pub record Taken (kind : Kind) (k : Known) : Type 0 where
+  pub there : k.from_server ≡ true
+  pub understood : k.bad_option ≡ false
+  pub matches : kind ≡ Ack → (k.of_exchange ≡ true) × (k.same_id ≡ true)
+  pub current : kind ≢ Ack → k.cancelled ≡ false
+
+-- what the table's verdict on a response rests on
+abbrev pub Judged : Kind → Known → Verdict → Type 0
+Judged kind k AnswerCon = (kind ≡ Con) × (k.of_exchange ≡ true) × Taken kind k
+Judged kind k Answer = (kind ≢ Con) × (k.of_exchange ≡ true) × Taken kind k
+Judged kind k NoticeCon = (kind ≡ Con) × (k.kept ≡ true) × Taken kind k
+Judged kind k Notice = (kind ≡ Non) × (k.kept ≡ true) × Taken kind k
+Judged kind k Reject = words.is_kept kind ≡ true
+Judged kind k Acknowledge = kind ≡ Con
+Judged kind k Ignore = Unit {0}
+Judged kind k Await = ⊥
+Judged kind k EndByReset = ⊥
 
 -- what was handed up, and to which exchange it goes
 

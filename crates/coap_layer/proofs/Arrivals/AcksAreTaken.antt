@@ -22,7 +22,7 @@ pub sorts_as : (setup : Setup) (past : List Entry) (e : Entry) (from : Endpoint)
 sorts_as setup past e from bytes m here call spells =
     let row : Row setup past e (Receive from bytes) = subst (Row setup past e) call here.row in
     subst (Arrives setup past e from)
-    (one_arrival bytes row.1.0 row.0 row.1.1 ∙ sym (one_arrival bytes (Whole m) row.0 spells)) row.1.2
+    (one_arrival bytes row.0 row.1 ∙ sym (one_arrival bytes (Whole m) spells)) row.2
 
 module _ (setup : Setup) (past : List Entry) (e : Entry) (n : Incoming) (kind : n.message.kind ≡ Ack)
     (is : Outstanding past n.from n.message.id) where

@@ -54,7 +54,7 @@ ends_here : (setup : Setup) (past : List Entry) (e : Entry) → Stands setup pas
     → (e.answer ≡ Becomes (Acked id)) ⊎ (e.answer ≡ Becomes (Reset id)) → Outstanding past from id
 ends_here setup past e here from bytes id call h =
     let row : Row setup past e (Receive from bytes) = subst (Row setup past e) call here.row in
-    arrived_ends setup past e from row.1.0 id row.1.2 (⊎_elim (λ a. ap ended_by a) (λ a. ap ended_by a) h)
+    arrived_ends setup past e from row.0 id row.2 (⊎_elim (λ a. ap ended_by a) (λ a. ap ended_by a) h)
 
 pub ends_outstanding : (setup : Setup) (t : List Entry) → LayerLaw setup t → EndsOutstanding t
 ends_outstanding setup [] law = tt

@@ -5,7 +5,6 @@ use Rattle.coap_types.specs.declared.endpoint.Endpoint.{Endpoint}
 use Rattle.coap_types.specs.declared.message.Kind.TheVariants.{Con, Non, Ack, Rst}
 use Rattle.coap_types.specs.SameEndpoint.{same_endpoint}
 use Rattle.coap_types.proofs.Facts.Endpoints.{same_endpoint_is}
-use Rattle.coap_types.specs.Bytes.{AreBytes}
 use Rattle.coap_codec.specs.Message.{Message, Spells}
 use Rattle.coap_layer.specs.Arrivals.{Arrival, Unreadable, Faulted, Whole, Shows}
 use Rattle.coap_layer.specs.Trace.{Call, Receive, Reply, Confirm, Plain, Settle, Ticks, Take, Room, AsksFree, Pass}
@@ -29,7 +28,7 @@ response_held x (inl k) = rw k refl
 response_held x (inr k) = rw k refl
 
 module _ (setup : Setup) (past : List Entry) (e : Entry) (from : Endpoint) (bytes : List ℕ) (m : Incoming)
-    (call : e.call ≡ Receive from bytes) (are : AreBytes bytes) where
+    (call : e.call ≡ Receive from bytes) where
   -- this message is handed up
   up_is : (n : Message) → Spells bytes n → (n.kind ≡ Con) ⊎ (n.kind ≡ Non) → handed_by e.answer ≡ Some n
       → (n.kind ≡ Con → kept_by e.answer ≡ Some n) → from_there from (handed_by e.answer) ≡ Some m → HandedBy e m
@@ -40,7 +39,6 @@ module _ (setup : Setup) (past : List Entry) (e : Entry) (from : Endpoint) (byte
       subst (HandedBy e) same (record {
         bytes = bytes;
         call = call;
-        are_bytes = are;
         spells = spells;
         kind = kind;
         kept = λ con. subst (λ (c : Call). taken (record e { call = c }) ≡ Some (record { from = from; message = n }))
@@ -79,7 +77,7 @@ module _ (setup : Setup) (past : List Entry) (e : Entry) (from : Endpoint) (byte
 handed_row : (setup : Setup) (past : List Entry) (e : Entry) (m : Incoming) (call : Call) → e.call ≡ call
     → Row setup past e call → handed_in call e.answer ≡ Some m → HandedBy e m
 handed_row setup past e m (Receive from bytes) is row h =
-    arrived_by setup past e from bytes m is row.0 row.1.0 row.1.1 row.1.2 h
+    arrived_by setup past e from bytes m is row.0 row.1 row.2 h
 handed_row setup past e m (Reply to id bytes) is row h = absurd (cc h)
 handed_row setup past e m (Confirm to content wish) is row h = absurd (cc h)
 handed_row setup past e m (Plain to content) is row h = absurd (cc h)
@@ -101,13 +99,12 @@ acked_by (Becomes (Response m)) = Some m.id
 acked_by _ = None
 
 pub record Heard (bytes : List ℕ) (id : ℕ) : Type 0 where
-  pub are : AreBytes bytes
   pub message : Message
   pub spells : Spells bytes message
   pub kind : message.kind ≡ Ack
   pub id_is : message.id ≡ id
 
-module _ (setup : Setup) (past : List Entry) (e : Entry) (bytes : List ℕ) (id : ℕ) (are : AreBytes bytes) where
+module _ (setup : Setup) (past : List Entry) (e : Entry) (bytes : List ℕ) (id : ℕ) where
   not_heard : (a : Answer) → e.answer ≡ a → acked_by a ≡ None → acked_by e.answer ≡ Some id → Heard bytes id
   not_heard a is none h = let k : acked_by e.answer ≡ None = ap acked_by is ∙ none in absurd (cc (k, h))
 
@@ -116,7 +113,6 @@ module _ (setup : Setup) (past : List Entry) (e : Entry) (bytes : List ℕ) (id 
   heard_in m s only h (rejects r) = not_heard _ r.answer refl h
   heard_in m s only h (drops r) = not_heard _ r.answer refl h
   heard_in m s only h (takes_ack r) = record {
-    are = are;
     message = m.message;
     spells = s;
     kind = r.kind;
@@ -125,7 +121,7 @@ module _ (setup : Setup) (past : List Entry) (e : Entry) (bytes : List ℕ) (id 
   heard_in m s only h (takes_reset r) = not_heard _ r.answer refl h
   heard_in m s only h (passes_reset r) = not_heard _ r.answer refl h
   heard_in m s only h (takes_answer r) = record
-      { are = are; message = m.message; spells = s; kind = r.kind; id_is = let k = ap acked_by r.answer in cc (k, h) }
+      { message = m.message; spells = s; kind = r.kind; id_is = let k = ap acked_by r.answer in cc (k, h) }
   heard_in m s only h (replays r) = not_heard _ r.answer refl h
   heard_in m s only h (hands_over r) = go r.answer
     where
@@ -163,7 +159,7 @@ pub heard : (setup : Setup) (past : List Entry) (e : Entry) (from : Endpoint) (b
     → e.call ≡ Receive from bytes
     → TakesAckOf id e.answer → Heard bytes id
 heard setup past e from bytes id here call h =
-    heard_as setup past e bytes id row.0 from row.1.0 row.1.1 (ack_only e.answer id h) (ack_told e.answer id h) row.1.2
+    heard_as setup past e bytes id from row.0 row.1 (ack_only e.answer id h) (ack_told e.answer id h) row.2
   where
     row : Row setup past e (Receive from bytes)
     row = subst (Row setup past e) call here.row
@@ -231,8 +227,8 @@ heard_of : (setup : Setup) (past : List Entry) (e : Entry) (from : Endpoint) (by
     → (con : Open) × (con.to ≡ from) × (con.id ≡ id) × HearsAck con past e
 heard_of setup past e from bytes id here call h =
     let row : Row setup past e (Receive from bytes) = subst (Row setup past e) call here.row in
-    outstanding_of past e from bytes id call h (arrived_ack setup past e id from row.1.0 (ack_only e.answer id h)
-    (ack_told e.answer id h) row.1.2)
+    outstanding_of past e from bytes id call h (arrived_ack setup past e id from row.0 (ack_only e.answer id h)
+    (ack_told e.answer id h) row.2)
 
 pub acks_heard : (setup : Setup) (t : List Entry) → LayerLaw setup t → AcksHeard t
 acks_heard setup [] law = tt

@@ -75,7 +75,7 @@ arrived_new setup past e from (Whole n) m r h = sorted_new setup past e (record 
 
 handed_new : (setup : Setup) (past : List Entry) (e : Entry) (call : Call) (m : Incoming) → Row setup past e call
     → handed_in call e.answer ≡ Some m → IsNew setup.remembered past e m
-handed_new setup past e (Receive from bytes) m row h = arrived_new setup past e from row.1.0 m row.1.2 h
+handed_new setup past e (Receive from bytes) m row h = arrived_new setup past e from row.0 m row.2 h
 handed_new setup past e (Reply to id bytes) m row h = absurd (cc h)
 handed_new setup past e (Confirm to content wish) m row h = absurd (cc h)
 handed_new setup past e (Plain to content) m row h = absurd (cc h)

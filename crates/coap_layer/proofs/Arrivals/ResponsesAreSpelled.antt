@@ -49,7 +49,7 @@ module _ (setup : Setup) (past : List Entry) (e : Entry) (m : Message) (h : told
 
   carried : (call : Call) → e.call ≡ call → Row setup past e call → Carried e m
   carried (Receive from bytes) is row = record
-      { from = from; bytes = bytes; call = is; are_bytes = row.0; spells = arrived from bytes row.1.0 row.1.1 row.1.2 }
+      { from = from; bytes = bytes; call = is; spells = arrived from bytes row.0 row.1 row.2 }
   carried (Reply to id bytes) is row = not_told _ _ row.1 refl
   carried (Confirm to content wish) is row = ⊎_elim (λ r. not_told _ _ r.answer refl)
       (λ r. ⊎_elim (λ q. not_told _ _ q.answer refl) (λ q. not_told _ _ q.answer refl) r.1) row.1

@@ -7,7 +7,6 @@ use Rattle.coap_types.proofs.Facts.Traces.{Ever_map, Ever_of_Sometime, Ever_of_S
 use Rattle.coap_types.proofs.Facts.Traces.{Sometime_of_Sometime, by_suffix, forget}
 use Rattle.coap_types.specs.declared.endpoint.Endpoint.{Endpoint}
 use Rattle.coap_types.specs.declared.message.Kind.TheVariants.{Con, Ack}
-use Rattle.coap_types.specs.Bytes.{AreBytes}
 use Rattle.coap_codec.specs.Message.{Message, Spells}
 use Rattle.coap_layer.specs.Trace.{Packet, Receive, Reply, Entry}
 use Rattle.coap_layer.specs.Words.{Incoming, clock, handed, hands_up, reply_in, awaits, Remembered, Open, outstanding}
@@ -103,7 +102,7 @@ module _ (one other : Setup) (near far : Endpoint) (whole : List Hop) (x : Entry
   as_con : (e : Entry) → Takes near (as_begun con) e → Takes near con e
   as_con e t = record { call = t.call; up = t.up; from = t.from; till = t.till }
 
-  module _ (m : Message) (ack : m.kind ≡ Ack) (id_is : m.id ≡ con.id) (bytes : List ℕ) (are : AreBytes bytes)
+  module _ (m : Message) (ack : m.kind ≡ Ack) (id_is : m.id ≡ con.id) (bytes : List ℕ)
       (spells : Spells bytes m) where
     abbrev R : List Hop → Hop → Type 0
     R = OnFarThen (RepliesTo near con bytes)
@@ -138,7 +137,7 @@ module _ (one other : Setup) (near far : Endpoint) (whole : List Hop) (x : Entry
         → awaits (far_of q) ≡ Some (record { from = near; id = id }) → (a : RepliesAtOnce (far_of q) k.at id bytes)
         → Replied q k id
     replied q k id call awaited a =
-        let same : a.reply ≡ m = one_message bytes a.reply m are a.spells spells in
+        let same : a.reply ≡ m = one_message bytes a.reply m a.spells spells in
         record {
           call = call;
           awaited = awaited;
@@ -226,7 +225,7 @@ module _ (one other : Setup) (near far : Endpoint) (whole : List Hop) (x : Entry
 
     gave : (q : List Hop) (h : Hop) → P (h ∷ q) → OnFar (GaveOut near bytes x.at) h → Sometime R (h ∷ q)
     gave q (Near k) p g = absurd g
-    gave q (Far k) p g = go (comes other (far_of q) k packet m p.law.far_law p.law.far_replies are spells
+    gave q (Far k) p g = go (comes other (far_of q) k packet m p.law.far_law p.law.far_replies spells
         (goes_out other (far_of q) k packet p.law.far_law g.out))
       where
         packet : Packet
@@ -247,7 +246,7 @@ module _ (one other : Setup) (near far : Endpoint) (whole : List Hop) (x : Entry
       (OnFarThen (RepliesTo near con h.bytes)) (λ q k z. z) whole
       (by_suffix P (λ q k. OnFar (GaveOut near h.bytes x.at) k)
       (λ q k. Sometime (OnFarThen (RepliesTo near con h.bytes)) (k ∷ q)) down
-      (gave r.message r.kind r.id_is h.bytes r.are r.spells) whole
+      (gave r.message r.kind r.id_is h.bytes r.spells) whole
       (record { law = earlier one other near far whole (Near x) all_law; later = []; is = refl })
       (Sometime_of_Ever _ whole (all_law.fair.0 h.bytes (h.call ∙ ap (λ (f : Endpoint). Receive f h.bytes) to_is))))
 

@@ -7,7 +7,6 @@ use Rattle.coap_types.specs.Past.{Ever, Sometime, Always}
 use Rattle.coap_types.proofs.Facts.Traces.{Ever_map, Ever_append, Ever_of_Sometime, Sometime_map, by_suffix, forget}
 use Rattle.coap_types.specs.declared.endpoint.Endpoint.{Endpoint}
 use Rattle.coap_types.specs.declared.message.Kind.TheVariants.{Con}
-use Rattle.coap_types.specs.Bytes.{AreBytes}
 use Rattle.coap_layer.specs.Trace.{Packet, Entry}
 use Rattle.coap_layer.specs.Words.{clock, Open, left_by, begun, outstanding}
 use Rattle.coap_layer.specs.Rows.{LayerLaw}
@@ -22,7 +21,7 @@ use Rattle.coap_layer.proofs.Numbers.OneEntryForAnId.{begins_of, begun_once, one
 use Rattle.coap_layer.proofs.Facts.Hops.{far_ever, each_hop}
 use Rattle.coap_layer.proofs.Between.WhatComesByType.{Comes, a_con, a_non, a_reply, a_stored, a_reset, comes}
 use Rattle.coap_layer.proofs.Between.WhatComesByType.{spelled_begun}
-use Rattle.coap_layer.proofs.Between.WhatArrivesWasSent.{sent_so, are_bytes}
+use Rattle.coap_layer.proofs.Between.WhatArrivesWasSent.{sent_so}
 use Rattle.coap_layer.proofs.Between.TakenOnce.{only_that_con, taken_once}
 use Rattle.coap_types.specs.declared.transmission.TheConstants.{MAX_LATENCY_MS as max_latency}
 
@@ -144,14 +143,11 @@ module _ (one other : Setup) (near far : Endpoint) (old new : Open) where
       spelled : SpellsCon old
       spelled = spelled_begun one whole old law.near_law begun_old
 
-      are : AreBytes old.bytes
-      are = are_bytes one other near far other (far_of past) x near old.bytes law.far_law.0 t.call
-
       packet : Packet
       packet = record { to = far; bytes = old.bytes }
 
       here : (p : List Entry) (e : Entry) → Part whole (e ∷ p) → SentSo far old.bytes x.at p e → SentBy old x.at p e
-      here p e w s = go (comes one p e packet spelled.0 w.law w.replies are spelled.1 s.goes)
+      here p e w s = go (comes one p e packet spelled.0 w.law w.replies spelled.1 s.goes)
         where
           con : spelled.0.kind ≡ Con
           con = spelled.2

@@ -153,7 +153,7 @@ module _ (one other : Setup) (near far : Endpoint) (non : SentNon) (whole : List
           let b : Entry = q.0 in
           let w : PlainSent far h.bytes x.at b = q.2 in
           let same : m.message ≡ with_head Non w.goes.id w.goes.content =
-          one_message h.bytes m.message (with_head Non w.goes.id w.goes.content) h.are_bytes h.spells w.goes.spells in
+          one_message h.bytes m.message (with_head Non w.goes.id w.goes.content) h.spells w.goes.spells in
           let id_is : w.goes.id ≡ non.id = sym (ap (λ (y : Message). y.id) same) ∙ id in
           let f : b.at ≤ x.at = w.from in
           let t : x.at ≤ b.at + max_latency = w.till in
@@ -199,16 +199,13 @@ module _ (one other : Setup) (near far : Endpoint) (non : SentNon) (whole : List
       (ap (λ (m : Message). m.kind) same) told.class a.room
       (sorts_as other (far_of r) x near non.bytes told.message law.far_law.0 a.call told.spells))
     where
-      row : Row other (far_of r) x (Receive near non.bytes)
-      row = subst (Row other (far_of r) x) a.call law.far_law.0.row
-
       spelled : (c : Content) × Spells non.bytes (with_head Non non.id c)
       spelled = forget ((c : Content) × Spells non.bytes (with_head Non non.id c)) (near_of whole)
           (Ever_map (NonGoes non) (λ e. (c : Content) × Spells non.bytes (with_head Non non.id c))
           (λ e g. (g.content, g.spells)) (near_of whole) (goes_in one non (near_of whole) near_law sent))
 
       same : told.message ≡ with_head Non non.id spelled.0
-      same = one_message non.bytes told.message (with_head Non non.id spelled.0) row.0 told.spells spelled.1
+      same = one_message non.bytes told.message (with_head Non non.id spelled.0) told.spells spelled.1
 
       new : handed_by x.answer ≡ Some told.message → HandsUpNon near non x ⊎ Ever (OnFar (HandsUpNon near non)) r
       new h = inl (record {

@@ -1,32 +1,21 @@
 -- A Reset that is taken for a request or a response is the reply that the other layer was given to that very CON.
-use Rattle.std.proofs.Common.{◌-◌, ◌≡◌, ◌⊎◌, inl, inr, ⊎_elim, ℕ, ◌+◌, ◌≤◌, ◌<◌, ◌/◌, ◌%◌, List, [], ◌∷◌, ◌++◌, Some, None, refl, ap}
+use Rattle.std.proofs.Common.{◌-◌, ◌≡◌, ◌⊎◌, inl, inr, ⊎_elim, ℕ, ◌+◌, ◌≤◌, List, [], ◌∷◌, ◌++◌, Some, None, refl, ap}
 use Rattle.std.proofs.Common.{sym, ◌∙◌, subst, arith, append_assoc}
-use Rattle.coap_types.specs.Past.{Ever, Sometime, Always, Since}
-use Rattle.coap_types.proofs.Facts.Traces.{Ever_of_Sometime, Ever_of_Since, Sometime_of_Ever}
-use Rattle.coap_types.proofs.Facts.Traces.{Sometime_of_Sometime, by_suffix, forget}
+use Rattle.coap_types.specs.Past.{Ever, Sometime, Since}
+use Rattle.coap_types.proofs.Facts.Traces.{Ever_of_Sometime, Ever_of_Since, Sometime_of_Ever, Sometime_of_Sometime}
+use Rattle.coap_types.proofs.Facts.Traces.{by_suffix, forget}
 use Rattle.coap_types.specs.Roles.{role_of}
 use Rattle.coap_types.specs.declared.endpoint.Endpoint.{Endpoint}
-use Rattle.coap_types.specs.declared.message.Kind.TheVariants.{Con, Non, Ack, Rst}
-use Rattle.coap_types.specs.declared.role.Role.TheVariants as role
-use Rattle.coap_types.specs.Bytes.{AreBytes}
-use Rattle.coap_types.specs.declared.message.TheConstants.{MESSAGE_IDS as message_ids}
-use Rattle.std.specs.Int.{byte_at}
-use Rattle.coap_codec.specs.Faulty.{head_of}
+use Rattle.coap_types.specs.declared.message.Kind.TheVariants.{Con, Non, Rst}
 use Rattle.coap_codec.specs.Message.{Message, Spells}
-use Rattle.coap_codec.specs.declared.fault.Reason.{Reason}
-use Rattle.coap_codec.specs.declared.fault.Reason.TheVariants.{Short, Version, TokenLength, TokenCut, EmptyNotBare}
-use Rattle.coap_codec.specs.declared.fault.Reason.TheVariants.{DeltaReserved, LengthReserved, OptionCut, NumberTooLarge}
-use Rattle.coap_codec.specs.declared.fault.Reason.TheVariants.{NoPayload}
-use Rattle.coap_layer.specs.Arrivals.{Arrival, Unreadable, Faulted, Whole, Shows, by_head}
-use Rattle.coap_layer.specs.EmptyMessages.{reset_bytes}
-use Rattle.coap_layer.specs.Trace.{Setup, with_head, Packet, Receive, Reply, Reset, Rejected, Becomes, Entry}
+use Rattle.coap_layer.specs.Arrivals.{Faulted, Whole, Shows}
+use Rattle.coap_layer.specs.Trace.{Setup, with_head, Packet, Receive, Reply, Reset, Entry}
 use Rattle.coap_layer.specs.Words.{Incoming, handed, reply_in, awaits, Open, outstanding}
-use Rattle.coap_layer.specs.Rows.{LayerLaw, Row, Arrives, Sorts, HandedAs, rejects, drops, takes_ack, takes_reset}
-use Rattle.coap_layer.specs.Rows.{passes_reset, takes_answer, replays, hands_over}
-use Rattle.coap_layer.specs.Sends.{IsIn, as_begun, ReplyOut, StoredOut, ResetOut, SpellsCon, GoesOut, first, copy, plain}
-use Rattle.coap_layer.specs.Sends.{reply, stored, reset}
+use Rattle.coap_layer.specs.Rows.{LayerLaw, Row}
+use Rattle.coap_layer.specs.Sends.{IsIn, as_begun, ReplyOut, StoredOut, ResetOut, SpellsCon, GoesOut, first, copy}
+use Rattle.coap_layer.specs.Sends.{plain, reply, stored, reset}
 use Rattle.coap_layer.specs.Channel.{HandedBy, Hop, Near, Far, near_of, far_of, OnFar, GaveOut, IsLatest, RepliesAtOnce}
-use Rattle.coap_layer.specs.Channel.{RepliesSo, ChannelLaw, BegunAs, Takes, RepliesTo, OnFarThen, SentSo}
+use Rattle.coap_layer.specs.Channel.{ChannelLaw, BegunAs, Takes, RepliesTo, OnFarThen, SentSo}
 use Rattle.coap_layer.specs.Taking.{IsTold, HearsReset, ResetsMeant}
 use Rattle.coap_types.specs.declared.transmission.TheConstants.{EXCHANGE_LIFETIME_MS as exchange_lifetime}
 use Rattle.coap_types.specs.declared.transmission.TheConstants.{LAST_ARRIVAL_MS as last_arrival}
@@ -34,7 +23,8 @@ use Rattle.coap_types.specs.declared.transmission.TheConstants.{ID_REUSE_AFTER_M
 use Rattle.coap_types.specs.declared.transmission.TheConstants.{MAX_LATENCY_MS as max_latency}
 use Rattle.coap_layer.proofs.Copies.CopiesInTime.{was_begun, begun_by}
 use Rattle.coap_layer.proofs.Between.AcksAreReplies.{by_clock, since_young, Part}
-use Rattle.coap_layer.proofs.Between.WhatComesByType.{one_message, replied_call, spelled_begun, SpellsReply, stored_reply}
+use Rattle.coap_layer.proofs.Between.WhatComesByType.{one_message, replied_call, spelled_begun, SpellsReply}
+use Rattle.coap_layer.proofs.Between.WhatComesByType.{stored_reply}
 use Rattle.coap_layer.proofs.Arrivals.AcksAreTaken.{sorts_as}
 use Rattle.coap_layer.proofs.Arrivals.HandedAsSpelled.{handed_so, IsOf, latest_is}
 use Rattle.coap_layer.proofs.Facts.Arrivals.{one_arrival}
@@ -44,110 +34,8 @@ use Rattle.coap_layer.specs.Machine.Calls.{IsBegun}
 use Rattle.coap_layer.proofs.Numbers.OneEntryForAnId.{one_con, no_plain, SendsPlain}
 use Rattle.coap_layer.proofs.Out.EachGoesOut.{goes_out}
 use Rattle.coap_layer.proofs.Between.TakenOnce.{alone, takes_it}
-
--- what a Reset shows
-
-reset_id : (m : Message) (id : ℕ) → Spells (reset_bytes id) m → m.id ≡ id
-reset_id m id s =
-    let parts = s.parts in
-    let high : id / 256 ≡ byte_at 1 m.id = cc parts in
-    let low : id % 256 ≡ byte_at 0 m.id = cc parts in
-    let high_is : id / 256 ≡ m.id / 256 % 256 = high in
-    let low_is : id % 256 ≡ m.id % 256 = low in
-    let bound : m.id < message_ids = s.id in
-    omega (arith, high_is, low_is, bound)
-
-not_con : (reason : Reason) (rest : List ℕ) (id : ℕ) → Faulted Con id ≡ by_head (head_of reason (0x70 ∷ rest)) → ⊥
-not_con Short rest id h = cc h
-not_con Version rest id h = cc h
-not_con TokenLength rest id h = cc h
-not_con TokenCut rest id h = cc h
-not_con EmptyNotBare rest id h = cc h
-not_con DeltaReserved rest id h = cc h
-not_con LengthReserved rest id h = cc h
-not_con OptionCut rest id h = cc h
-not_con NumberTooLarge rest id h = cc h
-not_con NoPayload rest id h = cc h
-
-no_fault : (bytes : List ℕ) (n id : ℕ) → bytes ≡ reset_bytes n → Shows bytes (Faulted Con id) → ⊥
-no_fault bytes n id is h =
-    not_con h.0 _ id (subst (λ (x : List ℕ). Faulted Con id ≡ by_head (head_of h.0 x)) is h.3)
-
--- what goes out spells a message, or is a Reset
-sent_what : (setup : Setup) (past : List Entry) (e : Entry) (p : Packet) → LayerLaw setup (e ∷ past)
-    → Always RepliesSo (e ∷ past) → GoesOut past e p
-    → ((m : Message) × Spells p.bytes m) ⊎ ((id : ℕ) × (p.bytes ≡ reset_bytes id))
-sent_what setup past e p law replies (first r) =
-    let s : SpellsCon r.con = spelled_begun setup (e ∷ past) r.con law (inl r.begins) in
-    inl (s.0, subst (λ (x : List ℕ). Spells x s.0) (sym (ap (λ (x : Packet). x.bytes) r.is)) s.1)
-sent_what setup past e p law replies (copy r) =
-    let s : SpellsCon r.con = spelled_begun setup (e ∷ past) r.con law (inr r.begun_before) in
-    inl (s.0, subst (λ (x : List ℕ). Spells x s.0) (sym (ap (λ (x : Packet). x.bytes) r.is)) s.1)
-sent_what setup past e p law replies (plain r) = inl (with_head Non r.id r.content, r.spells)
-sent_what setup past e p law replies (reply r) =
-    let a = replies.0 p.to r.id p.bytes r.call in inl (a.reply, a.spells)
-sent_what setup past e p law replies (stored r) =
-    let a : SpellsReply r.message.id p.bytes = stored_reply p.to r.message.id p.bytes past replies.1
-    (Ever_of_Since _ _ past r.given) in inl (a.reply, a.spells)
-sent_what setup past e p law replies (reset r) = inr (r.id, ap (λ (x : Packet). x.bytes) r.is)
-
-record Lawful (setup : Setup) (t : List Entry) : Type 0 where
-  pub law : LayerLaw setup t
-  pub replies : Always RepliesSo t
-
--- a Reset that is taken
-record HeardReset (bytes : List ℕ) (id : ℕ) : Type 0 where
-  pub are : AreBytes bytes
-  pub message : Message
-  pub spells : Spells bytes message
-  pub kind : message.kind ≡ Rst
-  pub id_is : message.id ≡ id
-
-sorted_reset : (setup : Setup) (past : List Entry) (e : Entry) (n : Incoming) (id : ℕ) → Sorts setup past e n
-    → e.answer ≡ Becomes (Reset id) → (n.message.kind ≡ Rst) × (n.message.id ≡ id)
-sorted_reset setup past e n id (rejects r) h = let a = r.answer in absurd (cc (a, h))
-sorted_reset setup past e n id (drops r) h = let a = r.answer in absurd (cc (a, h))
-sorted_reset setup past e n id (takes_ack r) h = let a = r.answer in absurd (cc (a, h))
-sorted_reset setup past e n id (takes_reset r) h = (r.kind, (let a = r.answer in cc (a, h)))
-sorted_reset setup past e n id (passes_reset r) h = let a = r.answer in absurd (cc (a, h))
-sorted_reset setup past e n id (takes_answer r) h = let a = r.answer in absurd (cc (a, h))
-sorted_reset setup past e n id (replays r) h = let a = r.answer in absurd (cc (a, h))
-sorted_reset setup past e n id (hands_over r) h = absurd (up r.answer)
-  where
-    up : HandedAs setup past e n → ⊥
-    up (inl a) = let b = a.2 in cc (b, h)
-    up (inr (inl a)) = let b = a.3 in cc (b, h)
-    up (inr (inr a)) = let b = a.1 in cc (b, h)
-
-arrived_reset : (setup : Setup) (past : List Entry) (e : Entry) (from : Endpoint) (bytes : List ℕ) (what : Arrival) (id : ℕ)
-    → AreBytes bytes → Shows bytes what → Arrives setup past e from what → e.answer ≡ Becomes (Reset id)
-    → HeardReset bytes id
-arrived_reset setup past e from bytes Unreadable id are s r h = let a = r.0 in absurd (cc (a, h))
-arrived_reset setup past e from bytes (Faulted Con n) id are s r h = let a = r.0 in absurd (cc (a, h))
-arrived_reset setup past e from bytes (Faulted Non n) id are s r h = let a = r.0 in absurd (cc (a, h))
-arrived_reset setup past e from bytes (Faulted Ack n) id are s r h = let a = r.0 in absurd (cc (a, h))
-arrived_reset setup past e from bytes (Faulted Rst n) id are s r h = let a = r.0 in absurd (cc (a, h))
-arrived_reset setup past e from bytes (Whole m) id are s r h =
-    let k = sorted_reset setup past e (record { from = from; message = m }) id r h in
-    record { are = are; message = m; spells = s; kind = k.0; id_is = k.1 }
-
--- a CON that is rejected is of neither class
-rejected_class : (setup : Setup) (past : List Entry) (e : Entry) (n : Incoming) → Sorts setup past e n
-    → e.answer ≡ Becomes Rejected
-    → (role_of n.message.code ≡ role.Empty) ⊎ (role_of n.message.code ≡ role.Reserved)
-rejected_class setup past e n (rejects r) h = r.class
-rejected_class setup past e n (drops r) h = let a = r.answer in absurd (cc (a, h))
-rejected_class setup past e n (takes_ack r) h = let a = r.answer in absurd (cc (a, h))
-rejected_class setup past e n (takes_reset r) h = let a = r.answer in absurd (cc (a, h))
-rejected_class setup past e n (passes_reset r) h = let a = r.answer in absurd (cc (a, h))
-rejected_class setup past e n (takes_answer r) h = let a = r.answer in absurd (cc (a, h))
-rejected_class setup past e n (replays r) h = let a = r.answer in absurd (cc (a, h))
-rejected_class setup past e n (hands_over r) h = absurd (up r.answer)
-  where
-    up : HandedAs setup past e n → ⊥
-    up (inl a) = let b = a.2 in cc (b, h)
-    up (inr (inl a)) = let b = a.3 in cc (b, h)
-    up (inr (inr a)) = let b = a.1 in cc (b, h)
+use Rattle.coap_layer.proofs.Between.WhatAResetSays.{reset_id, no_fault, sent_what, Lawful, HeardReset, arrived_reset}
+use Rattle.coap_layer.proofs.Between.WhatAResetSays.{rejected_class}
 
 module _ (one other : Setup) (near far : Endpoint) (whole : List Hop) (x : Entry) (con : Open)
     (all_law : ChannelLaw one other near far (Near x ∷ whole)) (to_is : con.to ≡ far)
@@ -199,7 +87,7 @@ module _ (one other : Setup) (near far : Endpoint) (whole : List Hop) (x : Entry
   as_con : (e : Entry) → Takes near (as_begun con) e → Takes near con e
   as_con e t = record { call = t.call; up = t.up; from = t.from; till = t.till }
 
-  module _ (m : Message) (rst : m.kind ≡ Rst) (id_is : m.id ≡ con.id) (bytes : List ℕ) (are : AreBytes bytes)
+  module _ (m : Message) (rst : m.kind ≡ Rst) (id_is : m.id ≡ con.id) (bytes : List ℕ)
       (spells : Spells bytes m) where
     abbrev R : List Hop → Hop → Type 0
     R = OnFarThen (RepliesTo near con bytes)
@@ -247,7 +135,7 @@ module _ (one other : Setup) (near far : Endpoint) (whole : List Hop) (x : Entry
 
         at_place : (t : List Hop) (h : Hop) → P (h ∷ t) → OnFar Up h → W
         at_place t (Near y) w z = absurd z
-        at_place t (Far y) w z = go (came one other near far t y u.bytes up.message w.law call u.are_bytes u.spells)
+        at_place t (Far y) w z = go (came one other near far t y u.bytes up.message w.law call u.spells)
           where
             u : HandedBy y up
             u = handed_so other (far_of t) y up w.law.far_law.0 z.0
@@ -271,7 +159,7 @@ module _ (one other : Setup) (near far : Endpoint) (whole : List Hop) (x : Entry
         → awaits (far_of q) ≡ Some (record { from = near; id = id }) → (a : RepliesAtOnce (far_of q) k.at id bytes)
         → Replied q k id
     replied q k id p low high call awaited a =
-        let same : a.reply ≡ m = one_message bytes a.reply m are a.spells spells in
+        let same : a.reply ≡ m = one_message bytes a.reply m a.spells spells in
         let id_there : id ≡ con.id = sym a.id_is ∙ (ap (λ (z : Message). z.id) same ∙ id_is) in
         let of : IsOf a.to_what (record { from = near; id = id }) =
         latest_is (far_of q) k.at a.to_what _ awaited a.latest in
@@ -366,9 +254,6 @@ module _ (one other : Setup) (near far : Endpoint) (whole : List Hop) (x : Entry
         → ResetOut k (record { to = near; bytes = bytes }) → ⊥
     not_rejected q k p before after r = ⊎_elim faulty read r.shows
       where
-        row : Row other (far_of q) k (Receive near r.bytes)
-        row = subst (Row other (far_of q) k) r.call p.law.far_law.0.row
-
         id_there : r.id ≡ con.id
         id_there = sym (reset_id m r.id (subst (λ (y : List ℕ). Spells y m) (ap (λ (y : Packet). y.bytes) r.is) spells))
             ∙ id_is
@@ -378,8 +263,8 @@ module _ (one other : Setup) (near far : Endpoint) (whole : List Hop) (x : Entry
             (by_suffix (Lawful one) (SentSo far r.bytes k.at) (λ t e. ⊥)
             (λ t e l. record { law = l.law.1; replies = l.replies.1 })
             (λ t e l s. ⊎_elim
-            (λ z. (let a = one_arrival r.bytes (Whole z.0) row.0 z.1 in
-            let b = one_arrival r.bytes (Faulted Con r.id) row.0 h in cc (a, b)))
+            (λ z. (let a = one_arrival r.bytes (Whole z.0) z.1 in
+            let b = one_arrival r.bytes (Faulted Con r.id) h in cc (a, b)))
             (λ z. no_fault r.bytes z.0 r.id z.1 h)
             (sent_what one t e (record { to = far; bytes = r.bytes }) l.law l.replies s.goes)) (near_of q)
             (record { law = p.law.near_law; replies = p.law.near_replies })
@@ -392,7 +277,7 @@ module _ (one other : Setup) (near far : Endpoint) (whole : List Hop) (x : Entry
             let same : b.con ≡ as_begun con = same_con q r.bytes n.0.id k.at (down q (Far k) p) b (n.3 ∙ id_there) before
             after in
             let bytes_are : con.bytes ≡ r.bytes = sym (ap (λ (y : Open). y.bytes) same) ∙ b.bytes_are in
-            let message_is : told.message ≡ n.0 = one_message r.bytes told.message n.0 row.0
+            let message_is : told.message ≡ n.0 = one_message r.bytes told.message n.0
             (subst (λ (y : List ℕ). Spells y told.message) bytes_are told.spells) n.1 in
             let code_is : role_of told.message.code
             ≡ role_of n.0.code = ap (λ (y : Message). role_of y.code) message_is in
@@ -410,7 +295,7 @@ module _ (one other : Setup) (near far : Endpoint) (whole : List Hop) (x : Entry
 
         not_con_out : (c : Open) → (s : SpellsCon c) → packet ≡ record { to = c.to; bytes = c.bytes } → Sometime R (Far k ∷ q)
         not_con_out c s is =
-            let same : s.0 ≡ m = one_message bytes s.0 m are
+            let same : s.0 ≡ m = one_message bytes s.0 m
             (subst (λ (y : List ℕ). Spells y s.0) (sym (ap (λ (y : Packet). y.bytes) is)) s.1) spells in
             let kind : s.0.kind ≡ m.kind = ap (λ (y : Message). y.kind) same in
             let con_is = s.2 in absurd (cc (kind, con_is, rst))
@@ -419,12 +304,12 @@ module _ (one other : Setup) (near far : Endpoint) (whole : List Hop) (x : Entry
         stored_id r =
             let a : SpellsReply r.message.id bytes = stored_reply near r.message.id bytes (far_of q) p.law.far_replies.1
             (Ever_of_Since _ _ (far_of q) r.given) in
-            sym a.id_is ∙ ap (λ (y : Message). y.id) (one_message bytes a.reply m are a.spells spells)
+            sym a.id_is ∙ ap (λ (y : Message). y.id) (one_message bytes a.reply m a.spells spells)
 
         out : GoesOut (far_of q) k packet → Sometime R (Far k ∷ q)
         out (first r) = not_con_out r.con (spelled_begun other (k ∷ far_of q) r.con p.law.far_law (inl r.begins)) r.is
         out (copy r) = not_con_out r.con (spelled_begun other (k ∷ far_of q) r.con p.law.far_law (inr r.begun_before)) r.is
-        out (plain r) = let same : with_head Non r.id r.content ≡ m = one_message bytes (with_head Non r.id r.content) m are r.spells spells in
+        out (plain r) = let same : with_head Non r.id r.content ≡ m = one_message bytes (with_head Non r.id r.content) m r.spells spells in
             let kind : Non ≡ m.kind = ap (λ (y : Message). y.kind) same in absurd (cc (kind, rst))
         out (reply r) = inl (given q k p g.from g.till r)
         out (stored r) = inr (stored_again q k p g.from g.till r (stored_id r))
@@ -435,12 +320,12 @@ module _ (one other : Setup) (near far : Endpoint) (whole : List Hop) (x : Entry
       let row : Row one (near_of whole) x (Receive con.to h.bytes) =
       subst (Row one (near_of whole) x) h.call all_law.near_law.0.row in
       let r : HeardReset h.bytes con.id =
-      arrived_reset one (near_of whole) x con.to h.bytes row.1.0 con.id row.0 row.1.1 row.1.2 h.answer in
+      arrived_reset one (near_of whole) x con.to h.bytes row.0 con.id row.1 row.2 h.answer in
       Sometime_of_Sometime (λ q k. Sometime (OnFarThen (RepliesTo near con h.bytes)) (k ∷ q))
       (OnFarThen (RepliesTo near con h.bytes)) (λ q k z. z) whole
       (by_suffix P (λ q k. OnFar (GaveOut near h.bytes x.at) k)
       (λ q k. Sometime (OnFarThen (RepliesTo near con h.bytes)) (k ∷ q)) down
-      (gave r.message r.kind r.id_is h.bytes r.are r.spells) whole
+      (gave r.message r.kind r.id_is h.bytes r.spells) whole
       (record { law = earlier one other near far whole (Near x) all_law; later = []; is = refl })
       (Sometime_of_Ever _ whole (all_law.fair.0 h.bytes (h.call ∙ ap (λ (f : Endpoint). Receive f h.bytes) to_is))))
 

@@ -90,7 +90,7 @@ module _ (one other : Setup) (near far : Endpoint) (whole past : List Hop) (x : 
   -- taken: handed up, within 400 s
   pub takes_it : (m : Incoming) → handed x ≡ Some m → m.from ≡ near → m.message.id ≡ con.id
       → x.at ≤ con.first + id_reuse_after → con.first ≤ x.at + (id_reuse_after - last_arrival) → Takes near con x
-  takes_it m up place id after before = go (came one other near far past x h.bytes m.message law call h.are_bytes
+  takes_it m up place id after before = go (came one other near far past x h.bytes m.message law call
       h.spells)
     where
       h : HandedBy x m

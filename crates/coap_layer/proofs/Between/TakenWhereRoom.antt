@@ -97,12 +97,11 @@ module _ (one other : Setup) (near far : Endpoint) (con : Open) where
           (λ past e l p. l.0 con p) (near_of whole) (cons_spelled one (near_of whole) near_law) begun)
 
       same : told.message ≡ spelled.0
-      same = one_message con.bytes told.message spelled.0 row.0 told.spells spelled.1
+      same = one_message con.bytes told.message spelled.0 told.spells spelled.1
 
       sorts : Sorts other (far_of r) x n
       sorts = subst (Arrives other (far_of r) x near)
-          (one_arrival con.bytes row.1.0 row.0 row.1.1 ∙ sym (one_arrival con.bytes (Whole told.message) row.0 told.spells))
-          row.1.2
+          (one_arrival con.bytes row.0 row.1 ∙ sym (one_arrival con.bytes (Whole told.message) told.spells)) row.2
 
       before : whole ≡ (later ++ Far x ∷ []) ++ r
       before = is ∙ sym (append_assoc later (Far x ∷ []) r)

@@ -5,7 +5,6 @@ use Rattle.coap_types.specs.Past.{Ever, Sometime, Always}
 use Rattle.coap_types.proofs.Facts.Traces.{Ever_of_Sometime, Sometime_of_Ever, by_law, by_suffix, found}
 use Rattle.coap_types.specs.declared.endpoint.Endpoint.{Endpoint}
 use Rattle.coap_types.specs.declared.message.Kind.TheVariants.{Con, Non, Ack, Rst}
-use Rattle.coap_types.specs.Bytes.{AreBytes}
 use Rattle.coap_codec.specs.Message.{Message, Spells}
 use Rattle.coap_layer.specs.Trace.{Packet, Receive, Entry}
 use Rattle.coap_layer.specs.Rows.{Stands, LayerLaw, Row}
@@ -62,8 +61,8 @@ record Lawful (setup : Setup) (t : List Entry) : Type 0 where
   pub replies : Always RepliesSo t
 
 came_here : (setup : Setup) (t : List Entry) (b : Entry) (to : Endpoint) (bytes : List ℕ) (m : Message) (when : ℕ)
-    → Lawful setup (b ∷ t) → AreBytes bytes → Spells bytes m → SentSo to bytes when t b → Came to bytes m when (b ∷ t)
-came_here setup t b to bytes m when l are spells s = go (comes setup t b p m l.law l.replies are spells s.goes)
+    → Lawful setup (b ∷ t) → Spells bytes m → SentSo to bytes when t b → Came to bytes m when (b ∷ t)
+came_here setup t b to bytes m when l spells s = go (comes setup t b p m l.law l.replies spells s.goes)
   where
     p : Packet
     p = record { to = to; bytes = bytes }
@@ -86,24 +85,20 @@ came_here setup t b to bytes m when l are spells s = go (comes setup t b p m l.l
 
 module _ (one other : Setup) (near far : Endpoint) where
   pub came : (past : List Hop) (x : Entry) (bytes : List ℕ) (m : Message) → ChannelLaw one other near far (Far x ∷ past)
-      → x.call ≡ Receive near bytes → AreBytes bytes → Spells bytes m → Came far bytes m x.at (near_of past)
-  came past x bytes m law call are spells =
+      → x.call ≡ Receive near bytes → Spells bytes m → Came far bytes m x.at (near_of past)
+  came past x bytes m law call spells =
       found (λ t b. Came far bytes m x.at (b ∷ t)) (Came far bytes m x.at) (λ b t z. came_later far bytes m x.at b t z)
       (λ t b z. z) (near_of past)
       (by_suffix (Lawful one) (SentSo far bytes x.at) (λ t b. Came far bytes m x.at (b ∷ t))
       (λ t b l. record { law = l.law.1; replies = l.replies.1 })
-      (λ t b l s. came_here one t b far bytes m x.at l are spells s) (near_of past)
+      (λ t b l s. came_here one t b far bytes m x.at l spells s) (near_of past)
       (record { law = law.near_law; replies = law.near_replies }) (sent_so one other near far past x bytes law call))
-
-  pub are_bytes : (setup : Setup) (past : List Entry) (x : Entry) (from : Endpoint) (bytes : List ℕ) → Stands setup past x
-      → x.call ≡ Receive from bytes → AreBytes bytes
-  are_bytes setup past x from bytes here call = (subst (Row setup past x) call here.row).0
 
   pub begun_as : (past : List Hop) (x : Entry) (bytes : List ℕ) (m : Message)
       → ChannelLaw one other near far (Far x ∷ past) → x.call ≡ Receive near bytes → Spells bytes m → m.kind ≡ Con
       → BegunAs far bytes m.id x.at (near_of past)
   begun_as past x bytes m law call spells con =
-      go (came past x bytes m law call (are_bytes other (far_of past) x near bytes law.far_law.0 call) spells)
+      go (came past x bytes m law call spells)
     where
       go : Came far bytes m x.at (near_of past) → BegunAs far bytes m.id x.at (near_of past)
       go (con_came k b) = b
@@ -117,9 +112,9 @@ module _ (one other : Setup) (near far : Endpoint) where
       (subst (λ (y : Hop). ChannelLaw one other near far (y ∷ past)) is l) call spells con) all law
 
 plain_here : (setup : Setup) (t : List Entry) (b : Entry) (to : Endpoint) (bytes : List ℕ) (m : Message) (when : ℕ)
-    → Lawful setup (b ∷ t) → AreBytes bytes → Spells bytes m → m.kind ≡ Non → SentSo to bytes when t b
+    → Lawful setup (b ∷ t) → Spells bytes m → m.kind ≡ Non → SentSo to bytes when t b
     → PlainSent to bytes when b
-plain_here setup t b to bytes m when l are spells non s = go (comes setup t b p m l.law l.replies are spells s.goes)
+plain_here setup t b to bytes m when l spells non s = go (comes setup t b p m l.law l.replies spells s.goes)
   where
     p : Packet
     p = record { to = to; bytes = bytes }
@@ -141,9 +136,7 @@ module _ (one other : Setup) (near far : Endpoint) where
       Ever_of_Sometime (λ t b. PlainSent far bytes x.at b) (PlainSent far bytes x.at) (λ t b z. inl z) (near_of past)
       (by_suffix (Lawful one) (SentSo far bytes x.at) (λ t b. PlainSent far bytes x.at b)
       (λ t b l. record { law = l.law.1; replies = l.replies.1 })
-      (λ t b l s. plain_here one t b far bytes m x.at l
-      (are_bytes one other near far other (far_of past) x near bytes law.far_law.0 call) spells non s)
-      (near_of past)
+      (λ t b l s. plain_here one t b far bytes m x.at l spells non s) (near_of past)
       (record { law = law.near_law; replies = law.near_replies }) (sent_so one other near far past x bytes law call))
 
   pub nons_sent : (all : List Hop) → ChannelLaw one other near far all → NonsSent near far all

@@ -9,7 +9,6 @@ use Rattle.coap_types.specs.declared.message.Kind.{Kind}
 use Rattle.coap_types.specs.declared.message.Kind.TheVariants.{Con, Non, Ack, Rst}
 use Rattle.coap_types.specs.SameEndpoint.{same_endpoint}
 use Rattle.coap_types.proofs.Facts.Endpoints.{same_endpoint_is}
-use Rattle.coap_types.specs.Bytes.{AreBytes}
 use Rattle.coap_codec.specs.Message.{Message, Spells, kind_number}
 use Rattle.coap_codec.proofs.Facts.EveryDatagram.{spelled_decoded}
 use Rattle.coap_layer.specs.Trace.{Packet, with_head, Call, Receive, Reply, Confirm, Plain, Settle, Ticks, Take, Room}
@@ -25,9 +24,9 @@ use Rattle.coap_layer.proofs.Out.EachGoesOut.{cons_spelled}
 use Rattle.coap_layer.specs.Machine.Calls.{IsBegun}
 use Rattle.coap_layer.proofs.Numbers.OneEntryForAnId.{SendsPlain, begins_of}
 
-pub one_message : (bytes : List ℕ) (m n : Message) → AreBytes bytes → Spells bytes m → Spells bytes n → m ≡ n
-one_message bytes m n are s t = let a = spelled_decoded bytes m are s in let b =
-    spelled_decoded bytes n are t in cc (a, b)
+pub one_message : (bytes : List ℕ) (m n : Message) → Spells bytes m → Spells bytes n → m ≡ n
+one_message bytes m n s t = let a = spelled_decoded bytes m s in let b =
+    spelled_decoded bytes n t in cc (a, b)
 
 -- a CON that was begun, and is sent now
 pub record BegunHere (past : List Entry) (e : Entry) (p : Packet) (m : Message) : Type 0 where
@@ -115,9 +114,9 @@ reset_kind m rest s = go m.kind refl
         ∙ ap (λ (x : Kind). 64 + (kind_number x * 16 + length m.token)) h in absurd (omega (arith, k, s.token))
 
 module _ (setup : Setup) (past : List Entry) (e : Entry) (p : Packet) (m : Message) (law : LayerLaw setup (e ∷ past))
-    (replies : Always RepliesSo (e ∷ past)) (are : AreBytes p.bytes) (spells : Spells p.bytes m) where
+    (replies : Always RepliesSo (e ∷ past)) (spells : Spells p.bytes m) where
   same_message : (n : Message) → Spells p.bytes n → n ≡ m
-  same_message n s = one_message p.bytes n m are s spells
+  same_message n s = one_message p.bytes n m s spells
 
   same_con : (c : Open) → p ≡ packet_of c → Ever (IsBegun c) (e ∷ past) → SendsIt c past e → c.first ≤ e.at
       → e.at ≤ c.first + last_retransmission → Comes past e p m

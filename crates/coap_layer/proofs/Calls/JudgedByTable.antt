@@ -29,9 +29,9 @@ use Rattle.coap_layer.proofs.Facts.Arrivals.{faulty_shows, one_arrival}
 pub read_shows : (bytes : List ℕ) (r : Result Message Fault) → AreBytes bytes → IfOk r (λ m. Spells bytes m)
     → IfErr r (λ f. Faulty bytes f.reason f.at) → IfErr r (λ f. f.head ≡ head_of f.reason bytes)
     → shown_by r ≡ arrival_at bytes
-read_shows bytes (Ok m) are found faulty head = one_arrival bytes (Whole m) are found
+read_shows bytes (Ok m) are found faulty head = one_arrival bytes (Whole m) found
 read_shows bytes (Err f) are found faulty head =
-    one_arrival bytes (by_head f.head) are (faulty_shows bytes f.reason f.at faulty f.head (sym head))
+    one_arrival bytes (by_head f.head) (faulty_shows bytes f.reason f.at are faulty f.head (sym head))
 
 -- a duplicate is not handed up
 again_down : (kind : Kind) (role : Role) (m : Message) (o f i : Bool) → m.kind ≡ kind

@@ -4,7 +4,6 @@ use Rattle.std.proofs.Common.{sym, ◌∙◌, subst, arith, cond, ◌&&◌, if�
 use Rattle.std.proofs.lemmas.List.{append-nil}
 use Rattle.std.specs.List.{filter_map}
 use Rattle.coap_types.specs.declared.endpoint.Endpoint.{Endpoint}
-use Rattle.coap_types.specs.Bytes.{AreBytes}
 use Rattle.coap_codec.specs.Message.{Message}
 use Rattle.coap_layer.specs.declared.arriving.Arriving.{Arriving}
 use Rattle.coap_layer.specs.Arrivals.{arrival_at}
@@ -58,14 +57,14 @@ module _ (h : State) (now : ℕ) (from : Endpoint) (bytes : List ℕ) (a : Arriv
       cc (stored, opened, awaits, taken, out)
 
   step_now : (s : State) (answer : Answer) (es : List Arrived) (cs : List Open) (d q : List Packet) (w : Option Awaited)
-      → forgotten h ≡ s → AreBytes bytes → IsArriving h (max h.clock now) from (arrival_at bytes) a
+      → forgotten h ≡ s → IsArriving h (max h.clock now) from (arrival_at bytes) a
       → answer ≡ Becomes (answer_to h (max h.clock now) from (arrival_at bytes))
       → filter (is_live (max h.clock now)) es ≡ filter (is_live (max h.clock now))
       (filter (is_live h.clock) h.arrived ++ newly_by (max h.clock now) from a)
       → cs ≡ open_by from a h.open_cons → d ≡ sent_by (max h.clock now) from h.arrived a → q ≡ h.queue ++ d
       → w ≡ awaits_by from a
       → Step s now (Receive from bytes) answer (forgotten (left (max h.clock now) w es cs q))
-  step_now s answer es cs d q w is are arrives told arrived opened sent queued awaits =
+  step_now s answer es cs d q w is arrives told arrived opened sent queued awaits =
       let at : ℕ = max h.clock now in
       let live : filter (is_live at) (filter (is_live h.clock) h.arrived) ≡ filter (is_live at) h.arrived =
       filter_implied (is_live h.clock) (is_live at) (λ x k. live_before h.clock at x (omega arith) k) h.arrived in
@@ -77,11 +76,11 @@ module _ (h : State) (now : ℕ) (from : Endpoint) (bytes : List ℕ) (a : Arriv
       ≡ forgotten (left at (awaits_by from a) (h.arrived ++ newly_by at from a) (open_by from a h.open_cons)
       (h.queue ++ sent_by at from h.arrived a)) =
       cc (more, opened, sent, queued, awaits) in
-      step_by h s now (Receive from bytes) answer _ is are told (made_so ∙ ap forgotten (sym (after_is arrives)))
+      step_by h s now (Receive from bytes) answer _ is tt told (made_so ∙ ap forgotten (sym (after_is arrives)))
 
   pub received : (at : ℕ) → at ≡ max h.clock now
       → (s : State) (answer : Answer) (es : List Arrived) (cs : List Open) (d q : List Packet) (w : Option Awaited)
-      → forgotten h ≡ s → AreBytes bytes → IsArriving h at from (arrival_at bytes) a
+      → forgotten h ≡ s → IsArriving h at from (arrival_at bytes) a
       → answer ≡ Becomes (answer_to h at from (arrival_at bytes))
       → filter (is_live at) es ≡ filter (is_live at) (filter (is_live h.clock) h.arrived ++ newly_by at from a)
       → cs ≡ open_by from a h.open_cons → d ≡ sent_by at from h.arrived a → q ≡ h.queue ++ d → w ≡ awaits_by from a
@@ -99,7 +98,7 @@ module _ (h : State) (now : ℕ) (from : Endpoint) (bytes : List ℕ) (a : Arriv
   received at moment =
       subst (λ (x : ℕ). (s : State) (answer : Answer) (es : List Arrived) (cs : List Open) (d q : List Packet)
       (w : Option Awaited)
-      → forgotten h ≡ s → AreBytes bytes → IsArriving h x from (arrival_at bytes) a
+      → forgotten h ≡ s → IsArriving h x from (arrival_at bytes) a
       → answer ≡ Becomes (answer_to h x from (arrival_at bytes))
       → filter (is_live x) es ≡ filter (is_live x) (filter (is_live h.clock) h.arrived ++ newly_by x from a)
       → cs ≡ open_by from a h.open_cons → d ≡ sent_by x from h.arrived a → q ≡ h.queue ++ d → w ≡ awaits_by from a

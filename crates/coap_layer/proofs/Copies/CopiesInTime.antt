@@ -156,7 +156,7 @@ copies_sent kind setup past e place content to id (inr r) h = not_copied e _ to 
 pub copies_row : (setup : Setup) (past : List Entry) (e : Entry) (call : Call) (to : Endpoint) (id : ℕ)
     → Row setup past e call → e.answer ≡ Copied to id → Copies past e
 copies_row setup past e (Receive from bytes) to id row h =
-    absurd (copies_arrived setup past e from row.1.0 to id row.1.2 h)
+    absurd (copies_arrived setup past e from row.0 to id row.2 h)
 copies_row setup past e (Reply place n bytes) to id row h = absurd (not_copied e _ to id row.1 (λ z. cc z) h)
 copies_row setup past e (Confirm place content wish) to id row h =
     absurd (⊎_elim (λ r. not_copied e _ to id r.answer (λ z. cc z) h)

@@ -64,5 +64,5 @@ spelled_by s at from bytes m (Whole n) shows h =
 pub spelled : (old new : L.State) (now : ℕ) (from : Endpoint) (bytes : List ℕ) (up : T.Answer) (m : Message)
     → L.Step old now (T.Receive from bytes) up new → message_in up ≡ Some m → Spells bytes m
 spelled old new now from bytes up m step h =
-    spelled_by old (L.moment old now (T.Receive from bytes)) from bytes m (arrival_at bytes) (shows_at bytes step.may)
+    spelled_by old (L.moment old now (T.Receive from bytes)) from bytes m (arrival_at bytes) (shows_at bytes)
     (sym (ap message_in step.right) ∙ h)

@@ -65,7 +65,7 @@ module _ (setup : Setup) (past : List Entry) (e : Entry) where
   turn_gives (rests r) = none_by e.at e.answer _ r.answer refl
 
   gives_one : (call : Call) → Row setup past e call → GivesOne setup past e
-  gives_one (Receive from bytes) row = inl (arrived_gives from row.1.0 row.1.2)
+  gives_one (Receive from bytes) row = inl (arrived_gives from row.0 row.2)
   gives_one (Reply to id bytes) row = inl (none_by e.at e.answer _ row.1 refl)
   gives_one (Confirm to content wish) row = ⊎_elim (λ r. inl (none_by e.at e.answer _ r.answer refl))
       (λ r. plain_gives Con to content r.1) row.1

@@ -260,7 +260,7 @@ module _ (setup : Setup) (past : List Entry) (e : Entry) (p : Packet) (law : Lay
       }))
 
   row_out : (call : Call) → e.call ≡ call → Row setup past e call → GoesOut past e p
-  row_out (Receive from bytes) is row = arrived_out from bytes row.1.0 is row.1.1 row.1.2
+  row_out (Receive from bytes) is row = arrived_out from bytes row.0 is row.1 row.2
   row_out (Reply to id bytes) is row = subst (GoesOut past e) (one_out p _ e.out row.2 sends)
       (reply (record { id = id; awaited = row.0; call = is }))
   row_out (Confirm to content wish) is row = confirmed_out to content wish is row.1

@@ -4,13 +4,12 @@ use Rattle.coap_layer.specs.Examples.{began}
 use Rattle.std.proofs.Common.{◌≡◌, ◌<◌, inl, inr, ℕ, List, [], ◌∷◌, ◌++◌, true, refl, ap, subst, arith}
 use Rattle.coap_types.specs.declared.endpoint.Endpoint.{Endpoint}
 use Rattle.coap_types.specs.declared.message.Kind.TheVariants.{Con, Ack}
-use Rattle.coap_types.specs.Bytes.{AreBytes}
 use Rattle.coap_codec.specs.Message.{Message, Spells}
 use Rattle.coap_codec.specs.Reading.{extended, value_at, nibbles_at, option_at, walk_of, walk, payload_at, frame_fault}
 use Rattle.coap_codec.specs.Reading.{body_at}
 use Rattle.coap_codec.specs.Decoded.{decoded}
+use Rattle.coap_codec.specs.IsSpelled.{has_spelling, is_spelled}
 use Rattle.coap_codec.specs.Spelling.{options_bytes}
-use Rattle.coap_types.proofs.Facts.Bytes.{AreBytes-cons, AreBytes-nil}
 use Rattle.coap_layer.specs.Trace.{Content, Receive, Reply, Confirm, Request, Acked, Becomes, Nothing, Sent, Entry}
 use Rattle.coap_layer.specs.Words.{Open}
 use Rattle.coap_layer.specs.Rows.{LayerLaw, IsSpelled}
@@ -65,11 +64,6 @@ ack_spelled = record {
   empty = λ z. refl;
 }
 
-four_bytes : (a b c d : ℕ) → a < 256 → b < 256 → c < 256 → d < 256 → AreBytes (a ∷ b ∷ c ∷ d ∷ [])
-four_bytes a b c d h i j k =
-    AreBytes-cons a (b ∷ c ∷ d ∷ []) h (AreBytes-cons b (c ∷ d ∷ []) i
-    (AreBytes-cons c (d ∷ []) j (AreBytes-cons d [] k AreBytes-nil)))
-
 -- the calls of each, the newest first
 abbrev near_begins : Asked
 near_begins = record { now = 0; call = Confirm server get 1000; answer = Sent 0 }
@@ -90,29 +84,21 @@ abbrev far_run : List Asked
 far_run = far_replies ∷ far_takes ∷ []
 
 near_steps : Steps (start began) near_run (left_after (start began) near_run)
-unfolding decoded frame_fault body_at walk walk_of option_at nibbles_at value_at extended payload_at
+unfolding decoded frame_fault body_at walk walk_of option_at nibbles_at value_at extended payload_at is_spelled has_spelling options_bytes
 near_steps = (
   _,
   (_, refl, record { may = get_spelled; right = refl; new_is = refl }),
-  record {
-    may = four_bytes 0x60 0 0 0 (omega arith) (omega arith) (omega arith) (omega arith);
-    right = refl;
-    new_is = refl;
-  },
+  record { may = tt; right = refl; new_is = refl },
 )
 
 far_steps : Steps (start began) far_run (left_after (start began) far_run)
-unfolding decoded frame_fault body_at walk walk_of option_at nibbles_at value_at extended payload_at
+unfolding decoded frame_fault body_at walk walk_of option_at nibbles_at value_at extended payload_at is_spelled has_spelling options_bytes
 far_steps = (
   _,
   (
     _,
     refl,
-    record {
-      may = four_bytes 0x40 1 0 0 (omega arith) (omega arith) (omega arith) (omega arith);
-      right = refl;
-      new_is = refl;
-    },
+    record { may = tt; right = refl; new_is = refl },
   ),
   record { may = refl; right = refl; new_is = refl },
 )
@@ -141,7 +127,7 @@ hops =
     []
 
 reply_once : RepliesAtOnce (made (start began) 10 far_takes.call ∷ []) 10 0 ack
-unfolding decoded frame_fault body_at walk walk_of option_at nibbles_at value_at extended payload_at
+unfolding decoded frame_fault body_at walk walk_of option_at nibbles_at value_at extended payload_at is_spelled has_spelling options_bytes
 reply_once = record {
   to_what = record { from = client; message = request_message };
   latest = inl (refl, refl);
@@ -159,11 +145,11 @@ unfolding options_bytes
 request_out = record { out = inl refl; from = omega arith; till = omega arith }
 
 ack_out : GaveOut client ack 20 (made (left_after (start began) (far_takes ∷ [])) 10 far_replies.call)
-unfolding decoded frame_fault body_at walk walk_of option_at nibbles_at value_at extended payload_at
+unfolding decoded frame_fault body_at walk walk_of option_at nibbles_at value_at extended payload_at is_spelled has_spelling options_bytes
 ack_out = record { out = inl refl; from = omega arith; till = omega arith }
 
 channel : ChannelLaw began began client server hops
-unfolding decoded frame_fault body_at walk walk_of option_at nibbles_at value_at extended payload_at
+unfolding decoded frame_fault body_at walk walk_of option_at nibbles_at value_at extended payload_at is_spelled has_spelling options_bytes
 channel = record {
   near_law = near_lawful;
   far_law = far_lawful;
@@ -195,11 +181,11 @@ con = record { to = server; id = 0; bytes = request; timeout = 3000; first = 0; 
 
 hears : HearsAck con (made (start began) 0 near_begins.call ∷ [])
     (made (left_after (start began) (near_begins ∷ [])) 20 near_hears.call)
-unfolding decoded frame_fault body_at walk walk_of option_at nibbles_at value_at extended payload_at options_bytes
+unfolding decoded frame_fault body_at walk walk_of option_at nibbles_at value_at extended payload_at is_spelled has_spelling options_bytes
 hears = record { is_outstanding = inl refl; bytes = ack; call = refl; answer = inl refl }
 
 takes : Takes client con (made (start began) 10 far_takes.call)
-unfolding decoded frame_fault body_at walk walk_of option_at nibbles_at value_at extended payload_at
+unfolding decoded frame_fault body_at walk walk_of option_at nibbles_at value_at extended payload_at is_spelled has_spelling options_bytes
 takes = record { call = refl; up = refl; from = omega arith; till = omega arith }
 
 pub acknowledged : IsAcknowledged

@@ -10,7 +10,7 @@ pub record Shown : Type 0 where
   pub has_room : Bool
   pub replies : Bool
 
--- A reply may be given to the message that came from there with this id, and takes no memory.
+-- A reply may be given to the message that came from there with this id, and is not refused memory.
 pub record MayReply (s : Shown) (to : Endpoint) (id : ℕ) : Type 0 where
   pub awaited : s.state.awaits ≡ Some (record { from = to; id = id })
   pub room : s.has_room ≡ true

@@ -8,7 +8,6 @@ use Rattle.coap_types.specs.declared.endpoint.Endpoint.{Endpoint}
 use Rattle.coap_types.specs.declared.message.Kind.{Kind}
 use Rattle.coap_types.specs.declared.message.Kind.TheVariants.{Con, Non}
 use Rattle.coap_types.specs.SameEndpoint.{same_endpoint}
-use Rattle.coap_types.specs.Bytes.{AreBytes}
 use Rattle.coap_codec.specs.Spelling.{message_bytes}
 use Rattle.coap_layer.specs.BackOff.{factors}
 use Rattle.coap_layer.specs.Arrivals.{Arrival, Unreadable, Faulted, Whole, arrival_at}
@@ -262,7 +261,6 @@ made s now call =
 
 -- the caller's condition
 abbrev pub May : State → Call → Type 0
-May s (Receive from bytes) = AreBytes bytes
 May s (Reply to id bytes) = s.awaits ≡ Some (record { from = to; id = id })
 May s (Confirm to content word) = IsSpelled content
 May s (Plain to content) = IsSpelled content

@@ -7,7 +7,7 @@ use Rattle.coap_types.proofs.Facts.Paths.{same_path-decides}
 use Rattle.coap_types.proofs.Facts.Traces.{Ever_append}
 use Rattle.coap_block.specs.Whole.{Each}
 use Rattle.coap_resource.specs.Limits.{Limits}
-use Rattle.coap_server.specs.Trace.{Delay, Call, Sets, Removes, Delays, Plains, Feeds, Ticks, NextOut, Gets, TellsApplied}
+use Rattle.coap_server.specs.Trace.{Delay, Call, Delays}
 use Rattle.coap_server.specs.Deferring.{delay_of, others}
 use Rattle.coap_server.specs.Law.{own_of}
 use Rattle.coap_server.specs.Follows.Delayed.{DelaysStay, sets_delay}
@@ -49,28 +49,13 @@ module _ (limits : Limits) (szx : ℕ) where
           | inr e ↦ absurd e
         ]
       ]
-  gave path ms (Delays p m false ∷ t) h = inr (gave path ms t h)
-  gave path ms (Plains p answer ∷ t) h = inr (gave path ms t h)
-  gave path ms (Sets now p format body answer left ∷ t) h = inr (gave path ms t h)
-  gave path ms (Removes now p answer left ∷ t) h = inr (gave path ms t h)
-  gave path ms (Feeds now from bytes word up came k below ∷ t) h = inr (gave path ms t h)
-  gave path ms (Ticks now word below room d passed k id answer ∷ t) h = inr (gave path ms t h)
-  gave path ms (NextOut answer ∷ t) h = inr (gave path ms t h)
-  gave path ms (Gets p answer ∷ t) h = inr (gave path ms t h)
-  gave path ms (TellsApplied answer ∷ t) h = inr (gave path ms t h)
+  gave path ms (_ ∷ t) h = inr (gave path ms t h)
 
   kept : (t later : List Call) → Each (λ c. sets_delay c ≡ false) later
       → (own_of limits szx (later ++ t)).delays ≡ (own_of limits szx t).delays
   kept t [] h = refl
   kept t (Delays p m answer ∷ later) h = absurd (cc h.0)
-  kept t (Plains p answer ∷ later) h = kept t later h.1
-  kept t (Sets now p format body answer left ∷ later) h = kept t later h.1
-  kept t (Removes now p answer left ∷ later) h = kept t later h.1
-  kept t (Feeds now from bytes word up came k below ∷ later) h = kept t later h.1
-  kept t (Ticks now word below room d passed k id answer ∷ later) h = kept t later h.1
-  kept t (NextOut answer ∷ later) h = kept t later h.1
-  kept t (Gets p answer ∷ later) h = kept t later h.1
-  kept t (TellsApplied answer ∷ later) h = kept t later h.1
+  kept t (_ ∷ later) h = kept t later h.1
 
   pub delays_stay : (t : List Call) → DelaysStay limits szx t
   delays_stay t = record {

@@ -27,7 +27,7 @@ use Rattle.coap_exchange.specs.AskerRequests.{asked}
 use Rattle.coap_layer.proofs.Facts.CallsOfLayer.{left_same_nil}
 use Rattle.coap_layer.specs.declared.setup.Setup.{Setup}
 use Rattle.coap_exchange.proofs.Facts.ServerSide.{layer_stands, waits}
-use Rattle.coap_server.specs.Trace.{Waiting, Own, Handling, Silent, Replies, Serves, Waits, Notifies}
+use Rattle.coap_server.specs.Trace.{Waiting, Own, Handling, Serves}
 use Rattle.coap_server.specs.Trace.{Call, Ticks}
 use Rattle.coap_server.specs.Handling.{heard}
 use Rattle.coap_server.specs.Asks.{responding}
@@ -218,21 +218,11 @@ module _ (limits : Limits) (szx : ℕ) (setup : Setup) where
         → ServerLaw limits szx setup (Ticks now w L.Idle room (due.Ready a) passed h id answer ∷ t) → a ≡ x.asked
         → AnswersIt limits szx t (Ticks now w L.Idle room (due.Ready a) passed h id answer) x.asked
     ready_answered room a passed (Serves q reply left) id answer law same = inl (ap (λ b. Some b) same)
-    ready_answered room a passed Silent id answer law same = let k =
-        (ready_are_served limits szx setup (Ticks now w L.Idle room (due.Ready a) passed Silent id answer ∷ t) law).0 a
-        refl in let no = k.1 in absurd (cc no)
-    ready_answered room a passed (Replies r) id answer law same = let k =
-        (ready_are_served limits szx setup
-        (Ticks now w L.Idle room (due.Ready a) passed (Replies r) id answer ∷ t) law).0
-        a refl in let no = k.1 in absurd (cc no)
-    ready_answered room a passed (Waits q e) id answer law same = let k =
-        (ready_are_served limits szx setup
-        (Ticks now w L.Idle room (due.Ready a) passed (Waits q e) id answer ∷ t) law).0
-        a refl in let no = k.1 in absurd (cc no)
-    ready_answered room a passed (Notifies o reply) id answer law same = let k =
-        (ready_are_served limits szx setup
-        (Ticks now w L.Idle room (due.Ready a) passed (Notifies o reply) id answer ∷ t)
-        law).0 a refl in let no = k.1 in absurd (cc no)
+    ready_answered room a passed h id answer law same =
+        let k = (ready_are_served limits szx setup
+        (Ticks now w L.Idle room (due.Ready a) passed h id answer ∷ t) law).0 a refl in
+        let no = k.1 in
+        absurd (cc no)
 
     with_room : (d : Due) (passed : ℕ) (h : Handling) (id : ℕ) (answer : Bool)
         → ServerLaw limits szx setup (Ticks now w L.Idle true d passed h id answer ∷ t) → d ≡ due.Ready x.asked

@@ -116,7 +116,7 @@ module _ (limits : Limits) (szx : ℕ) (setup : Setup) where
           (left_is (S.start setup) before.left (W.lower_of calls) before.layer)
           ∙ (layer_led setup calls before).kept) in
           let held = arrived setup (W.below_of setup calls) _ m
-          (sym step.right) from stands.row.1.0 stands.row.1.2 in
+          (sym step.right) from stands.row.0 stands.row.2 in
           (held.0, subst (λ n. Withholds setup (W.below_of setup calls) (max n at)) clocks held.1)
 
   here : (t : List Call) (c : Call) → ServerLaw limits szx setup (c ∷ t)

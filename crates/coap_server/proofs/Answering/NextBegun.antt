@@ -14,20 +14,19 @@ use Rattle.coap_exchange.specs.declared.separate.Deferred.{Deferred}
 use Rattle.coap_exchange.specs.AnswererFollows.{responds}
 use Rattle.coap_exchange.specs.AnswererSteps as P
 use Rattle.coap_exchange.specs.AnswererTrace as E
-use Rattle.coap_server.specs.Trace.{Own, Handling, Silent, Replies, Serves, Waits, Notifies, Call, Ticks}
+use Rattle.coap_server.specs.Trace.{Own, Handling, Silent, Serves, Notifies, Call, Ticks}
 use Rattle.coap_server.specs.Asks.{responding}
-use Rattle.coap_server.specs.Deferring.{question_of}
 use Rattle.coap_server.specs.Handling.{heard, ticking}
-use Rattle.coap_server.specs.Notifying.{notification, readies, marked, behind}
+use Rattle.coap_server.specs.Notifying.{notification, readies, marked}
 use Rattle.coap_server.specs.Law.{ServerLaw, own_of}
 use Rattle.coap_server.specs.Follows.Attended.{CanAnswer, NoId}
 use Rattle.coap_server.specs.Follows.Begins.{IsFirst, CanNotify, NoneToAnswer, NoneToNotify, NoneLeft, BeginsNext}
 use Rattle.coap_server.specs.Follows.Begins.{IsNextResponse, IsNextNotice, AllBeginNext, FirstIsNotified}
 use Rattle.coap_server.specs.Follows.Observes.{Notice, notice}
-use Rattle.coap_server.proofs.Answering.TickTurns.{due_is, was_idle, next_is, response_next, notice_next, nothing_left}
+use Rattle.coap_server.proofs.Answering.TickTurns.{due_is, was_idle, response_next, notice_next, nothing_left}
 use Rattle.coap_server.proofs.Answering.TickTurns.{ready_first}
 use Rattle.coap_server.proofs.Answering.WhatCanGo.{first_never, first_one}
-use Rattle.coap_server.proofs.Observing.Outcomes.{never_notifies_ready}
+use Rattle.coap_server.proofs.Observing.Outcomes.{Turned, turned, copied, expired, lost, responded, rests, noticed}
 use Rattle.coap_server.proofs.Serving.Brought.{server_back}
 use Rattle.coap_server.specs.Plain.{by_plain}
 use Rattle.coap_server.proofs.Calls.NotifiesBy.{in_either}
@@ -100,12 +99,7 @@ module _ (limits : Limits) (szx : ℕ) (setup : Setup) (t : List Call) (now w : 
       in let z : None ≡ Some a = sym none ∙ e in absurd (cc z)
   responds_next below room due.Idle passed (Notifies o reply) id answer a law (inr k) =
       absurd (idle_responds below room passed a k)
-  responds_next below room due.Idle passed Silent id answer a law k = absurd (idle_responds below room passed a k)
-  responds_next below room due.Idle passed (Replies r) id answer a law k = absurd (idle_responds below room passed a k)
-  responds_next below room due.Idle passed (Serves q reply left) id answer a law k =
-      absurd (idle_responds below room passed a k)
-  responds_next below room due.Idle passed (Waits q delay) id answer a law k =
-      absurd (idle_responds below room passed a k)
+  responds_next below room due.Idle passed _ id answer a law k = absurd (idle_responds below room passed a k)
   responds_next below room _ passed _ id answer a law k = absurd k
 
   -- a notification
@@ -113,15 +107,18 @@ module _ (limits : Limits) (szx : ℕ) (setup : Setup) (t : List Call) (now w : 
       (answer : Bool)
       → ServerLaw limits szx setup (call below room d passed (Notifies o reply) id answer ∷ t)
       → IsNextNotice limits szx setup t now o
-  notifies_next below room due.Idle passed o reply id answer law =
-      let idle = was_idle limits szx setup t now w below room due.Idle passed (Notifies o reply) id answer law refl in
-      notice_next limits szx setup t now w room passed o reply id answer
-      (subst (λ u. ServerLaw limits szx setup (call u room due.Idle passed (Notifies o reply) id answer ∷ t)) idle law)
-  notifies_next below room due.Copied passed o reply id answer law = let k = law.rows.0.0 in absurd (cc k)
-  notifies_next below room due.Expired passed o reply id answer law = let k = law.rows.0.0 in absurd (cc k)
-  notifies_next below room (due.Ready a) passed o reply id answer law =
-      let s : Own = heard own now (ticking own now below room (due.Ready a)) in
-      absurd (never_notifies_ready (question_of s.clock a s.waiting) s.store s.clock o reply law.rows.0.0)
+  notifies_next below room d passed o reply id answer law =
+      by d (turned (heard own now (ticking own now below room d)) passed d (Notifies o reply) law.rows.0.0) law
+    where
+      by : (d : Due) → Turned (heard own now (ticking own now below room d)) passed d (Notifies o reply)
+          → ServerLaw limits szx setup (call below room d passed (Notifies o reply) id answer ∷ t)
+          → IsNextNotice limits szx setup t now o
+      by d (noticed _ _ found is) law =
+          let idle = was_idle limits szx setup t now w below room due.Idle passed
+          (Notifies o reply) id answer law refl in
+          notice_next limits szx setup t now w room passed o reply id answer
+          (subst (λ u. ServerLaw limits szx setup (call u room due.Idle passed (Notifies o reply) id answer ∷ t)) idle
+          law)
 
   begins_here : (below : L.Answer) (room : Bool) (d : Due) (passed : ℕ) (h : Handling) (id : ℕ) (answer : Bool)
       → ServerLaw limits szx setup (call below room d passed h id answer ∷ t)
@@ -140,10 +137,7 @@ module _ (limits : Limits) (szx : ℕ) (setup : Setup) (t : List Call) (now w : 
           let same : ◌≡◌ {A = Notice} (record { observer = o; reply = reply }) x = cc e in
           subst (λ (y : Notice). IsNextNotice limits szx setup t now y.observer) same
           (notifies_next below room d passed o reply id answer law)
-      by Silent law x e = absurd (cc e)
-      by (Replies r) law x e = absurd (cc e)
-      by (Serves q reply left) law x e = absurd (cc e)
-      by (Waits q delay) law x e = absurd (cc e)
+      by _ law x e = absurd (cc e)
 
   -- the first that can be notified
   module _ (o : Observer) (none : NoneToAnswer limits szx setup t now)
@@ -158,32 +152,30 @@ module _ (limits : Limits) (szx : ℕ) (setup : Setup) (t : List Call) (now w : 
         (ready_first limits szx setup t now w room a passed h id answer law).first none
 
     notified : (room : Bool) (d : Due) (passed : ℕ) (h : Handling) (id : ℕ) (answer : Bool)
+        → Turned (heard own now (ticking own now L.Idle room d)) passed d h
         → ServerLaw limits szx setup (call L.Idle room d passed h id answer ∷ t)
         → Goal (call L.Idle room d passed h id answer)
-    notified room (due.Ready a) passed h id answer law = absurd (served_no room a passed h id answer law)
-    notified room due.Copied passed h id answer law =
-        absurd ((not_again _ room).0 (due_is limits szx setup t now w L.Idle room due.Copied passed h id answer law))
-    notified room due.Expired passed h id answer law =
-        absurd ((not_again _ room).1 (due_is limits szx setup t now w L.Idle room due.Expired passed h id answer law))
-    notified room due.Idle passed Silent id answer law =
+    notified room d passed h id answer (responded a q reply left asks k) law =
+        absurd (served_no room a passed (Serves q reply left) id answer law)
+    notified room d passed h id answer (lost a unfound) law = absurd (served_no room a passed Silent id answer law)
+    notified room d passed h id answer copied law =
+        absurd ((not_again _ room).0
+        (due_is limits szx setup t now w L.Idle room due.Copied passed Silent id answer law))
+    notified room d passed h id answer expired law =
+        absurd ((not_again _ room).1
+        (due_is limits szx setup t now w L.Idle room due.Expired passed Silent id answer law))
+    notified room d passed h id answer (rests unfound) law =
         elim (nothing_left limits szx setup t now w room passed id answer law) [
           | inl held ↦ inr held
           | inr none ↦ absurd (first_never (CanNotify limits szx setup t) o own.observers first none.1)
         ]
-    notified room due.Idle passed (Notifies x reply) id answer law =
+    notified room d passed h id answer (noticed x reply found is) law =
         let k = notice_next limits szx setup t now w room passed x reply id answer law in
         inl (
           record { observer = x; reply = reply },
           refl,
           first_one (CanNotify limits szx setup t) x o own.observers k.first first,
         )
-    notified room due.Idle passed (Replies r) id answer law =
-        let no = next_is (behind passed (marked own.observers)) own.store (Replies r) law.rows.0.0 in absurd (cc no)
-    notified room due.Idle passed (Serves q reply left) id answer law =
-        let no = next_is (behind passed (marked own.observers)) own.store (Serves q reply left) law.rows.0.0 in absurd
-        (cc no)
-    notified room due.Idle passed (Waits q delay) id answer law =
-        let no = next_is (behind passed (marked own.observers)) own.store (Waits q delay) law.rows.0.0 in absurd (cc no)
 
 module _ (limits : Limits) (szx : ℕ) (setup : Setup) where
   pub none_left : (t : List Call) → ServerLaw limits szx setup t → NoneLeft limits szx setup t
@@ -203,12 +195,23 @@ module _ (limits : Limits) (szx : ℕ) (setup : Setup) where
     all_begin_next t (server_back limits szx setup c t law),
   )
 
+  by : (t : List Call) (now w : ℕ) (o : Observer) → NoneToAnswer limits szx setup t now
+      → IsFirst (CanNotify limits szx setup t) o (own_of limits szx t).observers → (room : Bool) (d : Due) (passed : ℕ)
+      (h : Handling) (id : ℕ) (answer : Bool)
+      → ServerLaw limits szx setup (Ticks now w L.Idle room d passed h id answer ∷ t)
+      → ((x : Notice) × (notice (Ticks now w L.Idle room d passed h id answer) ≡ Some x) × (x.observer ≡ o))
+      ⊎ NoId limits szx setup t now
+  by t now w o none first room d passed h id answer law =
+      let s : Own = own_of limits szx t in
+      notified limits szx setup t now w o none first room d passed h id answer
+      (turned (heard s now (ticking s now L.Idle room d)) passed d h law.rows.0.0) law
+
   pub first_is_notified : (t : List Call) → ServerLaw limits szx setup t → FirstIsNotified limits szx setup t
   first_is_notified [] law = tt
   first_is_notified (c ∷ t) law = (
     (λ now w room d passed h id answer o is none first.
         subst (λ b. ((x : Notice) × (notice b ≡ Some x) × (x.observer ≡ o)) ⊎ NoId limits szx setup t now) (sym is)
-        (notified limits szx setup t now w o none first room d passed h id answer
+        (by t now w o none first room d passed h id answer
         (subst (λ b. ServerLaw limits szx setup (b ∷ t)) is law))),
     first_is_notified t (server_back limits szx setup c t law),
   )

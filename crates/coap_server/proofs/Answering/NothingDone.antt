@@ -6,7 +6,6 @@ use Rattle.coap_layer.specs.Machine.Steps.{Asked as Below}
 use Rattle.coap_layer.specs.Trace as L
 use Rattle.coap_layer.specs.Words.{Open}
 use Rattle.coap_layer.specs.declared.setup.Setup.{Setup}
-use Rattle.coap_block.specs.Whole.{Each}
 use Rattle.coap_observe.specs.Observers.{Observer}
 use Rattle.coap_resource.specs.Limits.{Limits}
 use Rattle.coap_exchange.specs.declared.answerer.Due.{Due}

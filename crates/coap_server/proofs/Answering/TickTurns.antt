@@ -38,6 +38,7 @@ use Rattle.coap_server.proofs.Answering.RoomAsked.{Quiet, Says, never_both, quie
 use Rattle.coap_server.proofs.Answering.WhatCanGo.{Walked, walk, gives, first_notified, none_notified, ready_is}
 use Rattle.coap_server.proofs.Answering.WhatCanGo.{Found, first_found, none_found, asks_first, first_holds}
 use Rattle.coap_server.proofs.Exact.Asked.{joined, back, one_back}
+use Rattle.coap_server.proofs.Observing.Outcomes.{next_one}
 use Rattle.coap_server.proofs.Serving.Brought.{server_back, left_is}
 use Rattle.coap_server.proofs.Serving.FoundReady.{found_ready}
 
@@ -63,20 +64,6 @@ tick_kinds n (c ∷ cs) = by (is_failed n c) (is_copy_due n c) (tick_kinds n cs)
 pub next_silent : (n : Option Observer) (store : Content) → NotifiesNext n store Silent → n ≡ None
 next_silent None store h = refl
 next_silent (Some o) store h = absurd (cc h)
-
-pub next_notifies : (n : Option Observer) (store : Content) (o : Observer) (reply : Reply)
-    → NotifiesNext n store (Notifies o reply) → n ≡ Some o
-next_notifies None store o reply h = absurd (cc h)
-next_notifies (Some x) store o reply h = let same : o ≡ x = cc h in ap (λ (y : Observer). Some y) (sym same)
-
-abbrev is_of_a_turn : Handling → Bool
-is_of_a_turn Silent = true
-is_of_a_turn (Notifies o reply) = true
-is_of_a_turn _ = false
-
-pub next_is : (n : Option Observer) (store : Content) (h : Handling) → NotifiesNext n store h → is_of_a_turn h ≡ true
-next_is None store h k = ap is_of_a_turn k
-next_is (Some o) store h k = ap is_of_a_turn k
 
 -- what is served is what was asked
 served_asks : (o : Option Question) (q : Question) (store : Content) (at : ℕ) (p : Question) (reply : Reply)
@@ -283,7 +270,7 @@ module _ (limits : Limits) (szx : ℕ) (setup : Setup) (t : List Call) (now w : 
       let h : Handling = Notifies o reply in
       let all = all_law L.Idle room due.Idle passed h id answer law in
       let v = walked room passed h id answer law (one_back setup _ _ all) in
-      let found = next_notifies (behind passed (marked own.observers)) own.store o reply law.rows.0.0 in
+      let found = (next_one (behind passed (marked own.observers)) own.store o reply law.rows.0.0).0 in
       let may = gives limits szx setup t now passed (marked own.observers) o found v in
       record {
         none = elim (none_ready room passed h id answer law) [

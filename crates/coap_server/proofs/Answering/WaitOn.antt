@@ -12,7 +12,7 @@ use Rattle.coap_exchange.specs.declared.answerer.Due.TheVariants as due
 use Rattle.coap_server.specs.Deferring.{is_of, without_waiting}
 use Rattle.coap_server.specs.Law.{ServerLaw, own_of}
 use Rattle.coap_server.specs.Steps.{waiting_came}
-use Rattle.coap_server.specs.Trace.{Waiting, Handling, Silent, Replies, Serves, Waits, Notifies, Call}
+use Rattle.coap_server.specs.Trace.{Waiting, Handling, Serves, Waits, Call}
 use Rattle.coap_server.specs.Trace.{Feeds, Ticks}
 use Rattle.coap_server.specs.Follows.Attended.{AnswersIt}
 use Rattle.coap_server.specs.Follows.Waits.{WaitsStill, WaitOn}
@@ -52,18 +52,11 @@ module _ (limits : Limits) (szx : ℕ) (setup : Setup) where
       → ServerLaw limits szx setup (Ticks now w below room (due.Ready a) passed h id answer ∷ t) → (b : Asked) → a ≡ b
       → AnswersIt limits szx t (Ticks now w below room (due.Ready a) passed h id answer) b
   ready_sends t now w below room a passed (Serves q reply left) id answer law b same = inl (ap (λ x. Some x) same)
-  ready_sends t now w below room a passed Silent id answer law b same = let k =
-      (ready_are_served limits szx setup (Ticks now w below room (due.Ready a) passed Silent id answer ∷ t) law).0 a refl
-      in let no = k.1 in absurd (cc no)
-  ready_sends t now w below room a passed (Replies r) id answer law b same = let k =
-      (ready_are_served limits szx setup (Ticks now w below room (due.Ready a) passed (Replies r) id answer ∷ t) law).0 a
-      refl in let no = k.1 in absurd (cc no)
-  ready_sends t now w below room a passed (Waits q e) id answer law b same = let k =
-      (ready_are_served limits szx setup (Ticks now w below room (due.Ready a) passed (Waits q e) id answer ∷ t) law).0 a
-      refl in let no = k.1 in absurd (cc no)
-  ready_sends t now w below room a passed (Notifies o reply) id answer law b same = let k =
-      (ready_are_served limits szx setup (Ticks now w below room (due.Ready a) passed (Notifies o reply) id answer ∷ t)
-      law).0 a refl in let no = k.1 in absurd (cc no)
+  ready_sends t now w below room a passed h id answer law b same =
+      let k = (ready_are_served limits szx setup (Ticks now w below room (due.Ready a) passed h id answer ∷ t) law).0 a
+      refl in
+      let no = k.1 in
+      absurd (cc no)
 
   here : (t : List Call) (c : Call) → ServerLaw limits szx setup (c ∷ t) → (x : Waiting) → WaitsStill limits szx x t
       → WaitsStill limits szx x (c ∷ t) ⊎ AnswersIt limits szx t c x.asked

@@ -1,19 +1,13 @@
 -- A request that is served: a GET applies and changes nothing, and a request of another method observes nothing (RFC
 -- 7252, section 5.8; RFC 7641, section 4.1).
-use Rattle.std.proofs.Common.{◌≡◌, ℕ, ◌&&◌, Bool, true, false, not, is_some, Option, Some, None, List, [], length, refl}
-use Rattle.std.proofs.Common.{ap, sym, subst, ◌∙◌, if◌then◌else◌}
-use Rattle.std.specs.Prelude.{nat_le, nat_lt}
+use Rattle.std.proofs.Common.{◌≡◌, ℕ, Bool, true, false, Option, None, List, [], refl, ap, sym, subst, ◌∙◌}
 use Rattle.std.proofs.lemmas.Bool.{eq-eqb}
-use Rattle.coap_types.specs.CoapOption.{CoapOption}
-use Rattle.coap_types.specs.declared.message.TheConstants.Code as codes
-use Rattle.coap_types.specs.declared.block.Block.{Block}
 use Rattle.coap_types.specs.declared.request.Method.TheVariants.{Get}
 use Rattle.coap_observe.specs.Observers.{Observer}
-use Rattle.coap_resource.specs.Content.{Content, Held}
-use Rattle.coap_resource.specs.RequestOptions.{accepts, block_of, etag_names, offset_by, precondition_fails, szx_by}
-use Rattle.coap_resource.specs.RequestOptions.{tag_of}
-use Rattle.coap_resource.specs.Serves.{Question, Reply, Serves, ServesMethod, ServesUnless, got, got_at, bare}
-use Rattle.coap_resource.specs.Serves.{content_reply}
+use Rattle.coap_resource.specs.Content.{Content}
+use Rattle.coap_resource.specs.RequestOptions.{precondition_fails}
+use Rattle.coap_resource.specs.Serves.{Question, Reply, Serves, ServesMethod, ServesUnless}
+use Rattle.coap_resource.proofs.Facts.Outcomes.{got_by}
 use Rattle.coap_exchange.specs.declared.answerer.Asked.{Asked}
 use Rattle.coap_exchange.specs.AnswererTrace as E
 use Rattle.coap_server.specs.Trace.{Applied}
@@ -22,41 +16,18 @@ use Rattle.coap_server.specs.Responses.{response_with}
 use Rattle.coap_server.specs.Serving.{applied_by, is_applied}
 use Rattle.coap_server.specs.Uploads.{last_block}
 use Rattle.coap_server.specs.Object.Handled.{ServesRequest}
-
-one_of : (a b c : Bool) (w x y z : Reply) → is_applied w.code ≡ false → is_applied x.code ≡ false
-    → is_applied y.code ≡ false → is_applied z.code ≡ false
-    → is_applied (if a then w else if b then x else if c then y else z).code ≡ false
-one_of true b c w x y z h i j k = h
-one_of false true c w x y z h i j k = i
-one_of false false true w x y z h i j k = j
-one_of false false false w x y z h i j k = k
-
-at : (held : Held) (options : List CoapOption) (szx : ℕ) (block : Option Block)
-    → is_applied (got_at held options szx block).code ≡ false
-at held options szx block =
-    one_of (not (accepts held.format options)) (etag_names held.version options)
-    (nat_lt 0 (offset_by block) && nat_le (length held.body) (offset_by block))
-    (bare codes.NOT_ACCEPTABLE.0 (offset_by block))
-    (record (bare codes.VALID.0 (offset_by block)) { tag = Some (tag_of held.version) })
-    (bare codes.BAD_REQUEST.0 (offset_by block))
-    (content_reply held (is_some block) (offset_by block) (szx_by block szx)) refl refl refl refl
-
-got_applies : (held : Option Held) (q : Question) → is_applied (got held q).code ≡ false
-got_applies None q = refl
-got_applies (Some held) q = at held q.options q.szx (block_of q.options)
-
-by : (fails : Bool) (old : Content) (at : ℕ) (q : Question) (reply : Reply) (left : Content) → q.method ≡ Get
-    → ServesUnless fails old at q reply left
-    → (is_applied reply.code ≡ false) × (left ≡ old)
-by true old now q reply left get h = (ap (λ (r : Reply). is_applied r.code) h.0, h.1)
-by false old now q reply left get h =
-    let served = subst (λ m. ServesMethod m old now q reply left) get h in
-    (ap (λ (r : Reply). is_applied r.code) served.0 ∙ got_applies (old.holds q.path) q, served.1)
+use Rattle.coap_server.proofs.Holding.AppliedWhole.{got_not}
 
 pub gets : (old : Content) (at : ℕ) (q : Question) (reply : Reply) (left : Content) → q.method ≡ Get
     → Serves old at q reply left
     → (is_applied reply.code ≡ false) × (left ≡ old)
-gets old now q reply left get h = by (precondition_fails (old.holds q.path) q.options) old now q reply left get h
+gets old at q reply left get h = by (precondition_fails (old.holds q.path) q.options) h
+  where
+    by : (fails : Bool) → ServesUnless fails old at q reply left → (is_applied reply.code ≡ false) × (left ≡ old)
+    by true k = (ap (λ (r : Reply). is_applied r.code) k.0, k.1)
+    by false k =
+        let served = subst (λ m. ServesMethod m old at q reply left) get k in
+        (got_not (old.holds q.path) q reply (got_by (old.holds q.path) q reply served.0), served.1)
 
 same_version : (now : ℕ) (path : List (List ℕ)) (store : Content) (os : List Observer)
     → marked_if now path store store os ≡ os

@@ -12,8 +12,8 @@ use Rattle.coap_server.specs.Trace.{Handling, Call, Ticks}
 use Rattle.coap_server.specs.Led.{State, Led, Step}
 use Rattle.coap_server.proofs.Exact.Leads.{led_further, led_lawful, led_state}
 use Rattle.coap_server.proofs.Rest.Ending.{size, less, size_is}
-use Rattle.coap_server.specs.declared.server.delaying.DelayRefusal.{DelayRefusal}
-use Rattle.coap_server.specs.declared.server.delaying.DelayRefusal.TheVariants as delay_refusals
+use Rattle.coap_server.specs.declared.server.delays.DelayRefusal.{DelayRefusal}
+use Rattle.coap_server.specs.declared.server.delays.DelayRefusal.TheVariants as delay_refusals
 use Rattle.coap_server.specs.declared.server.plain.PlainRefusal.{PlainRefusal}
 use Rattle.coap_server.specs.declared.server.plain.PlainRefusal.TheVariants as plain_refusals
 use Rattle.coap_server.specs.Object.Shown.{IsTimed, Kept, state_of}

@@ -10,8 +10,7 @@ use Rattle.coap_exchange.specs.AnswererTrace as E
 use Rattle.coap_exchange.specs.AnswererLaw as X
 use Rattle.coap_exchange.specs.AnswererSteps as P
 use Rattle.coap_exchange.proofs.Facts.ServerSide.{led_start, led_exchanged, led_law}
-use Rattle.coap_server.specs.Trace.{Own, Call, Sets, Removes, Delays, Plains, Feeds, Ticks, NextOut, Gets}
-use Rattle.coap_server.specs.Trace.{TellsApplied}
+use Rattle.coap_server.specs.Trace.{Own, Call, Feeds, Ticks, NextOut}
 use Rattle.coap_server.specs.Handling.{incoming, ticking, heard}
 use Rattle.coap_server.specs.Asks.{answering, responding, lower}
 use Rattle.coap_server.specs.Steps.{IsRight, after, exchanges_after}
@@ -32,12 +31,6 @@ kept_behind s first asks past e = ap (λ z. exchanges_after (P.after z first) as
 pub exchanges_kept : (limits : Limits) (szx : ℕ) (t : List Call)
     → (own_of limits szx t).exchanges ≡ X.own_of (lower_of limits szx t)
 exchanges_kept limits szx [] = refl
-exchanges_kept limits szx (Sets now path format body answer left ∷ t) = exchanges_kept limits szx t
-exchanges_kept limits szx (Removes now path answer left ∷ t) = exchanges_kept limits szx t
-exchanges_kept limits szx (Delays path ms answer ∷ t) = exchanges_kept limits szx t
-exchanges_kept limits szx (Plains path answer ∷ t) = exchanges_kept limits szx t
-exchanges_kept limits szx (Gets path answer ∷ t) = exchanges_kept limits szx t
-exchanges_kept limits szx (TellsApplied answer ∷ t) = exchanges_kept limits szx t
 exchanges_kept limits szx (Feeds now from bytes word up came h below ∷ t) =
     let s : Own = own_of limits szx t in
     let first : E.Call = incoming s now from bytes up came in
@@ -49,6 +42,7 @@ exchanges_kept limits szx (Ticks now word below room d passed h id answer ∷ t)
     kept_behind s.exchanges first (responding (heard s now first) d passed h word id) (lower_of limits szx t)
     (exchanges_kept limits szx t)
 exchanges_kept limits szx (NextOut answer ∷ t) = ap (λ s. P.after s (E.Take answer)) (exchanges_kept limits szx t)
+exchanges_kept limits szx (_ ∷ t) = exchanges_kept limits szx t
 
 module _ (limits : Limits) (szx : ℕ) (setup : Setup) where
   pub led_empty : Led limits szx setup [] (fresh_state limits szx setup)

@@ -1,71 +1,35 @@
 -- The versions of a server's changes are 1, 2, 3 and so on; a path holds its last change; the limits stay; what is
 -- served is served right.
-use Rattle.std.proofs.Common.{◌≡◌, inl, inr, ℕ, ◌+◌, ◌==◌, max, Bool, true, false, Option, Some, None, List, [], ◌∷◌}
-use Rattle.std.proofs.Common.{refl, ap, sym, subst, ◌∙◌, cond, arith, length}
+use Rattle.std.proofs.Common.{◌≡◌, inl, inr, ℕ, ◌+◌, ◌==◌, Bool, true, false, Option, Some, None, List, [], ◌∷◌}
+use Rattle.std.proofs.Common.{refl, ap, sym, subst, ◌∙◌, cond, arith}
 use Rattle.std.specs.Cmp.{unsigned_Decides}
 use Rattle.coap_types.specs.Path.{same_path}
 use Rattle.coap_types.proofs.Facts.Paths.{same_path-decides}
-use Rattle.coap_resource.specs.Content.{Content, put_refusal}
-use Rattle.coap_resource.specs.Rate.{rate_refusal}
-use Rattle.coap_resource.specs.Serves.{Question}
-use Rattle.coap_resource.specs.Serves as R
+use Rattle.coap_resource.specs.Content.{Content}
 use Rattle.coap_resource.specs.Limits.{Limits}
-use Rattle.coap_exchange.specs.declared.answerer.Due.TheVariants as due
-use Rattle.coap_server.specs.Trace.{Own, Serves, Call, Sets, Removes}
+use Rattle.coap_server.specs.Trace.{Own, Call}
 use Rattle.coap_server.specs.Trace.{Feeds, Ticks}
 use Rattle.coap_server.specs.Serving.{is_applied}
-use Rattle.coap_server.specs.Deferring.{question_of}
-use Rattle.coap_server.specs.Notifying.{marked, behind}
-use Rattle.coap_server.specs.Handling.{incoming, ticking, heard}
 use Rattle.coap_server.specs.Steps.{IsRight, after}
 use Rattle.coap_server.specs.Law.{own_of, ServerRows}
-use Rattle.coap_server.specs.Follows.Serves.{Serving, serving, serving_of}
+use Rattle.coap_server.specs.Follows.Serves.{Serving, serving}
 use Rattle.coap_server.specs.Follows.Holds.{Change, change_of, changed_by, change, counted, held_then}
 use Rattle.coap_server.specs.Follows.Holds.{changes, held_at, HoldsChanges, AllServed}
-use Rattle.coap_server.proofs.Observing.StoreChanges.{Effect, IsKept, IsChanged, served_effect, sets_effect}
-use Rattle.coap_server.proofs.Observing.StoreChanges.{removes_effect}
-use Rattle.coap_server.proofs.Observing.Outcomes.{serves_came, serves_waited}
-use Rattle.coap_server.proofs.Observing.StoreSteps.{next_serves}
+use Rattle.coap_server.proofs.Observing.StoreChanges.{Effect, IsChanged}
+use Rattle.coap_server.proofs.Observing.StoreSteps.{is_stored, none_kept}
+use Rattle.coap_server.proofs.Serving.ServedNow.{is_serving}
 use Rattle.coap_server.proofs.Holding.AppliedWhole.{applied_whole, kept_or_applied}
 
--- a call that serves does so by the store's table
-pub serves_right : (s : Own) (c : Call) → IsRight s c → (x : Serving) → serving s c ≡ Some x
-    → (at : ℕ) × (x.old ≡ s.store) × R.Serves x.old at x.question x.reply x.left
-serves_right s (Feeds now from bytes word up (Some p) (Serves q reply left) below) right x h =
-    let w : Own = heard s now (incoming s now from bytes up (Some p)) in
-    let same : ◌≡◌ {A = Serving} (serving_of w p.0 q reply left) x = cc h in (
-      w.clock,
-      sym (ap (λ (y : Serving). y.old) same),
-      subst (λ (y : Serving). R.Serves y.old w.clock y.question y.reply y.left) same
-          (serves_came w p q reply left right),
-    )
-serves_right s (Ticks now word below room (due.Ready a) passed (Serves q reply left) id answer) right x h =
-    let w : Own = heard s now (ticking s now below room (due.Ready a)) in
-    let same : ◌≡◌ {A = Serving} (serving_of w a q reply left) x = cc h in (
-      w.clock,
-      sym (ap (λ (y : Serving). y.old) same),
-      subst (λ (y : Serving). R.Serves y.old w.clock y.question y.reply y.left) same
-          (serves_waited (question_of w.clock a w.waiting) w.store w.clock q reply left right.0),
-    )
-serves_right s _ right x e = absurd (cc e)
-
 -- what a change leaves
-
-is_same : (n : ℕ) → (n == n) ≡ true
-is_same n = (unsigned_Decides n n).1 refl
 
 is_next : (n m : ℕ) (b : Bool) → (n == m) ≡ b → n ≡ m + 1 → b ≡ false
 is_next n m true h k = let e : n ≡ m = (unsigned_Decides n m).0 h in absurd (omega (arith, e, k))
 is_next n m false h k = refl
 
-abbrev some_change : List (List ℕ) → Content → Change
+abbrev pub some_change : List (List ℕ) → Content → Change
 some_change path left = record { path = path; version = left.tally.version; held = left.holds path }
 
-none_kept : (path : List (List ℕ)) (at : ℕ) (old left : Content) → IsKept at old left → change_of path old left ≡ None
-none_kept path at old left k = ap (λ b. cond b None (Some (some_change path left)))
-    (ap (λ v. v == old.tally.version) k.version ∙ is_same old.tally.version)
-
-one_changed : (path : List (List ℕ)) (at : ℕ) (old left : Content) → IsChanged path at old left
+pub one_changed : (path : List (List ℕ)) (at : ℕ) (old left : Content) → IsChanged path at old left
     → change_of path old left ≡ Some (some_change path left)
 one_changed path at old left k = ap (λ b. cond b None (Some (some_change path left)))
     (is_next left.tally.version old.tally.version (left.tally.version == old.tally.version) refl k.version)
@@ -83,7 +47,7 @@ held_by path other at old left k true h = ap left.holds (sym ((same_path-decides
 held_by path other at old left k false h = k.others other
     (λ e. let same : same_path path other ≡ true = (same_path-decides path other).1 (sym e) in cc (same, h))
 
-pub moves : (path : List (List ℕ)) (at : ℕ) (old left : Content) → Effect path at old left
+moves : (path : List (List ℕ)) (at : ℕ) (old left : Content) → Effect path at old left
     → Moves old left (change_of path old left)
 moves path at old left (inl k) =
     subst (Moves old left) (sym (none_kept path at old left k))
@@ -103,34 +67,11 @@ moves path at old left (inr k) =
           ≡ y.version = ap (λ (z : Change). z.version) same in let v = k.version in omega (arith, e, v));
     })
 
-stays : (s : Own) → Moves s.store s.store None
-stays s = record { version = omega arith; limits = refl; held = λ path. refl; new = λ y h. absurd (cc h) }
-
-serving_moves : (s : Own) (c : Call) → IsRight s c → (x : Serving) → serving s c ≡ Some x
-    → Moves x.old x.left (change_of x.question.path x.old x.left)
-serving_moves s c right x h = let k = serves_right s c right x h in moves x.question.path k.0 x.old x.left
-    (served_effect x.old k.0 x.question x.reply x.left k.2)
-
 pub moves_by : (s : Own) (c : Call) → IsRight s c → Moves s.store (after s c).store (change s c)
-moves_by s (Sets now path format body answer left) right =
-    moves path (max s.clock now) s.store left (sets_effect (put_refusal s.store (max s.clock now) path (length body)) s.store
-    (max s.clock now) path format body answer left refl right)
-moves_by s (Removes now path answer left) right =
-    moves path (max s.clock now) s.store left (removes_effect (s.store.holds path) (rate_refusal s.store.tally (max s.clock now)) s.store
-    (max s.clock now) path answer left refl right)
-moves_by s (Feeds now from bytes word up (Some p) (Serves q reply left) below) right =
-    serving_moves s (Feeds now from bytes word up (Some p) (Serves q reply left) below) right _ refl
-moves_by s (Ticks now word below room (due.Ready a) passed (Serves q reply left) id answer) right =
-    serving_moves s (Ticks now word below room (due.Ready a) passed (Serves q reply left) id answer) right _ refl
-moves_by s (Feeds now from bytes word up None (Serves q reply left) below) right = absurd (cc right)
-moves_by s (Ticks now word below room due.Idle passed (Serves q reply left) id answer) right =
-    let w : Own = heard s now (ticking s now below room due.Idle) in absurd
-    (next_serves (behind passed (marked w.observers)) w.store q reply left right.0)
-moves_by s (Ticks now word below room due.Copied passed (Serves q reply left) id answer) right = let e =
-    right.0 in absurd (cc e)
-moves_by s (Ticks now word below room due.Expired passed (Serves q reply left) id answer) right = let e =
-    right.0 in absurd (cc e)
-moves_by s _ right = stays s
+moves_by s c right =
+    let k = is_stored s c right in
+    subst (Moves s.store (after s c).store) (sym k.change_is)
+    (moves k.path (after s c).clock s.store (after s c).store k.effect)
 
 module _ (limits : Limits) (szx : ℕ) where
   pub version_is : (t : List Call) → ServerRows limits szx t
@@ -170,9 +111,8 @@ served_changes s _ x y h k = absurd (cc h)
 applied_by : (s : Own) (c : Call) → IsRight s c → (x : Serving) (y : Change) → serving s c ≡ Some x
     → change s c ≡ Some y → is_applied x.reply.code ≡ true
 applied_by s c right x y h k =
-    let r = serves_right s c right x h in
-    elim (kept_or_applied x.old r.0 x.question x.reply x.left r.2) [
-      | inl kept ↦ (let e = none_kept x.question.path r.0 x.old x.left kept in let f =
+    elim (kept_or_applied x.old (after s c).clock x.question x.reply x.left (is_serving s c right x h).serves) [
+      | inl kept ↦ (let e = none_kept x.question.path (after s c).clock x.old x.left kept in let f =
           served_changes s c x y h k in absurd (cc (e, f)))
       | inr good ↦ good
     ]
@@ -181,8 +121,9 @@ pub all_served : (limits : Limits) (szx : ℕ) (t : List Call) → ServerRows li
 all_served limits szx [] law = tt
 all_served limits szx (c ∷ t) law = (
   record {
-    serves = λ x h. (let k = serves_right (own_of limits szx t) c law.0 x h in (k.0, k.2));
-    applied = λ x h yes. (let k = serves_right (own_of limits szx t) c law.0 x h in applied_whole x k.0 k.2 yes);
+    serves = λ x h. ((own_of limits szx (c ∷ t)).clock, (is_serving (own_of limits szx t) c law.0 x h).serves);
+    applied = λ x h yes.
+        applied_whole x (own_of limits szx (c ∷ t)).clock (is_serving (own_of limits szx t) c law.0 x h).serves yes;
     changes_by = λ x y h k. applied_by (own_of limits szx t) c law.0 x y h k;
   },
   all_served limits szx t law.1,

@@ -1,5 +1,6 @@
 -- What a 2.05 shows, and what a notification tells, its path holds.
-use Rattle.std.proofs.Common.{◌≡◌, ◌⊎◌, inl, inr, ℕ, Option, Some, None, List, [], ◌∷◌, refl, ap, sym, subst, ◌∙◌}
+use Rattle.std.proofs.Common.{◌≡◌, ◌⊎◌, inl, inr, ℕ, Bool, Option, Some, None, List, [], ◌∷◌, refl, ap, sym, subst, ◌∙◌}
+use Rattle.coap_layer.specs.Trace as L
 use Rattle.coap_observe.specs.Observers.{Observer}
 use Rattle.coap_resource.specs.Content.{Content, Held}
 use Rattle.coap_resource.specs.RequestOptions.{precondition_fails, tag_of}
@@ -9,21 +10,19 @@ use Rattle.coap_resource.specs.Serves as R
 use Rattle.coap_resource.proofs.Facts.Served.{content_law}
 use Rattle.coap_resource.proofs.Facts.Served.{part_law}
 use Rattle.coap_resource.specs.Limits.{Limits}
-use Rattle.coap_exchange.specs.declared.answerer.Due.TheVariants as due
+use Rattle.coap_exchange.specs.declared.answerer.Due.{Due}
 use Rattle.coap_common.specs.SuccessCodes.{content}
-use Rattle.coap_server.specs.Trace.{Own, Serves, Notifies, Call}
-use Rattle.coap_server.specs.Trace.{Feeds, Ticks}
-use Rattle.coap_server.specs.Deferring.{question_of}
-use Rattle.coap_server.specs.Notifying.{marked, behind, told, asks_for}
-use Rattle.coap_server.specs.Handling.{incoming, ticking, heard}
-use Rattle.coap_server.specs.Steps.{after}
+use Rattle.coap_server.specs.Trace.{Own, Notifies, Call}
+use Rattle.coap_server.specs.Trace.{Ticks}
+use Rattle.coap_server.specs.Notifying.{told, asks_for}
+use Rattle.coap_server.specs.Handling.{ticking, heard}
 use Rattle.coap_server.specs.Law.{own_of, ServerRows}
-use Rattle.coap_server.specs.Follows.Serves.{Serving, serving, serving_of}
+use Rattle.coap_server.specs.Follows.Serves.{Serving, serving}
 use Rattle.coap_server.specs.Follows.Holds.{held_at}
 use Rattle.coap_server.specs.Follows.Shows.{notice_in, Shows, ShowsHeld, NoticesShow}
-use Rattle.coap_server.proofs.Holding.Holds.{serves_right, held_is}
-use Rattle.coap_server.proofs.Observing.Outcomes.{never_notifies_ready}
-use Rattle.coap_server.proofs.Replying.ResponsesHaveRequests.{next_told}
+use Rattle.coap_server.proofs.Holding.Holds.{held_is}
+use Rattle.coap_server.proofs.Serving.ServedNow.{is_serving}
+use Rattle.coap_server.proofs.Observing.Outcomes.{Turned, turned, noticed}
 
 -- a 2.05 of the store
 record Tells (old : Content) (path : List (List ℕ)) (reply : Reply) : Type 0 where
@@ -50,16 +49,6 @@ tells_so old left at q reply h code =
       part = p.2;
     }
 
--- what a call that serves leaves
-left_is : (s : Own) (c : Call) (x : Serving) → serving s c ≡ Some x → (after s c).store ≡ x.left
-left_is s (Feeds now from bytes word up (Some p) (Serves q reply left) below) x h =
-    ap (λ (y : Serving). y.left) (let same : ◌≡◌ {A = Serving}
-    (serving_of (heard s now (incoming s now from bytes up (Some p))) p.0 q reply left) x = cc h in same)
-left_is s (Ticks now word below room (due.Ready a) passed (Serves q reply left) id answer) x h =
-    ap (λ (y : Serving). y.left) (let same : ◌≡◌ {A = Serving}
-    (serving_of (heard s now (ticking s now below room (due.Ready a))) a q reply left) x = cc h in same)
-left_is s _ x e = absurd (cc e)
-
 -- a notification
 abbrev Notice : Content → Observer → Reply → Type 0
 Notice store o reply = Tells store o.path reply ⊎ ((store.holds o.path ≡ None) × (reply ≡ R.bare 132 0))
@@ -83,11 +72,12 @@ module _ (limits : Limits) (szx : ℕ) where
       → serving (own_of limits szx t) c ≡ Some x → x.reply.code ≡ content
       → Shows limits szx x.question.path x.reply (c ∷ t)
   shown_now t c rows x is code =
-      let right = serves_right (own_of limits szx t) c rows.0 x is in
-      let w = tells_so x.old x.left right.0 x.question x.reply right.2 code in
-      let same = (content_law x.old x.left right.0 x.question x.reply right.2 code).same in
+      let at = (own_of limits szx (c ∷ t)).clock in
+      let k = is_serving (own_of limits szx t) c rows.0 x is in
+      let w = tells_so x.old x.left at x.question x.reply k.serves code in
+      let same = (content_law x.old x.left at x.question x.reply k.serves code).same in
       let now : (own_of limits szx (c ∷ t)).store.holds x.question.path
-      ≡ Some w.held = ap (λ (s : Content). s.holds x.question.path) (left_is (own_of limits szx t) c x is ∙ same)
+      ≡ Some w.held = ap (λ (s : Content). s.holds x.question.path) (k.left ∙ same)
       ∙ w.is_held in
       record {
         held = w.held;
@@ -123,20 +113,20 @@ module _ (limits : Limits) (szx : ℕ) where
         | inr w ↦ inr (sym there ∙ w.0, w.1)
       ]
 
+  told_at : (t : List Call) (now w : ℕ) (below : L.Answer) (room : Bool) (d : Due) (passed : ℕ) (o : Observer)
+      (reply : Reply) (id : ℕ) (answer : Bool)
+      → ServerRows limits szx (Ticks now w below room d passed (Notifies o reply) id answer ∷ t)
+      → Turned (heard (own_of limits szx t) now (ticking (own_of limits szx t) now below room d)) passed d
+      (Notifies o reply)
+      → Noticed t (Ticks now w below room d passed (Notifies o reply) id answer) (o, reply)
+  told_at t now w below room d passed o reply id answer rows (noticed _ _ found is) = told_now t _ o reply rows refl is
+
   notice_here : (t : List Call) (c : Call) → ServerRows limits szx (c ∷ t) → (p : Observer × Reply)
       → notice_in c ≡ Some p → Noticed t c p
-  notice_here t (Ticks now word below room due.Idle passed (Notifies o reply) id answer) rows p is =
-      let s : Own = heard (own_of limits szx t) now (ticking (own_of limits szx t) now below room due.Idle) in
-      let c : Call = Ticks now word below room due.Idle passed (Notifies o reply) id answer in
-      subst (Noticed t c) (one_notice (o, reply) p is)
-      (told_now t c o reply rows refl (next_told (behind passed (marked s.observers)) s.store o reply rows.0.0))
-  notice_here t (Ticks now word below room due.Copied passed (Notifies o reply) id answer) rows p is = let e =
-      rows.0.0 in absurd (cc e)
-  notice_here t (Ticks now word below room due.Expired passed (Notifies o reply) id answer) rows p is = let e =
-      rows.0.0 in absurd (cc e)
-  notice_here t (Ticks now word below room (due.Ready a) passed (Notifies o reply) id answer) rows p is =
-      let s : Own = heard (own_of limits szx t) now (ticking (own_of limits szx t) now below room (due.Ready a)) in
-      absurd (never_notifies_ready (question_of s.clock a s.waiting) s.store s.clock o reply rows.0.0)
+  notice_here t (Ticks now w below room d passed (Notifies o reply) id answer) rows p is =
+      let s : Own = heard (own_of limits szx t) now (ticking (own_of limits szx t) now below room d) in
+      subst (Noticed t (Ticks now w below room d passed (Notifies o reply) id answer)) (one_notice (o, reply) p is)
+      (told_at t now w below room d passed o reply id answer rows (turned s passed d (Notifies o reply) rows.0.0))
   notice_here t _ rows p is = absurd (cc is)
 
   pub notices_show : (t : List Call) → ServerRows limits szx t → NoticesShow limits szx t

@@ -17,7 +17,7 @@ use Rattle.coap_server.specs.Observers.{marked_if, unless_ended}
 use Rattle.coap_server.specs.Law.{ServerLaw, own_of}
 use Rattle.coap_server.proofs.Observing.LivesOn.{changed_made, changed_since, kept_since, or_left}
 use Rattle.coap_server.proofs.Observing.ObserverSteps.{EachKeeps, call_kept}
-use Rattle.coap_server.proofs.Observing.ObserversWereMade.{each_kept, each_map, each_with}
+use Rattle.coap_server.proofs.Calls.EachOf.{each_kept, each_map, each_with}
 use Rattle.coap_server.proofs.Observing.StoreChanges.{Effect, IsChanged, IsKept}
 use Rattle.coap_server.proofs.Serving.Brought.{server_back}
 

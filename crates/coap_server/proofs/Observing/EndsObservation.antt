@@ -1,4 +1,4 @@
--- Of what is told to have ended, the observation ends; what is served, the store served; what a request reads.
+-- Of what is told to have ended, the observation ends; no answer of the store asks for a further block.
 use Rattle.std.proofs.Common.{◌≡◌, ℕ, max, Bool, true, Option, Some, None, List, [], ◌∷◌, ◌++◌, ap, subst, ◌∙◌, cond}
 use Rattle.coap_types.specs.declared.endpoint.Endpoint.{Endpoint}
 use Rattle.coap_codec.specs.Message.{Message}
@@ -6,8 +6,6 @@ use Rattle.coap_layer.specs.Trace as L
 use Rattle.coap_layer.specs.declared.setup.Setup.{Setup}
 use Rattle.coap_observe.specs.Observers.{Observer, registration, removed}
 use Rattle.coap_observe.proofs.Facts.Registrations.{registration-removed}
-use Rattle.coap_resource.specs.Serves.{Question, Reply}
-use Rattle.coap_resource.specs.Serves as R
 use Rattle.coap_resource.specs.Limits.{Limits}
 use Rattle.coap_exchange.specs.declared.answerer.Asked.{Asked}
 use Rattle.coap_exchange.specs.declared.answerer.Due.{Due}
@@ -19,21 +17,20 @@ use Rattle.coap_exchange.specs.AnswererTrace as E
 use Rattle.coap_exchange.specs.AnswererSteps as P
 use Rattle.coap_exchange.specs.AnswererSteps.{reset_by, failed_by, unmatched_by}
 use Rattle.coap_exchange.specs.AnswererLaw as W
-use Rattle.coap_server.specs.Trace.{Own, Handling, Silent, Serves, Call}
+use Rattle.coap_server.specs.Trace.{Own, Handling, Silent, Call}
 use Rattle.coap_server.specs.Trace.{Feeds, Ticks}
 use Rattle.coap_server.specs.Checks.{asks}
 use Rattle.coap_server.specs.Observers.{unless_ended}
-use Rattle.coap_server.specs.Deferring.{question_of}
 use Rattle.coap_server.specs.Handling.{incoming, ticking, heard, HandlesCame}
 use Rattle.coap_server.specs.Asks.{answering, responding}
 use Rattle.coap_server.specs.Law.{ServerLaw, own_of, lower_of}
-use Rattle.coap_server.specs.Follows.Serves.{Serving, serving, serving_of}
 use Rattle.coap_server.specs.Follows.Gives.{NoneContinues}
 use Rattle.coap_server.specs.Follows.Observes.{ends_in, EndsObservation}
 use Rattle.coap_server.proofs.Exact.Asked.{joined, back}
 use Rattle.coap_server.proofs.Serving.Brought.{server_back}
-use Rattle.coap_server.proofs.Observing.Outcomes.{serves_came, serves_waited}
+use Rattle.coap_server.proofs.Observing.Outcomes.{Turned, turned, expired}
 use Rattle.coap_server.proofs.Observing.RejectedNons.{gone_stays}
+use Rattle.coap_server.proofs.Serving.ServedNow.{is_serving}
 use Rattle.coap_server.proofs.Replying.NoneContinues.{never_continues}
 
 -- the row of the first call that a call makes of the exchanges
@@ -77,16 +74,13 @@ module _ (limits : Limits) (szx : ℕ) (setup : Setup) where
   silent_fed t now from bytes w up None _ below e right x is o = absurd (cc right)
 
   silent_ticked : (t : List Call) (now w : ℕ) (below : L.Answer) (room : Bool) (d : Due) (passed : ℕ) (h : Handling)
-      (id : ℕ) (answer : Bool) → d ≡ due.Expired → ServerLaw limits szx setup
-      (Ticks now w below room d passed h id answer ∷ t)
+      (id : ℕ) (answer : Bool) → d ≡ due.Expired
+      → Turned (heard (own t) now (ticking (own t) now below room d)) passed d h
       → (x : Ended) → failed_by below (own t).exchanges.separate ≡ Some x → x.observe ≡ true
       → registration x.to x.token (own (Ticks now w below room d passed h id answer ∷ t)).observers ≡ None
-  silent_ticked t now w below room due.Expired passed Silent id answer e law x is o =
+  silent_ticked t now w below room d passed h id answer e expired x is o =
       removes_it (failed_by below (own t).exchanges.separate) x (own t).observers is o
-  silent_ticked t now w below room due.Idle passed h id answer e law x is o = absurd (cc e)
-  silent_ticked t now w below room due.Copied passed h id answer e law x is o = absurd (cc e)
-  silent_ticked t now w below room (due.Ready a) passed h id answer e law x is o = absurd (cc e)
-  silent_ticked t now w below room due.Expired passed _ id answer e law x is o = let k = law.rows.0.0 in absurd (cc k)
+  silent_ticked t now w below room d passed h id answer e _ x is o = absurd (cc e)
 
   ends_here : (t : List Call) (c : Call) → ServerLaw limits szx setup (c ∷ t) → (x : Ended) → ends_in (own t) c ≡ Some x
       → x.observe ≡ true → registration x.to x.token (own (c ∷ t)).observers ≡ None
@@ -104,7 +98,7 @@ module _ (limits : Limits) (szx : ℕ) (setup : Setup) where
       (lower_of limits szx t) law.exchanges in
       silent_ticked t now w below room d passed h id answer
       (failed_due below d (P.ready_at (W.own_of (lower_of limits szx t)) (max s.clock now)) room s.exchanges.separate
-      x row is) law x is o
+      x row is) (turned (heard s now first) passed d h law.rows.0.0) x is o
   ends_here t _ law x is o = absurd (cc is)
 
   pub ends_observation : (t : List Call) → ServerLaw limits szx setup t → EndsObservation limits szx t
@@ -114,24 +108,10 @@ module _ (limits : Limits) (szx : ℕ) (setup : Setup) where
     ends_observation t (server_back limits szx setup c t law),
   )
 
-  -- what is served, the store served
-  pub serves_right : (t : List Call) (c : Call) → ServerLaw limits szx setup (c ∷ t) → (x : Serving)
-      → serving (own t) c ≡ Some x → R.Serves x.old (own (c ∷ t)).clock x.question x.reply x.left
-  serves_right t (Feeds now from bytes w up (Some p) (Serves q reply left) below) law x h =
-      let s : Own = heard (own t) now (incoming (own t) now from bytes up (Some p)) in
-      let same : ◌≡◌ {A = Serving} (serving_of s p.0 q reply left) x = cc h in
-      subst (λ (y : Serving). R.Serves y.old s.clock y.question y.reply y.left) same
-      (serves_came s p q reply left law.rows.0)
-  serves_right t (Ticks now w below room (due.Ready a) passed (Serves q reply left) id answer) law x h =
-      let s : Own = heard (own t) now (ticking (own t) now below room (due.Ready a)) in
-      let same : ◌≡◌ {A = Serving} (serving_of s a q reply left) x = cc h in
-      subst (λ (y : Serving). R.Serves y.old s.clock y.question y.reply y.left) same
-      (serves_waited (question_of s.clock a s.waiting) s.store s.clock q reply left law.rows.0.0)
-  serves_right t _ law x e = absurd (cc e)
-
   pub none_continues : (t : List Call) → ServerLaw limits szx setup t → NoneContinues limits szx t
   none_continues [] law = tt
   none_continues (c ∷ t) law = (
-    λ x is. never_continues x.old (own (c ∷ t)).clock x.question x.reply x.left (serves_right t c law x is),
+    λ x is. never_continues x.old (own (c ∷ t)).clock x.question x.reply x.left
+        (is_serving (own t) c law.rows.0 x is).serves,
     none_continues t (server_back limits szx setup c t law),
   )

@@ -1,6 +1,6 @@
 -- Each observer of a server is of the latest registration of its endpoint and token.
 use Rattle.std.proofs.Common.{◌≡◌, ℕ, ◌==◌, ◌&&◌, nat_lt, Bool, true, false, not, Option, Some, None, List, [], ◌∷◌}
-use Rattle.std.proofs.Common.{◌++◌, length, filter, map, max, refl, ap, sym, ◌∙◌, cond}
+use Rattle.std.proofs.Common.{length, filter, max, refl, ap, sym, ◌∙◌, cond}
 use Rattle.std.proofs.lemmas.Bool.{and_parts}
 use Rattle.std.specs.Cmp.{unsigned_Decides}
 use Rattle.coap_types.specs.declared.endpoint.Endpoint.{Endpoint}
@@ -22,7 +22,7 @@ use Rattle.coap_exchange.specs.AnswererSteps as P
 use Rattle.coap_common.specs.SuccessCodes.{content}
 use Rattle.coap_server.specs.Trace.{Own, Handling, Serves, Notifies, Call}
 use Rattle.coap_server.specs.Trace.{Sets}
-use Rattle.coap_server.specs.Trace.{Removes, Delays, Plains, Feeds, Ticks, NextOut, Gets, TellsApplied}
+use Rattle.coap_server.specs.Trace.{Removes, Feeds, Ticks}
 use Rattle.coap_server.specs.Observers.{observes, registers, observers_with, marked_if, unless_ended}
 use Rattle.coap_server.specs.Notifying.{notified}
 use Rattle.coap_server.specs.Handling.{incoming, ticking, heard}
@@ -32,6 +32,7 @@ use Rattle.coap_server.specs.Plain.{by_plain}
 use Rattle.coap_observe.specs.Observers.{noted_by, noted_to}
 use Rattle.coap_exchange.specs.AnswererSteps.{unmatched_by}
 use Rattle.coap_exchange.specs.AnswererTrace.{Sending}
+use Rattle.coap_server.proofs.Calls.EachOf.{each_map, each_with}
 use Rattle.coap_server.proofs.Observing.ObserverLists.{notified_left, rejected_left}
 use Rattle.coap_server.specs.Follows.Serves.{serving, serving_of}
 use Rattle.coap_server.specs.Follows.Tells.{Pair, registers_by, registering}
@@ -55,19 +56,10 @@ module _ (Q R : Observer → Type 0) where
       by false is k = k
 
 module _ (Q : Observer → Type 0) where
-  each_with : (os : List Observer) (o : Observer) → Each Q os → Q o → Each Q (os ++ o ∷ [])
-  each_with [] o h k = (k, tt)
-  each_with (x ∷ os) o h k = (h.0, each_with os o h.1 k)
-
-  each_map : (f : Observer → Observer) → ((o : Observer) → Q o → Q (f o)) → (os : List Observer) → Each Q os
-      → Each Q (map f os)
-  each_map f g [] h = tt
-  each_map f g (o ∷ os) h = (g o h.0, each_map f g os h.1)
-
   each_removed : (to : Endpoint) (token : List ℕ) (os : List Observer) → Each Q os → Each Q (removed to token os)
   each_removed to token os h = each_chosen Q Q (λ o. not (is_of to token o)) (λ o is q. q) os h
 
-  each_ended : (e : Option Ended) (os : List Observer) → Each Q os → Each Q (unless_ended e os)
+  pub each_ended : (e : Option Ended) (os : List Observer) → Each Q os → Each Q (unless_ended e os)
   each_ended None os h = h
   each_ended (Some x) os h = by x.observe
     where
@@ -201,23 +193,14 @@ module _ (limits : Limits) (szx : ℕ) where
       stage d = heard (own t) now (ticking (own t) now below room d)
 
       ticked : (d : Due) (h : Handling) → Before (stage d).observers → Now (tick d h) (own (tick d h ∷ t)).observers
-      ticked due.Idle (Notifies o reply) g =
-          let s : Own = stage due.Idle in notified_now _ (by_plain s o) s.clock id
-          (s.store.holds o.path) o s.observers (later _ refl s.observers g)
-      ticked due.Copied (Notifies o reply) g =
-          let s : Own = stage due.Copied in notified_now _ (by_plain s o) s.clock id
-          (s.store.holds o.path) o s.observers (later _ refl s.observers g)
-      ticked due.Expired (Notifies o reply) g =
-          let s : Own = stage due.Expired in notified_now _ (by_plain s o) s.clock id
-          (s.store.holds o.path) o s.observers (later _ refl s.observers g)
-      ticked (due.Ready a) (Notifies o reply) g =
-          let s : Own = stage (due.Ready a) in notified_now _ (by_plain s o) s.clock id
-          (s.store.holds o.path) o s.observers (later _ refl s.observers g)
       ticked (due.Ready a) (Serves q reply left) g =
           let s : Own = stage (due.Ready a) in
           let c : Call = tick (due.Ready a) (Serves q reply left) in
           marked_now c s.clock q.path s.store left (observers_with s.clock a q reply s.observers)
           (served c s a q reply left refl refl g)
+      ticked d (Notifies o reply) g =
+          let s : Own = stage d in
+          notified_now _ (by_plain s o) s.clock id (s.store.holds o.path) o s.observers (later _ refl s.observers g)
       ticked _ _ g = later _ refl _ g
 
   pub are_latest : (t : List Call) → AreLatest limits szx t
@@ -231,11 +214,6 @@ module _ (limits : Limits) (szx : ℕ) where
           (later t _ refl _ g)
       by (Removes now path answer left) g = marked_now t (Removes now path answer left) (max (own t).clock now) path (own t).store left
           (own t).observers (later t _ refl _ g)
-      by (Delays path ms answer) g = later t _ refl _ g
-      by (Plains path answer) g = later t _ refl _ g
-      by (Gets path answer) g = later t _ refl _ g
-      by (TellsApplied answer) g = later t _ refl _ g
-      by (NextOut answer) g = later t _ refl _ g
       by (Feeds now from bytes w up came h below) g =
           let e : Option Ended = (P.after (own t).exchanges (incoming (own t) now from bytes up came)).ended in
           fed t now from bytes w up below came h
@@ -245,3 +223,4 @@ module _ (limits : Limits) (szx : ℕ) where
           ticked t now w below room passed id answer d h
           (each_ended (IsLatest limits szx t) (P.after (own t).exchanges (ticking (own t) now below room d)).ended
           (own t).observers g)
+      by _ g = later t _ refl _ g

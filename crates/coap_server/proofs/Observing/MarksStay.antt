@@ -5,7 +5,8 @@ use Rattle.coap_types.specs.Path.{same_path}
 use Rattle.coap_types.specs.declared.endpoint.Endpoint.{Endpoint}
 use Rattle.coap_codec.specs.Message.{Message}
 use Rattle.coap_layer.specs.Trace as L
-use Rattle.coap_observe.specs.Observers.{Observer, registration, rejected, removed, registered, changed_at, marked_by, noted_to}
+use Rattle.coap_observe.specs.Observers.{Observer, registration, rejected, removed, registered, changed_at, marked_by}
+use Rattle.coap_observe.specs.Observers.{noted_to}
 use Rattle.coap_observe.specs.Observers.{sent_to, without}
 use Rattle.coap_observe.proofs.Facts.Registrations.{registration-changed_at, others_stay}
 use Rattle.coap_resource.specs.Content.{Content, Held}
@@ -202,20 +203,11 @@ module _ (to : Endpoint) (token : List ℕ) where
         → Due_in (heard (own t) now (ticking (own t) now below room d)).observers
         → On t (Ticks now w below room d passed h id answer)
         (own (Ticks now w below room d passed h id answer ∷ t)).observers
-    ticked t now w below room due.Idle passed (Notifies o reply) id answer k =
-        notice_on t now w below room due.Idle passed o reply id answer
-        (heard (own t) now (ticking (own t) now below room due.Idle)).observers k
-    ticked t now w below room due.Copied passed (Notifies o reply) id answer k =
-        notice_on t now w below room due.Copied passed o reply id answer
-        (heard (own t) now (ticking (own t) now below room due.Copied)).observers k
-    ticked t now w below room due.Expired passed (Notifies o reply) id answer k =
-        notice_on t now w below room due.Expired passed o reply id answer
-        (heard (own t) now (ticking (own t) now below room due.Expired)).observers k
-    ticked t now w below room (due.Ready a) passed (Notifies o reply) id answer k =
-        notice_on t now w below room (due.Ready a) passed o reply id answer
-        (heard (own t) now (ticking (own t) now below room (due.Ready a))).observers k
     ticked t now w below room (due.Ready a) passed (Serves q reply left) id answer k =
         ready_on t now w below room a passed q reply left id answer k
+    ticked t now w below room d passed (Notifies o reply) id answer k =
+        notice_on t now w below room d passed o reply id answer
+        (heard (own t) now (ticking (own t) now below room d)).observers k
     ticked t now w below room _ passed _ id answer k = inl k
 
     on : (t : List Call) (c : Call) → ServerRows limits szx (c ∷ t) → Due_in (own t).observers

@@ -43,7 +43,8 @@ use Rattle.coap_server.proofs.Observing.StoreSteps.{clock_rises}
 use Rattle.coap_server.proofs.Observing.WaysSteps.{pair_is}
 use Rattle.coap_server.proofs.Serving.Brought.{server_back}
 use Rattle.coap_server.proofs.Telling.LayerCalls.{layer_next}
-use Rattle.coap_server.proofs.Telling.NotAfter.{calls_till, each_join, exchanges_till, readies_asks, wishes}
+use Rattle.coap_server.proofs.Calls.EachOf.{each_join}
+use Rattle.coap_server.proofs.Telling.NotAfter.{calls_till, exchanges_till, readies_asks, wishes}
 
 numbers_back : (P : Issued → Type 0) (xs ys : List L.Entry) → Ever P (numbers ys) → Ever P (numbers (xs ++ ys))
 numbers_back P [] ys h = h

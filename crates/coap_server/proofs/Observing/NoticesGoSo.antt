@@ -70,14 +70,7 @@ module _ (limits : Limits) (szx : ℕ) where
       by true k f = inr (f k)
       by false k f = last (is_plain path (own t).plains) refl (sym (plain_behind path p (own t).plains) ∙ k) f
   made_plain path (Plains p false ∷ t) h = inr (made_plain path t h)
-  made_plain path (Sets now p format body answer left ∷ t) h = inr (made_plain path t h)
-  made_plain path (Removes now p answer left ∷ t) h = inr (made_plain path t h)
-  made_plain path (Delays p ms answer ∷ t) h = inr (made_plain path t h)
-  made_plain path (Feeds now from bytes w up came k below ∷ t) h = inr (made_plain path t h)
-  made_plain path (Ticks now w below room d passed k id answer ∷ t) h = inr (made_plain path t h)
-  made_plain path (NextOut answer ∷ t) h = inr (made_plain path t h)
-  made_plain path (Gets p answer ∷ t) h = inr (made_plain path t h)
-  made_plain path (TellsApplied answer ∷ t) h = inr (made_plain path t h)
+  made_plain path (_ ∷ t) h = inr (made_plain path t h)
 
   still_plain : (path p : List (List ℕ)) (ps : List (List (List ℕ))) → is_plain path ps ≡ true
       → is_plain path (plains_with p true ps) ≡ true

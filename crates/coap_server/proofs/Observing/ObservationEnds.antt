@@ -1,6 +1,6 @@
 -- A GET with Observe 1 ends an observation, and so does a notification that is no 2.05.
 use Rattle.std.proofs.Common.{◌≡◌, ◌≢◌, ℕ, ◌==◌, ◌&&◌, nat_lt, Bool, true, false, Option, Some, None, List, [], ◌∷◌}
-use Rattle.std.proofs.Common.{length, refl, ap, sym, subst, ◌∙◌, cond, option_map}
+use Rattle.std.proofs.Common.{length, refl, ap, subst, ◌∙◌, cond, option_map}
 use Rattle.std.proofs.lemmas.Bool.{and_parts}
 use Rattle.std.specs.Cmp.{unsigned_Decides}
 use Rattle.coap_types.specs.OptionValues.{uint_at}
@@ -20,16 +20,15 @@ use Rattle.coap_common.specs.SuccessCodes.{content}
 use Rattle.coap_server.specs.Trace.{Own, Serves, Notifies, Call}
 use Rattle.coap_server.specs.Trace.{Feeds, Ticks}
 use Rattle.coap_server.specs.Observers.{is_get, is_number, observes, registers, observers_with}
-use Rattle.coap_server.specs.Notifying.{marked, behind, asks_for, told, NotifiesNext, notified}
+use Rattle.coap_server.specs.Notifying.{asks_for, notified}
 use Rattle.coap_server.specs.Serving.{observers_served}
 use Rattle.coap_server.specs.Plain.{by_plain}
-use Rattle.coap_server.specs.Deferring.{question_of}
 use Rattle.coap_server.specs.Handling.{incoming, ticking, heard}
 use Rattle.coap_server.specs.Law.{ServerRows, own_of}
 use Rattle.coap_server.specs.Follows.Observes.{Notice, notice, not_found, EndsOnRequest, EndsWith}
 use Rattle.coap_server.specs.Follows.Observes.{EndsOnNotice}
 use Rattle.coap_server.specs.Follows.Serves.{Serving, serving, serving_of}
-use Rattle.coap_server.proofs.Observing.Outcomes.{never_notifies_ready}
+use Rattle.coap_server.proofs.Observing.Outcomes.{Turned, turned, noticed}
 
 -- a GET with Observe 1 registers nothing
 
@@ -74,17 +73,6 @@ held_so : (plain : Bool) (at id : ℕ) (o : Observer) (os : List Observer) (held
 held_so plain at id o os None h = registration-removed o.to o.token os
 held_so plain at id o os (Some held) h = absurd (h refl)
 
-record IsTold (o : Observer) (store : Content) (reply : Reply) : Type 0 where
-  is : reply ≡ told store o
-
-told_by : (n : Option Observer) (o : Observer) (store : Content) (reply : Reply)
-    → NotifiesNext n store (Notifies o reply) → IsTold o store reply
-told_by None o store reply h = absurd (cc h)
-told_by (Some x) o store reply h =
-    let same : o ≡ x = cc h in
-    let is : reply ≡ told store x = cc h in
-    record { is = is ∙ ap (told store) (sym same) }
-
 module _ (limits : Limits) (szx : ℕ) where
   abbrev own : List Call → Own
   own t = own_of limits szx t
@@ -120,19 +108,19 @@ module _ (limits : Limits) (szx : ℕ) where
       (Ticks now w below room d passed (Notifies o reply) id answer ∷ t)
       → EndsWith limits szx t (Ticks now w below room d passed (Notifies o reply) id answer)
       (record { observer = o; reply = reply })
-  told_here t now w below room due.Idle passed o reply id answer rows =
-      let s : Own = heard (own t) now (ticking (own t) now below room due.Idle) in
-      let k = told_by (behind passed (marked s.observers)) o s.store reply rows.0.0 in
-      let code : reply.code ≡ (got (s.store.holds o.path) (asks_for o)).code = ap (λ (r : Reply). r.code) k.is in
-      record {
-        gone = λ h. code ∙ gone_so o (s.store.holds o.path) h;
-        last = λ h. held_so (by_plain s o) s.clock id o s.observers (s.store.holds o.path) (λ e. h (code ∙ e));
-      }
-  told_here t now w below room due.Copied passed o reply id answer rows = let k = rows.0.0 in absurd (cc k)
-  told_here t now w below room due.Expired passed o reply id answer rows = let k = rows.0.0 in absurd (cc k)
-  told_here t now w below room (due.Ready a) passed o reply id answer rows =
-      let s : Own = heard (own t) now (ticking (own t) now below room (due.Ready a)) in
-      absurd (never_notifies_ready (question_of s.clock a s.waiting) s.store s.clock o reply rows.0.0)
+  told_here t now w below room d passed o reply id answer rows =
+      by d (turned (heard (own t) now (ticking (own t) now below room d)) passed d (Notifies o reply) rows.0.0)
+    where
+      by : (d : Due) → Turned (heard (own t) now (ticking (own t) now below room d)) passed d (Notifies o reply)
+          → EndsWith limits szx t (Ticks now w below room d passed (Notifies o reply) id answer)
+          (record { observer = o; reply = reply })
+      by d (noticed _ _ found is) =
+          let s : Own = heard (own t) now (ticking (own t) now below room due.Idle) in
+          let code : reply.code ≡ (got (s.store.holds o.path) (asks_for o)).code = ap (λ (r : Reply). r.code) is in
+          record {
+            gone = λ h. code ∙ gone_so o (s.store.holds o.path) h;
+            last = λ h. held_so (by_plain s o) s.clock id o s.observers (s.store.holds o.path) (λ e. h (code ∙ e));
+          }
 
   notice_here : (t : List Call) (c : Call) → ServerRows limits szx (c ∷ t) → (x : Notice) → notice c ≡ Some x
       → EndsWith limits szx t c x

@@ -229,21 +229,12 @@ module _ (to : Endpoint) (token : List ℕ) where
         → None_in (own (Ticks now w below room d passed h id answer ∷ t)).observers
         → Back t (Ticks now w below room d passed h id answer)
         (heard (own t) now (ticking (own t) now below room d)).observers
-    ticked t now w below room due.Idle passed (Notifies o reply) id answer rows h =
-        notice_over t now w below room due.Idle passed o reply id answer
-        (heard (own t) now (ticking (own t) now below room due.Idle)).observers rows h
-    ticked t now w below room due.Copied passed (Notifies o reply) id answer rows h =
-        notice_over t now w below room due.Copied passed o reply id answer
-        (heard (own t) now (ticking (own t) now below room due.Copied)).observers rows h
-    ticked t now w below room due.Expired passed (Notifies o reply) id answer rows h =
-        notice_over t now w below room due.Expired passed o reply id answer
-        (heard (own t) now (ticking (own t) now below room due.Expired)).observers rows h
-    ticked t now w below room (due.Ready a) passed (Notifies o reply) id answer rows h =
-        notice_over t now w below room (due.Ready a) passed o reply id answer
-        (heard (own t) now (ticking (own t) now below room (due.Ready a))).observers rows h
     ticked t now w below room (due.Ready a) passed (Serves q reply left) id answer rows h =
         ready_over t now w below room a passed q reply left id answer
         (heard (own t) now (ticking (own t) now below room (due.Ready a))).observers h
+    ticked t now w below room d passed (Notifies o reply) id answer rows h =
+        notice_over t now w below room d passed o reply id answer
+        (heard (own t) now (ticking (own t) now below room d)).observers rows h
     ticked t now w below room _ passed _ id answer rows h = inl h
 
     back : (t : List Call) (c : Call) → ServerRows limits szx (c ∷ t) → None_in (own (c ∷ t)).observers

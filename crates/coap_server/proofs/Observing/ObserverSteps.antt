@@ -17,19 +17,18 @@ use Rattle.coap_exchange.specs.declared.answerer.Due.TheVariants as due
 use Rattle.coap_exchange.specs.declared.answerer.Ended.{Ended}
 use Rattle.coap_exchange.specs.AnswererSteps as P
 use Rattle.coap_exchange.specs.AnswererSteps.{unmatched_by}
-use Rattle.coap_server.specs.Trace.{Own, Handling, Silent, Replies, Serves, Waits, Notifies, Call, Sets}
+use Rattle.coap_server.specs.Trace.{Own, Handling, Serves, Notifies, Call, Sets}
 use Rattle.coap_server.specs.Trace.{Removes, Feeds, Ticks}
 use Rattle.coap_server.specs.Serving.{observers_served}
 use Rattle.coap_server.specs.Observers.{observes, registers, observers_with, marked_if, unless_ended}
-use Rattle.coap_server.specs.Deferring.{question_of}
-use Rattle.coap_server.specs.Notifying.{marked, behind, notified}
+use Rattle.coap_server.specs.Notifying.{notified}
 use Rattle.coap_server.specs.Plain.{by_plain}
 use Rattle.coap_server.specs.Handling.{incoming, ticking, heard}
 use Rattle.coap_server.specs.Law.{ServerLaw, own_of}
 use Rattle.coap_server.proofs.Observing.ObserverLists.{notified_left, rejected_left}
-use Rattle.coap_server.proofs.Observing.Outcomes.{serves_came, serves_waited}
+use Rattle.coap_server.proofs.Observing.Outcomes.{Came, came, served, Turned, turned, responded, noticed}
 use Rattle.coap_server.proofs.Observing.StoreChanges.{Effect, served_effect, sets_effect, removes_effect}
-use Rattle.coap_server.proofs.Observing.StoreSteps.{next_serves, store_timed}
+use Rattle.coap_server.proofs.Observing.StoreSteps.{store_timed}
 use Rattle.coap_server.proofs.Serving.Brought.{server_back}
 
 abbrev pub Fact : Type 1
@@ -109,19 +108,15 @@ module _ (limits : Limits) (szx : ℕ) (setup : Setup) (t : List Call) where
         rejected_left (Q own.store) (max own.clock now) (unmatched_by from up) ended f
         (λ to token. k.removes own.store ended to token f)
 
-    fed_kept : (came : Option (Asked × Message)) (h : Handling) → ServerLaw limits szx setup (fed_call came h ∷ t)
-        → EachKeeps (max own.clock now) Q → Q own.store own.observers → After Q (fed_call came h)
-    fed_kept None Silent law k q = heard_fed None k q
-    fed_kept (Some p) Silent law k q = heard_fed (Some p) k q
-    fed_kept (Some p) (Replies r) law k q = heard_fed (Some p) k q
-    fed_kept (Some p) (Waits u d) law k q = heard_fed (Some p) k q
-    fed_kept (Some p) (Notifies o reply) law k q = heard_fed (Some p) k q
-    fed_kept (Some p) (Serves u reply left) law k q =
+    fed_kept : (c : Option (Asked × Message)) (h : Handling) → Came (stage c) c h
+        → ServerLaw limits szx setup (fed_call c h ∷ t) → EachKeeps (max own.clock now) Q → Q own.store own.observers
+        → After Q (fed_call c h)
+    fed_kept c h (served p u reply left serves unplaced) law k q =
         let s : Own = stage (Some p) in
         let timed = timed_at (fed_call (Some p) (Serves u reply left)) law in
-        served_kept s.clock Q k s.store p.0 u reply left s.observers (serves_came s p u reply left law.rows.0)
-        (omega (arith, timed)) (heard_fed (Some p) k q)
-    fed_kept None _ law k q = let e = law.rows.0 in absurd (cc e)
+        served_kept s.clock Q k s.store p.0 u reply left s.observers serves (omega (arith, timed))
+        (heard_fed (Some p) k q)
+    fed_kept c h _ law k q = heard_fed c k q
 
   -- time passes
   module _ (Q : Fact) (now w : ℕ) (below : L.Answer) (room : Bool) (passed id : ℕ) (answer : Bool) where
@@ -142,30 +137,15 @@ module _ (limits : Limits) (szx : ℕ) (setup : Setup) (t : List Call) where
         let s : Own = turn d in
         notified_kept s.clock Q k s.store (by_plain s o) id (s.store.holds o.path) o s.observers (heard_ticked d k q)
 
-    ticked_kept : (d : Due) (h : Handling) → ServerLaw limits szx setup (tick_call d h ∷ t)
+    ticked_kept : (d : Due) (h : Handling) → Turned (turn d) passed d h → ServerLaw limits szx setup (tick_call d h ∷ t)
         → EachKeeps (max own.clock now) Q → Q own.store own.observers → After Q (tick_call d h)
-    ticked_kept (due.Ready a) (Serves u reply left) law k q =
+    ticked_kept d h (responded a u reply left asks serves) law k q =
         let s : Own = turn (due.Ready a) in
         let timed = timed_at (tick_call (due.Ready a) (Serves u reply left)) law in
-        served_kept s.clock Q k s.store a u reply left s.observers
-        (serves_waited (question_of s.clock a s.waiting) s.store s.clock u reply left law.rows.0.0)
-        (omega (arith, timed)) (heard_ticked (due.Ready a) k q)
-    ticked_kept due.Idle (Serves u reply left) law k q =
-        let s : Own = turn due.Idle in absurd
-        (next_serves (behind passed (marked s.observers)) s.store u reply left law.rows.0.0)
-    ticked_kept due.Copied (Serves u reply left) law k q = let e = law.rows.0.0 in absurd (cc e)
-    ticked_kept due.Expired (Serves u reply left) law k q = let e = law.rows.0.0 in absurd (cc e)
-    ticked_kept d (Notifies o reply) law k q = notices_kept d o reply k q
-    ticked_kept due.Copied Silent law k q = heard_ticked due.Copied k q
-    ticked_kept due.Copied (Replies r) law k q = heard_ticked due.Copied k q
-    ticked_kept due.Copied (Waits u e) law k q = heard_ticked due.Copied k q
-    ticked_kept due.Expired Silent law k q = heard_ticked due.Expired k q
-    ticked_kept due.Expired (Replies r) law k q = heard_ticked due.Expired k q
-    ticked_kept due.Expired (Waits u e) law k q = heard_ticked due.Expired k q
-    ticked_kept (due.Ready a) Silent law k q = heard_ticked (due.Ready a) k q
-    ticked_kept (due.Ready a) (Replies r) law k q = heard_ticked (due.Ready a) k q
-    ticked_kept (due.Ready a) (Waits u e) law k q = heard_ticked (due.Ready a) k q
-    ticked_kept due.Idle _ law k q = heard_ticked due.Idle k q
+        served_kept s.clock Q k s.store a u reply left s.observers serves (omega (arith, timed))
+        (heard_ticked (due.Ready a) k q)
+    ticked_kept d h (noticed o reply found is) law k q = notices_kept due.Idle o reply k q
+    ticked_kept d h _ law k q = heard_ticked d k q
 
   -- What each step keeps, each call keeps.
   pub call_kept : (Q : Fact) (c : Call) → ServerLaw limits szx setup (c ∷ t) → Keeps Q c → Q own.store own.observers
@@ -182,7 +162,10 @@ module _ (limits : Limits) (szx : ℕ) (setup : Setup) (t : List Call) where
       k.marks own.store left own.observers path
       (removes_effect (own.store.holds path) (rate_refusal own.store.tally at) own.store at path answer left refl
       law.rows.0) (omega (arith, timed)) q
-  call_kept Q (Feeds now from bytes w up came h below) law k q = fed_kept Q now from bytes w up below came h law k q
+  call_kept Q (Feeds now from bytes w up c h below) law k q =
+      fed_kept Q now from bytes w up below c h (came (heard own now
+      (incoming own now from bytes up c)) c h law.rows.0) law k q
   call_kept Q (Ticks now w below room d passed h id answer) law k q =
-      ticked_kept Q now w below room passed id answer d h law k q
+      ticked_kept Q now w below room passed id answer d h
+      (turned (heard own now (ticking own now below room d)) passed d h law.rows.0.0) law k q
   call_kept Q _ law k q = q

@@ -1,7 +1,7 @@
 -- The observers of a server are registrations, and each was made by a GET that was served.
 use Rattle.coap_observe.specs.declared.observers.TheConstants.{MAX_OBSERVERS as max_observers}
 use Rattle.std.proofs.Common.{◌≡◌, ◌<◌, inl, inr, ℕ, ◌==◌, ◌&&◌, nat_lt, Bool, true, false, not, Option, Some, None}
-use Rattle.std.proofs.Common.{List, [], ◌∷◌, ◌++◌, length, filter, map, max, refl, ap, cond, arith}
+use Rattle.std.proofs.Common.{List, [], ◌∷◌, length, max, refl, ap, cond, arith}
 use Rattle.std.proofs.lemmas.Bool.{ltb-true}
 use Rattle.std.specs.Cmp.{unsigned_Decides}
 use Rattle.coap_types.specs.Past.{Sometime}
@@ -26,37 +26,21 @@ use Rattle.coap_exchange.specs.AnswererSteps.{unmatched_by}
 use Rattle.coap_exchange.specs.AnswererTrace.{Sending}
 use Rattle.std.proofs.lemmas.Bool.{and_parts}
 use Rattle.coap_common.specs.SuccessCodes.{content}
-use Rattle.coap_server.specs.Trace.{Own, Handling, Silent, Replies, Serves, Waits, Notifies, Call}
+use Rattle.coap_server.specs.Trace.{Own, Handling, Serves, Notifies, Call}
 use Rattle.coap_server.specs.Trace.{Sets}
-use Rattle.coap_server.specs.Trace.{Removes, Delays, Plains, Feeds, Ticks, NextOut, Gets, TellsApplied}
+use Rattle.coap_server.specs.Trace.{Removes, Feeds, Ticks}
 use Rattle.coap_server.specs.Serving.{observers_served}
 use Rattle.coap_server.specs.Observers.{observes, registers, observers_with, marked_if, unless_ended, unless_rejected}
-use Rattle.coap_server.specs.Notifying.{notified}
+use Rattle.coap_server.specs.Notifying.{behind, marked, notified}
 use Rattle.coap_server.specs.Handling.{incoming, ticking, heard}
 use Rattle.coap_server.specs.Plain.{by_plain}
+use Rattle.coap_server.proofs.Calls.EachOf.{each_kept, each_map, each_with}
+use Rattle.coap_server.proofs.Observing.MarkedObservers.{behind_there, each_there, marked_there}
 use Rattle.coap_server.proofs.Observing.ObserverLists.{notified_left, rejected_left}
 use Rattle.coap_server.specs.Law.{own_of}
 use Rattle.coap_server.specs.Follows.Tells.{Pair}
 use Rattle.coap_server.specs.Follows.Serves.{serving_of}
 use Rattle.coap_server.specs.Follows.Observes.{MadeWith, WasMade, AreObservers}
-
-module _ (Q : Observer → Type 0) where
-  pub each_kept : (p : Observer → Bool) (os : List Observer) → Each Q os → Each Q (filter p os)
-  each_kept p [] h = tt
-  each_kept p (o ∷ os) h = by (p o) (each_kept p os h.1)
-    where
-      by : (b : Bool) → Each Q (filter p os) → Each Q (cond b (o ∷ filter p os) (filter p os))
-      by true k = (h.0, k)
-      by false k = k
-
-  pub each_with : (os : List Observer) (o : Observer) → Each Q os → Q o → Each Q (os ++ o ∷ [])
-  each_with [] o h k = (k, tt)
-  each_with (x ∷ os) o h k = (h.0, each_with os o h.1 k)
-
-  pub each_map : (f : Observer → Observer) → ((o : Observer) → Q o → Q (f o)) → (os : List Observer) → Each Q os
-      → Each Q (map f os)
-  each_map f g [] h = tt
-  each_map f g (o ∷ os) h = (g o h.0, each_map f g os h.1)
 
 abbrev pair_of : Asked → Pair
 pair_of a = record { to = a.from; token = a.token }
@@ -208,24 +192,6 @@ module _ (limits : Limits) (szx : ℕ) where
 
     ticked : (d : Due) (h : Handling) → Good limits szx (call d h ∷ t) (stage d).observers
         → Good limits szx (call d h ∷ t) (own (call d h ∷ t)).observers
-    ticked d (Notifies o reply) g =
-        let s : Own = stage d in good_notified limits szx (call d (Notifies o reply) ∷ t)
-        (by_plain s o) s.clock id (s.store.holds o.path) o s.observers g
-    ticked due.Idle Silent g = g
-    ticked due.Idle (Replies r) g = g
-    ticked due.Idle (Serves q reply left) g = g
-    ticked due.Idle (Waits q e) g = g
-    ticked due.Copied Silent g = g
-    ticked due.Copied (Replies r) g = g
-    ticked due.Copied (Serves q reply left) g = g
-    ticked due.Copied (Waits q e) g = g
-    ticked due.Expired Silent g = g
-    ticked due.Expired (Replies r) g = g
-    ticked due.Expired (Serves q reply left) g = g
-    ticked due.Expired (Waits q e) g = g
-    ticked (due.Ready a) Silent g = g
-    ticked (due.Ready a) (Replies r) g = g
-    ticked (due.Ready a) (Waits q d) g = g
     ticked (due.Ready a) (Serves q reply left) g =
         let s : Own = stage (due.Ready a) in
         good_served limits szx (call (due.Ready a) (Serves q reply left) ∷ t) s.clock s.store a q reply left s.observers
@@ -242,6 +208,10 @@ module _ (limits : Limits) (szx : ℕ) where
           };
           size_is = refl;
         })) g
+    ticked d (Notifies o reply) g =
+        let s : Own = stage d in good_notified limits szx (call d (Notifies o reply) ∷ t)
+        (by_plain s o) s.clock id (s.store.holds o.path) o s.observers g
+    ticked _ _ g = g
 
   pub good : (t : List Call) → Good limits szx t (own t).observers
   good [] = record { registrations = record { few = omega arith; distinct = tt }; made = tt }
@@ -254,10 +224,6 @@ module _ (limits : Limits) (szx : ℕ) where
       by (Removes now path answer left) g = good_marked limits szx (Removes now path answer left ∷ t)
           (max (own t).clock now) path
           (own t).store left (own t).observers g
-      by (Delays path ms answer) g = g
-      by (Plains path answer) g = g
-      by (Gets path answer) g = g
-      by (TellsApplied answer) g = g
       by (Feeds now from bytes w up came h below) g =
           let c : Call = Feeds now from bytes w up came h below in
           let e : Option Ended = (P.after (own t).exchanges (incoming (own t) now from bytes up came)).ended in
@@ -268,7 +234,17 @@ module _ (limits : Limits) (szx : ℕ) where
           ticked t now w below room passed id answer d h
           (good_ended limits szx (Ticks now w below room d passed h id answer ∷ t)
           (P.after (own t).exchanges (ticking (own t) now below room d)).ended (own t).observers g)
-      by (NextOut answer) g = g
+      by _ g = g
 
   pub are_observers : (t : List Call) → AreObservers limits szx t
   are_observers t = let g = good t in record { registrations = g.registrations; made = g.made }
+
+  -- an observer that can be notified as time passes
+  pub notified_made : (t : List Call) (now : ℕ) (below : L.Answer) (room : Bool) (passed : ℕ) (o : Observer)
+      → behind passed (marked (heard (own t) now (ticking (own t) now below room due.Idle)).observers) ≡ Some o
+      → WasMade limits szx t o
+  notified_made t now below room passed o found =
+      let first = ticking (own t) now below room due.Idle in
+      let os = (heard (own t) now first).observers in
+      let g = good_ended limits szx t (P.after (own t).exchanges first).ended (own t).observers (good t) in
+      each_there (WasMade limits szx t) os o g.made (marked_there os o (behind_there passed (marked os) o found)).0

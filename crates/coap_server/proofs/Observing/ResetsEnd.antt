@@ -10,13 +10,14 @@ use Rattle.coap_types.proofs.Facts.Endpoints.{same_endpoint-decides}
 use Rattle.coap_codec.specs.Message.{Message}
 use Rattle.coap_layer.specs.Trace as L
 use Rattle.coap_layer.specs.declared.setup.Setup.{Setup}
-use Rattle.coap_observe.specs.Observers.{Noted, Observer, is_noted, is_noted_at, is_of, registration, rejected, reset_at}
+use Rattle.coap_observe.specs.Observers.{Noted, Observer, is_noted, is_noted_at, is_of, registration, rejected}
+use Rattle.coap_observe.specs.Observers.{reset_at}
 use Rattle.coap_observe.proofs.Facts.Registrations.{is_of-decides, reset_takes}
 use Rattle.coap_resource.specs.Limits.{Limits}
 use Rattle.coap_exchange.specs.declared.answerer.Asked.{Asked}
 use Rattle.coap_exchange.specs.AnswererSteps.{handed_up, reset_by, unmatched_by}
 use Rattle.coap_exchange.specs.AnswererTrace.{Sending}
-use Rattle.coap_server.specs.Trace.{Own, Handling, Silent, Replies, Serves, Waits, Notifies, Call}
+use Rattle.coap_server.specs.Trace.{Own, Handling, Silent, Call}
 use Rattle.coap_server.specs.Trace.{Feeds}
 use Rattle.coap_server.specs.Asks.{answering}
 use Rattle.coap_server.specs.Observers.{unless_ended, unless_rejected}
@@ -27,7 +28,7 @@ use Rattle.coap_server.specs.Follows.Ways.{EndsOnReset, LastNon, ResetEnds}
 use Rattle.coap_server.proofs.Observing.EndsObservation.{first_row}
 use Rattle.coap_server.proofs.Observing.ObserversWereMade.{good}
 use Rattle.coap_server.proofs.Observing.RejectedNons.{none_rejected, none_reset}
-use Rattle.coap_server.proofs.Observing.VersionsRise.{IsThere, there_is}
+use Rattle.coap_server.proofs.Observing.MarkedObservers.{IsThere, there_is}
 use Rattle.coap_server.proofs.Observing.NonsApart.{nons_apart, was_issued}
 use Rattle.coap_server.proofs.Observing.OneRegistration.{pair_of}
 use Rattle.coap_server.proofs.Observing.WaysKept.{fits}
@@ -106,11 +107,8 @@ module _ (limits : Limits) (szx : ℕ) (setup : Setup) (t : List Call) (now : �
           → (own_of limits szx (Feeds now from bytes w up k g below ∷ t)).observers
           ≡ reset_at clk x.to x.id mine.observers
       by None Silent right row = silent
-      by None (Replies r) right row = absurd (cc right)
-      by None (Serves q reply left) right row = absurd (cc right)
-      by None (Waits q d) right row = absurd (cc right)
-      by None (Notifies o reply) right row = absurd (cc right)
       by (Some p) g right row = let none = none_rejected from up p row in absurd (cc (none, is))
+      by None _ right row = absurd (cc right)
 
   rejects_so : (o : Observer) → rejected clk x.to x.id mine.observers ≡ Some o
       → (o.to ≡ x.to) × LastNon limits szx x.to o.token x.id clk t

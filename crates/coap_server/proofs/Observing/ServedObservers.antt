@@ -22,7 +22,8 @@ use Rattle.coap_server.specs.Law.{ServerLaw, own_of, lower_of}
 use Rattle.coap_server.specs.Follows.Serves.{Serving, serving, serving_of}
 use Rattle.coap_server.specs.Follows.Tells.{InCon, InReply, Pair, Way, registering, registers_by, telling}
 use Rattle.coap_server.specs.Follows.Tells.{tells_if}
-use Rattle.coap_server.proofs.Observing.EndsObservation.{first_row, serves_right}
+use Rattle.coap_server.proofs.Observing.EndsObservation.{first_row}
+use Rattle.coap_server.proofs.Serving.ServedNow.{is_serving}
 use Rattle.coap_server.proofs.Observing.RejectedNons.{none_rejected}
 use Rattle.coap_exchange.specs.AnswererSteps.{unmatched_by}
 use Rattle.coap_server.proofs.Serving.FoundReady.{found_ready}
@@ -90,7 +91,7 @@ module _ (limits : Limits) (szx : ℕ) (setup : Setup) where
       (staged t c s p.0 q reply left (ap (λ e. unless_rejected (max (own t).clock now) (unmatched_by from up) (unless_ended e (own t).observers)) none
       ∙ ap (λ r. unless_rejected (max (own t).clock now) r (own t).observers) (none_rejected from up p row)) refl refl refl
       (InReply, refl)
-      (serves_right limits szx setup t c law (serving_of s p.0 q reply left) refl))
+      (is_serving (own t) c law.rows.0 (serving_of s p.0 q reply left) refl).serves)
   served_at t (Ticks now w below room (due.Ready a) passed (Serves q reply left) id answer) law x h =
       let first : E.Call = ticking (own t) now below room (due.Ready a) in
       let s : Own = heard (own t) now first in
@@ -104,5 +105,5 @@ module _ (limits : Limits) (szx : ℕ) (setup : Setup) where
       (staged t c s a q reply left
       (ap (λ u. unless_ended (P.failed_by u (own t).exchanges.separate) (own t).observers) idle) refl refl refl
       (InCon id, refl)
-      (serves_right limits szx setup t c law (serving_of s a q reply left) refl))
+      (is_serving (own t) c law.rows.0 (serving_of s a q reply left) refl).serves)
   served_at t _ law x e = absurd (cc e)

@@ -9,7 +9,8 @@ use Rattle.coap_types.specs.declared.endpoint.Endpoint.{Endpoint}
 use Rattle.coap_codec.specs.Message.{Message}
 use Rattle.coap_layer.specs.Trace as L
 use Rattle.coap_observe.specs.Observers.{Observer, begun, noted_to, removed, registered, sent_to, registration}
-use Rattle.coap_observe.proofs.Facts.Registrations.{registration-noted_to, registration-registered, registration-sent_to}
+use Rattle.coap_observe.proofs.Facts.Registrations.{registration-noted_to, registration-registered}
+use Rattle.coap_observe.proofs.Facts.Registrations.{registration-sent_to}
 use Rattle.coap_observe.specs.Versions.{sequence_number}
 use Rattle.coap_resource.specs.Content.{Content, Held}
 use Rattle.coap_resource.specs.RequestOptions.{block_of, szx_by}
@@ -45,7 +46,7 @@ use Rattle.coap_server.proofs.Observing.LivesOn.{Lives, LivesAt, turned}
 use Rattle.coap_server.proofs.Observing.StoreSteps.{AreLow, are_low}
 use Rattle.coap_server.proofs.Observing.DatedMarks.{IsDated, are_dated, ended_dated}
 use Rattle.coap_server.proofs.Observing.YoungNons.{young_by}
-use Rattle.coap_server.proofs.Replying.ResponsesHaveRequests.{each_there}
+use Rattle.coap_server.proofs.Observing.MarkedObservers.{each_there}
 use Rattle.coap_server.proofs.Exact.Asked.{back}
 use Rattle.coap_server.specs.Asks.{notifies_by}
 use Rattle.coap_server.specs.Plain.{by_plain, goes_plain}
@@ -53,13 +54,16 @@ use Rattle.coap_exchange.specs.AnswererLaw as W
 use Rattle.coap_exchange.specs.AnswererLaw.{ResponseLaw}
 use Rattle.coap_resource.specs.Since.{IsSince}
 use Rattle.coap_observe.specs.Registrations.{told_by}
-use Rattle.coap_server.proofs.Observing.Outcomes.{serves_came, serves_waited}
+use Rattle.coap_server.proofs.Observing.Outcomes.{next_one, serves_came, serves_waited}
 use Rattle.coap_server.proofs.Observing.ConsAreAcknowledged.{ready_alone, alone_later, begins}
 use Rattle.coap_server.proofs.Exact.Leads.{exchanges_kept, kept_behind}
 use Rattle.coap_server.proofs.Observing.ObserversWereMade.{good_ended, good}
 use Rattle.coap_server.proofs.Serving.Brought.{server_back}
-use Rattle.coap_server.proofs.Observing.VersionsRise.{FlightOf, At, observe_there}
-use Rattle.coap_server.proofs.Observing.VersionsRise.{IsThere, behind_there, marked_there, there_is, next_is, readies_head}
+use Rattle.coap_server.proofs.Observing.Flights.{FlightOf}
+use Rattle.coap_server.proofs.Observing.VersionsRise.{At}
+use Rattle.coap_server.proofs.Observing.MarkedObservers.{IsThere, behind_there, marked_there, observe_there}
+use Rattle.coap_server.proofs.Observing.MarkedObservers.{readies_head}
+use Rattle.coap_server.proofs.Observing.MarkedObservers.{there_is}
 
 pub one : (a b : Telling) → Some a ≡ Some b → a ≡ b
 one a b e = cc e
@@ -142,7 +146,7 @@ module _ (limits : Limits) (szx : ℕ) (setup : Setup) where
 
     pub told_here : ServerLaw limits szx setup (call ∷ t) → Told t stage o
     told_here law =
-        let is = next_is (behind passed (marked stage.observers)) stage.store o reply law.rows.0.0 in
+        let is = (next_one (behind passed (marked stage.observers)) stage.store o reply law.rows.0.0).0 in
         let k = marked_there stage.observers o (behind_there passed (marked stage.observers) o is) in
         let g = good_ended limits szx t (P.after (own t).exchanges (ticking (own t) now below room due.Idle)).ended
         (own t).observers (good limits szx t) in
@@ -181,7 +185,7 @@ module _ (limits : Limits) (szx : ℕ) (setup : Setup) where
 
         head : (rest : List E.Call) × (asks ≡ E.Ready stage.clock o.to true ∷ rest)
         head = readies_head stage.clock passed (marked stage.observers) o
-            (next_is (behind passed (marked stage.observers)) stage.store o reply law.rows.0.0)
+            (next_one (behind passed (marked stage.observers)) stage.store o reply law.rows.0.0).0
 
   module _ (older : List Call) (x : Telling) where
     abbrev pub Begins : Call → Type 0

@@ -30,9 +30,8 @@ use Rattle.coap_types.specs.declared.transmission.TheConstants.{MAX_LATENCY_MS a
 use Rattle.coap_layer.specs.declared.setup.Setup.{Setup}
 use Rattle.coap_server.proofs.Observing.ConsAreAcknowledged.{later, not_flying}
 use Rattle.coap_server.proofs.Serving.Brought.{server_back}
-use Rattle.coap_server.proofs.Observing.VersionsRise.{FlightOf, At}
-use Rattle.coap_server.proofs.Observing.VersionsRise.{next_is}
-use Rattle.coap_server.proofs.Observing.VersionsRise.{readies_later, heard_ticked, steps}
+use Rattle.coap_server.proofs.Observing.Flights.{FlightOf, readies_later}
+use Rattle.coap_server.proofs.Observing.VersionsRise.{At, heard_ticked, steps}
 use Rattle.coap_server.proofs.Observing.TellsBegin.{Told, asks, begins_at, free, one, stage, told_here}
 
 module _ (limits : Limits) (szx : ℕ) (setup : Setup) where

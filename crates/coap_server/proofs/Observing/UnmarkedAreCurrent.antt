@@ -1,6 +1,6 @@
 -- An observer to whom nothing is due was told last what its path holds.
 use Rattle.std.proofs.Common.{◌≡◌, ℕ, ◌==◌, ◌&&◌, nat_lt, max, Bool, true, false}
-use Rattle.std.proofs.Common.{Option, Some, None, List, [], ◌∷◌, refl, ap, sym, subst, ◌∙◌, cond, length}
+use Rattle.std.proofs.Common.{Option, Some, List, [], ◌∷◌, refl, ap, sym, subst, ◌∙◌, cond, length}
 use Rattle.std.proofs.lemmas.Bool.{and_parts}
 use Rattle.std.specs.Cmp.{unsigned_Decides}
 use Rattle.coap_types.specs.declared.endpoint.Endpoint.{Endpoint}
@@ -19,24 +19,22 @@ use Rattle.coap_exchange.specs.declared.answerer.Due.{Due}
 use Rattle.coap_exchange.specs.declared.answerer.Due.TheVariants as due
 use Rattle.coap_exchange.specs.AnswererSteps as P
 use Rattle.coap_common.specs.SuccessCodes.{content}
-use Rattle.coap_server.specs.Trace.{Own, Handling, Silent, Replies, Serves, Waits, Notifies, Call, Sets, Removes}
-use Rattle.coap_server.specs.Trace.{Delays, Plains, Feeds, Ticks, NextOut, Gets, TellsApplied}
+use Rattle.coap_server.specs.Trace.{Own, Handling, Serves, Call, Sets, Removes}
+use Rattle.coap_server.specs.Trace.{Feeds, Ticks}
 use Rattle.coap_server.specs.Observers.{observes, registers, observers_with, marked_if}
-use Rattle.coap_server.specs.Deferring.{question_of}
-use Rattle.coap_server.specs.Notifying.{behind, marked}
+use Rattle.coap_server.specs.Notifying.{marked}
 use Rattle.coap_server.specs.Handling.{incoming, ticking, heard}
 use Rattle.coap_server.specs.Law.{ServerLaw, own_of}
 use Rattle.coap_server.specs.Follows.Current.{told_then, told_last, AreCurrent}
 use Rattle.coap_server.specs.Follows.Serves.{Serving, serving, serving_of}
 use Rattle.coap_server.specs.Follows.Tells.{Telling, tells, tells_if, way_of}
-use Rattle.coap_server.proofs.Answering.TickTurns.{next_notifies, next_is}
 use Rattle.coap_server.proofs.Holding.Holds.{held_is}
 use Rattle.coap_server.proofs.Observing.LastRegistered.{unmarked}
 use Rattle.coap_server.proofs.Observing.ObserversWereMade.{good, good_ended}
-use Rattle.coap_server.proofs.Observing.Outcomes.{never_notifies, never_notifies_ready}
+use Rattle.coap_server.proofs.Observing.Outcomes.{Came, came, served, Turned, turned, responded, noticed}
 use Rattle.coap_server.proofs.Observing.ServedObservers.{ServesAt, served_at}
 use Rattle.coap_server.proofs.Observing.StoreChanges.{Effect, served_effect, sets_effect, removes_effect}
-use Rattle.coap_server.proofs.Observing.VersionsRise.{behind_there, marked_there, there_is}
+use Rattle.coap_server.proofs.Observing.MarkedObservers.{behind_there, marked_there, there_is}
 use Rattle.coap_server.proofs.Serving.Brought.{server_back}
 use Rattle.coap_server.proofs.Observing.CurrentLists.{Good, ended_good, marked_good, none_or, notified_good}
 use Rattle.coap_server.proofs.Observing.CurrentLists.{registered_good, rejected_good, removed_good}
@@ -111,37 +109,26 @@ module _ (to : Endpoint) (token : List ℕ) (limits : Limits) (szx : ℕ) (setup
       by false so false = marked_good to token (own (c ∷ t)).clock (last_of t) x.question.path (own t).store x.left (obs t) effect g
 
   fed : (t : List Call) (now : ℕ) (from : Endpoint) (bytes : List ℕ) (w : ℕ) (up : L.Answer)
-      (came : Option (Asked × Message)) (h : Handling) (below : L.Answer)
-      → ServerLaw limits szx setup (Feeds now from bytes w up came h below ∷ t) → Fine t
-      → Fine (Feeds now from bytes w up came h below ∷ t)
-  fed t now from bytes w up None (Replies r) below law g = let k = law.rows.0 in absurd (cc k)
-  fed t now from bytes w up None (Serves q reply left) below law g = let k = law.rows.0 in absurd (cc k)
-  fed t now from bytes w up None (Waits q d) below law g = let k = law.rows.0 in absurd (cc k)
-  fed t now from bytes w up None (Notifies o reply) below law g = let k = law.rows.0 in absurd (cc k)
-  fed t now from bytes w up (Some p) (Serves q reply left) below law g =
+      (c : Option (Asked × Message)) (h : Handling) (below : L.Answer)
+      → Came (heard (own t) now (incoming (own t) now from bytes up c)) c h
+      → ServerLaw limits szx setup (Feeds now from bytes w up c h below ∷ t) → Fine t
+      → Fine (Feeds now from bytes w up c h below ∷ t)
+  fed t now from bytes w up c h below (served p q reply left k unplaced) law g =
       served_good t (Feeds now from bytes w up (Some p) (Serves q reply left) below) law
       (serving_of (heard (own t) now (incoming (own t) now from bytes up (Some p))) p.0 q reply left) refl refl g
-  fed t now from bytes w up (Some p) (Notifies o reply) below law g =
-      absurd (never_notifies (heard (own t) now (incoming (own t) now from bytes up (Some p))) p o reply law.rows.0)
-  fed t now from bytes w up _ _ below law g = rejected_good to token (last_of t) (own t).store.holds (max (own t).clock now) (unmatched_by from up) _ (ended_good to token (last_of t) (own t).store.holds _ (own t).observers g)
+  fed t now from bytes w up c h below _ law g =
+      rejected_good to token (last_of t) (own t).store.holds (max (own t).clock now) (unmatched_by from up) _
+      (ended_good to token (last_of t) (own t).store.holds _ (own t).observers g)
 
-  idled : (t : List Call) (now w : ℕ) (below : L.Answer) (room : Bool) (passed : ℕ) (h : Handling) (id : ℕ)
-      (answer : Bool) → ServerLaw limits szx setup (Ticks now w below room due.Idle passed h id answer ∷ t) → Fine t
-      → Fine (Ticks now w below room due.Idle passed h id answer ∷ t)
-  idled t now w below room passed Silent id answer law g =
-      ended_good to token (last_of t) (own t).store.holds _ (own t).observers g
-  idled t now w below room passed (Replies r) id answer law g =
-      let k = next_is (behind passed (marked (heard (own t) now (ticking (own t) now below room due.Idle)).observers))
-      (own t).store (Replies r) law.rows.0.0 in absurd (cc k)
-  idled t now w below room passed (Serves q reply left) id answer law g =
-      let k = next_is (behind passed (marked (heard (own t) now (ticking (own t) now below room due.Idle)).observers))
-      (own t).store (Serves q reply left) law.rows.0.0 in absurd (cc k)
-  idled t now w below room passed (Waits q d) id answer law g =
-      let k = next_is (behind passed (marked (heard (own t) now (ticking (own t) now below room due.Idle)).observers))
-      (own t).store (Waits q d) law.rows.0.0 in absurd (cc k)
-  idled t now w below room passed (Notifies o reply) id answer law g =
+  ticked : (t : List Call) (now w : ℕ) (below : L.Answer) (room : Bool) (d : Due) (passed : ℕ) (h : Handling)
+      (id : ℕ) (answer : Bool) → Turned (heard (own t) now (ticking (own t) now below room d)) passed d h
+      → ServerLaw limits szx setup (Ticks now w below room d passed h id answer ∷ t)
+      → Fine t → Fine (Ticks now w below room d passed h id answer ∷ t)
+  ticked t now w below room d passed h id answer (responded a q reply left asks k) law g =
+      served_good t (Ticks now w below room (due.Ready a) passed (Serves q reply left) id answer) law
+      (serving_of (heard (own t) now (ticking (own t) now below room (due.Ready a))) a q reply left) refl refl g
+  ticked t now w below room d passed h id answer (noticed o reply found is) law g =
       let s : Own = heard (own t) now (ticking (own t) now below room due.Idle) in
-      let found = next_notifies (behind passed (marked s.observers)) s.store o reply law.rows.0.0 in
       let there = (marked_there s.observers o (behind_there passed (marked s.observers) o found)).0 in
       let distinct = (good_ended limits szx t
       (P.after (own t).exchanges (ticking (own t) now below room due.Idle)).ended (own t).observers
@@ -149,36 +136,20 @@ module _ (to : Endpoint) (token : List ℕ) (limits : Limits) (szx : ℕ) (setup
       notified_good to token (by_plain s o) s.clock id s.clock (last_of t) (own t).store o (way_of (by_plain s o) id)
       s.observers (there_is s.observers o distinct there)
       (ended_good to token (last_of t) (own t).store.holds _ (own t).observers g) ((own t).store.holds o.path) refl
-
-  ticked : (t : List Call) (now w : ℕ) (below : L.Answer) (room : Bool) (d : Due) (passed : ℕ) (h : Handling)
-      (id : ℕ) (answer : Bool) → ServerLaw limits szx setup (Ticks now w below room d passed h id answer ∷ t)
-      → Fine t → Fine (Ticks now w below room d passed h id answer ∷ t)
-  ticked t now w below room due.Idle passed h id answer law g = idled t now w below room passed h id answer law g
-  ticked t now w below room due.Copied passed Silent id answer law g =
+  ticked t now w below room d passed h id answer _ law g =
       ended_good to token (last_of t) (own t).store.holds _ (own t).observers g
-  ticked t now w below room due.Expired passed Silent id answer law g =
-      ended_good to token (last_of t) (own t).store.holds _ (own t).observers g
-  ticked t now w below room (due.Ready a) passed Silent id answer law g =
-      ended_good to token (last_of t) (own t).store.holds _ (own t).observers g
-  ticked t now w below room (due.Ready a) passed (Replies r) id answer law g =
-      ended_good to token (last_of t) (own t).store.holds _ (own t).observers g
-  ticked t now w below room (due.Ready a) passed (Waits q d) id answer law g =
-      ended_good to token (last_of t) (own t).store.holds _ (own t).observers g
-  ticked t now w below room (due.Ready a) passed (Serves q reply left) id answer law g =
-      served_good t (Ticks now w below room (due.Ready a) passed (Serves q reply left) id answer) law
-      (serving_of (heard (own t) now (ticking (own t) now below room (due.Ready a))) a q reply left) refl refl g
-  ticked t now w below room (due.Ready a) passed (Notifies o reply) id answer law g =
-      let s : Own = heard (own t) now (ticking (own t) now below room (due.Ready a)) in
-      absurd (never_notifies_ready (question_of s.clock a s.waiting) s.store s.clock o reply law.rows.0.0)
-  ticked t now w below room _ passed _ id answer law g = let k = law.rows.0.0 in absurd (cc k)
 
   fine : (t : List Call) → ServerLaw limits szx setup t → Fine t
   fine [] law = λ o h m. none_or h
   fine (c ∷ t) law = on c law (fine t (server_back limits szx setup c t law))
     where
       on : (c : Call) → ServerLaw limits szx setup (c ∷ t) → Fine t → Fine (c ∷ t)
-      on (Feeds now from bytes w up came h below) law g = fed t now from bytes w up came h below law g
-      on (Ticks now w below room d passed h id answer) law g = ticked t now w below room d passed h id answer law g
+      on (Feeds now from bytes w up c h below) law g =
+          fed t now from bytes w up c h below (came (heard (own t) now (incoming (own t) now from bytes up c)) c h
+          law.rows.0) law g
+      on (Ticks now w below room d passed h id answer) law g =
+          ticked t now w below room d passed h id answer
+          (turned (heard (own t) now (ticking (own t) now below room d)) passed d h law.rows.0.0) law g
       on (Sets now path format body answer left) law g =
           marked_good to token (max (own t).clock now) (last_of t) path (own t).store left (own t).observers
           (sets_effect (put_refusal (own t).store (max (own t).clock now) path (length body)) (own t).store
@@ -187,11 +158,7 @@ module _ (to : Endpoint) (token : List ℕ) (limits : Limits) (szx : ℕ) (setup
           marked_good to token (max (own t).clock now) (last_of t) path (own t).store left (own t).observers
           (removes_effect ((own t).store.holds path) (rate_refusal (own t).store.tally (max (own t).clock now))
           (own t).store (max (own t).clock now) path answer left refl law.rows.0) g
-      on (Delays path ms answer) law g = g
-      on (Plains path answer) law g = g
-      on (Gets path answer) law g = g
-      on (TellsApplied answer) law g = g
-      on (NextOut answer) law g = g
+      on _ law g = g
 
 pub are_current : (limits : Limits) (szx : ℕ) (setup : Setup) (t : List Call) → ServerLaw limits szx setup t
     → AreCurrent limits szx t

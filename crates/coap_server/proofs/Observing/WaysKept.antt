@@ -6,7 +6,7 @@ use Rattle.coap_codec.specs.Message.{Message}
 use Rattle.coap_layer.specs.Trace as L
 use Rattle.coap_layer.specs.declared.setup.Setup.{Setup}
 use Rattle.coap_observe.specs.Observers.{Observer}
-use Rattle.coap_resource.specs.Content.{Held}
+use Rattle.coap_resource.specs.Content.{Content, Held}
 use Rattle.coap_resource.specs.Limits.{Limits}
 use Rattle.coap_resource.specs.Serves.{Reply}
 use Rattle.coap_exchange.specs.declared.answerer.Asked.{Asked}
@@ -15,20 +15,21 @@ use Rattle.coap_exchange.specs.declared.answerer.Due.TheVariants as due
 use Rattle.coap_exchange.specs.declared.answerer.Ended.{Ended}
 use Rattle.coap_exchange.specs.AnswererSteps as P
 use Rattle.coap_exchange.specs.AnswererSteps.{unmatched_by}
-use Rattle.coap_server.specs.Trace.{Own, Silent, Replies, Serves, Waits, Notifies, Call, Sets}
-use Rattle.coap_server.specs.Trace.{Removes, Delays, Plains, Feeds, Ticks, NextOut, Gets, TellsApplied}
-use Rattle.coap_server.specs.Observers.{unless_ended}
-use Rattle.coap_server.specs.Deferring.{question_of}
+use Rattle.coap_server.specs.Trace.{Own, Handling, Serves, Notifies, Call, Sets}
+use Rattle.coap_server.specs.Trace.{Removes, Feeds, Ticks}
+use Rattle.coap_server.specs.Observers.{marked_if, unless_ended}
 use Rattle.coap_server.specs.Notifying.{notified}
 use Rattle.coap_server.specs.Plain.{by_plain}
 use Rattle.coap_server.specs.Handling.{incoming, ticking, heard}
 use Rattle.coap_server.specs.Law.{ServerLaw, own_of}
-use Rattle.coap_server.specs.Follows.Tells.{telling}
+use Rattle.coap_server.specs.Follows.Holds.{change, change_of}
+use Rattle.coap_server.specs.Follows.Tells.{registering, telling}
 use Rattle.coap_server.specs.Follows.Tells.{tells, way_of}
-use Rattle.coap_server.proofs.Observing.Outcomes.{never_notifies_ready}
+use Rattle.coap_server.proofs.Observing.Outcomes.{Came, came, served, Turned, turned, responded, noticed}
 use Rattle.coap_server.proofs.Observing.TellsBegin.{told_here}
 use Rattle.coap_server.proofs.Serving.Brought.{server_back}
 use Rattle.coap_server.proofs.Observing.WaysSteps as W
+use Rattle.coap_server.proofs.Observing.WaysTold as T
 use Rattle.coap_server.proofs.Observing.WaysSteps.{none_marked}
 
 module _ (limits : Limits) (szx : ℕ) (setup : Setup) (to : Endpoint) (token : List ℕ) where
@@ -69,11 +70,13 @@ module _ (limits : Limits) (szx : ℕ) (setup : Setup) (to : Endpoint) (token : 
           (λ y h. back y (W.removed_back limits szx setup to token o.to o.token s.observers y (sym (ap (W.reg limits szx setup to token) (left_so plain goes None is)) ∙ h))) fits
       by_way false goes (Some held) is =
           let told = told_here limits szx setup t now w below room passed id answer o reply law in
-          W.con_step limits szx setup to token t notice o s.clock held id s.observers refl (told_so false goes (Some held) is) refl back told.is
+          T.con_step limits szx setup to token t notice o s.clock held id s.observers refl (told_so false goes
+          (Some held) is) refl back told.is
           told.marked_is (left_so false goes (Some held) is) fits
       by_way true goes (Some held) is =
           let told = told_here limits szx setup t now w below room passed id answer o reply law in
-          W.non_step limits szx setup to token t notice o held s.observers refl (told_so true goes (Some held) is) refl back told.is
+          T.non_step limits szx setup to token t notice o held s.observers refl (told_so true goes
+          (Some held) is) refl back told.is
           (left_so true goes (Some held) is) fits
 
       notice_step : W.Fits limits szx setup to token (notice ∷ t)
@@ -91,73 +94,53 @@ module _ (limits : Limits) (szx : ℕ) (setup : Setup) (to : Endpoint) (token : 
         → W.Back limits szx setup to token own.observers (heard own now (ticking own now below room d)).observers
     ticked_back now below room d = W.ended_back limits szx setup to token (P.failed_by below own.exchanges.separate) own.observers
 
-    step : (c : Call) → ServerLaw limits szx setup (c ∷ t) → W.Fits limits szx setup to token t → W.Fits limits szx setup to token (c ∷ t)
-    step (Sets now path format body answer left) law fits =
-        let c : Call = Sets now path format body answer left in
-        W.either_step limits szx setup to token t c law refl refl
-        (λ e o h. sym (ap (W.reg limits szx setup to token) (none_marked (max own.clock now) path own.store left own.observers e)) ∙ h) fits
-    step (Removes now path answer left) law fits =
-        let c : Call = Removes now path answer left in
-        W.either_step limits szx setup to token t c law refl refl
-        (λ e o h. sym (ap (W.reg limits szx setup to token) (none_marked (max own.clock now) path own.store left own.observers e)) ∙ h) fits
-    step (Delays path ms answer) law fits = W.quiet_step limits szx setup to token t (Delays path ms answer) refl refl refl (λ o h. h) fits
-    step (Plains path answer) law fits = W.quiet_step limits szx setup to token t (Plains path answer) refl refl refl (λ o h. h) fits
-    step (Gets path answer) law fits = W.quiet_step limits szx setup to token t (Gets path answer) refl refl refl (λ o h. h) fits
-    step (TellsApplied answer) law fits = W.quiet_step limits szx setup to token t (TellsApplied answer) refl refl refl (λ o h. h) fits
-    step (NextOut answer) law fits = W.quiet_step limits szx setup to token t (NextOut answer) refl refl refl (λ o h. h) fits
-    step (Feeds now from bytes w up (Some p) (Serves q reply left) below) law fits =
-        W.served_step limits szx setup to token t (Feeds now from bytes w up (Some p) (Serves q reply left) below) law _ refl refl fits
-    step (Feeds now from bytes w up None (Serves q reply left) below) law fits = let e = law.rows.0 in absurd (cc e)
-    step (Feeds now from bytes w up None Silent below) law fits =
-        W.quiet_step limits szx setup to token t _ refl refl refl (fed_back now from bytes up None) fits
-    step (Feeds now from bytes w up None (Replies r) below) law fits =
-        W.quiet_step limits szx setup to token t _ refl refl refl (fed_back now from bytes up None) fits
-    step (Feeds now from bytes w up None (Waits q d) below) law fits =
-        W.quiet_step limits szx setup to token t _ refl refl refl (fed_back now from bytes up None) fits
-    step (Feeds now from bytes w up None (Notifies o reply) below) law fits =
-        W.quiet_step limits szx setup to token t _ refl refl refl (fed_back now from bytes up None) fits
-    step (Feeds now from bytes w up (Some p) Silent below) law fits =
-        W.quiet_step limits szx setup to token t _ refl refl refl (fed_back now from bytes up (Some p)) fits
-    step (Feeds now from bytes w up (Some p) (Replies r) below) law fits =
-        W.quiet_step limits szx setup to token t _ refl refl refl (fed_back now from bytes up (Some p)) fits
-    step (Feeds now from bytes w up (Some p) (Waits q d) below) law fits =
-        W.quiet_step limits szx setup to token t _ refl refl refl (fed_back now from bytes up (Some p)) fits
-    step (Feeds now from bytes w up (Some p) (Notifies o reply) below) law fits =
-        W.quiet_step limits szx setup to token t _ refl refl refl (fed_back now from bytes up (Some p)) fits
-    step (Ticks now w below room due.Idle passed (Notifies o reply) id answer) law fits =
+    fed : (now : ℕ) (from : Endpoint) (bytes : List ℕ) (w : ℕ) (up : L.Answer) (c : Option (Asked × Message))
+        (h : Handling) (below : L.Answer) → Came (heard own now (incoming own now from bytes up c)) c h
+        → ServerLaw limits szx setup (Feeds now from bytes w up c h below ∷ t) → W.Fits limits szx setup to token t
+        → W.Fits limits szx setup to token (Feeds now from bytes w up c h below ∷ t)
+    fed now from bytes w up c h below (served p q reply left k unplaced) law fits =
+        W.served_step limits szx setup to token t (Feeds now from bytes w up (Some p) (Serves q reply left) below) law _
+        refl refl fits
+    fed now from bytes w up c h below _ law fits =
+        W.quiet_step limits szx setup to token t _ refl refl refl (fed_back now from bytes up c) fits
+
+    ticked : (now w : ℕ) (below : L.Answer) (room : Bool) (d : Due) (passed : ℕ) (h : Handling) (id : ℕ)
+        (answer : Bool) → Turned (heard own now (ticking own now below room d)) passed d h
+        → ServerLaw limits szx setup (Ticks now w below room d passed h id answer ∷ t)
+        → W.Fits limits szx setup to token t
+        → W.Fits limits szx setup to token (Ticks now w below room d passed h id answer ∷ t)
+    ticked now w below room d passed h id answer (responded a q reply left asks k) law fits =
+        W.served_step limits szx setup to token t
+        (Ticks now w below room (due.Ready a) passed (Serves q reply left) id answer) law _ refl refl fits
+    ticked now w below room d passed h id answer (noticed o reply found is) law fits =
         notice_step now w below room passed id answer o reply law fits
-    step (Ticks now w below room (due.Ready a) passed (Notifies o reply) id answer) law fits =
-        let k : Own = heard own now (ticking own now below room (due.Ready a)) in
-        absurd (never_notifies_ready (question_of k.clock a k.waiting) k.store k.clock o reply law.rows.0.0)
-    step (Ticks now w below room (due.Ready a) passed (Serves q reply left) id answer) law fits =
-        W.served_step limits szx setup to token t (Ticks now w below room (due.Ready a) passed (Serves q reply left) id answer) law _ refl refl fits
-    step (Ticks now w below room due.Idle passed Silent id answer) law fits =
-        W.quiet_step limits szx setup to token t _ refl refl refl (ticked_back now below room due.Idle) fits
-    step (Ticks now w below room due.Idle passed (Replies r) id answer) law fits =
-        W.quiet_step limits szx setup to token t _ refl refl refl (ticked_back now below room due.Idle) fits
-    step (Ticks now w below room due.Idle passed (Serves q reply left) id answer) law fits =
-        W.quiet_step limits szx setup to token t _ refl refl refl (ticked_back now below room due.Idle) fits
-    step (Ticks now w below room due.Idle passed (Waits q d) id answer) law fits =
-        W.quiet_step limits szx setup to token t _ refl refl refl (ticked_back now below room due.Idle) fits
-    step (Ticks now w below room due.Copied passed Silent id answer) law fits =
-        W.quiet_step limits szx setup to token t _ refl refl refl (ticked_back now below room due.Copied) fits
-    step (Ticks now w below room due.Copied passed (Replies r) id answer) law fits =
-        W.quiet_step limits szx setup to token t _ refl refl refl (ticked_back now below room due.Copied) fits
-    step (Ticks now w below room due.Copied passed (Waits q d) id answer) law fits =
-        W.quiet_step limits szx setup to token t _ refl refl refl (ticked_back now below room due.Copied) fits
-    step (Ticks now w below room due.Expired passed Silent id answer) law fits =
-        W.quiet_step limits szx setup to token t _ refl refl refl (ticked_back now below room due.Expired) fits
-    step (Ticks now w below room due.Expired passed (Replies r) id answer) law fits =
-        W.quiet_step limits szx setup to token t _ refl refl refl (ticked_back now below room due.Expired) fits
-    step (Ticks now w below room due.Expired passed (Waits q d) id answer) law fits =
-        W.quiet_step limits szx setup to token t _ refl refl refl (ticked_back now below room due.Expired) fits
-    step (Ticks now w below room (due.Ready a) passed Silent id answer) law fits =
-        W.quiet_step limits szx setup to token t _ refl refl refl (ticked_back now below room (due.Ready a)) fits
-    step (Ticks now w below room (due.Ready a) passed (Replies r) id answer) law fits =
-        W.quiet_step limits szx setup to token t _ refl refl refl (ticked_back now below room (due.Ready a)) fits
-    step (Ticks now w below room (due.Ready a) passed (Waits q d) id answer) law fits =
-        W.quiet_step limits szx setup to token t _ refl refl refl (ticked_back now below room (due.Ready a)) fits
-    step _ law fits = let e = law.rows.0.0 in absurd (cc e)
+    ticked now w below room d passed h id answer _ law fits =
+        W.quiet_step limits szx setup to token t _ refl refl refl (ticked_back now below room d) fits
+
+    -- .. and a local change
+    changed : (c : Call) (at : ℕ) (path : List (List ℕ)) (left : Content)
+        → ServerLaw limits szx setup (c ∷ t) → registering own c ≡ None → telling own c ≡ None
+        → change own c ≡ change_of path own.store left
+        → (own_of limits szx (c ∷ t)).observers ≡ marked_if at path own.store left own.observers
+        → W.Fits limits szx setup to token t → W.Fits limits szx setup to token (c ∷ t)
+    changed c at path left law r tell is marks fits =
+        W.either_step limits szx setup to token t c law r tell
+        (λ e o h. sym (ap (W.reg limits szx setup to token)
+        (marks ∙ none_marked at path own.store left own.observers (sym is ∙ e))) ∙ h) fits
+
+    step : (c : Call) → ServerLaw limits szx setup (c ∷ t) → W.Fits limits szx setup to token t
+        → W.Fits limits szx setup to token (c ∷ t)
+    step (Sets now path format body answer left) law fits =
+        changed (Sets now path format body answer left) (max own.clock now) path left law refl refl refl refl fits
+    step (Removes now path answer left) law fits =
+        changed (Removes now path answer left) (max own.clock now) path left law refl refl refl refl fits
+    step (Feeds now from bytes w up c h below) law fits =
+        fed now from bytes w up c h below (came (heard own now
+        (incoming own now from bytes up c)) c h law.rows.0) law fits
+    step (Ticks now w below room d passed h id answer) law fits =
+        ticked now w below room d passed h id answer
+        (turned (heard own now (ticking own now below room d)) passed d h law.rows.0.0) law fits
+    step c law fits = W.quiet_step limits szx setup to token t c refl refl refl (λ o h. h) fits
 
   pub fits : (t : List Call) → ServerLaw limits szx setup t → W.Fits limits szx setup to token t
   fits [] law = λ o h. absurd (cc h)

@@ -11,12 +11,11 @@ use Rattle.coap_types.specs.declared.endpoint.Endpoint.{Endpoint}
 use Rattle.coap_types.proofs.Facts.Endpoints.{same_endpoint-decides}
 use Rattle.coap_types.proofs.Facts.Paths.{same_path-decides}
 use Rattle.coap_layer.specs.declared.setup.Setup.{Setup}
-use Rattle.coap_observe.specs.Observers.{Noted, Observer, begun, changed_at, marked_by, noted_to, registered, registration}
-use Rattle.coap_observe.specs.Observers.{removed, sent_to}
-use Rattle.coap_observe.specs.Registrations.{IsOther, told_by}
-use Rattle.coap_observe.proofs.Facts.Registrations.{others_stay, registration-changed_at, registration-noted_to}
+use Rattle.coap_observe.specs.Observers.{Observer, begun, changed_at, marked_by, registered, registration}
+use Rattle.coap_observe.specs.Observers.{removed}
+use Rattle.coap_observe.specs.Registrations.{IsOther}
+use Rattle.coap_observe.proofs.Facts.Registrations.{others_stay, registration-changed_at}
 use Rattle.coap_observe.proofs.Facts.Registrations.{registration-registered, registration-removed}
-use Rattle.coap_observe.proofs.Facts.Registrations.{registration-sent_to}
 use Rattle.coap_resource.specs.Content.{Content, Held}
 use Rattle.coap_resource.specs.Limits.{Limits}
 use Rattle.coap_resource.specs.RequestOptions.{block_of, szx_by}
@@ -29,7 +28,7 @@ use Rattle.coap_server.specs.Observers.{unless_rejected}
 use Rattle.coap_server.specs.Law.{ServerLaw, own_of}
 use Rattle.coap_server.specs.Follows.Holds.{Change, change, change_of, changed_by}
 use Rattle.coap_server.specs.Follows.Serves.{Serving, serving}
-use Rattle.coap_server.specs.Follows.Tells.{InCon, InNon, Pair, Telling, Way, registering, telling, telling_of}
+use Rattle.coap_server.specs.Follows.Tells.{Pair, Telling, Way, registering, telling}
 use Rattle.coap_server.specs.Follows.Tells.{tells, tells_if}
 use Rattle.coap_server.specs.Follows.Ways.{changes_it, confirms_it, is_con, is_pair, last_change, last_con, last_non}
 use Rattle.coap_server.specs.Follows.Ways.{makes_it, non_by, non_then, number_in}
@@ -126,7 +125,7 @@ module _ (limits : Limits) (szx : ℕ) (setup : Setup) (to : Endpoint) (token : 
 
       -- by what it makes and tells, and by what it changes
 
-      con_so : (p : Option Pair) (x : Option Telling) → registering own c ≡ p → telling own c ≡ x
+      pub con_so : (p : Option Pair) (x : Option Telling) → registering own c ≡ p → telling own c ≡ x
           → last_con limits szx to token (c ∷ t)
           ≡ cond (makes_it to token p || confirms_it to token x) (Some clk) (last_con limits szx to token t)
       con_so p x e f =
@@ -134,7 +133,7 @@ module _ (limits : Limits) (szx : ℕ) (setup : Setup) (to : Endpoint) (token : 
           (last_con limits szx to token t)) e
           ∙ ap (λ z. cond (makes_it to token p || confirms_it to token z) (Some clk) (last_con limits szx to token t)) f
 
-      non_so : (p : Option Pair) (x : Option Telling) → registering own c ≡ p → telling own c ≡ x
+      pub non_so : (p : Option Pair) (x : Option Telling) → registering own c ≡ p → telling own c ≡ x
           → last_non limits szx to token (c ∷ t)
           ≡ cond (makes_it to token p) None (non_then to token (number_in c) x (last_non limits szx to token t))
       non_so p x e f =
@@ -143,7 +142,7 @@ module _ (limits : Limits) (szx : ℕ) (setup : Setup) (to : Endpoint) (token : 
           ∙ ap (λ z. cond (makes_it to token p) None (non_then to token (number_in c) z
           (last_non limits szx to token t))) f
 
-      change_so : (path : List (List ℕ)) (x : Option Change) → change own c ≡ x
+      pub change_so : (path : List (List ℕ)) (x : Option Change) → change own c ≡ x
           → last_change limits szx path (c ∷ t) ≡ cond (changes_it path x) (Some clk) (last_change limits szx path t)
       change_so path x e = ap (λ z. cond (changes_it path z) (Some clk) (last_change limits szx path t)) e
 
@@ -352,91 +351,3 @@ module _ (limits : Limits) (szx : ℕ) (setup : Setup) (to : Endpoint) (token : 
                   ∙ (ap (λ b. cond b (registered clk x.asked.from x.asked.token x.question.path size os)
                   (cond (observes 1 x.question) (removed x.asked.from x.asked.token os) os)) so
                   ∙ ap (λ b. cond b (removed x.asked.from x.asked.token os) os) k))) ∙ h) fits
-
-      -- it is told in a CON
-      pub con_step : (o : Observer) (at : ℕ) (held : Held) (id : ℕ) (os : List Observer)
-          → registering own c ≡ None
-          → telling own c ≡ Some (telling_of o.to o.token o.path (InCon id) at false held) → change own c ≡ None
-          → Back own.observers os → registration o.to o.token os ≡ Some o → o.marked ≡ true
-          → after ≡ sent_to clk o.to o.token true os → Fits t → Fits (c ∷ t)
-      con_step o at held id os r tell e back there due is fits y h = elim (pair_of to token o.to o.token) [
-        | inl p ↦ (
-            let mine = is_pair_self to token o.to o.token p in
-            let here : reg os ≡ Some o =
-            ap (λ z. registration z token os) p.0 ∙ (ap (λ z. registration o.to z os) p.1 ∙ there) in
-            let sent : reg (sent_to clk o.to o.token true os) ≡ Some (told_by clk true o) =
-            ap (λ z. registration z token (sent_to clk o.to o.token true os)) p.0
-            ∙ (ap (λ z. registration o.to z (sent_to clk o.to o.token true os)) p.1
-            ∙ (registration-sent_to clk o.to o.token true os ∙ ap (option_map (told_by clk true)) there)) in
-            let both : Some (told_by clk true o) ≡ Some y = sym sent ∙ (ap reg (sym is) ∙ h) in
-            let one : told_by clk true o ≡ y = cc both in
-            let f = fits o (back o here) in
-            subst (FitsOf (c ∷ t)) one (record {
-              con = con_so _ _ r tell
-                  ∙ (ap (λ b. cond b (Some clk) (last_con limits szx to token t)) mine
-                  ∙ ap (λ b. Some (cond b clk o.con)) (sym due));
-              change_is = λ m. absurd (cc m);
-              non = f.non ∙ sym (non_so _ _ r tell
-                  ∙ always (is_pair to token o.to o.token) (last_non limits szx to token t));
-            }))
-        | inr n ↦ (
-            let other = is_pair_other to token o.to o.token n in
-            let stays : reg os ≡ Some y = sym ((others_stay to token o.to o.token os n).sent_stay clk true)
-            ∙ (ap reg (sym is) ∙ h) in
-            let f = fits y (back y stays) in
-            record {
-              con = con_so _ _ r tell
-                  ∙ (ap (λ b. cond b (Some clk) (last_con limits szx to token t)) other ∙ f.con);
-              change_is = λ m. change_so y.path None e ∙ f.change_is m;
-              non = f.non ∙ sym (non_so _ _ r tell
-                  ∙ always (is_pair to token o.to o.token) (last_non limits szx to token t));
-            })
-      ]
-        where
-          always : (b : Bool) (z : Option Noted) → cond b z z ≡ z
-          always true z = refl
-          always false z = refl
-
-      -- .. and in a NON
-      pub non_step : (o : Observer) (held : Held) (os : List Observer) → registering own c ≡ None
-          → telling own c ≡ Some (telling_of o.to o.token o.path InNon clk false held) → change own c ≡ None
-          → Back own.observers os → registration o.to o.token os ≡ Some o
-          → after ≡ sent_to clk o.to o.token false (noted_to clk o.to o.token (number_in c) os) → Fits t → Fits (c ∷ t)
-      non_step o held os r tell e back there is fits y h = elim (pair_of to token o.to o.token) [
-        | inl p ↦ (
-            let mine = is_pair_self to token o.to o.token p in
-            let here : reg os ≡ Some o =
-            ap (λ z. registration z token os) p.0 ∙ (ap (λ z. registration o.to z os) p.1 ∙ there) in
-            let sent : reg (sent_to clk o.to o.token false noted) ≡ Some (told_by clk false (keep o)) =
-            ap (λ z. registration z token (sent_to clk o.to o.token false noted)) p.0
-            ∙ (ap (λ z. registration o.to z (sent_to clk o.to o.token false noted)) p.1
-            ∙ (registration-sent_to clk o.to o.token false noted ∙ ap (option_map (told_by clk false))
-            (registration-noted_to clk o.to o.token (number_in c) os ∙ ap (option_map keep) there))) in
-            let both : Some (told_by clk false (keep o)) ≡ Some y = sym sent ∙ (ap reg (sym is) ∙ h) in
-            let one : told_by clk false (keep o) ≡ y = cc both in
-            let f = fits o (back o here) in
-            subst (FitsOf (c ∷ t)) one (record {
-              con = con_so _ _ r tell ∙ f.con;
-              change_is = λ m. absurd (cc m);
-              non = sym (non_so _ _ r tell ∙ ap (λ b. cond b (Some (record { id = number_in c; at = clk }))
-                  (last_non limits szx to token t)) mine);
-            }))
-        | inr n ↦ (
-            let other = is_pair_other to token o.to o.token n in
-            let stays : reg os ≡ Some y =
-            sym ((others_stay to token o.to o.token noted n).sent_stay clk false
-            ∙ (others_stay to token o.to o.token os n).noted_stay clk (number_in c)) ∙ (ap reg (sym is) ∙ h) in
-            let f = fits y (back y stays) in
-            record {
-              con = con_so _ _ r tell ∙ f.con;
-              change_is = λ m. change_so y.path None e ∙ f.change_is m;
-              non = f.non ∙ sym (non_so _ _ r tell ∙ ap (λ b. cond b (Some (record { id = number_in c; at = clk }))
-                  (last_non limits szx to token t)) other);
-            })
-      ]
-        where
-          noted : List Observer
-          noted = noted_to clk o.to o.token (number_in c) os
-
-          keep : Observer → Observer
-          keep z = record z { noted = Some (record { id = number_in c; at = clk }) }

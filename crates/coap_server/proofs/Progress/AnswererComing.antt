@@ -3,7 +3,6 @@ use Rattle.std.proofs.Common.{◌≡◌, ◌⊎◌, inl, inr, ◌≤◌, ℕ, ma
 use Rattle.std.proofs.Common.{◌++◌, refl, ap, sym, subst, ◌∙◌, cond, arith}
 use Rattle.coap_types.specs.declared.endpoint.Endpoint.{Endpoint}
 use Rattle.coap_types.specs.declared.message.Kind.TheVariants.{Con, Non}
-use Rattle.coap_types.specs.Bytes.{AreBytes}
 use Rattle.coap_codec.specs.Message.{Message}
 use Rattle.coap_layer.specs.Arrivals.{arrival_at}
 use Rattle.coap_layer.specs.Machine.State as S
@@ -34,7 +33,7 @@ module _ (setup : Setup) (calls : List E.Call) (law : ResponseLaw setup calls) w
   left = law.left
 
   -- a datagram arrives
-  module _ (at : ℕ) (from : Endpoint) (bytes : List ℕ) (are : AreBytes bytes) (late : own.clock ≤ at) where
+  module _ (at : ℕ) (from : Endpoint) (bytes : List ℕ) (late : own.clock ≤ at) where
     abbrev arrives : L.Call
     arrives = L.Receive from bytes
 
@@ -47,7 +46,7 @@ module _ (setup : Setup) (calls : List E.Call) (law : ResponseLaw setup calls) w
 
     received : (up : L.Answer) → up ≡ answer_by left at arrives → S.Step left at arrives up first
     unfolding left_by
-    received up right = record { may = are; right = right; new_is = refl }
+    received up right = record { may = tt; right = right; new_is = refl }
 
     -- nothing is handed up, and nothing is rejected
     passes : (up : L.Answer) → up ≡ answer_by left at arrives → P.reject_by up ≡ None → P.handed_up from up ≡ None

@@ -1,45 +1,26 @@
 -- What stands in the law of a server goes on.
-use Rattle.std.proofs.Common.{◌≡◌, ◌≤◌, ◌<◌, inl, inr, ℕ, ◌+◌, max, nat_lt, Bool, true, false, ◌||◌, Option, Some, None}
-use Rattle.std.proofs.Common.{List, [], ◌∷◌, ◌++◌, length, map, filter, not, Result, Ok, Err, refl, ap, sym, subst, ◌∙◌}
-use Rattle.std.proofs.Common.{cond, arith}
-use Rattle.coap_types.specs.Roles.{role_of}
-use Rattle.coap_types.specs.Recognised.{lacks_critical}
-use Rattle.coap_types.specs.RequestPath.{path_of}
-use Rattle.coap_types.specs.MethodCode.{method_of}
-use Rattle.coap_types.specs.OptionValues.{has, uint_at}
-use Rattle.coap_types.specs.Bytes.{AreBytes}
+use Rattle.std.proofs.Common.{◌≡◌, ◌≤◌, ℕ, ◌+◌, max, Bool, true, false, Option, Some, None}
+use Rattle.std.proofs.Common.{List, [], ◌∷◌, ◌++◌, length, map, Result, Ok, Err, refl, ap, sym, subst, ◌∙◌}
+use Rattle.std.proofs.Common.{arith}
 use Rattle.coap_types.specs.declared.block.Block.{Block}
-use Rattle.coap_types.specs.declared.direction.Direction.TheVariants as direction
 use Rattle.coap_types.specs.declared.endpoint.Endpoint.{Endpoint}
 use Rattle.coap_types.specs.declared.message.Kind.{Kind}
 use Rattle.coap_types.specs.declared.message.Kind.TheVariants.{Con}
-use Rattle.coap_types.specs.declared.option_number.TheConstants.{BLOCK1 as block1, BLOCK2 as block2}
-use Rattle.coap_types.specs.declared.option_number.TheConstants.{PROXY_URI as proxy_uri, PROXY_SCHEME as proxy_scheme}
-use Rattle.coap_types.specs.declared.path.TheConstants.{MAX_SEGMENTS as max_segments}
-use Rattle.coap_types.specs.declared.request.Method.{Method}
-use Rattle.coap_types.specs.declared.request.Method.TheVariants.{Get, Post, Put, Delete}
-use Rattle.coap_types.specs.declared.role.Role.TheVariants as role
 use Rattle.coap_codec.specs.Message.{Message}
 use Rattle.coap_layer.specs.Trace as L
 use Rattle.coap_layer.specs.declared.setup.Setup.{Setup}
-use Rattle.coap_block.specs.declared.assembly_step.AssemblyRefusal.{AssemblyRefusal}
-use Rattle.coap_block.specs.declared.assembly_step.AssemblyRefusal.TheVariants.{BadRequest, EntityIncomplete}
-use Rattle.coap_block.specs.declared.assembly_step.AssemblyRefusal.TheVariants.{EntityTooLarge, Unavailable}
 use Rattle.coap_block.specs.declared.block_verdict.BlockVerdict.{BlockVerdict}
 use Rattle.coap_block.specs.declared.block_verdict.BlockVerdict.TheVariants.{Refuse, Join, Done}
 use Rattle.coap_block.specs.AssemblyAnswer.{refusal_code}
-use Rattle.coap_block.specs.Whole.{Each}
-use Rattle.coap_observe.specs.Observers.{Observer, is_of, removed}
+use Rattle.coap_observe.specs.Observers.{Observer}
 use Rattle.coap_resource.specs.declared.refusal.StoreRefusal.{StoreRefusal}
 use Rattle.coap_resource.specs.Content.{Content, Held, put_refusal, later}
 use Rattle.coap_resource.specs.Rate.{rate_refusal}
-use Rattle.coap_resource.specs.RequestOptions.{block_said}
 use Rattle.coap_resource.specs.Serves.{Question, Reply}
 use Rattle.coap_resource.specs.Limits.{Limits}
 use Rattle.coap_exchange.specs.declared.answerer.Asked.{Asked}
 use Rattle.coap_exchange.specs.declared.answerer.Due.{Due}
 use Rattle.coap_exchange.specs.declared.answerer.Due.TheVariants as due
-use Rattle.coap_exchange.specs.declared.answerer.Ended.{Ended}
 use Rattle.coap_exchange.specs.AnswererTrace as E
 use Rattle.coap_exchange.specs.AnswererSteps as P
 use Rattle.coap_exchange.specs.AnswererSteps.{may_defer}
@@ -49,11 +30,9 @@ use Rattle.coap_server.specs.Trace.{Own, Handling, Silent, Replies, Serves, Wait
 use Rattle.coap_server.specs.Trace.{Sets}
 use Rattle.coap_server.specs.Trace.{Removes, Feeds, Ticks}
 use Rattle.coap_server.specs.Responses.{bare}
-use Rattle.coap_server.specs.Checks.{Verdict, Ignored, Refused, Asks, Uploads, verdict_on, bad_by}
-use Rattle.coap_server.specs.Checks.{asked_by, uploading, question, asks, is_reserved, bad_request}
-use Rattle.coap_server.specs.Checks.{proxying_not_supported}
+use Rattle.coap_server.specs.Checks.{Verdict, Ignored, Refused, Asks, Uploads, verdict_on}
 use Rattle.coap_server.specs.Uploads.{ruling_of, whole, continuing, last_block}
-use Rattle.coap_server.specs.Observers.{registers, sequence_if, sequence, unless_ended}
+use Rattle.coap_server.specs.Observers.{registers, sequence_if, sequence}
 use Rattle.coap_server.specs.Serving.{IsServed, response_to}
 use Rattle.coap_server.specs.Deferring.{WaitsBy, AnswersWaiting, delay_for, may_delay, deferral_by}
 use Rattle.coap_server.specs.Notifying.{marked, behind, readies, told, asks_for, notification}
@@ -67,12 +46,13 @@ use Rattle.coap_server.specs.Follows.Waits.{deferred_as}
 use Rattle.coap_server.proofs.Progress.AnswererGoing.{Takes, takes, answers, defers, responds}
 use Rattle.coap_server.proofs.Progress.AnswererComing.{Receives, receives}
 use Rattle.coap_server.proofs.Progress.AnswererTiming.{TimePasses, passes_time}
-use Rattle.coap_server.proofs.Progress.StoreCountsPaths.{AreCounted, can_change}
+use Rattle.coap_server.proofs.Progress.StoreCountsPaths.{AreCounted, can_change, store_counted}
 use Rattle.coap_server.proofs.Exact.Asked.{joined}
 use Rattle.coap_server.proofs.Exact.Leads.{exchanges_kept}
-use Rattle.coap_server.proofs.Observing.VersionsRise.{IsThere, behind_there, marked_there}
+use Rattle.coap_server.proofs.Observing.LatestRegistration.{each_ended}
+use Rattle.coap_server.proofs.Observing.MarkedObservers.{behind_there, marked_there, each_there}
 use Rattle.coap_server.proofs.Progress.ExchangesGo.{defers_not, notifies, Walked, walks}
-use Rattle.coap_server.proofs.Progress.PathsCounted.{store_counted}
+use Rattle.coap_server.proofs.Progress.RefusalsSpelled.{IsRefusal, block_refusal, is_refusal}
 use Rattle.coap_server.proofs.Progress.ResponsesSpelled.{bare_response, continue_response, reply_response}
 use Rattle.coap_server.proofs.Progress.StoreReplies.{is_answered, got_good}
 use Rattle.coap_server.proofs.Progress.TokensShort.{asked_short, waiting_short, observers_short}
@@ -82,74 +62,12 @@ use Rattle.coap_server.specs.Asks.{notifies_by}
 use Rattle.coap_server.specs.Plain.{by_plain, may_be_plain}
 use Rattle.coap_server.proofs.Progress.ExchangesGo.{notifies_plain}
 use Rattle.coap_server.proofs.Progress.AnswererGoing.{TakesCon}
-use Rattle.coap_server.proofs.Replying.ResponsesHaveRequests.{each_there}
-
--- a refusal has a code of a response
-abbrev IsRefusal : Verdict → Type 0
-IsRefusal (Refused code) = (role_of code ≡ role.Response) × (0 < code) × (code < 256)
-IsRefusal _ = Unit {0}
-
-bad_refusal : (kind : Kind) → IsRefusal (bad_by kind)
-bad_refusal Con = (refl, omega arith, omega arith)
-bad_refusal _ = tt
-
-uploading_refusal : (m : Method) (q : Question) (o : Option Block) → IsRefusal (uploading m q o)
-uploading_refusal m q None = tt
-uploading_refusal Put q (Some b) = tt
-uploading_refusal Post q (Some b) = tt
-uploading_refusal Get q (Some b) = (refl, omega arith, omega arith)
-uploading_refusal Delete q (Some b) = (refl, omega arith, omega arith)
-
-asked_refusal : (szx : ℕ) (o : Option Method) (m : Message) → IsRefusal (asked_by szx o m)
-asked_refusal szx None m = (refl, omega arith, omega arith)
-asked_refusal szx (Some method) m = by (nat_lt max_segments (length (path_of (asks m))))
-    (is_reserved (uint_at block1 (asks m)) || is_reserved (uint_at block2 (asks m)))
-  where
-    by : (a b : Bool) → IsRefusal (cond a (Refused bad_request)
-        (cond b (Refused bad_request) (uploading method (question szx method m)
-        (block_said (uint_at block1 (asks m))))))
-    by true b = (refl, omega arith, omega arith)
-    by false true = (refl, omega arith, omega arith)
-    by false false = uploading_refusal method (question szx method m) (block_said (uint_at block1 (asks m)))
-
-is_refusal : (szx : ℕ) (m : Message) → IsRefusal (verdict_on szx m)
-is_refusal szx m = by (lacks_critical direction.Request m.options) (has proxy_uri (asks m) || has proxy_scheme (asks m))
-  where
-    by : (a b : Bool) → IsRefusal (cond a (bad_by m.kind)
-        (cond b (Refused proxying_not_supported) (asked_by szx (method_of m.code) m)))
-    by true b = bad_refusal m.kind
-    by false true = (refl, omega arith, omega arith)
-    by false false = asked_refusal szx (method_of m.code) m
-
-block_refusal : (token : List ℕ) (why : AssemblyRefusal) → length token ≤ 8
-    → P.IsResponseWith token (bare (refusal_code why).0)
-block_refusal token BadRequest few = bare_response token 128 few refl (omega arith) (omega arith)
-block_refusal token EntityIncomplete few = bare_response token 136 few refl (omega arith) (omega arith)
-block_refusal token EntityTooLarge few = bare_response token 141 few refl (omega arith) (omega arith)
-block_refusal token Unavailable few = bare_response token 163 few refl (omega arith) (omega arith)
 
 -- only a CON waits
 delayed_con : (kind : Kind) (path : List (List ℕ)) (s : Own) (delay : ℕ) → delay_for kind path s.delays ≡ Some delay
     → kind ≡ Con
 delayed_con Con path s delay h = refl
 delayed_con _ path s delay h = absurd (cc h)
-
-each_filter : (Q : Observer → Type 0) (p : Observer → Bool) (os : List Observer) → Each Q os → Each Q (filter p os)
-each_filter Q p [] h = tt
-each_filter Q p (o ∷ os) h = by (p o) (each_filter Q p os h.1)
-  where
-    by : (b : Bool) → Each Q (filter p os) → Each Q (cond b (o ∷ filter p os) (filter p os))
-    by true k = (h.0, k)
-    by false k = k
-
-ended_short : (e : Option Ended) (os : List Observer) → Each (λ (o : Observer). length o.token ≤ 8) os
-    → Each (λ (o : Observer). length o.token ≤ 8) (unless_ended e os)
-ended_short None os h = h
-ended_short (Some x) os h = by x.observe
-  where
-    by : (b : Bool) → Each (λ (o : Observer). length o.token ≤ 8) (cond b (removed x.to x.token os) os)
-    by true = each_filter (λ (o : Observer). length o.token ≤ 8) (λ o. not (is_of x.to x.token o)) os h
-    by false = h
 
 module _ (limits : Limits) (szx : ℕ) (setup : Setup) (t : List Call) (law : ServerLaw limits szx setup t) where
   abbrev mine : Own
@@ -222,7 +140,7 @@ module _ (limits : Limits) (szx : ℕ) (setup : Setup) (t : List Call) (law : Se
       }
 
   -- a datagram
-  module _ (now : ℕ) (from : Endpoint) (bytes : List ℕ) (are : AreBytes bytes) where
+  module _ (now : ℕ) (from : Endpoint) (bytes : List ℕ) where
     abbrev at : ℕ
     at = max mine.clock now
 
@@ -240,7 +158,7 @@ module _ (limits : Limits) (szx : ℕ) (setup : Setup) (t : List Call) (law : Se
         × ResponseLaw setup ((answering (stage up came) came h below ++ came_first up came ∷ []) ++ under)
 
     module _ (up : L.Answer) (p : Asked × Message)
-        (r : Receives setup under law.exchanges at from bytes are late up (Some p)) where
+        (r : Receives setup under law.exchanges at from bytes late up (Some p)) where
       abbrev s : Own
       s = stage up (Some p)
 
@@ -333,7 +251,7 @@ module _ (limits : Limits) (szx : ℕ) (setup : Setup) (t : List Call) (law : Se
       by_verdict (Uploads q b) good = blocked q b
 
     handled : (up : L.Answer) (came : Option (Asked × Message))
-        → Receives setup under law.exchanges at from bytes are late up came
+        → Receives setup under law.exchanges at from bytes late up came
         → Handled up came (λ h. HandlesCame (stage up came) came h)
     handled up None r = (Silent, L.Nothing, refl, r.law_of)
     handled up (Some p) r = by_verdict up p r (verdict_on mine.szx p.1) (is_refusal mine.szx p.1)
@@ -341,7 +259,7 @@ module _ (limits : Limits) (szx : ℕ) (setup : Setup) (t : List Call) (law : Se
     feeds_on : (w : ℕ) → (up : L.Answer) × (came : Option (Asked × Message)) × (handling : Handling)
         × (below : L.Answer) × ServerLaw limits szx setup (Feeds now from bytes w up came handling below ∷ t)
     feeds_on w =
-        let r = receives setup under law.exchanges at from bytes are late in
+        let r = receives setup under law.exchanges at from bytes late in
         let h = handled r.0 r.1 r.2 in
         (r.0, r.1, h.0, h.1, record { rows = (h.2, law.rows); exchanges = h.3 })
 
@@ -388,7 +306,8 @@ module _ (limits : Limits) (szx : ℕ) (setup : Setup) (t : List Call) (law : Se
         short : (o : Observer) → behind x.passed (marked os) ≡ Some o → length o.token ≤ 8
         short o is =
             each_there (λ (y : Observer). length y.token ≤ 8) os o
-            (ended_short (P.after mine.exchanges first).ended mine.observers (observers_short limits szx setup t law))
+            (each_ended (λ (y : Observer). length y.token ≤ 8) (P.after mine.exchanges first).ended mine.observers
+            (observers_short limits szx setup t law))
             (marked_there os o (behind_there x.passed (marked os) o is)).0
 
         by : (o : Option Observer) → behind x.passed (marked os) ≡ o → Dues below room due.Idle
@@ -459,7 +378,7 @@ module _ (limits : Limits) (szx : ℕ) (setup : Setup) (t : List Call) (law : Se
     removes = removes_on;
     delays = λ path ms. (may_delay path mine.delays, record { rows = (refl, law.rows); exchanges = law.exchanges });
     plains = λ path. (may_be_plain path mine.plains, record { rows = (refl, law.rows); exchanges = law.exchanges });
-    feeds = λ now from bytes w are. feeds_on now from bytes are w;
+    feeds = λ now from bytes w. feeds_on now from bytes w;
     ticks = ticks_on;
     next_out = let k = takes setup under law.exchanges in (k.0, record { rows = (tt, law.rows); exchanges = k.1 });
     gets = λ path. (mine.store.holds path, record { rows = (refl, law.rows); exchanges = law.exchanges });

@@ -40,73 +40,41 @@ abbrev options_of : Option (List ℕ) → Option ℕ → Option ℕ → Option �
 options_of t s f b k = option_with 4 t ++ (uint_option 6 s
     ++ (uint_option 12 f ++ (uint_option 23 b ++ uint_option 27 k)))
 
-order : (t : Option (List ℕ)) (s f b k : Option ℕ) → ascends 0 (options_of t s f b k) ≡ true
-order None None None None None = refl
-order None None None None (Some k) = refl
-order None None None (Some b) None = refl
-order None None None (Some b) (Some k) = refl
-order None None (Some f) None None = refl
-order None None (Some f) None (Some k) = refl
-order None None (Some f) (Some b) None = refl
-order None None (Some f) (Some b) (Some k) = refl
-order None (Some s) None None None = refl
-order None (Some s) None None (Some k) = refl
-order None (Some s) None (Some b) None = refl
-order None (Some s) None (Some b) (Some k) = refl
-order None (Some s) (Some f) None None = refl
-order None (Some s) (Some f) None (Some k) = refl
-order None (Some s) (Some f) (Some b) None = refl
-order None (Some s) (Some f) (Some b) (Some k) = refl
-order (Some t) None None None None = refl
-order (Some t) None None None (Some k) = refl
-order (Some t) None None (Some b) None = refl
-order (Some t) None None (Some b) (Some k) = refl
-order (Some t) None (Some f) None None = refl
-order (Some t) None (Some f) None (Some k) = refl
-order (Some t) None (Some f) (Some b) None = refl
-order (Some t) None (Some f) (Some b) (Some k) = refl
-order (Some t) (Some s) None None None = refl
-order (Some t) (Some s) None None (Some k) = refl
-order (Some t) (Some s) None (Some b) None = refl
-order (Some t) (Some s) None (Some b) (Some k) = refl
-order (Some t) (Some s) (Some f) None None = refl
-order (Some t) (Some s) (Some f) None (Some k) = refl
-order (Some t) (Some s) (Some f) (Some b) None = refl
-order (Some t) (Some s) (Some f) (Some b) (Some k) = refl
-
-numbered : (t : Option (List ℕ)) (s f b k : Option ℕ) → list_all is_numbered (options_of t s f b k) ≡ true
-numbered None None None None None = refl
-numbered None None None None (Some k) = refl
-numbered None None None (Some b) None = refl
-numbered None None None (Some b) (Some k) = refl
-numbered None None (Some f) None None = refl
-numbered None None (Some f) None (Some k) = refl
-numbered None None (Some f) (Some b) None = refl
-numbered None None (Some f) (Some b) (Some k) = refl
-numbered None (Some s) None None None = refl
-numbered None (Some s) None None (Some k) = refl
-numbered None (Some s) None (Some b) None = refl
-numbered None (Some s) None (Some b) (Some k) = refl
-numbered None (Some s) (Some f) None None = refl
-numbered None (Some s) (Some f) None (Some k) = refl
-numbered None (Some s) (Some f) (Some b) None = refl
-numbered None (Some s) (Some f) (Some b) (Some k) = refl
-numbered (Some t) None None None None = refl
-numbered (Some t) None None None (Some k) = refl
-numbered (Some t) None None (Some b) None = refl
-numbered (Some t) None None (Some b) (Some k) = refl
-numbered (Some t) None (Some f) None None = refl
-numbered (Some t) None (Some f) None (Some k) = refl
-numbered (Some t) None (Some f) (Some b) None = refl
-numbered (Some t) None (Some f) (Some b) (Some k) = refl
-numbered (Some t) (Some s) None None None = refl
-numbered (Some t) (Some s) None None (Some k) = refl
-numbered (Some t) (Some s) None (Some b) None = refl
-numbered (Some t) (Some s) None (Some b) (Some k) = refl
-numbered (Some t) (Some s) (Some f) None None = refl
-numbered (Some t) (Some s) (Some f) None (Some k) = refl
-numbered (Some t) (Some s) (Some f) (Some b) None = refl
-numbered (Some t) (Some s) (Some f) (Some b) (Some k) = refl
+-- .. in order, each with a number
+ordered : (t : Option (List ℕ)) (s f b k : Option ℕ)
+    → (ascends 0 (options_of t s f b k) ≡ true) × (list_all is_numbered (options_of t s f b k) ≡ true)
+ordered None None None None None = (refl, refl)
+ordered None None None None (Some k) = (refl, refl)
+ordered None None None (Some b) None = (refl, refl)
+ordered None None None (Some b) (Some k) = (refl, refl)
+ordered None None (Some f) None None = (refl, refl)
+ordered None None (Some f) None (Some k) = (refl, refl)
+ordered None None (Some f) (Some b) None = (refl, refl)
+ordered None None (Some f) (Some b) (Some k) = (refl, refl)
+ordered None (Some s) None None None = (refl, refl)
+ordered None (Some s) None None (Some k) = (refl, refl)
+ordered None (Some s) None (Some b) None = (refl, refl)
+ordered None (Some s) None (Some b) (Some k) = (refl, refl)
+ordered None (Some s) (Some f) None None = (refl, refl)
+ordered None (Some s) (Some f) None (Some k) = (refl, refl)
+ordered None (Some s) (Some f) (Some b) None = (refl, refl)
+ordered None (Some s) (Some f) (Some b) (Some k) = (refl, refl)
+ordered (Some t) None None None None = (refl, refl)
+ordered (Some t) None None None (Some k) = (refl, refl)
+ordered (Some t) None None (Some b) None = (refl, refl)
+ordered (Some t) None None (Some b) (Some k) = (refl, refl)
+ordered (Some t) None (Some f) None None = (refl, refl)
+ordered (Some t) None (Some f) None (Some k) = (refl, refl)
+ordered (Some t) None (Some f) (Some b) None = (refl, refl)
+ordered (Some t) None (Some f) (Some b) (Some k) = (refl, refl)
+ordered (Some t) (Some s) None None None = (refl, refl)
+ordered (Some t) (Some s) None None (Some k) = (refl, refl)
+ordered (Some t) (Some s) None (Some b) None = (refl, refl)
+ordered (Some t) (Some s) None (Some b) (Some k) = (refl, refl)
+ordered (Some t) (Some s) (Some f) None None = (refl, refl)
+ordered (Some t) (Some s) (Some f) None (Some k) = (refl, refl)
+ordered (Some t) (Some s) (Some f) (Some b) None = (refl, refl)
+ordered (Some t) (Some s) (Some f) (Some b) (Some k) = (refl, refl)
 
 short_with : (number : ℕ) (o : Option (List ℕ)) (rest : List CoapOption) → IfSome o (λ v. length v ≤ 8)
     → list_all is_short rest ≡ true → list_all is_short (option_with number o ++ rest) ≡ true
@@ -164,8 +132,8 @@ reply_response token reply sequence block few good =
       code = good.class;
       spelled = spelled_with reply.code token (options_of reply.tag sequence reply.format
           (block_number reply.block2) block) reply.part good.some good.code few
-          (order reply.tag sequence reply.format (block_number reply.block2) block)
-          (numbered reply.tag sequence reply.format (block_number reply.block2) block)
+          (ordered reply.tag sequence reply.format (block_number reply.block2) block).0
+          (ordered reply.tag sequence reply.format (block_number reply.block2) block).1
           (short_with 4 reply.tag _ good.tag (short_uint 6 sequence _
           (short_uint 12 reply.format _ (short_uint 23 (block_number reply.block2) _ (short_last 27 block)))));
     }

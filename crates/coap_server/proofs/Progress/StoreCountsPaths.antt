@@ -5,26 +5,20 @@ use Rattle.std.proofs.Common.{List, [], ◌∷◌, length, refl, ap, sym, subst,
 use Rattle.coap_types.specs.Past.{Ever}
 use Rattle.coap_types.specs.Path.{same_path}
 use Rattle.coap_types.proofs.Facts.Paths.{same_path-decides}
-use Rattle.coap_types.specs.declared.request.Method.{Method}
-use Rattle.coap_types.specs.declared.request.Method.TheVariants.{Get, Post, Put, Delete}
-use Rattle.coap_resource.specs.declared.refusal.StoreRefusal.{StoreRefusal}
-use Rattle.coap_resource.specs.Content.{Content, Held, Changes, later, append_refusal, put_refusal}
-use Rattle.coap_resource.specs.Rate.{rate_refusal, counted}
-use Rattle.coap_resource.specs.RequestOptions.{precondition_fails}
-use Rattle.coap_resource.specs.Serves.{Question, Reply, PutBy, JoinBy, PostBy, RemoveBy, DeleteBy, ServesMethod}
-use Rattle.coap_resource.specs.Serves.{ServesUnless}
-use Rattle.coap_resource.specs.Serves as R
+use Rattle.coap_resource.specs.Content.{Content, Held, Changes}
+use Rattle.coap_resource.specs.Limits.{Limits}
+use Rattle.coap_resource.specs.Rate.{counted}
+use Rattle.coap_server.specs.Trace.{Call}
+use Rattle.coap_server.specs.Steps.{after}
+use Rattle.coap_server.specs.Law.{own_of, ServerRows}
+use Rattle.coap_server.proofs.Observing.StoreChanges.{Effect}
+use Rattle.coap_server.proofs.Observing.StoreSteps.{is_stored}
 
 -- so many paths, among them each that holds something
 pub record AreCounted (s : Content) : Type 0 where
   pub paths : List (List (List ℕ))
   pub many : length paths ≡ s.paths
   pub each : (path : List (List ℕ)) (held : Held) → s.holds path ≡ Some held → Ever (λ p. p ≡ path) paths
-
--- a store stays, or changes at one path
-pub data Moves (old left : Content) : Type 0 where
-  stays : left.holds ≡ old.holds → left.paths ≡ old.paths → Moves old left
-  moves : (at : ℕ) (path : List (List ℕ)) (now : Option Held) → Changes old at path now left → Moves old left
 
 -- a list without one of its paths
 
@@ -101,14 +95,15 @@ module _ (old left : Content) (at : ℕ) (path : List (List ℕ)) (now : Option 
         each = each_by w.rest (λ x h. absurd (cc (h, is))) w.others;
       }
 
-pub counted_by : (old left : Content) → Moves old left → AreCounted old → AreCounted left
-counted_by old left (stays holds paths) k = record {
+counted_by : (path : List (List ℕ)) (at : ℕ) (old left : Content) → Effect path at old left → AreCounted old
+    → AreCounted left
+counted_by path at old left (inl kept) k = record {
   paths = k.paths;
-  many = k.many ∙ sym paths;
-  each = λ path held h. k.each path held (sym (ap (λ f. f path) holds) ∙ h);
+  many = k.many ∙ sym kept.paths;
+  each = λ path held h. k.each path held (sym (ap (λ f. f path) kept.holds) ∙ h);
 }
-counted_by old left (moves at path now c) k =
-    change_counted old left at path now c k (old.holds path) now refl refl c.paths
+counted_by path at old left (inr c) k =
+    change_counted old left at path c.now c.changes k (old.holds path) c.now refl refl c.changes.paths
 
 -- a change can be made
 
@@ -145,53 +140,11 @@ can_change old at path now k =
     at_other other differs true h = absurd (differs ((same_path-decides other path).0 h))
     at_other other differs false h = refl
 
--- a request, and a local change
-
-same_moves : (old left : Content) → left ≡ old → Moves old left
-same_moves old left h = stays (ap (λ (s : Content). s.holds) h) (ap (λ (s : Content). s.paths) h)
-
-pub unchanged_moves : (old left : Content) (at : ℕ) → left ≡ later old at → Moves old left
-unchanged_moves old left at h = stays (ap (λ (s : Content). s.holds) h) (ap (λ (s : Content). s.paths) h)
-
-put_moves : (o : Option StoreRefusal) (old : Content) (at : ℕ) (q : Question) (reply : Reply) (left : Content)
-    → PutBy o old at q reply left → Moves old left
-put_moves (Some why) old at q reply left h = unchanged_moves old left at h.1
-put_moves None old at q reply left h = moves at q.path _ h.1
-
-join_moves : (o : Option StoreRefusal) (was : Held) (old : Content) (at : ℕ) (q : Question) (reply : Reply)
-    (left : Content) → JoinBy o was old at q reply left → Moves old left
-join_moves (Some why) was old at q reply left h = unchanged_moves old left at h.1
-join_moves None was old at q reply left h = moves at q.path _ h.1
-
-post_moves : (o : Option Held) (old : Content) (at : ℕ) (q : Question) (reply : Reply) (left : Content)
-    → PostBy o old at q reply left → Moves old left
-post_moves None old at q reply left h = unchanged_moves old left at h.1
-post_moves (Some was) old at q reply left h =
-    join_moves (append_refusal old at was (length q.body)) was old at q reply left h
-
-remove_moves : (o : Option StoreRefusal) (old : Content) (at : ℕ) (q : Question) (reply : Reply) (left : Content)
-    → RemoveBy o old at q reply left → Moves old left
-remove_moves (Some why) old at q reply left h = unchanged_moves old left at h.1
-remove_moves None old at q reply left h = moves at q.path None h.1
-
-delete_moves : (o : Option Held) (old : Content) (at : ℕ) (q : Question) (reply : Reply) (left : Content)
-    → DeleteBy o old at q reply left → Moves old left
-delete_moves None old at q reply left h = unchanged_moves old left at h.1
-delete_moves (Some was) old at q reply left h = remove_moves (rate_refusal old.tally at) old at q reply left h
-
-method_moves : (m : Method) (old : Content) (at : ℕ) (q : Question) (reply : Reply) (left : Content)
-    → ServesMethod m old at q reply left → Moves old left
-method_moves Get old at q reply left h = same_moves old left h.1
-method_moves Post old at q reply left h = post_moves (old.holds q.path) old at q reply left h
-method_moves Put old at q reply left h = put_moves (put_refusal old at q.path (length q.body)) old at q reply left h
-method_moves Delete old at q reply left h = delete_moves (old.holds q.path) old at q reply left h
-
-unless_moves : (f : Bool) (old : Content) (at : ℕ) (q : Question) (reply : Reply) (left : Content)
-    → ServesUnless f old at q reply left → Moves old left
-unless_moves true old at q reply left h = same_moves old left h.1
-unless_moves false old at q reply left h = method_moves q.method old at q reply left h
-
-pub served_moves : (old : Content) (at : ℕ) (q : Question) (reply : Reply) (left : Content)
-    → R.Serves old at q reply left → Moves old left
-served_moves old at q reply left h = unless_moves
-    (precondition_fails (old.holds q.path) q.options) old at q reply left h
+-- the store of a server
+pub store_counted : (limits : Limits) (szx : ℕ) (t : List Call) → ServerRows limits szx t
+    → AreCounted (own_of limits szx t).store
+store_counted limits szx [] rows = record { paths = []; many = refl; each = λ path held h. absurd (cc h) }
+store_counted limits szx (c ∷ t) rows =
+    let s = own_of limits szx t in
+    let k = is_stored s c rows.0 in
+    counted_by k.path (after s c).clock s.store (after s c).store k.effect (store_counted limits szx t rows.1)

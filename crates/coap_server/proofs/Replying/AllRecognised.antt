@@ -1,11 +1,12 @@
 -- Each critical option of what a server sends is one that a response may carry.
 use Rattle.std.proofs.Common.{◌≡◌, ◌≤◌, inl, inr, ℕ, Option, Some, None, List, [], ◌∷◌, length, refl, ap, sym, subst}
-use Rattle.std.proofs.Common.{◌∙◌, arith, true, false}
+use Rattle.std.proofs.Common.{◌∙◌, arith, Bool, true, false}
 use Rattle.coap_types.specs.Past.{Always, Sometime}
 use Rattle.coap_types.specs.Recognised.{lacks_critical}
 use Rattle.coap_types.specs.declared.block.Block.{Block}
 use Rattle.coap_types.specs.declared.direction.Direction.TheVariants.{Response}
 use Rattle.coap_types.proofs.Facts.Traces.{Ever_map, forget}
+use Rattle.coap_layer.specs.Trace as L
 use Rattle.coap_layer.specs.declared.setup.Setup.{Setup}
 use Rattle.coap_codec.specs.Message.{Message}
 use Rattle.coap_block.specs.AssemblyState.{AssemblyState}
@@ -17,16 +18,15 @@ use Rattle.coap_resource.specs.Limits.{Limits}
 use Rattle.coap_resource.specs.RequestOptions.{block_of, szx_by}
 use Rattle.coap_resource.specs.Serves.{Question, Reply}
 use Rattle.coap_exchange.specs.declared.answerer.Asked.{Asked}
-use Rattle.coap_exchange.specs.declared.answerer.Due.TheVariants as due
-use Rattle.coap_exchange.specs.AnswererSteps as P
+use Rattle.coap_exchange.specs.declared.answerer.Due.{Due}
 use Rattle.coap_exchange.specs.AnswererTrace as E
 use Rattle.coap_server.specs.Trace.{Own, Notifies, Call, Feeds}
 use Rattle.coap_server.specs.Trace.{Ticks}
 use Rattle.coap_server.specs.Checks.{Verdict, Ignored, Refused, Asks, Uploads, verdict_on}
-use Rattle.coap_server.specs.Deferring.{question_of}
 use Rattle.coap_server.specs.Handling.{heard, ticking}
+use Rattle.coap_server.specs.Steps.{IsRight}
 use Rattle.coap_server.specs.Law.{ServerLaw, own_of}
-use Rattle.coap_server.specs.Notifying.{asks_for, behind, marked, notification, told}
+use Rattle.coap_server.specs.Notifying.{asks_for, notification, told}
 use Rattle.coap_server.specs.Observers.{sequence}
 use Rattle.coap_server.specs.Uploads.{last_block, ruling_of}
 use Rattle.coap_server.specs.Follows.Brings.{AsksBy, Brings, HandsUp}
@@ -38,14 +38,13 @@ use Rattle.coap_server.specs.Follows.Recognised.{AllRecognised, IsRecognised}
 use Rattle.coap_server.specs.Follows.Serves.{Serving, serving}
 use Rattle.coap_server.specs.Follows.Takes.{Took, took, took_by, taken_by, takes_block}
 use Rattle.coap_server.proofs.Holding.BodiesShort.{bodies_short}
-use Rattle.coap_server.proofs.Holding.Holds.{serves_right}
-use Rattle.coap_server.proofs.Observing.ObserversWereMade.{good_ended, good}
-use Rattle.coap_server.proofs.Observing.Outcomes.{never_notifies_ready}
-use Rattle.coap_server.proofs.Observing.VersionsRise.{behind_there, marked_there, next_is}
+use Rattle.coap_server.proofs.Serving.ServedNow.{is_serving}
+use Rattle.coap_server.proofs.Observing.ObserversWereMade.{notified_made}
+use Rattle.coap_server.proofs.Observing.Outcomes.{Turned, turned, noticed}
 use Rattle.coap_server.proofs.Replying.BlocksContinued.{sizes}
-use Rattle.coap_server.proofs.Replying.OptionsRecognised.{continue_understood, last_small, response_understood, said_small}
+use Rattle.coap_server.proofs.Replying.OptionsRecognised.{continue_understood, last_small, response_understood}
+use Rattle.coap_server.proofs.Replying.OptionsRecognised.{said_small}
 use Rattle.coap_server.proofs.Replying.ReplyBlocks.{got_small, reply_small}
-use Rattle.coap_server.proofs.Replying.ResponsesHaveRequests.{each_there, next_told}
 use Rattle.coap_server.proofs.Serving.Brought.{server_back}
 use Rattle.coap_server.proofs.Serving.Reads.{verdicts_read}
 use Rattle.coap_server.proofs.Serving.ServedWasHandedUp.{handed_up}
@@ -125,13 +124,13 @@ module _ (limits : Limits) (szx : ℕ) (setup : Setup) where
 
       served : (x : Serving) → serving (own t) c ≡ Some x → lacks_critical Response (response_of x).options ≡ false
       served x is =
-          let k = serves_right (own t) c law.rows.0 x is in
+          let k = is_serving (own t) c law.rows.0 x is in
           let size = served_size t c law x is in
           response_understood x.reply x.sequence (last_block x.question)
-          (reply_small x.old k.0 x.question x.reply x.left
+          (reply_small x.old (own (c ∷ t)).clock x.question x.reply x.left
           (λ held there. held_short x.question.path held
-          (sym (ap (λ (s : Content). s.holds x.question.path) k.1) ∙ there))
-          (omega (arith, size, small)) k.2)
+          (sym (ap (λ (s : Content). s.holds x.question.path) k.old) ∙ there))
+          (omega (arith, size, small)) k.serves)
           (last_small x.question)
 
       responses : (a : Asked) (r : E.Response) → Sends limits szx t c a r → lacks_critical Response r.options ≡ false
@@ -160,33 +159,23 @@ module _ (limits : Limits) (szx : ℕ) (setup : Setup) where
           (response_understood (told (own t).store o) (sequence ((own t).store.holds o.path)) None
           (got_small ((own t).store.holds o.path) (asks_for o) (held_short o.path) (omega (arith, size, small))) tt)
 
-      notices : (x : Notice) (d : Call) → d ≡ c → notice d ≡ Some x
+      turn_notices : (now w : ℕ) (below : L.Answer) (room : Bool) (d : Due) (passed : ℕ) (o : Observer) (reply : Reply)
+          → Turned (heard (own t) now (ticking (own t) now below room d)) passed d (Notifies o reply)
+          → lacks_critical Response (notification (own t).store o reply).options ≡ false
+      turn_notices now w below room d passed o reply (noticed _ _ found is) =
+          told_so o reply (notified_made limits szx t now below room passed o found) is
+
+      notices : (x : Notice) (d : Call) → IsRight (own t) d → notice d ≡ Some x
           → lacks_critical Response (notification (own t).store x.observer x.reply).options ≡ false
-      notices x (Ticks now w below room due.Idle passed (Notifies o reply) id answer) is e =
-          let tick : ServerLaw limits szx setup (Ticks now w below room due.Idle passed (Notifies o reply) id answer ∷ t) =
-          subst (λ z. ServerLaw limits szx setup (z ∷ t)) (sym is) law in
-          let s : Own = heard (own t) now (ticking (own t) now below room due.Idle) in
-          let right = tick.rows.0.0 in
-          let found = next_is (behind passed (marked s.observers)) s.store o reply right in
-          let there = (marked_there s.observers o (behind_there passed (marked s.observers) o found)).0 in
-          let g = good_ended limits szx t (P.after (own t).exchanges (ticking (own t) now below room due.Idle)).ended
-          (own t).observers (good limits szx t) in
+      notices x (Ticks now w below room d passed (Notifies o reply) id answer) right e =
+          let s : Own = heard (own t) now (ticking (own t) now below room d) in
           let same : ◌≡◌ {A = Notice} (record { observer = o; reply = reply }) x = cc e in
           subst (λ (y : Notice). lacks_critical Response (notification (own t).store y.observer y.reply).options ≡ false)
-          same (told_so o reply (each_there (WasMade limits szx t) s.observers o g.made there)
-          (next_told (behind passed (marked s.observers)) s.store o reply right))
-      notices x (Ticks now w below room due.Copied passed (Notifies o reply) id answer) is e =
-          let k = (subst (λ z. ServerLaw limits szx setup (z ∷ t)) (sym is) law).rows.0.0 in absurd (cc k)
-      notices x (Ticks now w below room due.Expired passed (Notifies o reply) id answer) is e =
-          let k = (subst (λ z. ServerLaw limits szx setup (z ∷ t)) (sym is) law).rows.0.0 in absurd (cc k)
-      notices x (Ticks now w below room (due.Ready a) passed (Notifies o reply) id answer) is e =
-          let s : Own = heard (own t) now (ticking (own t) now below room (due.Ready a)) in
-          absurd (never_notifies_ready (question_of s.clock a s.waiting) s.store s.clock o reply
-          (subst (λ z. ServerLaw limits szx setup (z ∷ t)) (sym is) law).rows.0.0)
-      notices x _ is e = absurd (cc e)
+          same (turn_notices now w below room d passed o reply (turned s passed d (Notifies o reply) right.0))
+      notices x _ right e = absurd (cc e)
 
       here : IsRecognised limits szx t c
-      here = record { responses = responses; notices = λ x e. notices x c refl e }
+      here = record { responses = responses; notices = λ x e. notices x c law.rows.0 e }
 
     each : (t : List Call) → ServerLaw limits szx setup t → Always (IsRecognised limits szx) t
     each [] law = tt

@@ -89,9 +89,7 @@ more_not_done sizes there others b len more h = by (not (fills b.more b.szx len)
 
 refusal_high : (why : AssemblyRefusal) → bad_request ≤ (refusal_code why).0
 refusal_high BadRequest = omega arith
-refusal_high EntityIncomplete = omega arith
-refusal_high EntityTooLarge = omega arith
-refusal_high Unavailable = omega arith
+refusal_high _ = omega arith
 
 -- what becomes of the block
 record Replied (b : Block) (h : Handling) : Type 0 where

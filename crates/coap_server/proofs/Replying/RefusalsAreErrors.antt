@@ -8,18 +8,17 @@ use Rattle.coap_types.specs.RequestPath.{path_of}
 use Rattle.coap_types.specs.declared.block.Block.{Block}
 use Rattle.coap_types.specs.declared.direction.Direction.TheVariants as direction
 use Rattle.coap_types.specs.declared.message.Kind.{Kind}
-use Rattle.coap_types.specs.declared.message.Kind.TheVariants.{Con, Non, Ack, Rst}
+use Rattle.coap_types.specs.declared.message.Kind.TheVariants.{Con}
 use Rattle.coap_types.specs.declared.option_number.TheConstants.{BLOCK1 as block1, BLOCK2 as block2}
 use Rattle.coap_types.specs.declared.option_number.TheConstants.{PROXY_URI as proxy_uri, PROXY_SCHEME as proxy_scheme}
 use Rattle.coap_types.specs.declared.path.TheConstants.{MAX_SEGMENTS as max_segments}
 use Rattle.coap_types.specs.declared.request.Method.{Method}
-use Rattle.coap_types.specs.declared.request.Method.TheVariants.{Get, Post, Put, Delete}
+use Rattle.coap_types.specs.declared.request.Method.TheVariants.{Put}
 use Rattle.coap_codec.specs.Message.{Message}
 use Rattle.coap_block.specs.AssemblyState.{AssemblyState}
-use Rattle.coap_block.specs.declared.assembly_step.AssemblyRefusal.TheVariants.{BadRequest, EntityIncomplete}
-use Rattle.coap_block.specs.declared.assembly_step.AssemblyRefusal.TheVariants.{EntityTooLarge, Unavailable}
+use Rattle.coap_block.specs.declared.assembly_step.AssemblyRefusal.TheVariants.{BadRequest}
 use Rattle.coap_block.specs.declared.block_verdict.BlockVerdict.{BlockVerdict}
-use Rattle.coap_block.specs.declared.block_verdict.BlockVerdict.TheVariants.{Refuse, Join, Done}
+use Rattle.coap_block.specs.declared.block_verdict.BlockVerdict.TheVariants.{Refuse}
 use Rattle.coap_resource.specs.RequestOptions.{block_said}
 use Rattle.coap_resource.specs.Serves.{Question}
 use Rattle.coap_exchange.specs.declared.answerer.Asked.{Asked}
@@ -43,9 +42,7 @@ refuses_below _ = false
 uploading_not : (m : Method) (q : Question) (o : Option Block) → refuses_below (uploading m q o) ≡ false
 uploading_not m q None = refl
 uploading_not Put q (Some b) = refl
-uploading_not Post q (Some b) = refl
-uploading_not Get q (Some b) = refl
-uploading_not Delete q (Some b) = refl
+uploading_not _ q (Some b) = refl
 
 asked_not : (szx : ℕ) (o : Option Method) (m : Message) → refuses_below (asked_by szx o m) ≡ false
 asked_not szx None m = refl
@@ -62,9 +59,7 @@ asked_not szx (Some method) m = by (nat_lt max_segments (length (path_of (asks m
 
 bad_not : (k : Kind) → refuses_below (bad_by k) ≡ false
 bad_not Con = refl
-bad_not Non = refl
-bad_not Ack = refl
-bad_not Rst = refl
+bad_not _ = refl
 
 verdict_not : (szx : ℕ) (m : Message) → refuses_below (verdict_on szx m) ≡ false
 verdict_not szx m = by (lacks_critical direction.Request m.options)
@@ -78,11 +73,7 @@ verdict_not szx m = by (lacks_critical direction.Request m.options)
 
 block_not : (v : BlockVerdict) → is_below (refusal_by v) ≡ false
 block_not (Refuse BadRequest) = refl
-block_not (Refuse EntityIncomplete) = refl
-block_not (Refuse EntityTooLarge) = refl
-block_not (Refuse Unavailable) = refl
-block_not (Join size) = refl
-block_not Done = refl
+block_not _ = refl
 
 refusal_not : (uploads : AssemblyState) (at : ℕ) (a : Asked) (v : Verdict) → refuses_below v ≡ false
     → is_below (refusal_of uploads at a v) ≡ false

@@ -100,11 +100,8 @@ module _ (setup : Setup) where
     notice_quiet (by_plain s o) s.clock o (notification s.store o reply) w id,
     readies_quiet s.clock passed (marked s.observers),
   )
-  responding_quiet s due.Idle passed Silent w id = readies_quiet s.clock passed (marked s.observers)
-  responding_quiet s due.Idle passed (Replies r) w id = readies_quiet s.clock passed (marked s.observers)
-  responding_quiet s due.Idle passed (Serves q reply left) w id = readies_quiet s.clock passed (marked s.observers)
-  responding_quiet s due.Idle passed (Waits q d) w id = readies_quiet s.clock passed (marked s.observers)
   responding_quiet s (due.Ready a) passed (Serves q reply left) w id = ((λ e. (refl, tt)), tt)
+  responding_quiet s due.Idle passed _ w id = readies_quiet s.clock passed (marked s.observers)
   responding_quiet s _ passed _ w id = tt
 
   -- a request that arrives

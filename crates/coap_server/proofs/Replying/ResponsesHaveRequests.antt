@@ -14,20 +14,18 @@ use Rattle.coap_block.specs.declared.block_verdict.BlockVerdict.TheVariants.{Ref
 use Rattle.coap_block.specs.AssemblyAnswer.{refusal_code}
 use Rattle.coap_block.specs.AssemblyState.{AssemblyState, reached, without_key}
 use Rattle.coap_block.specs.AssemblyStep.{there_at}
-use Rattle.coap_block.specs.Whole.{Each}
 use Rattle.coap_observe.specs.Observers.{Observer}
 use Rattle.coap_resource.specs.Content.{Content, Held}
-use Rattle.coap_resource.specs.Serves.{Question, Reply, got}
+use Rattle.coap_resource.specs.Serves.{Question, got}
 use Rattle.coap_resource.specs.Limits.{Limits}
 use Rattle.coap_exchange.specs.declared.answerer.Asked.{Asked}
 use Rattle.coap_exchange.specs.declared.answerer.Due.{Due}
 use Rattle.coap_exchange.specs.declared.answerer.Due.TheVariants as due
-use Rattle.coap_exchange.specs.AnswererSteps as P
 use Rattle.coap_exchange.specs.AnswererSteps.{may_defer}
 use Rattle.coap_exchange.specs.AnswererTrace as E
 use Rattle.coap_exchange.specs.AnswererLaw as W
 use Rattle.coap_exchange.proofs.Facts.ServerSide.{layer_stands}
-use Rattle.coap_server.specs.Trace.{Own, Handling, Silent, Replies, Serves, Waits, Notifies, Call}
+use Rattle.coap_server.specs.Trace.{Own, Handling, Replies, Serves, Waits, Call}
 use Rattle.coap_server.specs.Trace.{Feeds, Ticks, NextOut}
 use Rattle.coap_server.specs.Responses.{bare, response_with}
 use Rattle.coap_server.specs.Checks.{Verdict, Ignored, Refused, Asks, Uploads, verdict_on}
@@ -35,20 +33,19 @@ use Rattle.coap_server.specs.Checks.{bad_request}
 use Rattle.coap_server.specs.Uploads.{key_of, ruling_of, whole, continue, continuing}
 use Rattle.coap_server.specs.Observers.{sequence}
 use Rattle.coap_server.specs.Deferring.{WaitsBy, deferral, deferral_by, delay_for}
-use Rattle.coap_server.specs.Notifying.{NotifiesNext, marked, behind, notification, readies, told, asks_for}
+use Rattle.coap_server.specs.Notifying.{marked, notification, readies, asks_for}
 use Rattle.coap_server.specs.Handling.{incoming, ticking, heard, HandlesBlock, Handles}
 use Rattle.coap_server.specs.Asks.{lower}
 use Rattle.coap_server.specs.Law.{ServerLaw, own_of, lower_of}
 use Rattle.coap_server.specs.Follows.Serves.{serving_of}
 use Rattle.coap_server.specs.Follows.Takes.{took, took_by, taken_by}
-use Rattle.coap_server.specs.Follows.Observes.{WasMade}
 use Rattle.coap_server.specs.Follows.Gives.{Carries, refusal_by, refusal_of, size_by, size_of}
 use Rattle.coap_server.specs.Follows.Gives.{NoticeOf}
 use Rattle.coap_server.specs.Follows.Gives.{CarriesResponse, SentResponses, SendsResponses}
 use Rattle.coap_server.proofs.Serving.Brought.{server_back, comes_here}
 use Rattle.coap_server.proofs.Serving.ServedWasHandedUp.{joins_more}
-use Rattle.coap_server.proofs.Observing.ObserversWereMade.{good, good_ended}
-use Rattle.coap_server.proofs.Observing.VersionsRise.{IsThere, behind_there, marked_there, next_is}
+use Rattle.coap_server.proofs.Observing.ObserversWereMade.{notified_made}
+use Rattle.coap_server.proofs.Observing.Outcomes.{Turned, turned, copied, expired, lost, responded, rests, noticed}
 use Rattle.coap_server.proofs.Replying.LayerSendsResponses.{called, CarriesIn, made}
 use Rattle.coap_server.proofs.Replying.RefusalsAreErrors.{refused_with}
 use Rattle.coap_server.specs.Follows.Sources.{Source}
@@ -107,23 +104,10 @@ replies (Uploads q b) s a r h = block_replies (ruling_of s.uploads s.clock a q b
 
 -- a notification
 
-pub next_told : (x : Option Observer) (s : Content) (o : Observer) (reply : Reply) → NotifiesNext x s (Notifies o reply)
-    → reply ≡ told s o
-next_told None s o reply h = absurd (cc h)
-next_told (Some y) s o reply h =
-    let same : y ≡ o = cc h in
-    let is : reply ≡ told s y = cc h in
-    is ∙ ap (told s) same
-
 shows_held : (o : Observer) (held : Option Held)
     → NoticeOf o.szx held (response_with (got held (asks_for o)) (sequence held) None)
 shows_held o None = refl
 shows_held o (Some held) = refl
-
-pub each_there : (Q : Observer → Type 0) (os : List Observer) (o : Observer) → Each Q os → IsThere o os → Q o
-each_there Q [] o h k = absurd k
-each_there Q (y ∷ os) o h (inl e) = subst Q e h.0
-each_there Q (y ∷ os) o h (inr k) = each_there Q os o h.1 k
 
 module _ (limits : Limits) (szx : ℕ) (setup : Setup) (p : L.Packet) where
   abbrev own : List Call → Own
@@ -163,16 +147,15 @@ module _ (limits : Limits) (szx : ℕ) (setup : Setup) (p : L.Packet) where
   notice_carries false at o r w id k = k
 
   module _ (t : List Call) where
+    came_none : (now : ℕ) (from : Endpoint) (bytes : List ℕ) (up : L.Answer) (came : Option (Asked × Message))
+        → In (incoming (own t) now from bytes up came ∷ []) → ⊥
+    came_none now from bytes up came (inl k) = k
+    came_none now from bytes up came (inr k) = k
+
     fed : (now : ℕ) (from : Endpoint) (bytes : List ℕ) (w : ℕ) (up : L.Answer) (came : Option (Asked × Message))
         (h : Handling) (below : L.Answer) → ServerLaw limits szx setup (Feeds now from bytes w up came h below ∷ t)
         → In (lower (own t) (Feeds now from bytes w up came h below))
         → CarriesResponse limits szx setup p t (Feeds now from bytes w up came h below)
-    fed now from bytes w up None h below law (inl k) = absurd k
-    fed now from bytes w up None h below law (inr k) = absurd k
-    fed now from bytes w up (Some a) Silent below law (inl k) = absurd k
-    fed now from bytes w up (Some a) Silent below law (inr k) = absurd k
-    fed now from bytes w up (Some a) (Notifies o reply) below law (inl k) = absurd k
-    fed now from bytes w up (Some a) (Notifies o reply) below law (inr k) = absurd k
     fed now from bytes w up (Some a) (Waits q delay) below law k =
         absurd (deferral_none (heard (own t) now (incoming (own t) now from bytes up (Some a))) a.0 q
         (incoming (own t) now from bytes up (Some a)) (λ z. z) k)
@@ -186,8 +169,7 @@ module _ (limits : Limits) (szx : ℕ) (setup : Setup) (p : L.Packet) where
     fed now from bytes w up (Some a) (Serves q reply left) below law (inr k) =
         absurd (deferral_none (heard (own t) now (incoming (own t) now from bytes up (Some a))) a.0 q
         (incoming (own t) now from bytes up (Some a)) (λ z. z) k)
-    fed now from bytes w up (Some a) (Replies r) below law (inr (inl k)) = absurd k
-    fed now from bytes w up (Some a) (Replies r) below law (inr (inr k)) = absurd k
+    fed now from bytes w up (Some a) (Replies r) below law (inr k) = absurd (came_none now from bytes up (Some a) k)
     fed now from bytes w up (Some a) (Replies r) below law (inl k) =
         let s : Own = heard (own t) now (incoming (own t) now from bytes up (Some a)) in
         elim (replies (verdict_on s.szx a.1) s a.0 r law.rows.0) [
@@ -219,65 +201,66 @@ module _ (limits : Limits) (szx : ℕ) (setup : Setup) (p : L.Packet) where
               }))
               )
         ]
+    fed now from bytes w up came _ below law k = absurd (came_none now from bytes up came k)
+
+    tick_none : (now : ℕ) (below : L.Answer) (room : Bool) (d : Due) → In (ticking (own t) now below room d ∷ []) → ⊥
+    tick_none now below room d (inl k) = k
+    tick_none now below room d (inr k) = k
+
+    idle : (now : ℕ) (below : L.Answer) (room : Bool) (passed : ℕ)
+        → In (readies (heard (own t) now (ticking (own t) now below room due.Idle)).clock passed
+        (marked (heard (own t) now (ticking (own t) now below room due.Idle)).observers)
+        ++ ticking (own t) now below room due.Idle ∷ []) → ⊥
+    idle now below room passed k =
+        let s : Own = heard (own t) now (ticking (own t) now below room due.Idle) in
+        idle_none s.clock passed (marked s.observers) (ticking (own t) now below room due.Idle) (λ z. z) k
 
     ticked : (now w : ℕ) (below : L.Answer) (room : Bool) (d : Due) (passed : ℕ) (h : Handling) (id : ℕ) (answer : Bool)
-        → ServerLaw limits szx setup (Ticks now w below room d passed h id answer ∷ t)
+        → Turned (heard (own t) now (ticking (own t) now below room d)) passed d h
         → In (lower (own t) (Ticks now w below room d passed h id answer))
         → CarriesResponse limits szx setup p t (Ticks now w below room d passed h id answer)
-    ticked now w below room (due.Ready a) passed (Serves q reply left) id answer law (inl k) =
+    ticked now w below room d passed h id answer (responded a q reply left asks serves) (inl k) =
         inl (record {
           request = serving_of (heard (own t) now (ticking (own t) now below room (due.Ready a))) a q reply
               left;
           here = refl;
           carries = k;
         })
-    ticked now w below room (due.Ready a) passed (Serves q reply left) id answer law (inr (inl k)) = absurd k
-    ticked now w below room (due.Ready a) passed (Serves q reply left) id answer law (inr (inr k)) = absurd k
-    ticked now w below room (due.Ready a) passed Silent id answer law k = elim k [ inl z ↦ absurd z | inr z ↦ absurd z ]
-    ticked now w below room (due.Ready a) passed (Replies r) id answer law k =
-        elim k [ inl z ↦ absurd z | inr z ↦ absurd z ]
-    ticked now w below room (due.Ready a) passed (Waits q delay) id answer law k =
-        elim k [ inl z ↦ absurd z | inr z ↦ absurd z ]
-    ticked now w below room (due.Ready a) passed (Notifies o reply) id answer law k =
-        elim k [ inl z ↦ absurd z | inr z ↦ absurd z ]
-    ticked now w below room due.Copied passed h id answer law k = elim k [ inl z ↦ absurd z | inr z ↦ absurd z ]
-    ticked now w below room due.Expired passed h id answer law k = elim k [ inl z ↦ absurd z | inr z ↦ absurd z ]
-    ticked now w below room due.Idle passed (Notifies o reply) id answer law (inr k) =
-        let s : Own = heard (own t) now (ticking (own t) now below room due.Idle) in absurd
-        (idle_none s.clock passed (marked s.observers) (ticking (own t) now below room due.Idle) (λ z. z) k)
-    ticked now w below room due.Idle passed (Notifies o reply) id answer law (inl k) =
+    ticked now w below room d passed h id answer (responded a q reply left asks serves) (inr k) =
+        absurd (tick_none now below room (due.Ready a) k)
+    ticked now w below room d passed h id answer (noticed o reply found is) (inl k) =
         let s : Own = heard (own t) now (ticking (own t) now below room due.Idle) in
-        let right = law.rows.0.0 in
-        let is = next_is (behind passed (marked s.observers)) s.store o reply right in
-        let there = (marked_there s.observers o (behind_there passed (marked s.observers) o is)).0 in
-        let g = good_ended limits szx t (P.after (own t).exchanges (ticking (own t) now below room due.Idle)).ended
-        (own t).observers (good limits szx t) in
         inr (inr (inr (record {
           observer = o;
           reply = reply;
           here = refl;
-          made = each_there (WasMade limits szx t) s.observers o g.made there;
+          made = notified_made limits szx t now below room passed o found;
           shows = subst (λ z. NoticeOf o.szx (s.store.holds o.path)
-              (response_with z (sequence (s.store.holds o.path)) None))
-              (sym (next_told (behind passed (marked s.observers)) s.store o reply right))
-              (shows_held o (s.store.holds o.path));
+              (response_with z (sequence (s.store.holds o.path)) None)) (sym is) (shows_held o (s.store.holds o.path));
           carries = notice_carries (by_plain s o) s.clock o (notification s.store o reply) w id k;
         })))
-    ticked now w below room due.Idle passed _ id answer law k = let s : Own = heard (own t) now (ticking (own t) now below room due.Idle) in absurd (idle_none s.clock passed (marked s.observers) (ticking (own t) now below room due.Idle) (λ z. z) k)
+    ticked now w below room d passed h id answer (noticed o reply found is) (inr k) = absurd
+        (idle now below room passed k)
+    ticked now w below room d passed h id answer (rests none) k = absurd (idle now below room passed k)
+    ticked now w below room d passed h id answer copied k = absurd (tick_none now below room due.Copied k)
+    ticked now w below room d passed h id answer expired k = absurd (tick_none now below room due.Expired k)
+    ticked now w below room d passed h id answer (lost a none) k = absurd (tick_none now below room (due.Ready a) k)
 
     here : (c : Call) → ServerLaw limits szx setup (c ∷ t) → In (lower (own t) c) → CarriesResponse limits szx setup p t c
     here (Feeds now from bytes w up came h below) law k = fed now from bytes w up came h below law k
-    here (Ticks now w below room d passed h id answer) law k = ticked now w below room d passed h id answer law k
+    here (Ticks now w below room d passed h id answer) law k =
+        ticked now w below room d passed h id answer
+        (turned (heard (own t) now (ticking (own t) now below room d)) passed d h law.rows.0.0) k
     here (NextOut answer) law k = elim k [ inl z ↦ absurd z | inr z ↦ absurd z ]
     here _ law k = absurd k
 
-  responded : (t : List Call) → ServerLaw limits szx setup t → In (lower_of limits szx t)
+  carried : (t : List Call) → ServerLaw limits szx setup t → In (lower_of limits szx t)
       → Sometime (CarriesResponse limits szx setup p) t
-  responded [] law h = absurd h
-  responded (c ∷ t) law h =
+  carried [] law h = absurd h
+  carried (c ∷ t) law h =
       elim (Ever_append (CarriesIn p) (lower (own t) c) (lower_of limits szx t) h) [
         | inl k ↦ inl (here t c law k)
-        | inr k ↦ inr (responded t (server_back limits szx setup c t law) k)
+        | inr k ↦ inr (carried t (server_back limits szx setup c t law) k)
       ]
 
 pub sent_responses : (limits : Limits) (szx : ℕ) (setup : Setup) (t : List Call) → ServerLaw limits szx setup t
@@ -287,7 +270,7 @@ sent_responses limits szx setup t law p h =
     elim (sourced setup p (W.below_of setup calls) (layer_stands setup calls law.exchanges) h) [
       | inl k ↦ inl k
       | inr k ↦ elim (made p calls law.exchanges.rows (called (Source p) (S.start setup) (W.lower_of calls) k))
-          [ inl x ↦ inl x | inr x ↦ inr (responded limits szx setup p t law x) ]
+          [ inl x ↦ inl x | inr x ↦ inr (carried limits szx setup p t law x) ]
     ]
 
 pub sends_responses : (limits : Limits) (szx : ℕ) (setup : Setup) (t : List Call) → ServerLaw limits szx setup t

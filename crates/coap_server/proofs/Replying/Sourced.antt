@@ -20,8 +20,8 @@ use Rattle.coap_codec.specs.Spelling.{message_bytes}
 use Rattle.coap_types.proofs.Facts.Bytes.{AreBytes-drop, byte_at}
 use Rattle.coap_layer.specs.declared.setup.Setup.{Setup}
 use Rattle.coap_layer.specs.Arrivals.{Faulted, Whole, Shows, by_head}
-use Rattle.coap_layer.specs.Trace.{with_head, Packet, Call, Receive, Reply, Confirm, Plain, Settle, Ticks, Take, Room}
-use Rattle.coap_layer.specs.Trace.{AsksFree, Pass, Entry}
+use Rattle.coap_layer.specs.Trace.{with_head, Packet, Call, Receive, Reply, Confirm, Plain, Ticks}
+use Rattle.coap_layer.specs.Trace.{Entry}
 use Rattle.coap_layer.specs.Words.{Awaited, awaits, awaits_in, awaited_of, Incoming, handed, handed_in, handed_by}
 use Rattle.coap_layer.specs.Words.{from_there, reply_in, hands_up, Open, begun}
 use Rattle.coap_layer.specs.Rows.{Stands, LayerLaw, Row, IsSpelled, Confirms, SendsAs, RefusesIds}
@@ -48,10 +48,11 @@ fault_id fault.Short bytes kind id h = absurd (cc h)
 fault_id fault.Version bytes kind id h = absurd (cc h)
 fault_id _ bytes kind id h = cc h
 
-shown_small : (bytes : List ℕ) (id : ℕ) → AreBytes bytes
+shown_small : (bytes : List ℕ) (id : ℕ)
     → Shows bytes (Faulted Con id) ⊎ ((m : Message) × Shows bytes (Whole m) × (m.kind ≡ Con) × (m.id ≡ id)) → id < 65536
-shown_small bytes id fits (inl s) = subst (λ n. n < 65536) (sym (fault_id s.0 bytes Con id s.3)) (id_small bytes fits)
-shown_small bytes id fits (inr s) = let k = s.1.id in let e = s.3 in omega (arith, k, e)
+shown_small bytes id (inl s) =
+    subst (λ n. n < 65536) (sym (fault_id s.1.0 bytes Con id s.1.3)) (id_small bytes s.0)
+shown_small bytes id (inr s) = let k = s.1.id in let e = s.3 in omega (arith, k, e)
 
 module _ (setup : Setup) where
   small_in : (past : List Entry) (e : Entry) (w : Awaited) → LayerLaw setup (e ∷ past) → (call : Call) → e.call ≡ call
@@ -116,15 +117,7 @@ module _ (setup : Setup) where
 
         by : (call : Call) → e.call ≡ call → reply_in p.to id call ≡ Some p.bytes → Source p e.call
         by (Reply to n bytes) is g = inl (placed to n bytes is (same_endpoint to p.to && (n == id)) refl g)
-        by (Receive from bytes) is g = absurd (cc g)
-        by (Confirm to content wish) is g = absurd (cc g)
-        by (Plain to content) is g = absurd (cc g)
-        by (Settle to n) is g = absurd (cc g)
-        by Ticks is g = absurd (cc g)
-        by Take is g = absurd (cc g)
-        by (Room to) is g = absurd (cc g)
-        by AsksFree is g = absurd (cc g)
-        by Pass is g = absurd (cc g)
+        by _ is g = absurd (cc g)
 
     module _ (past : List Entry) (e : Entry) (law : LayerLaw setup (e ∷ past)) where
       plain_source : IsIn p e.out → PlainOut e p → Source p e.call
@@ -152,7 +145,7 @@ module _ (setup : Setup) where
       reset_empty : ResetOut e p → IsEmpty p
       reset_empty r =
           let row = subst (Row setup past e) r.call law.0.row in
-          let low = shown_small r.bytes r.id row.0 r.shows in (
+          let low = shown_small r.bytes r.id r.shows in (
             empty_of Rst r.id,
             subst (λ x. Spells x (empty_of Rst r.id)) (sym (ap (λ (x : Packet). x.bytes) r.is))
                 (reset_spells r.id low),

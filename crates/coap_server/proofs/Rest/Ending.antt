@@ -1,6 +1,6 @@
 -- At one moment, the ticks of a server end (RFC 7252, sections 4.2 and 5.2.2; RFC 7641, section 4.5).
-use Rattle.std.proofs.Common.{◌≡◌, ◌≤◌, ◌<◌, inl, inr, ℕ, zero, suc, ◌+◌, ◌&&◌, max, not, Bool, true, false}
-use Rattle.std.proofs.Common.{Option, Some, None, List, [], ◌∷◌, ◌++◌, length, filter, refl, ap, sym, subst, ◌∙◌, cond}
+use Rattle.std.proofs.Common.{◌≡◌, ◌≤◌, ◌<◌, ℕ, ◌+◌, max, not, Bool, true, false}
+use Rattle.std.proofs.Common.{Option, Some, None, List, [], ◌∷◌, ◌++◌, length, refl, ap, sym, subst, ◌∙◌, cond}
 use Rattle.std.proofs.Common.{arith}
 use Rattle.std.proofs.lemmas.List.Filters.{length-filter_both}
 use Rattle.coap_types.specs.declared.endpoint.Endpoint.{Endpoint}
@@ -9,31 +9,24 @@ use Rattle.coap_layer.specs.Machine.Steps.{Asked, Steps, left_after}
 use Rattle.coap_layer.specs.Trace as L
 use Rattle.coap_layer.specs.declared.setup.Setup.{Setup}
 use Rattle.coap_block.specs.Whole.{Each}
-use Rattle.coap_observe.specs.Observers.{Observer, is_of, noted_by, noted_to, removed, sent_to, unmarked_by}
-use Rattle.coap_observe.proofs.Facts.DueCounts.{note_never_raises}
-use Rattle.coap_observe.proofs.Facts.Registrations.{is_of-decides}
-use Rattle.coap_resource.specs.Content.{Held}
+use Rattle.coap_observe.specs.Observers.{Observer}
 use Rattle.coap_resource.specs.Serves.{Question}
 use Rattle.coap_resource.specs.Limits.{Limits}
 use Rattle.coap_exchange.specs.declared.answerer.Asked as answerer
 use Rattle.coap_exchange.specs.declared.answerer.Due.{Due}
 use Rattle.coap_exchange.specs.declared.answerer.Due.TheVariants as due
-use Rattle.coap_exchange.specs.declared.answerer.Ended.{Ended}
 use Rattle.coap_exchange.specs.declared.separate.Deferred.{Deferred}
 use Rattle.coap_exchange.specs.AnswererTrace as E
 use Rattle.coap_exchange.specs.AnswererSteps as P
 use Rattle.coap_exchange.specs.AnswererLaw as W
 use Rattle.coap_exchange.specs.AskerRequests.{asked}
-use Rattle.coap_server.specs.Trace.{Own, Waiting, Handling, Silent, Replies, Serves, Waits, Notifies}
+use Rattle.coap_server.specs.Trace.{Own, Waiting, Handling, Silent, Serves}
 use Rattle.coap_server.specs.Trace.{Call, Ticks}
-use Rattle.coap_server.specs.Observers.{unless_ended}
-use Rattle.coap_server.specs.Deferring.{AnswersWaiting, question_of, without_waiting}
+use Rattle.coap_server.specs.Deferring.{question_of, without_waiting}
 use Rattle.coap_server.specs.Deferring as D
-use Rattle.coap_server.specs.Notifying.{marked, behind, readies, notification, notified}
-use Rattle.coap_server.specs.Notifying as N
+use Rattle.coap_server.specs.Notifying.{marked, readies, notification}
 use Rattle.coap_server.specs.Asks.{notifies_by}
 use Rattle.coap_server.specs.Plain.{by_plain}
-use Rattle.coap_server.proofs.Observing.ObserverLists.{notified_left}
 use Rattle.coap_server.specs.Serving as R
 use Rattle.coap_server.specs.Handling.{ticking, heard}
 use Rattle.coap_server.specs.Law.{ServerLaw, own_of, lower_of}
@@ -44,128 +37,15 @@ use Rattle.coap_common.proofs.Facts.LastStep.{last_step}
 use Rattle.coap_server.proofs.Exact.Asked.{joined, back}
 use Rattle.coap_server.proofs.Serving.Brought.{server_back}
 use Rattle.coap_server.proofs.Observing.ObserversWereMade.{are_observers}
-use Rattle.coap_server.proofs.Observing.VersionsRise.{IsThere, behind_there, marked_there, next_is}
-use Rattle.coap_server.proofs.Observing.StoreSteps.{next_serves}
+use Rattle.coap_server.proofs.Observing.MarkedObservers.{behind_there, marked_there}
+use Rattle.coap_server.proofs.Observing.Outcomes.{Turned, turned, copied, expired, lost, responded, rests, noticed}
+use Rattle.coap_server.proofs.Rest.MarksFall.{ended_least, notified_fewer}
+use Rattle.coap_server.proofs.Rest.LayerAsked.{Rooms, asking, asks, behind_calls, rooms}
 use Rattle.coap_server.proofs.Serving.Waiting.{ready_are_served}
 use Rattle.coap_common.specs.StepsDue.{due_count}
-use Rattle.coap_common.proofs.Facts.StepsDue.{is_step, ticks_least, ticks_fewer, confirm_least, room_same, same_opens}
+use Rattle.coap_common.proofs.Facts.StepsDue.{is_step, confirm_least, same_opens}
 
--- how many are marked
-
-abbrev marks : List Observer → ℕ
-marks os = length (marked os)
-
-cons_least : (b c : Bool) (x y : Observer) (xs ys : List Observer) → length xs ≤ length ys → (b ≡ true → c ≡ true)
-    → length (cond b (x ∷ xs) xs) ≤ length (cond c (y ∷ ys) ys)
-cons_least true true x y xs ys h f = omega (arith, h)
-cons_least true false x y xs ys h f = let e = f refl in absurd (cc e)
-cons_least false true x y xs ys h f = omega (arith, h)
-cons_least false false x y xs ys h f = h
-
--- what a list loses
-dropped_least : (p : Observer → Bool) (os : List Observer) → marks (filter p os) ≤ marks os
-dropped_least p [] = omega arith
-dropped_least p (o ∷ os) = by (p o) o.marked refl (dropped_least p os)
-  where
-    by : (b c : Bool) → o.marked ≡ c → marks (filter p os) ≤ marks os
-        → marks (cond b (o ∷ filter p os) (filter p os)) ≤ length (cond c (o ∷ marked os) (marked os))
-    by true c e h = subst (λ z. length (cond z (o ∷ marked (filter p os)) (marked (filter p os))) ≤ length
-        (cond c (o ∷ marked os) (marked os))) (sym e) (cons_least c c o o (marked (filter p os)) (marked os) h (λ k. k))
-    by false true e h = omega (arith, h)
-    by false false e h = h
-
-dropped_fewer : (p : Observer → Bool) (o : Observer) (os : List Observer) → o.marked ≡ true → p o ≡ false → IsThere o os
-    → marks (filter p os) < marks os
-dropped_fewer p o [] m n h = absurd h
-dropped_fewer p o (y ∷ os) m n (inl e) =
-    let k = dropped_least p os in
-    let out : p y ≡ false = ap p e ∙ n in
-    let there : y.marked ≡ true = ap (λ (z : Observer). z.marked) e ∙ m in
-    let left : marks (filter p (y ∷ os)) ≡ marks (filter p os) =
-    ap (λ b. marks (cond b (y ∷ filter p os) (filter p os))) out in
-    let was : marks (y ∷ os) ≡ suc (marks os) = ap (λ b. length (cond b (y ∷ marked os) (marked os))) there in
-    omega (arith, k, left, was)
-dropped_fewer p o (y ∷ os) m n (inr h) = by (p y) y.marked refl (dropped_fewer p o os m n h)
-  where
-    by : (b c : Bool) → y.marked ≡ c → marks (filter p os) < marks os
-        → marks (cond b (y ∷ filter p os) (filter p os)) < length (cond c (y ∷ marked os) (marked os))
-    by true true e k = let f : marks (y ∷ filter p os)
-        ≡ suc (marks (filter p os)) = ap (λ z. length (cond z (y ∷ marked (filter p os)) (marked (filter p os)))) e
-        in omega (arith, k, f)
-    by true false e k = let f : marks (y ∷ filter p os)
-        ≡ marks (filter p os) = ap (λ z. length (cond z (y ∷ marked (filter p os)) (marked (filter p os)))) e in omega
-        (arith, k, f)
-    by false true e k = omega (arith, k)
-    by false false e k = k
-
-sent_least : (at : ℕ) (to : Endpoint) (token : List ℕ) (con : Bool) (os : List Observer)
-    → marks (sent_to at to token con os) ≤ marks os
-sent_least at to token con [] = omega arith
-sent_least at to token con (o ∷ os) = cons_least (o.marked && not (is_of to token o)) o.marked
-    (unmarked_by at to token con o) o (marked (sent_to at to token con os)) (marked os) (sent_least at to token con os)
-    (left o.marked (not (is_of to token o)))
-  where
-    left : (b c : Bool) → (b && c) ≡ true → b ≡ true
-    left true c e = refl
-    left false c e = absurd (cc e)
-
-sent_fewer : (at : ℕ) (con : Bool) (o : Observer) (os : List Observer) → o.marked ≡ true → IsThere o os
-    → marks (sent_to at o.to o.token con os) < marks os
-sent_fewer at con o [] m h = absurd h
-sent_fewer at con o (y ∷ os) m (inl e) =
-    let k = sent_least at o.to o.token con os in
-    let mine : is_of o.to o.token y ≡ true = (is_of-decides o.to o.token y).1
-    (ap (λ (z : Observer). z.to) e, ap (λ (z : Observer). z.token) e) in
-    let there : y.marked ≡ true = ap (λ (z : Observer). z.marked) e ∙ m in
-    let gone : (y.marked && not (is_of o.to o.token y)) ≡ false = ap (λ b. b && not (is_of o.to o.token y)) there
-    ∙ ap not mine in
-    let left : marks (sent_to at o.to o.token con (y ∷ os)) ≡ marks (sent_to at o.to o.token con os) =
-    ap (λ b. length (cond b (unmarked_by at o.to o.token con y ∷ marked (sent_to at o.to o.token con os))
-    (marked (sent_to at o.to o.token con os)))) gone in
-    let was : marks (y ∷ os) ≡ suc (marks os) = ap (λ b. length (cond b (y ∷ marked os) (marked os))) there in
-    omega (arith, k, left, was)
-sent_fewer at con o (y ∷ os) m (inr h) = by y.marked (is_of o.to o.token y) (sent_fewer at con o os m h)
-  where
-    by : (b c : Bool) → marks (sent_to at o.to o.token con os) < marks os
-        → length (cond (b && not c) (unmarked_by at o.to o.token con y ∷ marked (sent_to at o.to o.token con os))
-        (marked (sent_to at o.to o.token con os))) < length (cond b (y ∷ marked os) (marked os))
-    by true true k = omega (arith, k)
-    by true false k = omega (arith, k)
-    by false c k = k
-
--- what is kept of a NON changes no mark
-
-noted_there : (at : ℕ) (to : Endpoint) (token : List ℕ) (id : ℕ) (o : Observer) (os : List Observer) → IsThere o os
-    → IsThere (noted_by at to token id o) (noted_to at to token id os)
-noted_there at to token id o [] h = absurd h
-noted_there at to token id o (y ∷ os) (inl e) = inl (ap (noted_by at to token id) e)
-noted_there at to token id o (y ∷ os) (inr h) = inr (noted_there at to token id o os h)
-
-non_fewer : (at id : ℕ) (o : Observer) (os : List Observer) → o.marked ≡ true → IsThere o os
-    → marks (sent_to at o.to o.token false (noted_to at o.to o.token id os)) < marks os
-non_fewer at id o os m h =
-    let same : marks (noted_to at o.to o.token id os) ≡ marks os = note_never_raises at o.to o.token id os in
-    let less = sent_fewer at false (noted_by at o.to o.token id o) (noted_to at o.to o.token id os) m
-    (noted_there at o.to o.token id o os h) in
-    omega (arith, same, less)
-
-notified_fewer : (plain : Bool) (at id : ℕ) (held : Option Held) (o : Observer) (os : List Observer) → o.marked ≡ true
-    → IsThere o os → marks (notified plain at id held o os) < marks os
-notified_fewer plain at id held o os m h =
-    let mine : is_of o.to o.token o ≡ true = (is_of-decides o.to o.token o).1 (refl, refl) in
-    notified_left (λ ps. marks ps < marks os) plain at id held o os
-    (dropped_fewer (λ x. not (is_of o.to o.token x)) o os m (ap not mine) h) (non_fewer at id o os m h)
-    (sent_fewer at true o os m h)
-
-ended_least : (e : Option Ended) (os : List Observer) → marks (unless_ended e os) ≤ marks os
-ended_least None os = omega arith
-ended_least (Some x) os = by x.observe
-  where
-    by : (b : Bool) → marks (cond b (removed x.to x.token os) os) ≤ marks os
-    by true = dropped_least (λ o. not (is_of x.to x.token o)) os
-    by false = omega arith
-
--- what is due
+-- what is taken where something is due
 
 abbrev IsTaken : Due → L.Answer → Type 0
 IsTaken due.Copied below = is_step below ≡ true
@@ -194,82 +74,6 @@ without_one at a (w ∷ ws) q h = by (D.is_of at a w) h (without_one at a ws q)
         → length (cond b ws (w ∷ without_waiting at a ws)) + 1 ≡ length (w ∷ ws)
     by true k f = omega arith
     by false k f = let e = f k in omega (arith, e)
-
--- the layer, where it is asked at one moment
-module _ (setup : Setup) (at : ℕ) (rest : List Asked) (below : L.Answer) where
-  abbrev begin : S.State
-  begin = left_after (S.start setup) rest
-
-  abbrev moment : ℕ
-  moment = max begin.clock at
-
-  abbrev asking : Option Deferred → Bool → List Asked
-  asking o room = (P.asking_room at o room ++ asked at L.Ticks below ∷ []) ++ rest
-
-  record Asks (o : Option Deferred) (room : Bool) : Type 0 where
-    clock : max (left_after (S.start setup) (asking o room)).clock at ≡ moment
-    least : due_count moment (left_after (S.start setup) (asking o room)).open_cons
-        ≤ due_count moment begin.open_cons
-    fewer : is_step below ≡ true → due_count moment
-        (left_after (S.start setup) (asking o room)).open_cons < due_count moment begin.open_cons
-
-  ticks : (new : S.State) (room : Bool) → Steps (S.start setup) (asking None room) new → Asks None room
-  ticks new room h =
-      let step = last_step (S.start setup) new (asked at L.Ticks below) rest h in
-      record {
-        clock = omega arith;
-        least = ticks_least begin _ at below step;
-        fewer = λ is. ticks_fewer begin _ at below step is;
-      }
-
-  asks : (new : S.State) (o : Option Deferred) (room : Bool) → Steps (S.start setup) (asking o room) new
-      → Asks o room
-  asks new None room h = ticks new room h
-  asks new (Some d) room h =
-      let k = ticks h.0 room h.1 in
-      let step = last_step (S.start setup) new (asked at (L.Room d.asked.from) (L.Is room))
-      (asking None room) h in
-      let same = room_same _ _ at d.asked.from (L.Is room) step in
-      let first = k.least in
-      let clock = k.clock in
-      record {
-        clock = omega (arith, clock);
-        least = subst (λ cs. due_count moment cs ≤ due_count moment begin.open_cons) (sym same) first;
-        fewer = λ is. subst (λ cs. due_count moment cs < due_count moment begin.open_cons) (sym same) (k.fewer is);
-      }
-
--- what calls of the exchanges leave of the layer
-abbrev pub behind_calls : Setup → List E.Call → S.State
-behind_calls setup calls = left_after (S.start setup) (W.lower_of calls)
-
--- rooms that are asked for
-module _ (setup : Setup) (at : ℕ) where
-  record Rooms (before after : S.State) : Type 0 where
-    opens : after.open_cons ≡ before.open_cons
-    clock : max after.clock at ≡ max before.clock at
-
-  one_room : (to : Endpoint) (b : Bool) (calls : List E.Call) → W.ResponseLaw setup (E.Ready at to b ∷ calls)
-      → Rooms (behind_calls setup calls) (behind_calls setup (E.Ready at to b ∷ calls))
-  one_room to b calls law =
-      let step = last_step (S.start setup) law.left (asked at (L.Room to) (L.Is b))
-      (W.lower_of calls) law.layer in
-      record { opens = room_same _ _ at to (L.Is b) step; clock = omega arith }
-
-  more_rooms : (a b c : S.State) → Rooms a b → Rooms b c → Rooms a c
-  more_rooms a b c x y = record { opens = y.opens ∙ x.opens; clock = y.clock ∙ x.clock }
-
-  rooms : (n : ℕ) (os : List Observer) (calls : List E.Call) → W.ResponseLaw setup (readies at n os ++ calls)
-      → Rooms (behind_calls setup calls) (behind_calls setup (readies at n os ++ calls))
-  rooms n [] calls law = record { opens = refl; clock = refl }
-  rooms zero (o ∷ os) calls law = one_room o.to true calls law
-  rooms (suc n) (o ∷ os) calls law =
-      let ready : E.Call = E.Ready at o.to false in
-      let e = joined (readies at n os) ready calls in
-      let later = subst (W.ResponseLaw setup) e law in
-      let first = one_room o.to false calls (back setup (readies at n os) (ready ∷ calls) later) in
-      subst (λ z. Rooms (behind_calls setup calls) (behind_calls setup z)) (sym e)
-      (more_rooms (behind_calls setup calls) (behind_calls setup (ready ∷ calls))
-      (behind_calls setup (readies at n os ++ ready ∷ calls)) first (rooms n os (ready ∷ calls) later))
 
 module _ (limits : Limits) (szx : ℕ) (setup : Setup) where
   abbrev own : List Call → Own
@@ -378,54 +182,27 @@ module _ (limits : Limits) (szx : ℕ) (setup : Setup) where
         sent_now (L.Plain o.to content) id (non_now o.to content id) (λ s. refl) (behind_calls setup calls)
         (W.lower_of calls) law.left refl rooms.opens rooms.clock mid turn law.layer
 
-    pub less : (d : Due) (passed : ℕ) (h : Handling) (id : ℕ)
+    tick_less : (d : Due) (passed : ℕ) (h : Handling) (id : ℕ)
+        → Turned (heard (own t) now (ticking (own t) now below room d)) passed d h
         → ServerLaw limits szx setup (Ticks now w below room d passed h id true ∷ t)
         → size now (Ticks now w below room d passed h id true ∷ t) < size now t
     unfolding size
-    less due.Copied passed Silent id law =
+    tick_less d passed h id copied law =
         let k = taken_less law.exchanges.left law.exchanges.layer
         (subst (λ d. IsTaken d below) (sym law.exchanges.rows.0)
         (due_taken below (P.ready_at (W.own_of under) at) room)) in
         let l = ended_least (P.failed_by below (own t).exchanges.separate) (own t).observers in
         omega (arith, k, l)
-    less due.Expired passed Silent id law =
+    tick_less d passed h id expired law =
         let k = taken_less law.exchanges.left law.exchanges.layer
         (subst (λ d. IsTaken d below) (sym law.exchanges.rows.0)
         (due_taken below (P.ready_at (W.own_of under) at) room)) in
         let l = ended_least (P.failed_by below (own t).exchanges.separate) (own t).observers in
         omega (arith, k, l)
-    less due.Copied passed (Replies r) id law = let e = law.rows.0.0 in absurd (cc e)
-    less due.Copied passed (Serves q reply left) id law = let e = law.rows.0.0 in absurd (cc e)
-    less due.Copied passed (Waits q d) id law = let e = law.rows.0.0 in absurd (cc e)
-    less due.Copied passed (Notifies o reply) id law = let e = law.rows.0.0 in absurd (cc e)
-    less due.Expired passed (Replies r) id law = let e = law.rows.0.0 in absurd (cc e)
-    less due.Expired passed (Serves q reply left) id law = let e = law.rows.0.0 in absurd (cc e)
-    less due.Expired passed (Waits q d) id law = let e = law.rows.0.0 in absurd (cc e)
-    less due.Expired passed (Notifies o reply) id law = let e = law.rows.0.0 in absurd (cc e)
-    less due.Idle passed Silent id law = let no = law.rows.0.1 in absurd (cc no)
-    less due.Idle passed (Replies r) id law = absurd (next_replies (behind passed (marked s.observers)) law.rows.0.0)
-      where
-        s : Own
-        s = heard (own t) now (ticking (own t) now below room due.Idle)
-
-        next_replies : (o : Option Observer) → N.NotifiesNext o s.store (Replies r) → ⊥
-        next_replies None h = cc h
-        next_replies (Some x) h = cc h
-    less due.Idle passed (Waits q d) id law = absurd (next_waits (behind passed (marked s.observers)) law.rows.0.0)
-      where
-        s : Own
-        s = heard (own t) now (ticking (own t) now below room due.Idle)
-
-        next_waits : (o : Option Observer) → N.NotifiesNext o s.store (Waits q d) → ⊥
-        next_waits None h = cc h
-        next_waits (Some x) h = cc h
-    less due.Idle passed (Serves q reply left) id law =
-        let s : Own = heard (own t) now (ticking (own t) now below room due.Idle) in absurd
-        (next_serves (behind passed (marked s.observers)) s.store q reply left law.rows.0.0)
-    less due.Idle passed (Notifies o reply) id law =
+    tick_less d passed h id (rests none) law = let no = law.rows.0.1 in absurd (cc no)
+    tick_less d passed h id (noticed o reply found is) law =
         let s : Own = heard (own t) now (ticking (own t) now below room due.Idle) in
-        let is = next_is (behind passed (marked s.observers)) s.store o reply law.rows.0.0 in
-        let there = marked_there s.observers o (behind_there passed (marked s.observers) o is) in
+        let there = marked_there s.observers o (behind_there passed (marked s.observers) o found) in
         let fewer = notified_fewer (by_plain s o) s.clock id (s.store.holds o.path) o s.observers there.1 there.0 in
         let l = ended_least (P.failed_by below (own t).exchanges.separate) (own t).observers in
         let first : E.Call = ticking (own t) now below room due.Idle in
@@ -440,41 +217,33 @@ module _ (limits : Limits) (szx : ℕ) (setup : Setup) where
         let turn = back setup cs (first ∷ under) room_law in
         let k = notice_least (by_plain s o) o r id calls law.exchanges all turn.left turn.layer in
         omega (arith, k, l, fewer)
-    less (due.Ready a) passed (Serves q reply left) id law = by (question_of at a (own t).waiting) refl law.rows.0.0
-      where
-        c : Call
-        c = Ticks now w below room (due.Ready a) passed (Serves q reply left) id true
+    tick_less d passed h id (responded a q reply left asks serves) law =
+        let s : Own = heard (own t) now (ticking (own t) now below room (due.Ready a)) in
+        let c : Call = Ticks now w below room (due.Ready a) passed (Serves q reply left) id true in
+        let r : E.Response = R.response_to s.store s.observers a q reply in
+        let turn = back setup (E.Responds at a r w id ∷ []) (ticking (own t) now below room (due.Ready a) ∷ under)
+        law.exchanges in
+        let content : L.Content = P.content_of a r in
+        let k = sent_now (with_con a.from content) id (con_now a.from content id) (λ s. refl) asked_room
+        (asking setup at (W.lower_of under) below ready room) law.exchanges.left refl refl refl turn.left turn.layer
+        law.exchanges.layer in
+        let few = (are_observers limits szx (c ∷ t)).registrations.few in
+        let most = length-filter_both (λ (o : Observer). o.marked) (λ (o : Observer). not o.marked) (λ o. refl)
+        (own (c ∷ t)).observers in
+        let one = without_one at a (own t).waiting q asks in
+        omega (arith, k, few, most, one)
+    tick_less d passed h id (lost a none) law =
+        let k = (ready_are_served limits szx setup
+        (Ticks now w below room (due.Ready a) passed Silent id true ∷ t) law).0 a refl in
+        let no = k.1 in
+        absurd (cc no)
 
-        s : Own
-        s = heard (own t) now (ticking (own t) now below room (due.Ready a))
-
-        by : (o : Option Question) → question_of at a (own t).waiting ≡ o
-            → AnswersWaiting o (own t).store at (Serves q reply left) → size now (c ∷ t) < size now t
-        by None is h = absurd (cc h)
-        by (Some x) is h =
-            let turn = back setup (E.Responds at a (R.response_to s.store s.observers a q reply) w id ∷ [])
-            (ticking (own t) now below room (due.Ready a) ∷ under) law.exchanges in
-            let content : L.Content = P.content_of a (R.response_to s.store s.observers a q reply) in
-            let k = sent_now (with_con a.from content) id (con_now a.from content id) (λ s. refl) asked_room
-            (asking setup at (W.lower_of under) below ready room) law.exchanges.left refl refl refl turn.left turn.layer
-            law.exchanges.layer in
-            let few = (are_observers limits szx (c ∷ t)).registrations.few in
-            let most = length-filter_both (λ (o : Observer). o.marked) (λ (o : Observer). not o.marked) (λ o. refl)
-            (own (c ∷ t)).observers in
-            let one = without_one at a (own t).waiting x is in
-            omega (arith, k, few, most, one)
-    less (due.Ready a) passed Silent id law = let k =
-        (ready_are_served limits szx setup (Ticks now w below room (due.Ready a) passed Silent id true ∷ t) law).0 a refl
-        in let no = k.1 in absurd (cc no)
-    less (due.Ready a) passed (Replies r) id law = let k =
-        (ready_are_served limits szx setup (Ticks now w below room (due.Ready a) passed (Replies r) id true ∷ t) law).0 a
-        refl in let no = k.1 in absurd (cc no)
-    less (due.Ready a) passed (Waits q d) id law = let k =
-        (ready_are_served limits szx setup (Ticks now w below room (due.Ready a) passed (Waits q d) id true ∷ t) law).0 a
-        refl in let no = k.1 in absurd (cc no)
-    less (due.Ready a) passed (Notifies o reply) id law =
-        let k = (ready_are_served limits szx setup (Ticks now w below room (due.Ready a) passed
-        (Notifies o reply) id true ∷ t) law).0 a refl in let no = k.1 in absurd (cc no)
+    pub less : (d : Due) (passed : ℕ) (h : Handling) (id : ℕ)
+        → ServerLaw limits szx setup (Ticks now w below room d passed h id true ∷ t)
+        → size now (Ticks now w below room d passed h id true ∷ t) < size now t
+    less d passed h id law =
+        tick_less d passed h id (turned (heard (own t) now (ticking (own t) now below room d)) passed d h law.rows.0.0)
+        law
 
   so_many : (now : ℕ) (t calls : List Call) → Each (IsTick now true) calls → ServerLaw limits szx setup (calls ++ t)
       → length calls + size now (calls ++ t) ≤ size now t

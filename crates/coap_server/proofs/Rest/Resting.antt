@@ -12,7 +12,8 @@ use Rattle.coap_server.specs.Follows.Rests.{IsTickWith, ComesToRest}
 use Rattle.coap_common.proofs.Facts.Ending.{Next, Rests, rests, Takes, Drains, drains}
 use Rattle.coap_common.proofs.Facts.LastStep.{take_less}
 use Rattle.coap_server.proofs.Progress.GoesOn.{goes_on}
-use Rattle.coap_server.proofs.Rest.Ending.{behind_calls, size, less}
+use Rattle.coap_server.proofs.Rest.Ending.{size, less}
+use Rattle.coap_server.proofs.Rest.LayerAsked.{behind_calls}
 
 module _ (limits : Limits) (szx : ℕ) (setup : Setup) where
   abbrev Law : List Call → Type 0

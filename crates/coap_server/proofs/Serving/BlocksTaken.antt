@@ -7,15 +7,14 @@ use Rattle.coap_block.specs.declared.block_verdict.BlockVerdict.TheVariants.{Ref
 use Rattle.coap_block.specs.AssemblyState.{Key, AssemblyState, same_key}
 use Rattle.coap_block.specs.AssemblyStep.{verdict_at, after_block}
 use Rattle.coap_block.specs.AssemblyTrace as A
-use Rattle.coap_block.specs.AssemblyTrace.{AssemblyTrace, Made, Arrived, state_after, IsWholeBody}
+use Rattle.coap_block.specs.AssemblyTrace.{AssemblyTrace, Made, Arrived, state_after}
 use Rattle.coap_block.specs.Whole.{Part}
 use Rattle.coap_block.specs.Gathered.{part}
 use Rattle.coap_resource.specs.Serves.{Question}
 use Rattle.coap_resource.specs.Limits.{Limits}
 use Rattle.coap_exchange.specs.declared.answerer.Asked.{Asked}
-use Rattle.coap_server.specs.Trace.{Own, Call, Sets, Removes, Delays, Plains, Feeds, Ticks, NextOut, Gets}
-use Rattle.coap_server.specs.Trace.{TellsApplied}
-use Rattle.coap_server.specs.Checks.{Verdict, Ignored, Refused, Asks, Uploads, verdict_on}
+use Rattle.coap_server.specs.Trace.{Own, Call, Feeds, Ticks, NextOut}
+use Rattle.coap_server.specs.Checks.{Verdict, Ignored, Uploads, verdict_on}
 use Rattle.coap_server.specs.Uploads.{key_of, uploads_after}
 use Rattle.coap_server.specs.Law.{own_of}
 use Rattle.coap_server.specs.Follows.Takes.{Took, took, took_by, taken_by, behind, since_with}
@@ -82,38 +81,24 @@ module _ (limits : Limits) (szx : ℕ) where
   -- the longest body that it joins stays
   limit_with : (v : Verdict) (at : ℕ) (a : Asked) (u : AssemblyState) → (uploads_after at a v u).limit ≡ u.limit
   limit_with Ignored at a u = refl
-  limit_with (Refused code) at a u = refl
-  limit_with (Asks q) at a u = refl
-  limit_with (Uploads q b) at a u = refl
+  limit_with _ at a u = refl
 
   pub limit_is : (t : List Call) → (own t).uploads.limit ≡ limits.body
   limit_is [] = refl
-  limit_is (Sets now path format body answer left ∷ t) = limit_is t
-  limit_is (Removes now path answer left ∷ t) = limit_is t
-  limit_is (Delays path ms answer ∷ t) = limit_is t
-  limit_is (Plains path answer ∷ t) = limit_is t
-  limit_is (Gets path answer ∷ t) = limit_is t
-  limit_is (TellsApplied answer ∷ t) = limit_is t
-  limit_is (Feeds now from bytes word up None h below ∷ t) = limit_is t
   limit_is (Feeds now from bytes word up (Some p) h below ∷ t) =
       limit_with (verdict_on (own t).szx p.1) (max (own t).clock now) p.0 (own t).uploads ∙ limit_is t
   limit_is (Ticks now word below room d passed h id answer ∷ t) = limit_is t
   limit_is (NextOut answer ∷ t) = limit_is t
+  limit_is (_ ∷ t) = limit_is t
 
   -- it leaves what the server keeps of it
   pub uploads_is : (t : List Call) → (own t).uploads ≡ state_after (history t)
   uploads_is [] = refl
-  uploads_is (Sets now path format body answer left ∷ t) = uploads_is t
-  uploads_is (Removes now path answer left ∷ t) = uploads_is t
-  uploads_is (Delays path ms answer ∷ t) = uploads_is t
-  uploads_is (Plains path answer ∷ t) = uploads_is t
-  uploads_is (Gets path answer ∷ t) = uploads_is t
-  uploads_is (TellsApplied answer ∷ t) = uploads_is t
-  uploads_is (Feeds now from bytes word up None h below ∷ t) = uploads_is t
   uploads_is (Feeds now from bytes word up (Some p) h below ∷ t) =
       uploads_with (verdict_on (own t).szx p.1) (max (own t).clock now) p.0 (own t).uploads (history t) (uploads_is t)
   uploads_is (Ticks now word below room d passed h id answer ∷ t) = uploads_is t
   uploads_is (NextOut answer ∷ t) = uploads_is t
+  uploads_is (_ ∷ t) = uploads_is t
 
   since_with_is : (key : Key) (v : Verdict) (at : ℕ) (a : Asked) (u : AssemblyState) (h : AssemblyTrace)
       (xs : List Took) → u ≡ state_after h → parts_of xs ≡ A.blocks_since key h
@@ -126,15 +111,9 @@ module _ (limits : Limits) (szx : ℕ) where
   -- and so it does of the blocks of a key
   pub since_is : (key : Key) (t : List Call) → parts_of (blocks_since limits szx key t) ≡ A.blocks_since key (history t)
   since_is key [] = refl
-  since_is key (Sets now path format body answer left ∷ t) = since_is key t
-  since_is key (Removes now path answer left ∷ t) = since_is key t
-  since_is key (Delays path ms answer ∷ t) = since_is key t
-  since_is key (Plains path answer ∷ t) = since_is key t
-  since_is key (Gets path answer ∷ t) = since_is key t
-  since_is key (TellsApplied answer ∷ t) = since_is key t
-  since_is key (Feeds now from bytes word up None h below ∷ t) = since_is key t
   since_is key (Feeds now from bytes word up (Some p) h below ∷ t) =
       since_with_is key (verdict_on (own t).szx p.1) (max (own t).clock now) p.0 (own t).uploads (history t)
       (blocks_since limits szx key t) (uploads_is t) (since_is key t)
   since_is key (Ticks now word below room d passed h id answer ∷ t) = since_is key t
   since_is key (NextOut answer ∷ t) = since_is key t
+  since_is key (_ ∷ t) = since_is key t

@@ -18,8 +18,7 @@ use Rattle.coap_exchange.specs.AnswererSteps.{asked_of}
 use Rattle.coap_exchange.specs.AnswererLaw as W
 use Rattle.coap_exchange.specs.AskerRequests.{asked}
 use Rattle.coap_exchange.specs.AskerArrivals.{id_in, replying}
-use Rattle.coap_server.specs.Trace.{Own, Handling, Call, Sets, Removes, Delays, Plains, Feeds, Ticks, NextOut}
-use Rattle.coap_server.specs.Trace.{Gets, TellsApplied}
+use Rattle.coap_server.specs.Trace.{Own, Handling, Call, Feeds}
 use Rattle.coap_server.specs.Checks.{Verdict, verdict_on}
 use Rattle.coap_server.specs.Handling.{incoming, heard}
 use Rattle.coap_server.specs.Asks.{lower, answering}
@@ -44,15 +43,8 @@ servers_back limits szx setup (c ∷ calls) t law =
 -- the size of blocks stays
 pub szx_is : (limits : Limits) (szx : ℕ) (t : List Call) → (own_of limits szx t).szx ≡ szx
 szx_is limits szx [] = refl
-szx_is limits szx (Sets now path format body answer left ∷ t) = szx_is limits szx t
-szx_is limits szx (Removes now path answer left ∷ t) = szx_is limits szx t
-szx_is limits szx (Delays path ms answer ∷ t) = szx_is limits szx t
-szx_is limits szx (Plains path answer ∷ t) = szx_is limits szx t
-szx_is limits szx (Gets path answer ∷ t) = szx_is limits szx t
-szx_is limits szx (TellsApplied answer ∷ t) = szx_is limits szx t
 szx_is limits szx (Feeds now from bytes word up came h below ∷ t) = szx_is limits szx t
-szx_is limits szx (Ticks now word below room d passed h id answer ∷ t) = szx_is limits szx t
-szx_is limits szx (NextOut answer ∷ t) = szx_is limits szx t
+szx_is limits szx (_ ∷ t) = szx_is limits szx t
 
 -- what several calls of the exchanges ask of the layer, and the entries of that
 abbrev under : List E.Call → List E.Call → List G.Asked

@@ -71,10 +71,9 @@ module _ (szx : ℕ) (m : Message) where
 
   of_good : (x : Method) (q : Question) (o : Option Block) → HasNoFault m → NoFaultIn m (uploading x q o)
   of_good x q None g = g
-  of_good Put q (Some b) g = g
-  of_good Post q (Some b) g = g
   of_good Get q (Some b) g = tt
   of_good Delete q (Some b) g = tt
+  of_good _ q (Some b) g = g
 
   asked_good : lacks_critical direction.Request m.options ≡ false → has proxy_uri (asks m) ≡ false
       → has proxy_scheme (asks m) ≡ false → (o : Option Method) → NoFaultIn m (asked_by szx o m)

@@ -12,9 +12,8 @@ use Rattle.coap_exchange.specs.AnswererTrace as E
 use Rattle.coap_exchange.specs.AnswererFollows as F
 use Rattle.coap_exchange.specs.AnswererFollows.{hits, same_asked}
 use Rattle.coap_exchange.specs.AnswererSteps.{asked_in}
-use Rattle.coap_server.specs.Trace.{Own, Handling, Silent, Replies, Serves, Waits, Notifies, Call}
-use Rattle.coap_server.specs.Trace.{Sets}
-use Rattle.coap_server.specs.Trace.{Removes, Delays, Plains, Feeds, Ticks, NextOut, Gets, TellsApplied}
+use Rattle.coap_server.specs.Trace.{Own, Handling, Replies, Serves, Waits, Notifies, Call}
+use Rattle.coap_server.specs.Trace.{Feeds, Ticks}
 use Rattle.coap_observe.specs.Observers.{Observer}
 use Rattle.coap_resource.specs.Serves.{Question}
 use Rattle.coap_resource.specs.Limits.{Limits}
@@ -27,6 +26,7 @@ use Rattle.coap_server.specs.Law.{own_of, lower_of}
 use Rattle.coap_server.specs.Follows.Serves.{Serving, serving, serving_of, asked_of, times_handed}
 use Rattle.coap_server.specs.Follows.Serves.{times_served, ServedOnce}
 use Rattle.coap_server.specs.Plain.{by_plain}
+use Rattle.coap_server.proofs.Exact.Asked.{joined}
 use Rattle.coap_server.proofs.Calls.NotifiesBy.{in_either}
 
 abbrev pub H : Asked → List E.Call → ℕ
@@ -34,10 +34,6 @@ H a calls = F.times_handed a calls
 
 abbrev A : Asked → List E.Call → ℕ
 A a calls = F.times_answered a calls
-
-joined : (xs : List E.Call) (x : E.Call) (rest : List E.Call) → (xs ++ x ∷ []) ++ rest ≡ xs ++ x ∷ rest
-joined [] x rest = refl
-joined (y ∷ xs) x rest = ap (λ l. y ∷ l) (joined xs x rest)
 
 -- what is asked beside responses
 deferral_handed : (b : Asked) (a : Asked) (o : Option ℕ) (place : Bool) (at : ℕ) (rest : List E.Call)
@@ -78,14 +74,9 @@ responding_handed a s due.Idle passed (Notifies o reply) word id rest =
     let k = (readies_handed a s.clock passed (marked s.observers) rest).0 in
     let none = in_either (λ c. H a (c ∷ []) ≡ 0) (by_plain s o) s.clock o (notification s.store o reply) word id refl refl
     in omega (arith, k, none)
-responding_handed a s due.Copied passed h word id rest = refl
-responding_handed a s due.Expired passed h word id rest = refl
-responding_handed a s (due.Ready b) passed Silent word id rest = refl
-responding_handed a s (due.Ready b) passed (Replies r) word id rest = refl
-responding_handed a s (due.Ready b) passed (Waits q d) word id rest = refl
-responding_handed a s (due.Ready b) passed (Notifies o reply) word id rest = refl
 responding_handed a s (due.Ready b) passed (Serves q reply left) word id rest = omega arith
 responding_handed a s due.Idle passed _ word id rest = (readies_handed a s.clock passed (marked s.observers) rest).0
+responding_handed a s _ passed _ word id rest = refl
 
 -- a serving is a response
 answering_served : (a : Asked) (s : Own) (now : ℕ) (from : Endpoint) (bytes : List ℕ) (word : ℕ) (up : L.Answer)
@@ -102,39 +93,20 @@ responding_served : (a : Asked) (s : Own) (now word : ℕ) (below : L.Answer) (r
     (h : Handling) (id : ℕ) (answer : Bool) (rest : List E.Call)
     → hits (same_asked a) (asked_of (serving s (Ticks now word below room d passed h id answer))) + A a rest ≤ A a
     (responding (heard s now (ticking s now below room d)) d passed h word id ++ rest)
-responding_served a s now word below room due.Idle passed Silent id answer rest = let o =
-    heard s now (ticking s now below room due.Idle) in let k =
-    (readies_handed a o.clock passed (marked o.observers) rest).1 in omega (arith, k)
-responding_served a s now word below room due.Idle passed (Replies r) id answer rest = let o =
-    heard s now (ticking s now below room due.Idle) in let k =
-    (readies_handed a o.clock passed (marked o.observers) rest).1 in omega (arith, k)
-responding_served a s now word below room due.Idle passed (Serves q reply left) id answer rest = let o =
-    heard s now (ticking s now below room due.Idle) in let k =
-    (readies_handed a o.clock passed (marked o.observers) rest).1 in omega (arith, k)
-responding_served a s now word below room due.Idle passed (Waits q d) id answer rest = let o =
-    heard s now (ticking s now below room due.Idle) in let k =
-    (readies_handed a o.clock passed (marked o.observers) rest).1 in omega (arith, k)
-responding_served a s now word below room due.Idle passed (Notifies x reply) id answer rest = let o =
-    heard s now (ticking s now below room due.Idle) in let k =
-    (readies_handed a o.clock passed (marked o.observers) rest).1 in omega (arith, k)
-responding_served a s now word below room due.Copied passed h id answer rest = omega arith
-responding_served a s now word below room due.Expired passed h id answer rest = omega arith
-responding_served a s now word below room (due.Ready b) passed Silent id answer rest = omega arith
-responding_served a s now word below room (due.Ready b) passed (Replies r) id answer rest = omega arith
-responding_served a s now word below room (due.Ready b) passed (Notifies o reply) id answer rest = omega arith
-responding_served a s now word below room (due.Ready b) passed (Waits q w) id answer rest = omega arith
+responding_served a s now word below room due.Idle passed (Notifies x reply) id answer rest =
+    let o = heard s now (ticking s now below room due.Idle) in
+    let k = (readies_handed a o.clock passed (marked o.observers) rest).1 in
+    omega (arith, k)
 responding_served a s now word below room (due.Ready b) passed (Serves q reply left) id answer rest = omega arith
+responding_served a s now word below room due.Idle passed _ id answer rest =
+    let o = heard s now (ticking s now below room due.Idle) in
+    let k = (readies_handed a o.clock passed (marked o.observers) rest).1 in
+    omega (arith, k)
+responding_served a s now word below room _ passed _ id answer rest = omega arith
 
 module _ (limits : Limits) (szx : ℕ) where
   pub handed_is : (a : Asked) (t : List Call) → H a (lower_of limits szx t) ≡ times_handed limits szx a t
   handed_is a [] = refl
-  handed_is a (Sets now path format body answer left ∷ t) = let k = handed_is a t in omega (arith, k)
-  handed_is a (Removes now path answer left ∷ t) = let k = handed_is a t in omega (arith, k)
-  handed_is a (Delays path ms answer ∷ t) = let k = handed_is a t in omega (arith, k)
-  handed_is a (Plains path answer ∷ t) = let k = handed_is a t in omega (arith, k)
-  handed_is a (Gets path answer ∷ t) = let k = handed_is a t in omega (arith, k)
-  handed_is a (TellsApplied answer ∷ t) = let k = handed_is a t in omega (arith, k)
-  handed_is a (NextOut answer ∷ t) = let k = handed_is a t in omega (arith, k)
   handed_is a (Feeds now from bytes word up came h below ∷ t) =
       let s : Own = own_of limits szx t in
       let first : E.Call = incoming s now from bytes up came in
@@ -149,16 +121,10 @@ module _ (limits : Limits) (szx : ℕ) where
       let e = responding_handed a (heard s now first) d passed h word id (first ∷ lower_of limits szx t) in
       ap (H a) (joined (responding (heard s now first) d passed h word id) first (lower_of limits szx t))
       ∙ (e ∙ (let z : 0 + H a (lower_of limits szx t) ≡ 0 + times_handed limits szx a t = ap (λ n. 0 + n) k in z))
+  handed_is a (_ ∷ t) = let k = handed_is a t in omega (arith, k)
 
   served_at_most : (a : Asked) (t : List Call) → times_served limits szx a t ≤ A a (lower_of limits szx t)
   served_at_most a [] = omega arith
-  served_at_most a (Sets now path format body answer left ∷ t) = let k = served_at_most a t in omega (arith, k)
-  served_at_most a (Removes now path answer left ∷ t) = let k = served_at_most a t in omega (arith, k)
-  served_at_most a (Delays path ms answer ∷ t) = let k = served_at_most a t in omega (arith, k)
-  served_at_most a (Plains path answer ∷ t) = let k = served_at_most a t in omega (arith, k)
-  served_at_most a (Gets path answer ∷ t) = let k = served_at_most a t in omega (arith, k)
-  served_at_most a (TellsApplied answer ∷ t) = let k = served_at_most a t in omega (arith, k)
-  served_at_most a (NextOut answer ∷ t) = let k = served_at_most a t in omega (arith, k)
   served_at_most a (Feeds now from bytes word up came h below ∷ t) =
       let s : Own = own_of limits szx t in
       let first : E.Call = incoming s now from bytes up came in
@@ -177,6 +143,7 @@ module _ (limits : Limits) (szx : ℕ) where
       ≡ A a (responding (heard s now first) d passed h word id ++ first ∷ lower_of limits szx t)
       = ap (A a) (joined (responding (heard s now first) d passed h word id) first (lower_of limits szx t)) in
       omega (arith, k, m, e)
+  served_at_most a (_ ∷ t) = let k = served_at_most a t in omega (arith, k)
 
   here : (t : List Call) (c : Call) → F.AreResponses (lower_of limits szx (c ∷ t)) → (x : Serving)
       → serving (own_of limits szx t) c ≡ Some x → times_served limits szx x.asked t < times_handed limits szx x.asked

@@ -17,24 +17,18 @@ use Rattle.coap_exchange.specs.AnswererSteps.{is_ready, first_ready, without_rea
 use Rattle.coap_exchange.specs.AnswererFollows.{same_asked}
 use Rattle.coap_exchange.proofs.Facts.ServerSide.{same_asked_self}
 use Rattle.std.proofs.lemmas.Bool.{and_parts}
-use Rattle.coap_types.specs.declared.block.Block.{Block}
 use Rattle.coap_layer.specs.declared.setup.Setup.{Setup}
-use Rattle.coap_block.specs.declared.block_verdict.BlockVerdict.{BlockVerdict}
-use Rattle.coap_block.specs.declared.block_verdict.BlockVerdict.TheVariants.{Refuse, Join, Done}
 use Rattle.coap_observe.specs.Observers.{Observer}
-use Rattle.coap_resource.specs.Content.{Content}
 use Rattle.coap_resource.specs.Limits.{Limits}
-use Rattle.coap_server.specs.Trace.{Waiting, Own, Handling, Silent, Replies, Serves, Waits, Notifies}
+use Rattle.coap_server.specs.Trace.{Waiting, Own, Handling, Serves, Notifies}
 use Rattle.coap_server.specs.Trace.{Call, Sets, Removes, Delays, Plains, Feeds, Ticks, NextOut, Gets}
 use Rattle.coap_server.specs.Trace.{TellsApplied}
 use Rattle.coap_server.specs.Serving.{IsServed}
-use Rattle.coap_server.specs.Checks.{Verdict, Ignored, Refused, Asks, Uploads, verdict_on}
-use Rattle.coap_server.specs.Uploads.{ruling_of, whole}
-use Rattle.coap_server.specs.Deferring.{WaitsBy, AnswersWaiting, delay_for, deferral, deferral_by}
+use Rattle.coap_server.specs.Deferring.{AnswersWaiting, delay_for, deferral, deferral_by}
 use Rattle.coap_server.specs.Deferring.{is_of}
 use Rattle.coap_server.specs.Deferring.{question_of, without_waiting}
 use Rattle.coap_server.specs.Notifying.{marked, notification, readies}
-use Rattle.coap_server.specs.Handling.{incoming, ticking, heard, HandlesBlock, Handles, HandlesCame}
+use Rattle.coap_server.specs.Handling.{incoming, ticking, heard}
 use Rattle.coap_server.specs.Asks.{responding}
 use Rattle.coap_server.specs.Steps.{exchanges_after}
 use Rattle.coap_server.specs.Law.{ServerLaw, own_of, lower_of}
@@ -42,6 +36,7 @@ use Rattle.coap_server.specs.Follows.Serves.{Serving, serving, serving_of}
 use Rattle.coap_exchange.specs.AnswererSteps.{may_defer}
 use Rattle.coap_server.proofs.Serving.FoundReady.{FoundReady, found_ready}
 use Rattle.coap_server.proofs.Serving.Brought.{server_back}
+use Rattle.coap_server.proofs.Observing.Outcomes.{Came, came, is_placed, served as was_served, waits}
 use Rattle.coap_server.proofs.Observing.EndsObservation.{first_row}
 use Rattle.coap_server.proofs.Exact.Leads.{exchanges_kept}
 use Rattle.coap_server.specs.Follows.Waits.{deferred_as, ready_in, WaitsAsDeferred, ReadyAreServed}
@@ -113,45 +108,9 @@ module _ (at : ℕ) (xs : List Separate) (a : Asked) where
             ready));
       }
 
--- what a handling says of a deferral
+-- what is asked of the exchanges for a deferral
 
-abbrev placed : Option ℕ → Bool → Bool
-placed None place = false
-placed (Some d) place = place
-
-abbrev Says : Own → Asked → Handling → Type 0
-Says s a (Serves q reply left) = placed (delay_for a.kind q.path s.delays) (may_defer s.exchanges.deferred) ≡ false
-Says s a (Waits q d) = (delay_for a.kind q.path s.delays ≡ Some d) × (may_defer s.exchanges.deferred ≡ true)
-Says s a _ = Unit {0}
-
-says_is : (s : Own) (a : Asked) (h k : Handling) → h ≡ k → Says s a k → Says s a h
-says_is s a h k e x = subst (Says s a) (sym e) x
-
-by_waiting : (o : Option ℕ) (place : Bool) (s : Own) (a : Asked) (old : Content) (at : ℕ) (q : Question) (h : Handling)
-    → delay_for a.kind q.path s.delays ≡ o → may_defer s.exchanges.deferred ≡ place → WaitsBy o place old at q h
-    → Says s a h
-by_waiting (Some d) true s a old at q h e f k = says_is s a h (Waits q d) k (e, f)
-by_waiting (Some d) false s a old at q h e f k =
-    says_is s a h (Serves q k.reply k.left) k.is (ap (λ z. placed z (may_defer s.exchanges.deferred)) e ∙ f)
-by_waiting None place s a old at q h e f k = says_is s a h (Serves q k.reply k.left) k.is
-    (ap (λ z. placed z (may_defer s.exchanges.deferred)) e)
-
-by_block : (v : BlockVerdict) (s : Own) (a : Asked) (q : Question) (b : Block) (h : Handling) → HandlesBlock v s a q b h
-    → Says s a h
-by_block (Refuse why) s a q b h k = says_is s a h _ k tt
-by_block (Join szx) s a q b h k = says_is s a h _ k tt
-by_block Done s a q b h k =
-    let it : Question = whole s.uploads s.clock a q b in
-    by_waiting (delay_for a.kind q.path s.delays) (may_defer s.exchanges.deferred) s a s.store s.clock it h refl refl k
-
-by_verdict : (v : Verdict) (s : Own) (a : Asked) (h : Handling) → Handles s a v h → Says s a h
-by_verdict Ignored s a h k = says_is s a h Silent k tt
-by_verdict (Refused code) s a h k = says_is s a h _ k tt
-by_verdict (Asks q) s a h k = by_waiting (delay_for a.kind q.path s.delays)
-    (may_defer s.exchanges.deferred) s a s.store s.clock q h refl refl k
-by_verdict (Uploads q b) s a h k = by_block (ruling_of s.uploads s.clock a q b) s a q b h k
-
-not_placed : (o : Option ℕ) (place : Bool) (at : ℕ) (a : Asked) (s : E.Own) → placed o place ≡ false
+not_placed : (o : Option ℕ) (place : Bool) (at : ℕ) (a : Asked) (s : E.Own) → is_placed o place ≡ false
     → (exchanges_after s (deferral_by o place at a)).deferred ≡ s.deferred
 not_placed None place at a s h = refl
 not_placed (Some d) true at a s h = absurd (cc h)
@@ -190,30 +149,27 @@ module _ (limits : Limits) (szx : ℕ) (setup : Setup) where
     pub lists : map deferred_as (own t).waiting ≡ (own t).exchanges.deferred
 
   module _ (t : List Call) (m : Mirrors t) where
-    fed : (now : ℕ) (from : Endpoint) (bytes : List ℕ) (w : ℕ) (up : L.Answer) (came : Option (Asked × Message))
-        (h : Handling) (below : L.Answer)
-        → HandlesCame (heard (own t) now (incoming (own t) now from bytes up came)) came h
-        → Mirrors (Feeds now from bytes w up came h below ∷ t)
-    fed now from bytes w up (Some p) (Serves q reply left) below right =
+    fed : (now : ℕ) (from : Endpoint) (bytes : List ℕ) (w : ℕ) (up : L.Answer) (c : Option (Asked × Message))
+        (h : Handling) (below : L.Answer) → Came (heard (own t) now (incoming (own t) now from bytes up c)) c h
+        → Mirrors (Feeds now from bytes w up c h below ∷ t)
+    fed now from bytes w up c h below (was_served p q reply left k unplaced) =
         let s : Own = heard (own t) now (incoming (own t) now from bytes up (Some p)) in
-        let says = by_verdict (verdict_on s.szx p.1) s p.0 (Serves q reply left) right in
         let c = deferring_clock (delay_for p.0.kind q.path s.delays)
         (may_defer s.exchanges.deferred) s.clock p.0 s.exchanges in
         let k = m.clock in
         record {
           clock = omega (arith, k, c);
           lists = m.lists ∙ sym (not_placed (delay_for p.0.kind q.path s.delays)
-              (may_defer s.exchanges.deferred) s.clock p.0 s.exchanges says);
+              (may_defer s.exchanges.deferred) s.clock p.0 s.exchanges unplaced);
         }
-    fed now from bytes w up (Some p) (Waits q delay) below right =
+    fed now from bytes w up c h below (waits p q delay has place) =
         let s : Own = heard (own t) now (incoming (own t) now from bytes up (Some p)) in
-        let says = by_verdict (verdict_on s.szx p.1) s p.0 (Waits q delay) right in
         let k = m.clock in
         let at : ℕ = max (own t).clock now in
         let same : at ≡ max (max (own t).exchanges.clock at) at = omega (arith, k) in
         let asks : deferral s p.0 q ≡ E.Defers at p.0 delay true ∷ [] =
-        ap (λ z. deferral_by z (may_defer s.exchanges.deferred) at p.0) says.0
-        ∙ ap (λ z. deferral_by (Some delay) z at p.0) says.1 in
+        ap (λ z. deferral_by z (may_defer s.exchanges.deferred) at p.0) has
+        ∙ ap (λ z. deferral_by (Some delay) z at p.0) place in
         let after = ap (exchanges_after s.exchanges) asks in
         record {
           clock = (let c = ap (λ (z : E.Own). z.clock) after in omega (arith, k, c));
@@ -223,7 +179,7 @@ module _ (limits : Limits) (szx : ℕ) (setup : Setup) where
               ∙ (ap (λ n. (own t).exchanges.deferred ++ record { asked = p.0; at = record { 0 = n }; delay = delay } ∷
               []) same ∙ sym (ap (λ (z : E.Own). z.deferred) after)));
         }
-    fed now from bytes w up _ _ below right = record { clock = let k = m.clock in omega (arith, k); lists = m.lists }
+    fed now from bytes w up c h below _ = record { clock = let k = m.clock in omega (arith, k); lists = m.lists }
 
     -- a request that is ready
     module _ (now w : ℕ) (below : L.Answer) (room : Bool) (a : Asked) (passed : ℕ) (h : Handling) (id : ℕ)
@@ -261,14 +217,6 @@ module _ (limits : Limits) (szx : ℕ) (setup : Setup) where
         → Mirrors (Ticks now w below room (due.Ready a) passed h id answer ∷ t)
         × ((x : Serving) × (serving (own t) (Ticks now w below room (due.Ready a) passed h id answer) ≡ Some x)
         × (x.asked ≡ a))
-    ready now w below room a passed Silent id answer law = let k =
-        (served now w below room a passed Silent id answer law).is in absurd (cc k)
-    ready now w below room a passed (Replies r) id answer law = let k =
-        (served now w below room a passed (Replies r) id answer law).is in absurd (cc k)
-    ready now w below room a passed (Notifies o reply) id answer law = let k =
-        (served now w below room a passed (Notifies o reply) id answer law).is in absurd (cc k)
-    ready now w below room a passed (Waits q delay) id answer law = let k =
-        (served now w below room a passed (Waits q delay) id answer law).is in absurd (cc k)
     ready now w below room a passed (Serves q reply left) id answer law =
         let n : ℕ = max (own t).clock now in
         let e : E.Own = (own t).exchanges in
@@ -286,6 +234,8 @@ module _ (limits : Limits) (szx : ℕ) (setup : Setup) where
           },
           (serving_of (heard (own t) now (ticking (own t) now below room (due.Ready a))) a q reply left, refl, refl),
         )
+    ready now w below room a passed h id answer law =
+        let k = (served now w below room a passed h id answer law).is in absurd (cc k)
 
     idled : (now w : ℕ) (below : L.Answer) (room : Bool) (passed : ℕ) (h : Handling) (id : ℕ) (answer : Bool)
         → Mirrors (Ticks now w below room due.Idle passed h id answer ∷ t)
@@ -304,10 +254,6 @@ module _ (limits : Limits) (szx : ℕ) (setup : Setup) where
         lists = m.lists ∙ sym (readies_same s.clock passed (marked s.observers) s.exchanges).0
 
         by : (h : Handling) → Mirrors (Ticks now w below room due.Idle passed h id answer ∷ t)
-        by Silent = record { clock = clock; lists = lists }
-        by (Replies r) = record { clock = clock; lists = lists }
-        by (Serves q reply left) = record { clock = clock; lists = lists }
-        by (Waits q d) = record { clock = clock; lists = lists }
         by (Notifies o reply) =
             let es : E.Own = exchanges_after s.exchanges (readies s.clock passed (marked s.observers)) in
             let k = in_either (λ e. (max (P.after es e).clock s.clock ≡ max es.clock s.clock)
@@ -315,6 +261,7 @@ module _ (limits : Limits) (szx : ℕ) (setup : Setup) where
             (omega arith, refl) (omega arith, refl) in
             let same = k.0 in
             record { clock = omega (arith, clock, same); lists = lists ∙ sym k.1 }
+        by _ = record { clock = clock; lists = lists }
 
     ticked : (now w : ℕ) (below : L.Answer) (room : Bool) (d : Due) (passed : ℕ) (h : Handling) (id : ℕ) (answer : Bool)
         → ServerLaw limits szx setup (Ticks now w below room d passed h id answer ∷ t)
@@ -328,7 +275,8 @@ module _ (limits : Limits) (szx : ℕ) (setup : Setup) where
         record { clock = let k = m.clock in omega (arith, k); lists = m.lists }
     mirrored (Removes now path answer left) law =
         record { clock = let k = m.clock in omega (arith, k); lists = m.lists }
-    mirrored (Feeds now from bytes w up came h below) law = fed now from bytes w up came h below law.rows.0
+    mirrored (Feeds now from bytes w up c h below) law =
+        fed now from bytes w up c h below (came (heard (own t) now (incoming (own t) now from bytes up c)) c h law.rows.0)
     mirrored (Ticks now w below room d passed h id answer) law = ticked now w below room d passed h id answer law
     mirrored _ law = record { clock = m.clock; lists = m.lists }
 

@@ -23,7 +23,7 @@ use Rattle.coap_exchange.specs.AskerRequests.{asked}
 use Rattle.coap_exchange.specs.AskerArrivals.{id_in, replying}
 use Rattle.coap_common.specs.Adds.{asked_by_server}
 use Rattle.coap_common.proofs.Facts.Adds.{left_append}
-use Rattle.coap_server.specs.Trace.{Own, Handling, Silent, Replies, Serves, Waits, Notifies, Call}
+use Rattle.coap_server.specs.Trace.{Own, Handling, Replies, Serves, Waits, Notifies, Call}
 use Rattle.coap_server.specs.Trace.{Feeds, Ticks, NextOut}
 use Rattle.coap_server.specs.Asks.{answering, lower, responding}
 use Rattle.coap_server.specs.Deferring.{deferral, deferral_by, delay_for}
@@ -32,16 +32,13 @@ use Rattle.coap_server.specs.Law.{ServerLaw, own_of, lower_of}
 use Rattle.coap_server.specs.Notifying.{marked, notification, readies}
 use Rattle.coap_server.specs.Plain.{by_plain}
 use Rattle.coap_server.specs.Follows.Adds.{all_asked, call_asks}
+use Rattle.coap_server.proofs.Calls.EachOf.{each_join}
 use Rattle.coap_server.proofs.Calls.NotifiesBy.{in_either}
 use Rattle.coap_server.proofs.Exact.Leads.{exchanges_kept}
 use Rattle.coap_server.proofs.Observing.StoreSteps.{clock_rises}
 use Rattle.coap_server.proofs.Serving.Brought.{server_back}
 use Rattle.coap_server.proofs.Serving.Waiting.{mirrors}
 use Rattle.coap_server.proofs.Telling.LayerCalls.{asked_next}
-
-pub each_join : {X : Type 0} (P : X → Type 0) (xs ys : List X) → Each P xs → Each P ys → Each P (xs ++ ys)
-each_join P [] ys h k = k
-each_join P (x ∷ xs) ys h k = (h.0, each_join P xs ys h.1 k)
 
 -- up to this moment
 module _ (t : ℕ) where
@@ -142,10 +139,7 @@ module _ (t : ℕ) where
     in_either Asks (by_plain s o) s.clock o (notification s.store o reply) word id k k,
     readies_asks s.clock passed (marked s.observers) k,
   )
-  responding_asks s due.Idle passed (Serves q reply left) word id k = readies_asks s.clock passed (marked s.observers) k
-  responding_asks s due.Idle passed Silent word id k = readies_asks s.clock passed (marked s.observers) k
-  responding_asks s due.Idle passed (Replies response) word id k = readies_asks s.clock passed (marked s.observers) k
-  responding_asks s due.Idle passed (Waits q delay) word id k = readies_asks s.clock passed (marked s.observers) k
+  responding_asks s due.Idle passed _ word id k = readies_asks s.clock passed (marked s.observers) k
   responding_asks s _ passed _ word id k = tt
 
 module _ (limits : Limits) (szx : ℕ) (setup : Setup) where

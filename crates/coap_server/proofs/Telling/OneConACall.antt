@@ -4,11 +4,11 @@ use Rattle.std.proofs.Common.{◌∷◌, ◌++◌, refl, sym, ◌∙◌, arith}
 use Rattle.coap_types.specs.Past.{Ever}
 use Rattle.coap_types.specs.declared.endpoint.Endpoint.{Endpoint}
 use Rattle.coap_types.specs.declared.message.Kind.{Kind}
-use Rattle.coap_types.specs.declared.message.Kind.TheVariants.{Con, Non, Ack, Rst}
+use Rattle.coap_types.specs.declared.message.Kind.TheVariants.{Con}
 use Rattle.coap_codec.specs.Message.{Message}
 use Rattle.coap_layer.specs.Machine.State as S
 use Rattle.coap_layer.specs.Machine.Steps as G
-use Rattle.coap_layer.specs.Machine.Steps.{Steps, entries, left_after}
+use Rattle.coap_layer.specs.Machine.Steps.{entries, left_after}
 use Rattle.coap_layer.specs.Trace as L
 use Rattle.coap_layer.specs.Words.{Open, begun, begun_in}
 use Rattle.coap_layer.specs.declared.setup.Setup.{Setup}
@@ -25,7 +25,7 @@ use Rattle.coap_exchange.specs.AnswererLaw as W
 use Rattle.coap_exchange.specs.AskerRequests.{asked}
 use Rattle.coap_exchange.specs.AskerArrivals.{id_in, replying}
 use Rattle.coap_common.specs.Adds.{asked_by_server}
-use Rattle.coap_server.specs.Trace.{Own, Handling, Silent, Replies, Serves, Waits, Notifies, Call}
+use Rattle.coap_server.specs.Trace.{Own, Handling, Serves, Waits, Notifies, Call}
 use Rattle.coap_server.specs.Trace.{Feeds}
 use Rattle.coap_server.specs.Trace.{Ticks}
 use Rattle.coap_server.specs.Asks.{lower, answering, responding}
@@ -106,9 +106,7 @@ no_deferring false a = refl
 
 no_answer : (s : E.Own) (kind : Kind) (a : Asked) (r : E.Response) → con_in (P.answering s kind a r) ≡ 0
 no_answer s Con a r = refl
-no_answer s Non a r = refl
-no_answer s Ack a r = refl
-no_answer s Rst a r = refl
+no_answer s _ a r = refl
 
 weighs : (s : E.Own) (c : E.Call) → cons (P.lower s c) ≡ weight c
 weighs s (E.Incoming at from bytes up came) = let k =
@@ -161,17 +159,12 @@ few_notices false at o r word id = omega arith
 few_responses : (s : Own) (d : Due) (passed : ℕ) (h : Handling) (word id : ℕ)
     → total (responding s d passed h word id) ≤ 1
 few_responses s (due.Ready a) passed (Serves q reply left) word id = omega arith
-few_responses s (due.Ready a) passed Silent word id = omega arith
-few_responses s (due.Ready a) passed (Replies r) word id = omega arith
-few_responses s (due.Ready a) passed (Waits q d) word id = omega arith
-few_responses s (due.Ready a) passed (Notifies o reply) word id = omega arith
-few_responses s due.Copied passed h word id = omega arith
-few_responses s due.Expired passed h word id = omega arith
 few_responses s due.Idle passed (Notifies o reply) word id =
     let z = no_readies s.clock passed (marked s.observers) in
     let one = few_notices (by_plain s o) s.clock o (notification s.store o reply) word id in
     omega (arith, z, one)
 few_responses s due.Idle passed _ word id = let z = no_readies s.clock passed (marked s.observers) in omega (arith, z)
+few_responses s _ passed _ word id = omega arith
 
 few : (s : Own) (c : Call) → total (lower s c) ≤ 1
 few s (Feeds now from bytes word up came h below) =

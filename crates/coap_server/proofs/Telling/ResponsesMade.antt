@@ -18,7 +18,7 @@ use Rattle.coap_exchange.specs.declared.answerer.Due.TheVariants as due
 use Rattle.coap_exchange.specs.AnswererFollows.{responds}
 use Rattle.coap_exchange.specs.AnswererSteps.{may_defer}
 use Rattle.coap_exchange.specs.AnswererTrace as E
-use Rattle.coap_server.specs.Trace.{Own, Handling, Silent, Replies, Serves, Waits, Notifies, Call}
+use Rattle.coap_server.specs.Trace.{Own, Handling, Replies, Serves, Waits, Notifies, Call}
 use Rattle.coap_server.specs.Trace.{Feeds, Ticks, NextOut}
 use Rattle.coap_server.specs.Asks.{lower}
 use Rattle.coap_server.specs.Checks.{verdict_on}
@@ -130,9 +130,6 @@ module _ (limits : Limits) (szx : ℕ) (setup : Setup) (t : List Call) (a : Aske
   fed : (now : ℕ) (from : Endpoint) (bytes : List ℕ) (w : ℕ) (up : L.Answer) (came : Option (Asked × Message))
       (h : Handling) (below : L.Answer) → ServerLaw limits szx setup (Feeds now from bytes w up came h below ∷ t)
       → In a r (lower own (Feeds now from bytes w up came h below)) → Made (Feeds now from bytes w up came h below)
-  fed now from bytes w up None h below law k = absurd (came_none now from bytes up None k)
-  fed now from bytes w up (Some p) Silent below law k = absurd (came_none now from bytes up (Some p) k)
-  fed now from bytes w up (Some p) (Notifies o reply) below law k = absurd (came_none now from bytes up (Some p) k)
   fed now from bytes w up (Some p) (Waits q delay) below law k =
       absurd (deferral_none a r (heard own now (incoming own now from bytes up (Some p))) p.0 q
       (incoming own now from bytes up (Some p) ∷ []) (came_none now from bytes up (Some p)) k)
@@ -174,6 +171,7 @@ module _ (limits : Limits) (szx : ℕ) (setup : Setup) (t : List Call) (a : Aske
             }))
             )
       ]
+  fed now from bytes w up came _ below law k = absurd (came_none now from bytes up came k)
 
   ticked : (now w : ℕ) (below : L.Answer) (room : Bool) (d : Due) (passed : ℕ) (h : Handling) (id : ℕ) (answer : Bool)
       → In a r (lower own (Ticks now w below room d passed h id answer))
@@ -184,15 +182,6 @@ module _ (limits : Limits) (szx : ℕ) (setup : Setup) (t : List Call) (a : Aske
       inl (record { request = x; here = refl; asked = same.0; is = sym same.1 })
   ticked now w below room (due.Ready b) passed (Serves q reply left) id answer (inr k) =
       absurd (tick_none now below room (due.Ready b) k)
-  ticked now w below room (due.Ready b) passed Silent id answer k = absurd (tick_none now below room (due.Ready b) k)
-  ticked now w below room (due.Ready b) passed (Replies y) id answer k =
-      absurd (tick_none now below room (due.Ready b) k)
-  ticked now w below room (due.Ready b) passed (Waits q delay) id answer k =
-      absurd (tick_none now below room (due.Ready b) k)
-  ticked now w below room (due.Ready b) passed (Notifies o reply) id answer k =
-      absurd (tick_none now below room (due.Ready b) k)
-  ticked now w below room due.Copied passed h id answer k = absurd (tick_none now below room due.Copied k)
-  ticked now w below room due.Expired passed h id answer k = absurd (tick_none now below room due.Expired k)
   ticked now w below room due.Idle passed (Notifies o reply) id answer (inl k) =
       let s : Own = heard own now (ticking own now below room due.Idle) in
       let none = in_either (λ c. responds_with c ≡ None) (by_plain s o) s.clock o (notification s.store o reply) w id refl
@@ -202,6 +191,7 @@ module _ (limits : Limits) (szx : ℕ) (setup : Setup) (t : List Call) (a : Aske
       absurd (idle_none a r s.clock passed (marked s.observers) (ticking own now below room due.Idle ∷ [])
       (tick_none now below room due.Idle) k)
   ticked now w below room due.Idle passed _ id answer k = let s : Own = heard own now (ticking own now below room due.Idle) in absurd (idle_none a r s.clock passed (marked s.observers) (ticking own now below room due.Idle ∷ []) (tick_none now below room due.Idle) k)
+  ticked now w below room d passed _ id answer k = absurd (tick_none now below room d k)
 
   here : (c : Call) → ServerLaw limits szx setup (c ∷ t) → In a r (lower own c) → Made c
   here (Feeds now from bytes w up came h below) law k = fed now from bytes w up came h below law k

@@ -33,7 +33,7 @@ use Rattle.coap_exchange.specs.declared.answerer.Due.TheVariants as due
 use Rattle.coap_exchange.specs.AnswererSteps.{may_defer}
 use Rattle.coap_exchange.specs.AnswererTrace as E
 use Rattle.coap_common.specs.SuccessCodes.{content}
-use Rattle.coap_server.specs.Trace.{Own, Handling, Silent, Replies, Serves, Waits, Notifies, Call}
+use Rattle.coap_server.specs.Trace.{Own, Handling, Replies, Serves, Waits, Notifies, Call}
 use Rattle.coap_server.specs.Trace.{Feeds}
 use Rattle.coap_server.specs.Trace.{Ticks, NextOut}
 use Rattle.coap_server.specs.Responses.{response_with}
@@ -41,7 +41,7 @@ use Rattle.coap_server.specs.Serving.{response_to}
 use Rattle.coap_server.specs.Checks.{Verdict, Ignored, Refused, Asks, Uploads, verdict_on}
 use Rattle.coap_server.specs.Uploads.{ruling_of, whole, last_block}
 use Rattle.coap_server.specs.Observers.{registers, sequence, sequence_if}
-use Rattle.coap_server.specs.Deferring.{WaitsBy, deferral, deferral_by, delay_for, question_of}
+use Rattle.coap_server.specs.Deferring.{deferral, deferral_by, delay_for, question_of}
 use Rattle.coap_server.specs.Notifying.{marked, behind, readies, told, asks_for, notification}
 use Rattle.coap_server.specs.Handling.{incoming, ticking, heard, HandlesBlock, Handles}
 use Rattle.coap_server.specs.Asks.{lower, answering, notifies_by, responding}
@@ -53,8 +53,8 @@ use Rattle.coap_server.specs.Follows.Tags.{AreStamped}
 use Rattle.coap_server.specs.Follows.Tells.{InCon, InNon, InReply, Telling, Way, answer_tells, notice_tells}
 use Rattle.coap_server.specs.Follows.Tells.{telling, telling_of, tells, tells_if, way_of}
 use Rattle.coap_server.proofs.Facts.Laws as facts
-use Rattle.coap_server.proofs.Observing.Outcomes.{serves_came, serves_waited}
-use Rattle.coap_server.proofs.Replying.ResponsesHaveRequests.{next_told}
+use Rattle.coap_server.proofs.Calls.EachOf.{each_join}
+use Rattle.coap_server.proofs.Observing.Outcomes.{next_one, serves_came, serves_waited}
 use Rattle.coap_server.proofs.Telling.NotedOptions.{none_recognised, tag_recognised}
 use Rattle.coap_server.proofs.Replying.ResponsesHaveRequests.{never_replies}
 
@@ -235,14 +235,11 @@ module _ (limits : Limits) (szx : ℕ) (t : List Call) (c : Call) where
   Means (E.NotifiesPlain now to token r id) = Notes r → Says limits szx t c InNon to token r
   Means _ = Unit {0}
 
-  join : (xs ys : List E.Call) → Each Means xs → Each Means ys → Each Means (xs ++ ys)
-  join [] ys h k = k
-  join (x ∷ xs) ys h k = (h.0, join xs ys h.1 k)
-
   readies_mean : (at n : ℕ) (os : List Observer) → Each Means (readies at n os)
   readies_mean at n [] = tt
   readies_mean at zero (o ∷ os) = (tt, tt)
-  readies_mean at (suc n) (o ∷ os) = join (readies at n os) (E.Ready at o.to false ∷ []) (readies_mean at n os) (tt, tt)
+  readies_mean at (suc n) (o ∷ os) = each_join Means (readies at n os) (E.Ready at o.to false ∷ [])
+      (readies_mean at n os) (tt, tt)
 
   deferral_mean : (o : Option ℕ) (place : Bool) (at : ℕ) (a : Asked) → Each Means (deferral_by o place at a)
   deferral_mean None place at a = tt
@@ -308,31 +305,28 @@ module _ (limits : Limits) (szx : ℕ) (setup : Setup) (t : List Call) where
             (serves_waited (question_of s.clock a s.waiting) s.store s.clock q reply left law.rows.0.0) n,
         tt,
       )
-  ticked now w below room (due.Ready a) passed Silent id answer law = tt
-  ticked now w below room (due.Ready a) passed (Replies r) id answer law = tt
-  ticked now w below room (due.Ready a) passed (Waits q e) id answer law = tt
-  ticked now w below room (due.Ready a) passed (Notifies o reply) id answer law = tt
-  ticked now w below room due.Copied passed h id answer law = tt
-  ticked now w below room due.Expired passed h id answer law = tt
   ticked now w below room due.Idle passed (Notifies o reply) id answer law =
       let s : Own = heard own now (ticking own now below room due.Idle) in
       let c : Call = Ticks now w below room due.Idle passed (Notifies o reply) id answer in (
         notice_means limits szx t c (by_plain s o) s.clock o (notification s.store o reply) w id
             (λ n. noticed limits szx t c (stamped c law) (kept c law) s refl o reply (way_of (by_plain s o) id) refl
-            (next_told (behind passed (marked s.observers)) s.store o reply law.rows.0.0) n),
+            (next_one (behind passed (marked s.observers)) s.store o reply law.rows.0.0).1 n),
         readies_mean limits szx t c s.clock passed (marked s.observers),
       )
   ticked now w below room due.Idle passed _ id answer law = let s : Own = heard own now (ticking own now below room due.Idle) in readies_mean limits szx t _ s.clock passed (marked s.observers)
+  ticked now w below room _ passed _ id answer law = tt
 
   -- what each call of the exchanges means that a call makes
   pub mean : (c : Call) → ServerLaw limits szx setup (c ∷ t) → Mean c (lower own c)
   mean (Feeds now from bytes w up came h below) law =
       let first : E.Call = incoming own now from bytes up came in
-      join limits szx t (Feeds now from bytes w up came h below) (answering (heard own now first) came h below)
+      each_join (Means limits szx t (Feeds now from bytes w up came h below)) (answering
+      (heard own now first) came h below)
       (first ∷ []) (fed now from bytes w up came h below law) (tt, tt)
   mean (Ticks now w below room d passed h id answer) law =
       let first : E.Call = ticking own now below room d in
-      join limits szx t (Ticks now w below room d passed h id answer) (responding (heard own now first) d passed h w id)
+      each_join (Means limits szx t (Ticks now w below room d passed h id answer)) (responding
+      (heard own now first) d passed h w id)
       (first ∷ []) (ticked now w below room d passed h id answer law) (tt, tt)
   mean (NextOut answer) law = (tt, tt)
   mean _ law = tt

@@ -1,6 +1,6 @@
 -- A response to a CON goes out in its acknowledgement where the request is answered at once, and in a CON where it
 -- waited.
-use Rattle.std.proofs.Common.{◌≡◌, inl, inr, ℕ, zero, suc, Bool, true, false, Option, Some, None, List, [], ◌∷◌, ◌++◌}
+use Rattle.std.proofs.Common.{◌≡◌, inl, inr, ℕ, zero, suc, Bool, true, false, Option, Some, None, List, [], ◌∷◌}
 use Rattle.std.proofs.Common.{refl, ap, sym, subst, ◌∙◌, cond}
 use Rattle.coap_types.specs.Past.{Ever}
 use Rattle.coap_types.specs.declared.endpoint.Endpoint.{Endpoint}
@@ -23,7 +23,7 @@ use Rattle.coap_exchange.specs.declared.answerer.Due.TheVariants as due
 use Rattle.coap_exchange.specs.AnswererSteps as P
 use Rattle.coap_exchange.specs.AnswererSteps.{may_defer}
 use Rattle.coap_exchange.specs.AnswererTrace as E
-use Rattle.coap_server.specs.Trace.{Own, Handling, Silent, Replies, Serves, Waits, Notifies, Call}
+use Rattle.coap_server.specs.Trace.{Own, Handling, Replies, Serves, Waits, Notifies, Call}
 use Rattle.coap_server.specs.Trace.{Feeds, Ticks}
 use Rattle.coap_server.specs.Asks.{answering, responding, lower}
 use Rattle.coap_server.specs.Deferring.{deferral_by, delay_for}
@@ -39,6 +39,7 @@ use Rattle.coap_server.proofs.Serving.Brought.{server_back}
 use Rattle.coap_server.proofs.Telling.ResponsesGoOut.{given_in}
 use Rattle.coap_server.proofs.Telling.ResponsesMade.{pair_of}
 use Rattle.coap_server.specs.Plain.{by_plain}
+use Rattle.coap_server.proofs.Calls.EachOf.{each_join}
 use Rattle.coap_server.proofs.Calls.NotifiesBy.{in_either}
 use Rattle.coap_server.specs.Notifying.{notification}
 
@@ -99,11 +100,6 @@ both P N [] h n = h
 both P N (d ∷ cs) (inl h) n = inl (h, n.0)
 both P N (d ∷ cs) (inr h) n = inr (both P N cs h n.1)
 
-module _ (N : E.Call → Type 0) where
-  joined : (xs ys : List E.Call) → Each N xs → Each N ys → Each N (xs ++ ys)
-  joined [] ys h k = k
-  joined (x ∷ xs) ys h k = (h.0, joined xs ys h.1 k)
-
 abbrev Now : E.Call → Type 0
 Now d = responds_later d ≡ false
 
@@ -126,7 +122,7 @@ all_now s _ _ below = tt
 readies_later : (at n : ℕ) (os : List Observer) → Each Later (readies at n os)
 readies_later at n [] = tt
 readies_later at zero (o ∷ os) = (refl, tt)
-readies_later at (suc n) (o ∷ os) = joined Later (readies at n os) (E.Ready at o.to false ∷ [])
+readies_later at (suc n) (o ∷ os) = each_join Later (readies at n os) (E.Ready at o.to false ∷ [])
     (readies_later at n os) (refl, tt)
 
 all_later : (s : Own) (d : Due) (passed : ℕ) (h : Handling) (w id : ℕ) → Each Later (responding s d passed h w id)
@@ -135,10 +131,7 @@ all_later s due.Idle passed (Notifies o reply) w id = (
   in_either Later (by_plain s o) s.clock o (notification s.store o reply) w id refl refl,
   readies_later s.clock passed (marked s.observers),
 )
-all_later s due.Idle passed Silent w id = readies_later s.clock passed (marked s.observers)
-all_later s due.Idle passed (Replies r) w id = readies_later s.clock passed (marked s.observers)
-all_later s due.Idle passed (Serves q reply left) w id = readies_later s.clock passed (marked s.observers)
-all_later s due.Idle passed (Waits q delay) w id = readies_later s.clock passed (marked s.observers)
+all_later s due.Idle passed _ w id = readies_later s.clock passed (marked s.observers)
 all_later s _ passed _ w id = tt
 
 -- what they ask of the layer
@@ -188,14 +181,14 @@ module _ (limits : Limits) (szx : ℕ) (setup : Setup) (t : List Call) where
   fed : (now : ℕ) (from : Endpoint) (bytes : List ℕ) (w : ℕ) (up : L.Answer) (came : Option (Asked × Message))
       (h : Handling) (below : L.Answer) → Each Now (lower own (Feeds now from bytes w up came h below))
   fed now from bytes w up came h below =
-      joined Now (answering (heard own now (incoming own now from bytes up came)) came h below)
+      each_join Now (answering (heard own now (incoming own now from bytes up came)) came h below)
       (incoming own now from bytes up came ∷ [])
       (all_now (heard own now (incoming own now from bytes up came)) came h below) (refl, tt)
 
   ticked : (now w : ℕ) (below : L.Answer) (room : Bool) (d : Due) (passed : ℕ) (h : Handling) (id : ℕ) (answer : Bool)
       → Each Later (lower own (Ticks now w below room d passed h id answer))
   ticked now w below room d passed h id answer =
-      joined Later (responding (heard own now (ticking own now below room d)) d passed h w id)
+      each_join Later (responding (heard own now (ticking own now below room d)) d passed h w id)
       (ticking own now below room d ∷ [])
       (all_later (heard own now (ticking own now below room d)) d passed h w id) (refl, tt)
 

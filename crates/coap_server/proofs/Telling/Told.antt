@@ -4,7 +4,6 @@ use Rattle.std.proofs.Common.{◌++◌, refl, ap, sym, subst}
 use Rattle.std.proofs.Common.{◌∙◌, arith}
 use Rattle.std.proofs.lemmas.Bool.{and_parts}
 use Rattle.std.specs.Cmp.{unsigned_Decides}
-use Rattle.coap_types.specs.Bytes.{AreBytes}
 use Rattle.coap_types.specs.OptionValues.{value_of}
 use Rattle.coap_types.specs.Past.{Ever}
 use Rattle.coap_types.proofs.Facts.Traces.{Ever_front, Ever_back, Ever_map}
@@ -67,19 +66,19 @@ noted m r code options h =
     }
 
 -- an Empty message is no notification
-not_empty : (X : Type 0) (bytes : List ℕ) (m e : Message) → AreBytes bytes → Spells bytes m → Spells bytes e
+not_empty : (X : Type 0) (bytes : List ℕ) (m e : Message) → Spells bytes m → Spells bytes e
     → e.code ≡ 0 → is_notification m ≡ true → X
-not_empty X bytes m e are s k none h =
-    let same : m ≡ e = one_message bytes m e are s k in
+not_empty X bytes m e s k none h =
+    let same : m ≡ e = one_message bytes m e s k in
     let code : m.code ≡ 0 = ap (λ (x : Message). x.code) same ∙ none in
     let here = (and_parts (m.code == content) (is_some (value_of observe (recognised Response m.options))) h).0 in
     let no : (m.code == content) ≡ false = ap (λ n. n == content) code in
     absurd (cc (here, no))
 
-module _ (kind : Kind) (id : ℕ) (token : List ℕ) (r : E.Response) (bytes : List ℕ) (m : Message) (are : AreBytes bytes)
+module _ (kind : Kind) (id : ℕ) (token : List ℕ) (r : E.Response) (bytes : List ℕ) (m : Message)
     (spells : Spells bytes m) (there : Spells bytes (with_head kind id (P.content_with token r))) where
   same : m ≡ with_head kind id (P.content_with token r)
-  same = one_message bytes m (with_head kind id (P.content_with token r)) are spells there
+  same = one_message bytes m (with_head kind id (P.content_with token r)) spells there
 
   notes : is_notification m ≡ true → Notes r
   notes h = noted m r (ap (λ (x : Message). x.code) same) (ap (λ (x : Message). x.options) same) h
@@ -147,7 +146,7 @@ module _ (limits : Limits) (szx : ℕ) (setup : Setup) (past : List Call) (c : C
       (facts.layer limits szx setup (c ∷ past) law) there in
       let low = s.1.id in let e = s.3 in omega (arith, low, e)
 
-  module _ (con : Open) (m : Message) (h : Ever (λ b. begun b ≡ Some con) adds) (are : AreBytes con.bytes)
+  module _ (con : Open) (m : Message) (h : Ever (λ b. begun b ≡ Some con) adds)
       (spells : Spells con.bytes m) (note : is_notification m ≡ true) where
     con_says : (id : ℕ) (to : Endpoint) (token : List ℕ) (r : E.Response) (w : ℕ)
         → Confirms con (L.Confirm to (P.content_with token r) w) (L.Sent id) → IsSpelled (P.content_with token r)
@@ -160,8 +159,8 @@ module _ (limits : Limits) (szx : ℕ) (setup : Setup) (past : List Call) (c : C
         let number : id ≡ con.id = cc sent in
         let there = subst (λ b. Spells b (with_head Con con.id (P.content_with token r)))
         (ap (λ z. message_bytes (with_head Con con.id z)) x ∙ sym k.4) (spelled Con con.id (con_small con h)) in
-        let said = f (notes Con con.id token r con.bytes m are spells there note) in
-        tells_so Con con.id token r con.bytes m are spells there limits szx past c (InCon con.id) con.to
+        let said = f (notes Con con.id token r con.bytes m spells there note) in
+        tells_so Con con.id token r con.bytes m spells there limits szx past c (InCon con.id) con.to
         (subst (λ z. Says limits szx past c (InCon con.id) z token r) place
         (subst (λ z. Says limits szx past c (InCon z) to token r) number said))
 
@@ -185,7 +184,7 @@ module _ (limits : Limits) (szx : ℕ) (setup : Setup) (past : List Call) (c : C
 
   -- an acknowledgement
 
-  module _ (to : Endpoint) (bytes : List ℕ) (m : Message) (are : AreBytes bytes) (spells : Spells bytes m)
+  module _ (to : Endpoint) (bytes : List ℕ) (m : Message) (spells : Spells bytes m)
       (note : is_notification m ≡ true) where
     abbrev Replies : L.Call → L.Answer → Type 0
     Replies call answer = call ≡ L.Reply to m.id bytes
@@ -213,9 +212,9 @@ module _ (limits : Limits) (szx : ℕ) (setup : Setup) (past : List Call) (c : C
         let low = small_id in
         let there = subst (λ b. Spells b (with_head Ack a.id.0 (P.content_of a r))) given
         (is.spelled Ack a.id.0 (omega (arith, number, low))) in
-        tells_so Ack a.id.0 a.token r bytes m are spells there limits szx past c InReply to
+        tells_so Ack a.id.0 a.token r bytes m spells there limits szx past c InReply to
         (subst (λ z. Says limits szx past c InReply z a.token r) place
-        (f (notes Ack a.id.0 a.token r bytes m are spells there note)))
+        (f (notes Ack a.id.0 a.token r bytes m spells there note)))
     ack_says s _ a r below k is f = absurd (cc k)
 
     replied_so : (g : Given Replies (lower (own_of limits szx past) c)) → Origin Replies (W.own_of g.before) g.call
@@ -224,13 +223,13 @@ module _ (limits : Limits) (szx : ℕ) (setup : Setup) (past : List Call) (c : C
         let number : id ≡ m.id = cc k in
         let given : ack_bytes id ≡ bytes = cc k in
         let low = small_id in
-        not_empty _ bytes m (empty_of Ack id) are spells
+        not_empty _ bytes m (empty_of Ack id) spells
         (subst (λ b. Spells b (empty_of Ack id)) given (ack_spells id (omega (arith, number, low)))) refl note
     replied_so g (empties there id (inr k)) =
         let number : id ≡ m.id = cc k in
         let given : reset_bytes id ≡ bytes = cc k in
         let low = small_id in
-        not_empty _ bytes m (empty_of Rst id) are spells
+        not_empty _ bytes m (empty_of Rst id) spells
         (subst (λ b. Spells b (empty_of Rst id)) given (reset_spells id (omega (arith, number, low)))) refl note
     replied_so g (answers a r below is k) = let z =
         means Replies g (E.Answers a r below) is in ack_says (W.own_of g.before) a.kind a r below k z.1.1
@@ -276,9 +275,9 @@ module _ (limits : Limits) (szx : ℕ) (setup : Setup) (past : List Call) (c : C
         let place : a.from ≡ to = cc call in
         let same_x : P.content_of a r ≡ k.0 = cc call in
         let there = subst (λ z. Spells bytes (with_head Non k.1 z)) (sym same_x) k.3 in
-        let said = f (notes Non k.1 a.token r bytes m are spells there note) in
+        let said = f (notes Non k.1 a.token r bytes m spells there note) in
         inl (
-          tells_so Non k.1 a.token r bytes m are spells there limits szx past c InReply to
+          tells_so Non k.1 a.token r bytes m spells there limits szx past c InReply to
               (subst (λ z. Says limits szx past c InReply z a.token r) place said.0),
           serves_non a said.1 place none,
         )
@@ -292,9 +291,9 @@ module _ (limits : Limits) (szx : ℕ) (setup : Setup) (past : List Call) (c : C
         let place : at ≡ to = cc call in
         let same_x : P.content_with token r ≡ k.0 = cc call in
         let there = subst (λ z. Spells bytes (with_head Non k.1 z)) (sym same_x) k.3 in
-        inr (tells_so Non k.1 token r bytes m are spells there limits szx past c InNon to
+        inr (tells_so Non k.1 token r bytes m spells there limits szx past c InNon to
         (subst (λ z. Says limits szx past c InNon z token r) place
-        (f (notes Non k.1 token r bytes m are spells there note))))
+        (f (notes Non k.1 token r bytes m spells there note))))
 
     non_says : (s : E.Own) (kind : Kind) (a : Asked) (r : E.Response) (below : L.Answer) → a.kind ≡ kind
         → Plainly (P.answering s kind a r) below → (Notes r
@@ -325,9 +324,9 @@ module _ (limits : Limits) (szx : ℕ) (setup : Setup) (past : List Call) (c : C
 
   tells_sent : TellsSent limits szx setup past c
   tells_sent = record {
-    begun_now = λ con m h are spells note. begun_tells con m h are spells note;
-    replied = λ to bytes m h are spells note. replied_tells to bytes m are spells note h;
-    plain = λ to bytes m h are spells note. plain_tells to bytes m are spells note h;
+    begun_now = λ con m h spells note. begun_tells con m h spells note;
+    replied = λ to bytes m h spells note. replied_tells to bytes m spells note h;
+    plain = λ to bytes m h spells note. plain_tells to bytes m spells note h;
     now = λ x h. told_at limits szx past c x h;
     one = λ a b p q. one_con limits szx setup past c a b p q;
   }

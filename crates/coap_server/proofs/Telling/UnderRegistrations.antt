@@ -4,14 +4,12 @@ use Rattle.std.proofs.Common.{sym, subst, ◌∙◌, cond}
 use Rattle.coap_types.specs.Past.{Sometime}
 use Rattle.coap_types.proofs.Facts.Traces.{Sometime_map}
 use Rattle.coap_layer.specs.declared.setup.Setup.{Setup}
-use Rattle.coap_block.specs.Whole.{Each}
 use Rattle.coap_observe.specs.Observers.{Observer}
 use Rattle.coap_resource.specs.Content.{Content, Held}
 use Rattle.coap_resource.specs.Serves.{Question, Reply}
 use Rattle.coap_resource.specs.Limits.{Limits}
 use Rattle.coap_exchange.specs.declared.answerer.Asked.{Asked}
 use Rattle.coap_exchange.specs.declared.answerer.Due.TheVariants as due
-use Rattle.coap_exchange.specs.AnswererSteps as P
 use Rattle.coap_server.specs.Trace.{Own, Serves, Notifies, Call}
 use Rattle.coap_server.specs.Trace.{Feeds, Ticks}
 use Rattle.coap_server.specs.Observers.{registers}
@@ -23,11 +21,10 @@ use Rattle.coap_server.specs.Follows.Serves.{serving, serving_of}
 use Rattle.coap_server.specs.Follows.Tells.{InCon, InReply, Pair, Telling, Way, answer_tells, registering}
 use Rattle.coap_server.specs.Follows.Tells.{registers_by, telling_of, tells, tells_if, way_of}
 use Rattle.coap_server.specs.Plain.{by_plain}
-use Rattle.coap_server.proofs.Observing.ObserversWereMade.{good_ended, good}
-use Rattle.coap_server.proofs.Observing.VersionsRise.{IsThere, behind_there, marked_there, next_is}
+use Rattle.coap_server.proofs.Observing.ObserversWereMade.{notified_made}
+use Rattle.coap_server.proofs.Observing.Outcomes.{next_one}
 use Rattle.coap_server.proofs.Serving.Brought.{server_back}
 use Rattle.coap_server.specs.Follows.Told.{ServesPair, AllServePairs, pair_of, IsUnder, AreUnder}
-use Rattle.coap_server.proofs.Replying.ResponsesHaveRequests.{each_there}
 
 module _ (limits : Limits) (szx : ℕ) (setup : Setup) (t : List Call) where
   abbrev own : Own
@@ -90,12 +87,10 @@ module _ (limits : Limits) (szx : ℕ) (setup : Setup) (t : List Call) where
       (heard own now (ticking own now below room (due.Ready a))) a q reply left (InCon id) refl refl x h
   told_under (Ticks now w below room due.Idle passed (Notifies o reply) id answer) law x h =
       let s : Own = heard own now (ticking own now below room due.Idle) in
-      let is = next_is (behind passed (marked s.observers)) s.store o reply law.rows.0.0 in
-      let there = (marked_there s.observers o (behind_there passed (marked s.observers) o is)).0 in
-      let g = good_ended limits szx t (P.after own.exchanges (ticking own now below room due.Idle)).ended own.observers
-      (good limits szx t) in
-      notified (Ticks now w below room due.Idle passed (Notifies o reply) id answer) o (way_of (by_plain s o) id) s.clock (s.store.holds o.path)
-      (each_there (WasMade limits szx t) s.observers o g.made there) x h
+      let found = (next_one (behind passed (marked s.observers)) s.store o reply law.rows.0.0).0 in
+      notified (Ticks now w below room due.Idle passed (Notifies o reply) id answer) o (way_of
+      (by_plain s o) id) s.clock
+      (s.store.holds o.path) (notified_made limits szx t now below room passed o found) x h
   told_under _ law x e = absurd (cc e)
 
 module _ (limits : Limits) (szx : ℕ) (t : List Call) where

@@ -6,11 +6,11 @@ use Rattle.std.specs.Prelude.{nat_lt, codes}
 use Rattle.std.specs.List.{list_all}
 use Rattle.coap_types.specs.Path.{same_path}
 use Rattle.coap_types.proofs.Facts.Paths.{same_path-decides}
-use Rattle.coap_types.specs.Bytes.{AreBytes}
 use Rattle.coap_types.proofs.Facts.Bytes.{AreBytes-nil, AreBytes-cons}
 use Rattle.coap_codec.specs.Reading.{extended, value_at, nibbles_at, option_at, walk_of, walk, payload_at, frame_fault}
 use Rattle.coap_codec.specs.Reading.{body_at}
 use Rattle.coap_codec.specs.Decoded.{decoded}
+use Rattle.coap_codec.specs.IsSpelled.{has_spelling, is_spelled}
 use Rattle.coap_codec.specs.Spelling.{option_bytes, options_bytes}
 use Rattle.coap_layer.proofs.Facts.Sendable.{sendable_when_short}
 use Rattle.coap_layer.specs.Rows.{IsSpelled}
@@ -26,12 +26,6 @@ use Rattle.coap_server.specs.Law.{ServerLaw, ServerRows, lower_of}
 use Rattle.coap_server.specs.Examples.Observation as X
 use Rattle.coap_server.specs.Examples.Observation.{limits, client, token, path, held, a, b, get, request, asked}
 use Rattle.coap_server.specs.Examples.Observation.{question, observer, empty_ack, run}
-
-pub bytes_are : (bytes : List ℕ) → list_all (λ x. nat_lt x 256) bytes ≡ true → AreBytes bytes
-bytes_are [] e = AreBytes-nil
-bytes_are (x ∷ bytes) e =
-    let h = and_parts (nat_lt x 256) (list_all (λ y. nat_lt y 256) bytes) e in
-    AreBytes-cons x bytes (ltb-true x 256 h.0) (bytes_are bytes h.1)
 
 -- the store
 
@@ -141,8 +135,7 @@ abbrev below : List Below
 below = W.lower_of (lower_of limits 6 run)
 
 steps : Steps (L.start (L.usual 0)) below (left_after (L.start (L.usual 0)) below)
-unfolding decoded frame_fault body_at walk walk_of option_at nibbles_at value_at extended payload_at option_bytes
-    options_bytes
+unfolding decoded frame_fault body_at walk walk_of option_at nibbles_at value_at extended payload_at option_bytes is_spelled has_spelling options_bytes
 steps = (
   _,
   (
@@ -163,7 +156,7 @@ steps = (
                   _,
                   (
                     _,
-                    (_, refl, record { may = bytes_are get refl; right = refl; new_is = refl }),
+                    (_, refl, record { may = tt; right = refl; new_is = refl }),
                     record { may = refl; right = refl; new_is = refl },
                   ),
                   record { may = tt; right = refl; new_is = refl },
@@ -182,7 +175,7 @@ steps = (
     ),
     record { may = tt; right = refl; new_is = refl },
   ),
-  record { may = bytes_are empty_ack refl; right = refl; new_is = refl },
+  record { may = tt; right = refl; new_is = refl },
 )
 
 pub lawful : ServerLaw limits 6 (L.usual 0) run

@@ -5,6 +5,7 @@ use Rattle.coap_types.proofs.Facts.Paths.{same_path-decides}
 use Rattle.coap_codec.specs.Reading.{extended, value_at, nibbles_at, option_at, walk_of, walk, payload_at, frame_fault}
 use Rattle.coap_codec.specs.Reading.{body_at}
 use Rattle.coap_codec.specs.Decoded.{decoded}
+use Rattle.coap_codec.specs.IsSpelled.{has_spelling, is_spelled}
 use Rattle.coap_codec.specs.Spelling.{option_bytes, options_bytes}
 use Rattle.coap_layer.proofs.Facts.Sendable.{sendable_when_short}
 use Rattle.coap_layer.specs.Rows.{IsSpelled}
@@ -19,7 +20,6 @@ use Rattle.coap_server.specs.Law.{ServerLaw, ServerRows, lower_of}
 use Rattle.coap_server.specs.Examples.Observation.{limits, path}
 use Rattle.coap_server.specs.Examples.Upload.{front, last, held, made, put, asked, continues, created}
 use Rattle.coap_server.specs.Examples.Upload.{run}
-use Rattle.coap_server.proofs.Witness.IsNotified.{bytes_are}
 
 there : cond (same_path path path) (Some held) None ≡ Some held
 there = ap (λ z. cond z (Some held) None) ((same_path-decides path path).1 refl)
@@ -75,8 +75,7 @@ abbrev below : List Below
 below = W.lower_of (lower_of limits 6 run)
 
 steps : Steps (L.start (L.usual 0)) below (left_after (L.start (L.usual 0)) below)
-unfolding decoded frame_fault body_at walk walk_of option_at nibbles_at value_at extended payload_at option_bytes
-    options_bytes
+unfolding decoded frame_fault body_at walk walk_of option_at nibbles_at value_at extended payload_at option_bytes is_spelled has_spelling options_bytes
 steps = (
   _,
   (
@@ -87,12 +86,12 @@ steps = (
         _,
         (
           _,
-          (_, refl, record { may = bytes_are (put 1 8 front) refl; right = refl; new_is = refl }),
+          (_, refl, record { may = tt; right = refl; new_is = refl }),
           record { may = refl; right = refl; new_is = refl },
         ),
         record { may = tt; right = refl; new_is = refl },
       ),
-      record { may = bytes_are (put 2 16 last) refl; right = refl; new_is = refl },
+      record { may = tt; right = refl; new_is = refl },
     ),
     record { may = refl; right = refl; new_is = refl },
   ),

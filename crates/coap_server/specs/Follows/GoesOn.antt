@@ -2,7 +2,6 @@
 -- too.
 use Rattle.std.specs.Prelude.{ℕ, Bool, Option, List, ◌∷◌, Result}
 use Rattle.coap_types.specs.declared.endpoint.Endpoint.{Endpoint}
-use Rattle.coap_types.specs.Bytes.{AreBytes}
 use Rattle.coap_codec.specs.Message.{Message}
 use Rattle.coap_layer.specs.Trace as L
 use Rattle.coap_layer.specs.declared.setup.Setup.{Setup}
@@ -25,7 +24,7 @@ pub record GoesOn (limits : Limits) (szx : ℕ) (setup : Setup) (t : List Call) 
   pub delays : (path : List (List ℕ)) (ms : ℕ) → (answer : Bool) × ServerLaw limits szx setup (Delays path ms answer ∷ t)
   pub plains : (path : List (List ℕ)) → (answer : Bool) × ServerLaw limits szx setup (Plains path answer ∷ t)
   pub feeds :
-      (now : ℕ) (from : Endpoint) (bytes : List ℕ) (w : ℕ) → AreBytes bytes
+      (now : ℕ) (from : Endpoint) (bytes : List ℕ) (w : ℕ)
       → (up : L.Answer) × (came : Option (Asked × Message)) × (handling : Handling) × (below : L.Answer)
       × ServerLaw limits szx setup (Feeds now from bytes w up came handling below ∷ t)
   pub ticks :

@@ -1,6 +1,5 @@
 -- What a server tells its observers in the datagrams of each call (RFC 7641, sections 3 and 4.2).
 use Rattle.std.specs.Prelude.{◌≡◌, ◌≢◌, ◌⊎◌, ◌<◌, ◌^◌, ℕ, true, false, Some, List, ◌∷◌}
-use Rattle.coap_types.specs.Bytes.{AreBytes}
 use Rattle.coap_types.specs.Past.{Ever, Sometime, Always}
 use Rattle.coap_types.specs.declared.endpoint.Endpoint.{Endpoint}
 use Rattle.coap_types.specs.declared.message.Kind.TheVariants.{Con}
@@ -50,16 +49,16 @@ module _ (limits : Limits) (szx : ℕ) where
   -- A notification that the message layer is given in a call, that very call tells.
   pub record TellsSent (setup : Setup) (past : List Call) (c : Call) : Type 0 where
     pub begun_now : (con : Open) (m : Message) → Ever (λ b. begun b ≡ Some con) (call_adds limits szx setup past c)
-        → AreBytes con.bytes → Spells con.bytes m → is_notification m ≡ true
+        → Spells con.bytes m → is_notification m ≡ true
         → TellsIn (InCon con.id) con.to m past c
     pub replied : (to : Endpoint) (bytes : List ℕ) (m : Message)
-        → Ever (λ b. b.call ≡ L.Reply to m.id bytes) (call_adds limits szx setup past c) → AreBytes bytes
+        → Ever (λ b. b.call ≡ L.Reply to m.id bytes) (call_adds limits szx setup past c)
         → Spells bytes m
         → is_notification m ≡ true
         → TellsIn InReply to m past c
     -- A NON is the answer to a request that was no CON, or is told so.
     pub plain : (to : Endpoint) (bytes : List ℕ) (m : Message)
-        → Ever (λ b. PlainOut b (record { to = to; bytes = bytes })) (call_adds limits szx setup past c) → AreBytes bytes
+        → Ever (λ b. PlainOut b (record { to = to; bytes = bytes })) (call_adds limits szx setup past c)
         → Spells bytes m
         → is_notification m ≡ true
         → (TellsIn InReply to m past c × ServesNon to past c) ⊎ TellsIn InNon to m past c

@@ -11,7 +11,7 @@ ghost use Rattle.coap_server.specs.Object.Shown.{kept_of, seen};
 
 use crate::server::moments::later;
 use crate::server::parts::Parts;
-use crate::server::serving::mark;
+use crate::server::served::mark;
 use coap_resource::{Store, StoreRefusal};
 use coap_types::{Moment, Path};
 use std::alloc::Allocator;

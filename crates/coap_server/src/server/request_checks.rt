@@ -11,7 +11,7 @@ ghost use Rattle.coap_server.specs.Checks.{asked_by, asks, bad_by, is_reserved, 
 ghost use Rattle.coap_server.specs.Checks.{verdict_on};
 ghost use Rattle.coap_server.specs.Object.Checked.{CanBeAnswered, verdict_as};
 
-use crate::server::observing::number_at;
+use crate::server::observation::number_at;
 use coap_resource::has;
 use coap_types::option_number::{BLOCK1, BLOCK2, PROXY_SCHEME, PROXY_URI};
 use coap_types::{

@@ -1,5 +1,5 @@
 -- What a turn leaves: no clock is past it, nothing waits, what was given out is in the hops, and the hops are fair.
-use Rattle.std.proofs.Common.{◌≡◌, inl, inr, ℕ, List, [], ◌∷◌, ◌++◌, map, refl, ap, subst, arith}
+use Rattle.std.proofs.Common.{◌≡◌, inl, inr, ℕ, List, [], ◌∷◌, ◌++◌, map, subst, arith}
 use Rattle.coap_types.specs.Past.{Ever, Always, all_of}
 use Rattle.coap_types.proofs.Facts.Traces.{Ever_back}
 use Rattle.coap_types.specs.declared.endpoint.Endpoint.{Endpoint}
@@ -16,11 +16,6 @@ use Rattle.coap_world.proofs.Delivery.ClientInTime as client
 use Rattle.coap_world.proofs.Delivery.ServerInTime as server
 
 -- hops of one end over what was before
-
-pub map_over : {A B : Type 0} (f : A → B) (xs ys : List A) (zs : List B)
-    → map f (xs ++ ys) ++ zs ≡ map f xs ++ (map f ys ++ zs)
-map_over f [] ys zs = refl
-map_over f (x ∷ xs) ys zs = ap (λ l. f x ∷ l) (map_over f xs ys zs)
 
 pub on_near : (P : Entry → Type 0) (xs : List Entry) (hs : List Hop) → Ever P xs → Ever (OnNear P) (map Near xs ++ hs)
 on_near P [] hs h = absurd h

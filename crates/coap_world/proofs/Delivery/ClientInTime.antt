@@ -11,11 +11,10 @@ use Rattle.coap_layer.specs.Machine.Steps.{left_after}
 use Rattle.coap_exchange.specs.declared.asker.AskRefusal.{AskRefusal}
 use Rattle.coap_exchange.specs.declared.asker.Exchange.{Exchange}
 use Rattle.coap_exchange.specs.declared.matching.Opening.{Opening}
-use Rattle.coap_exchange.specs.declared.matching.Opening.TheVariants.{Running, Spent, Sends}
-use Rattle.coap_client.specs.Trace.{Call, Calls, Observes, Cancels, Forgets, Feeds, Ticks, NextOut}
-use Rattle.coap_client.specs.Trace.{NextReport, Asked}
+use Rattle.coap_exchange.specs.declared.matching.Opening.TheVariants.{Running}
+use Rattle.coap_client.specs.Trace.{Call, Calls, Observes, Cancels, Forgets, Feeds, Ticks, NextOut, NextReport, Asked}
 use Rattle.coap_client.specs.Own.{Own, Observation}
-use Rattle.coap_client.specs.Effects.{Deed, Rests, Asks, Keeps, Releases, Effect}
+use Rattle.coap_client.specs.Effects.{Deed, Rests, Asks, Effect}
 use Rattle.coap_client.specs.Observing.{releases}
 use Rattle.coap_client.specs.Observations.{observation_of}
 use Rattle.coap_client.specs.Deeds.{deeds, done_for, close, effect}
@@ -57,12 +56,9 @@ abbrev pub IsAt : ℕ → Call → Type 0
 IsAt t (Calls now r answer) = now ≡ t
 IsAt t (Observes now path answer) = now ≡ t
 IsAt t (Cancels now number answer) = now ≡ t
-IsAt t (Forgets number kept answer) = Unit {0}
 IsAt t (Feeds now from bytes word up settled event sent token kept) = now ≡ t
 IsAt t (Ticks now word below turn sent token kept answer) = now ≡ t
-IsAt t (NextOut answer) = Unit {0}
-IsAt t (NextReport answer) = Unit {0}
-IsAt t (Asked answer) = Unit {0}
+IsAt t _ = Unit {0}
 
 abbrev pub Fed : Call → Endpoint → List ℕ → Type 0
 Fed c from bytes = FedToClient from bytes (OfClient c)
@@ -80,9 +76,7 @@ module _ (t : ℕ) (F : Endpoint → List ℕ → Type 0) where
   AsksAt (A.Ask now r word below answer) = now ≤ t
   AsksAt (A.Receive now from bytes up settled answer) = (now ≤ t) × F from bytes
   AsksAt (A.Ticks now below answer) = now ≤ t
-  AsksAt (A.Keep token answer) = Unit {0}
-  AsksAt (A.Release token answer) = Unit {0}
-  AsksAt (A.Take answer) = Unit {0}
+  AsksAt _ = Unit {0}
 
   settling_wish : (b : Bool) (server : Endpoint) (o : Option Exchange) (settled : Bool)
       → Every (Wish t F) (settling b server o settled)
@@ -93,8 +87,7 @@ module _ (t : ℕ) (F : Endpoint → List ℕ → Type 0) where
   beneath_wish : (now : ℕ) (o : Opening) (server : Endpoint) (content : L.Content) (word : ℕ) (sent : L.Answer)
       → now ≤ t → Wish t F (asked now (beneath o server content word) sent)
   beneath_wish now Running server content word sent h = record { now = h; fed = λ from bytes is. absurd (cc is) }
-  beneath_wish now Spent server content word sent h = record { now = h; fed = λ from bytes is. absurd (cc is) }
-  beneath_wish now Sends server content word sent h = record { now = h; fed = λ from bytes is. absurd (cc is) }
+  beneath_wish now _ server content word sent h = record { now = h; fed = λ from bytes is. absurd (cc is) }
 
   lower_wish : (s : A.Own) (c : A.Call) → AsksAt c → Every (Wish t F) (asker_steps.lower s c)
   lower_wish s (A.Ask now r word below answer) h =
@@ -107,9 +100,8 @@ module _ (t : ℕ) (F : Endpoint → List ℕ → Type 0) where
       (replying_wish t F from (id_in up) (reply_by v (id_in up))))
       (receive_wish t F now from bytes up h.0 h.1, tt)
   lower_wish s (A.Ticks now below answer) h = (timed_wish t F now below h, tt)
-  lower_wish s (A.Keep token answer) h = tt
-  lower_wish s (A.Release token answer) h = tt
   lower_wish s (A.Take answer) h = (record { now = omega arith; fed = λ from bytes is. absurd (cc is) }, tt)
+  lower_wish s _ h = tt
 
   wishes : (to : Endpoint) (setup : Setup) (past later : List A.Call) → Every AsksAt later
       → Every (Wish t F) (asked_by_client to setup past later)
@@ -144,23 +136,22 @@ module _ (t : ℕ) (F : Endpoint → List ℕ → Type 0) where
       → now ≤ t → Every AsksAt (deeds d s now word sent token kept)
   deed_asks Rests s now word sent token kept h = tt
   deed_asks (Asks op) s now word sent token kept h = (h, tt)
-  deed_asks (Keeps key) s now word sent token kept h = (tt, tt)
-  deed_asks (Releases key) s now word sent token kept h = (tt, tt)
+  deed_asks _ s now word sent token kept h = (tt, tt)
 
   -- an input at the exchanges, and what is done for it
-  input_done : (to : Endpoint) (w : Setup) (past : List A.Call) (e : Effect) (now word : ℕ) (sent : L.Answer)
+  input_done : (to : Endpoint) (setup : Setup) (past : List A.Call) (e : Effect) (now word : ℕ) (sent : L.Answer)
       (token : Result (List ℕ) AskRefusal) (kept : Bool) (input : A.Call) → now ≤ t → AsksAt input → Begins input
-      → Every (Wish t F) (asked_by_client to w past (done_for e now word sent token kept input))
-      × Ends t F (asked_by_client to w past (done_for e now word sent token kept input))
-  input_done to w past e now word sent token kept input h a b =
+      → Every (Wish t F) (asked_by_client to setup past (done_for e now word sent token kept input))
+      × Ends t F (asked_by_client to setup past (done_for e now word sent token kept input))
+  input_done to setup past e now word sent token kept input h a b =
       let c = close now e token in
       let later : List A.Call = deeds c.deed c.own now word sent token kept in
       let first : List A.Call = deeds e.deed e.own now word sent token kept in (
-        wishes to w past (later ++ (first ++ input ∷ []))
+        wishes to setup past (later ++ (first ++ input ∷ []))
             (every_join AsksAt later (first ++ input ∷ []) (deed_asks c.deed c.own now word sent token kept h)
             (every_join AsksAt first (input ∷ []) (deed_asks e.deed e.own now word sent token kept h) (a, tt))),
-        subst (λ l. Ends t F (asked_by_client to w past l)) (append_assoc later first (input ∷ []))
-            (ends to w past (later ++ first) input b),
+        subst (λ l. Ends t F (asked_by_client to setup past l)) (append_assoc later first (input ∷ []))
+            (ends to setup past (later ++ first) input b),
       )
 
 module _ (config : Config) where
@@ -189,14 +180,7 @@ module _ (config : Config) where
 
   asks_done : (t : ℕ) (past : List Call) (c : Call) → IsBy t past → IsAt t c
       → Done t (Fed c) (before past) (client_asks config past c)
-  asks_done t past (Calls now r answer) by at = nothing_done t (Fed (Calls now r answer)) (before past) by.layer
-  asks_done t past (Observes now path answer) by at =
-      nothing_done t (Fed (Observes now path answer)) (before past) by.layer
-  asks_done t past (Cancels now number answer) by at =
-      nothing_done t (Fed (Cancels now number answer)) (before past) by.layer
   asks_done t past (Forgets number kept answer) by at = forgets_done t past number kept answer by
-  asks_done t past (NextReport answer) by at = nothing_done t (Fed (NextReport answer)) (before past) by.layer
-  asks_done t past (Asked answer) by at = nothing_done t (Fed (Asked answer)) (before past) by.layer
   asks_done t past (NextOut answer) by at = takes t (Fed (NextOut answer)) (before past) (L.Gives answer) by.layer
   asks_done t past (Feeds now from bytes word up settled event sent token kept) by at =
       let o = by.own in
@@ -217,6 +201,7 @@ module _ (config : Config) where
       let w = input_done t (Fed c) server_end config.client_setup (exchanges past)
       (effect (own past) c) m word sent token kept (A.Ticks m below turn) h h k in
       done t (Fed c) (before past) _ by.layer w.0 w.1
+  asks_done t past c by at = nothing_done t (Fed c) (before past) by.layer
 
   moment_by : (t : ℕ) (s : Own) (c : Call) → s.clock ≤ t → IsAt t c → moment_of s c ≤ t
   moment_by t s (Forgets number kept answer) h at = h

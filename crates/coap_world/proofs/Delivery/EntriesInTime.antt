@@ -4,8 +4,7 @@ use Rattle.coap_types.specs.Past.{Always}
 use Rattle.coap_types.specs.declared.endpoint.Endpoint.{Endpoint}
 use Rattle.coap_layer.specs.Machine.State.{State, moment, made}
 use Rattle.coap_layer.specs.Machine.Steps.{Asked, left_after, entries}
-use Rattle.coap_layer.specs.Trace.{Call, Receive, Reply, Confirm, Plain, Settle, Ticks, Take, Room, AsksFree, Pass}
-use Rattle.coap_layer.specs.Trace.{Answer, Entry}
+use Rattle.coap_layer.specs.Trace.{Call, Receive, Ticks, Take, Answer, Entry}
 
 -- each of a list
 abbrev pub Every : {X : Type 0} → (X → Type 0) → List X → Type 0
@@ -32,27 +31,11 @@ timed s now _ h = absurd h
 
 not_before : (s : State) (now : ℕ) (call : Call) → s.clock ≤ moment s now call
 not_before s now (Receive from bytes) = omega arith
-not_before s now Ticks = omega arith
-not_before s now (Reply to id bytes) = omega arith
-not_before s now (Confirm to content word) = omega arith
-not_before s now (Plain to content) = omega arith
-not_before s now (Settle to id) = omega arith
-not_before s now Take = omega arith
-not_before s now (Room to) = omega arith
-not_before s now AsksFree = omega arith
-not_before s now Pass = omega arith
+not_before s now _ = omega arith
 
 not_after : (s : State) (now : ℕ) (call : Call) (t : ℕ) → s.clock ≤ t → now ≤ t → moment s now call ≤ t
 not_after s now (Receive from bytes) t h k = omega (arith, h, k)
-not_after s now Ticks t h k = omega (arith, h, k)
-not_after s now (Reply to id bytes) t h k = omega (arith, h, k)
-not_after s now (Confirm to content word) t h k = omega (arith, h, k)
-not_after s now (Plain to content) t h k = omega (arith, h, k)
-not_after s now (Settle to id) t h k = omega (arith, h, k)
-not_after s now Take t h k = omega (arith, h, k)
-not_after s now (Room to) t h k = omega (arith, h, k)
-not_after s now AsksFree t h k = omega (arith, h, k)
-not_after s now Pass t h k = omega (arith, h, k)
+not_after s now _ t h k = omega (arith, h, k)
 
 -- an end's call at this moment, that was fed these bytes from there
 module _ (t : ℕ) (Fed : Endpoint → List ℕ → Type 0) where

@@ -14,8 +14,7 @@ use Rattle.coap_world.specs.Events.{client_end, server_end, Deliver}
 use Rattle.coap_world.specs.Legal.{AllLegal}
 use Rattle.coap_world.specs.Prompt.{FedWithin, AllPrompt}
 use Rattle.coap_world.specs.Record.{Given, Entry, OfClient, OfServer, Turn, IsNumber, IsOne, OnClient, OnServer}
-use Rattle.coap_world.specs.Record.{given_in}
-use Rattle.coap_world.specs.Record.{FeedsClient, FeedsServer, Makes}
+use Rattle.coap_world.specs.Record.{given_in, FeedsClient, FeedsServer, Makes}
 use Rattle.coap_world.specs.Smooth.{max_age, WasDelivered, ComesInOrder, GoesSmoothly}
 use Rattle.coap_world.proofs.Delivery.GivenOutBefore.{number_unique, not_later}
 

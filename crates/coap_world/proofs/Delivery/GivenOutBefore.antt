@@ -22,7 +22,7 @@ as_at at from (Some p) g (inr h) = absurd h
 
 -- a number is of one datagram
 
-below_length : {A : Type 0} (n : ℕ) (x : A) (t : List A) → Sometime (λ before s. (s ≡ x) × (length before ≡ n)) t
+pub below_length : {A : Type 0} (n : ℕ) (x : A) (t : List A) → Sometime (λ before s. (s ≡ x) × (length before ≡ n)) t
     → n < length t
 below_length n x [] h = absurd h
 below_length n x (y ∷ t) (inl h) = omega (arith, h.1)

@@ -1,16 +1,14 @@
 -- The hops of a legal run are fair: what comes from an end's address was sent by that end's layer, at most 100,000 ms
 -- before.
-use Rattle.std.proofs.Common.{◌≡◌, ◌⊎◌, inl, inr, ◌≤◌, ℕ, List, [], ◌∷◌, ◌++◌, refl, ap, sym, subst, ◌∙◌, arith}
-use Rattle.std.proofs.Common.{map}
+use Rattle.std.proofs.Common.{◌≡◌, ◌⊎◌, inl, inr, ◌≤◌, ℕ, List, [], ◌∷◌, ◌++◌, refl, ap, sym, subst, ◌∙◌, arith, map}
 use Rattle.coap_types.specs.Past.{Ever, Always, all_of}
 use Rattle.coap_types.proofs.Facts.Traces.{Ever_back, Ever_map, Ever_append}
 use Rattle.coap_types.specs.declared.endpoint.Endpoint.{Endpoint}
 use Rattle.coap_layer.specs.Channel.{Hop, Near, Far, OnNear, OnFar, GaveOut, IsFair}
 use Rattle.coap_world.specs.Events.{client_end, server_end, Config}
 use Rattle.coap_world.specs.Hops.{SendsAt, SentIn, client_adds, server_adds, hops_in, hops_of}
-use Rattle.coap_world.specs.Record.{Given, Entry, OfClient, OfServer, client_of, server_trace, Turn, given_in}
-use Rattle.coap_world.specs.Record.{Setting, DelayOf, PlainOf, gives_it, settings}
-use Rattle.coap_world.specs.Record.{entries_of, Makes}
+use Rattle.coap_world.specs.Record.{Given, Entry, OfClient, OfServer, client_of, server_trace, Turn, given_in, Setting}
+use Rattle.coap_world.specs.Record.{DelayOf, PlainOf, gives_it, settings, entries_of, Makes}
 use Rattle.coap_layer.specs.Machine.State.{start}
 use Rattle.coap_layer.specs.Machine.Steps.{left_after, entries}
 use Rattle.coap_layer.specs.Words.{waiting}

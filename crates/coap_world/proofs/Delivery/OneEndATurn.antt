@@ -1,15 +1,11 @@
 -- Each turn is one end's: its calls have the moment of the turn.
-use Rattle.std.proofs.Common.{◌≡◌, ◌⊎◌, inl, inr, ℕ, Bool, true, false, Option, Some, None, List, [], ◌∷◌, ◌++◌, ap}
-use Rattle.std.proofs.Common.{sym, subst, map, refl}
-use Rattle.coap_types.specs.Past.{Ever, Always, all_of}
-use Rattle.coap_types.specs.declared.endpoint.Endpoint.{Endpoint}
-use Rattle.coap_layer.specs.Trace.{Packet}
-use Rattle.coap_world.specs.Record.{Given, given_as, IsOne, AreTicks, Entry, OfClient, OfServer, client_of, server_of}
-use Rattle.coap_world.specs.Record.{Turn, given_by, OnClient, OnServer, ClientTick, ServerTick, Makes}
+use Rattle.std.proofs.Common.{◌≡◌, ◌⊎◌, inl, inr, ℕ, Bool, true, false, List, [], ◌∷◌, ◌++◌, ap, sym, subst, map, refl}
+use Rattle.coap_types.specs.Past.{Always}
+use Rattle.coap_world.specs.Record.{IsOne, AreTicks, Entry, OfClient, OfServer, client_of, server_of, Turn, OnClient}
+use Rattle.coap_world.specs.Record.{OnServer, ClientTick, ServerTick, Makes}
 use Rattle.coap_world.proofs.Delivery.EntriesInTime.{Every}
-use Rattle.coap_types.proofs.Facts.Traces.{Ever_append}
-use Rattle.coap_world.specs.Events.{client_end, server_end, What, Cancels, Forgets, Sets, Removes}
-use Rattle.coap_world.specs.Events.{TickClient, TickServer, Deliver, StrangerToClient, StrangerToServer}
+use Rattle.coap_world.specs.Events.{What, Cancels, Forgets, Sets, Removes, TickClient, TickServer, Deliver}
+use Rattle.coap_world.specs.Events.{StrangerToClient, StrangerToServer}
 use Rattle.coap_client.specs.Trace as C
 use Rattle.coap_server.specs.Trace as S
 use Rattle.coap_world.proofs.Delivery.ClientInTime as client
@@ -31,28 +27,6 @@ each_tick Is P f true calls h = each_true (Is true) P (f true) calls h
 each_tick Is P f false [] h = absurd h
 each_tick Is P f false (c ∷ calls) h = (f false c h.0, each_true (Is true) P (f true) calls h.1)
 
--- what is given out is what a call takes
-
-pub record Takes {X : Type 0} (out : Option Packet → X) (from : Endpoint) (t : ℕ) (g : Given)
-    (cs : List X) : Type 0 where
-  pub by : g.from ≡ from
-  pub at : g.at ≡ t
-  pub taken : Ever (λ c. c ≡ out (Some g.packet)) cs
-
-pub as_taken : {X : Type 0} (out : Option Packet → X) (from : Endpoint) (t : ℕ) (g : Given) (o : Option Packet)
-    → Ever (λ h. h ≡ g) (given_as t from o) → Takes out from t g (out o ∷ [])
-as_taken out from t g None h = absurd h
-as_taken out from t g (Some p) (inl h) = record {
-  by = sym (ap (λ (x : Given). x.from) h);
-  at = sym (ap (λ (x : Given). x.at) h);
-  taken = inl (ap (λ (x : Given). out (Some x.packet)) h);
-}
-as_taken out from t g (Some p) (inr h) = absurd h
-
-pub front : {X : Type 0} (P : X → Type 0) (c : X) (cs : List X) → Ever P (c ∷ []) → Ever P (c ∷ cs)
-front P c cs (inl h) = inl h
-front P c cs (inr h) = absurd h
-
 pub record ClientTurn (t : ℕ) (entries : List Entry) : Type 0 where
   pub calls : List C.Call
   pub on : OnClient calls entries
@@ -63,72 +37,48 @@ pub record ServerTurn (t : ℕ) (entries : List Entry) : Type 0 where
   pub on : OnServer calls entries
   pub at : Every (server.IsAt t) calls
 
+module _ (t : ℕ) (refused : Bool) (entries : List Entry) where
+  client_one : (Is : C.Call → Type 0) → ((c : C.Call) → Is c → client.IsAt t c) → (calls : List C.Call)
+      → IsOne Is refused calls → OnClient calls entries → ClientTurn t entries
+  client_one Is at calls one on =
+      record { calls = calls; on = on; at = each_one Is (client.IsAt t) at refused calls one }
+
+  server_one : (Is : S.Call → Type 0) → ((c : S.Call) → Is c → server.IsAt t c) → (calls : List S.Call)
+      → IsOne Is refused calls → OnServer calls entries → ServerTurn t entries
+  server_one Is at calls one on =
+      record { calls = calls; on = on; at = each_one Is (server.IsAt t) at refused calls one }
+
 module _ (past : List Turn) (t : ℕ) (word : ℕ) (refused : Bool) (entries : List Entry) where
   pub side : (what : What) → Makes past t word what refused entries → ClientTurn t entries ⊎ ServerTurn t entries
-  side (Cancels number) m = inl (record {
-    calls = m.0;
-    on = m.2;
-    at = each_one _ (client.IsAt t) (λ c h. subst (client.IsAt t) (sym h.1) refl) false m.0 m.1.0;
-  })
-  side (Forgets number) m = inl (record {
-    calls = m.0;
-    on = m.2;
-    at = each_one _ (client.IsAt t) (λ c h. subst (client.IsAt t) (sym h.2) tt) false m.0 m.1.0;
-  })
+  side (Cancels number) m =
+      inl (client_one t false entries _ (λ c h. subst (client.IsAt t) (sym h.1) refl) m.0 m.1.0 m.2)
+  side (Forgets number) m =
+      inl (client_one t false entries _ (λ c h. subst (client.IsAt t) (sym h.2) tt) m.0 m.1.0 m.2)
   side TickClient m = inl (record {
     calls = m.0;
     on = m.2;
     at = each_tick (ClientTick t word) (client.IsAt t)
         (λ b c h. subst (client.IsAt t) (sym h.5) refl) refused m.0 m.1;
   })
-  side (StrangerToClient from bytes) m = inl (record {
-    calls = m.0;
-    on = m.2;
-    at = each_one _ (client.IsAt t)
-        (λ c h. subst (client.IsAt t) (sym h.6) refl) refused m.0 m.1;
-  })
-  side (Sets path format body) m = inr (record {
-    calls = m.0;
-    on = m.2;
-    at = each_one _ (server.IsAt t)
-        (λ c h. subst (server.IsAt t) (sym h.2) refl) refused m.0 m.1;
-  })
-  side (Removes path) m = inr (record {
-    calls = m.0;
-    on = m.2;
-    at = each_one _ (server.IsAt t) (λ c h. subst (server.IsAt t) (sym h.2) refl) false m.0 m.1.0;
-  })
+  side (StrangerToClient from bytes) m =
+      inl (client_one t refused entries _ (λ c h. subst (client.IsAt t) (sym h.6) refl) m.0 m.1 m.2)
+  side (Sets path format body) m =
+      inr (server_one t refused entries _ (λ c h. subst (server.IsAt t) (sym h.2) refl) m.0 m.1 m.2)
+  side (Removes path) m =
+      inr (server_one t false entries _ (λ c h. subst (server.IsAt t) (sym h.2) refl) m.0 m.1.0 m.2)
   side TickServer m = inr (record {
     calls = m.0;
     on = m.2;
     at = each_tick (ServerTick t word) (server.IsAt t)
         (λ b c h. subst (server.IsAt t) (sym h.6) refl) refused m.0 m.1;
   })
-  side (StrangerToServer from bytes) m = inr (record {
-    calls = m.0;
-    on = m.2;
-    at = each_one _ (server.IsAt t)
-        (λ c h. subst (server.IsAt t) (sym h.4) refl) refused m.0 m.1;
-  })
+  side (StrangerToServer from bytes) m =
+      inr (server_one t refused entries _ (λ c h. subst (server.IsAt t) (sym h.4) refl) m.0 m.1 m.2)
   side (Deliver number) m = elim m.2 [
-    | inl d ↦ inr (record {
-      calls = d.1;
-      on = d.3;
-      at = each_one _ (server.IsAt t) (λ c h. subst (server.IsAt t) (sym h.4) refl) refused d.1 d.2;
-    })
-    | inr d ↦ inl (record {
-      calls = d.1;
-      on = d.3;
-      at = each_one _ (client.IsAt t) (λ c h. subst (client.IsAt t) (sym h.6) refl) refused d.1 d.2;
-    })
+    | inl d ↦ inr (server_one t refused entries _ (λ c h. subst (server.IsAt t) (sym h.4) refl) d.1 d.2 d.3)
+    | inr d ↦ inl (client_one t refused entries _ (λ c h. subst (client.IsAt t) (sym h.6) refl) d.1 d.2 d.3)
   ]
-  side _ m =
-      inl (record {
-        calls = m.0;
-        on = m.2;
-        at = each_one _ (client.IsAt t) (λ c h. subst (client.IsAt t)
-            (sym h.1) refl) refused m.0 m.1;
-      })
+  side _ m = inl (client_one t refused entries _ (λ c h. subst (client.IsAt t) (sym h.1) refl) m.0 m.1 m.2)
 
 -- the calls of the ends, of a turn and of what was before
 
@@ -147,33 +97,3 @@ server_server (c ∷ cs) es = ap (λ t. c ∷ t) (server_server cs es)
 pub server_client : (cs : List C.Call) (es : List Entry) → server_of (map OfClient cs ++ es) ≡ server_of es
 server_client [] es = refl
 server_client (c ∷ cs) es = server_client cs es
-
--- what is given out is what a call takes
-
-client_one : (t : ℕ) (g : Given) (c : C.Call) → Ever (λ h. h ≡ g) (given_by t (OfClient c))
-    → Takes C.NextOut client_end t g (c ∷ [])
-client_one t g (C.NextOut o) h = as_taken C.NextOut client_end t g o h
-client_one t g _ h = absurd h
-
-server_one : (t : ℕ) (g : Given) (c : S.Call) → Ever (λ h. h ≡ g) (given_by t (OfServer c))
-    → Takes S.NextOut server_end t g (c ∷ [])
-server_one t g (S.NextOut o) h = as_taken S.NextOut server_end t g o h
-server_one t g _ h = absurd h
-
-pub client_takes : (t : ℕ) (g : Given) (cs : List C.Call) → Ever (λ h. h ≡ g) (all_of (given_by t) (map OfClient cs))
-    → Takes C.NextOut client_end t g cs
-client_takes t g [] h = absurd h
-client_takes t g (c ∷ cs) h = elim (Ever_append (λ x. x ≡ g) (given_by t (OfClient c))
-    (all_of (given_by t) (map OfClient cs)) h) [
-      | inl p ↦ (let k = client_one t g c p in record { by = k.by; at = k.at; taken = front _ c cs k.taken })
-      | inr q ↦ (let k = client_takes t g cs q in record { by = k.by; at = k.at; taken = inr k.taken })
-    ]
-
-pub server_takes : (t : ℕ) (g : Given) (cs : List S.Call) → Ever (λ h. h ≡ g) (all_of (given_by t) (map OfServer cs))
-    → Takes S.NextOut server_end t g cs
-server_takes t g [] h = absurd h
-server_takes t g (c ∷ cs) h = elim (Ever_append (λ x. x ≡ g) (given_by t (OfServer c))
-    (all_of (given_by t) (map OfServer cs)) h) [
-      | inl p ↦ (let k = server_one t g c p in record { by = k.by; at = k.at; taken = front _ c cs k.taken })
-      | inr q ↦ (let k = server_takes t g cs q in record { by = k.by; at = k.at; taken = inr k.taken })
-    ]

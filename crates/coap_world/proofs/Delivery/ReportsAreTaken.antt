@@ -1,7 +1,6 @@
 -- Each report is taken in its turn.
 use Rattle.std.proofs.Common.{◌≡◌, ◌⊎◌, ℕ, None, List, [], ◌∷◌, ◌++◌, refl, ◌∙◌, append_assoc, drop, inl, inr, Bool}
-use Rattle.std.proofs.Common.{false, Some, map, ap, sym}
-use Rattle.std.proofs.Common.{subst}
+use Rattle.std.proofs.Common.{false, Some, map, ap, sym, subst}
 use Rattle.std.specs.Prelude.{slice_get}
 use Rattle.std.proofs.lemmas.List.{append-nil}
 use Rattle.coap_types.specs.Past.{Always}
@@ -12,8 +11,8 @@ use Rattle.coap_client.specs.Follows.Gives.{made, given, forgotten, NoneDropped}
 use Rattle.coap_client.specs.Trace as C
 use Rattle.coap_server.specs.Trace as S
 use Rattle.coap_client.proofs.Facts.EachCall.{all_wait}
-use Rattle.coap_world.specs.Events.{Config, What, Cancels, Forgets, Sets, Removes, TickClient}
-use Rattle.coap_world.specs.Events.{TickServer, Deliver, StrangerToClient, StrangerToServer}
+use Rattle.coap_world.specs.Events.{Config, What, Cancels, Forgets, Sets, Removes, TickClient, TickServer, Deliver}
+use Rattle.coap_world.specs.Events.{StrangerToClient, StrangerToServer}
 use Rattle.coap_world.specs.Given.{AllGiven}
 use Rattle.coap_world.specs.Record.{Turn, Entry, OnClient, OnServer, ClientTick, Makes, client_of, entries_of}
 use Rattle.coap_world.proofs.Delivery.EntriesInTime.{Every}

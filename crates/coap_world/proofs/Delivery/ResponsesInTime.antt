@@ -1,9 +1,9 @@
 -- When the calls of the server's exchanges, at one moment, ask their layer.
-use Rattle.std.proofs.Common.{◌≡◌, ◌≤◌, ℕ, Bool, true, false, Option, Some, None, List, [], ◌∷◌, ◌++◌, sym}
-use Rattle.std.proofs.Common.{subst, arith, append_assoc}
+use Rattle.std.proofs.Common.{◌≡◌, ◌≤◌, ℕ, Bool, true, false, Option, Some, None, List, [], ◌∷◌, ◌++◌, sym, subst}
+use Rattle.std.proofs.Common.{arith, append_assoc}
 use Rattle.coap_types.specs.declared.endpoint.Endpoint.{Endpoint}
 use Rattle.coap_types.specs.declared.message.Kind.{Kind}
-use Rattle.coap_types.specs.declared.message.Kind.TheVariants.{Con, Non, Ack, Rst}
+use Rattle.coap_types.specs.declared.message.Kind.TheVariants.{Con}
 use Rattle.coap_layer.specs.Trace as L
 use Rattle.coap_exchange.specs.declared.answerer.Asked as request
 use Rattle.coap_exchange.specs.declared.separate.Deferred.{Deferred}
@@ -21,14 +21,13 @@ module _ (t : ℕ) (F : Endpoint → List ℕ → Type 0) where
   -- what is asked of the exchanges
   abbrev pub Asks : R.Call → Type 0
   Asks (R.Incoming now from bytes up answer) = (now ≤ t) × F from bytes
-  Asks (R.Answers a r below) = Unit {0}
   Asks (R.Defers now a delay answer) = now ≤ t
   Asks (R.Ticks now below room answer) = now ≤ t
   Asks (R.Responds now a r word id) = now ≤ t
   Asks (R.Ready now to answer) = now ≤ t
   Asks (R.Notifies now to token r word id) = now ≤ t
   Asks (R.NotifiesPlain now to token r id) = now ≤ t
-  Asks (R.Take answer) = Unit {0}
+  Asks _ = Unit {0}
 
   own_by : (s : R.Own) (c : R.Call) → s.clock ≤ t → Asks c → (answerer_steps.after s c).clock ≤ t
   own_by s (R.Incoming now from bytes up answer) h a = let k = a.0 in omega (arith, h, k)
@@ -49,9 +48,7 @@ module _ (t : ℕ) (F : Endpoint → List ℕ → Type 0) where
   answering_other : (s : R.Own) (kind : Kind) (a : request.Asked) (r : R.Response) (from : Endpoint) (bytes : List ℕ)
       → answerer_steps.answering s kind a r ≡ L.Receive from bytes → ⊥
   answering_other s Con a r from bytes is = cc is
-  answering_other s Non a r from bytes is = cc is
-  answering_other s Ack a r from bytes is = cc is
-  answering_other s Rst a r from bytes is = cc is
+  answering_other s _ a r from bytes is = cc is
 
   deferring_wish : (b : Bool) (a : request.Asked) → Every (Wish t F) (deferring b a)
   deferring_wish true a = (other_wish 0 _ _ (omega arith) (λ from bytes is. cc is), tt)

@@ -1,6 +1,6 @@
 -- When the calls of the server, at one moment, have their entries in its layer.
-use Rattle.std.proofs.Common.{◌≡◌, ◌≤◌, ℕ, zero, suc, max, Bool, true, false, Option, Some, None, List, [], ◌∷◌}
-use Rattle.std.proofs.Common.{refl, ap, sym, subst, ◌∙◌, arith}
+use Rattle.std.proofs.Common.{◌≡◌, ◌≤◌, ℕ, zero, suc, max, Bool, true, false, Option, Some, None, List, [], ◌∷◌, refl}
+use Rattle.std.proofs.Common.{ap, sym, subst, ◌∙◌, arith}
 use Rattle.coap_types.specs.declared.endpoint.Endpoint.{Endpoint}
 use Rattle.coap_codec.specs.Message.{Message}
 use Rattle.coap_layer.specs.Trace as L
@@ -20,9 +20,8 @@ use Rattle.coap_server.specs.Law.{own_of, lower_of}
 use Rattle.coap_server.specs.Notifying.{marked, notification, readies}
 use Rattle.coap_server.specs.Plain.{by_plain}
 use Rattle.coap_server.specs.Steps as steps
-use Rattle.coap_server.specs.Trace.{Own, Handling, Silent, Replies, Serves, Waits, Notifies, Call}
-use Rattle.coap_server.specs.Trace.{Sets}
-use Rattle.coap_server.specs.Trace.{Removes, Delays, Plains, Feeds, Ticks, NextOut, Gets, TellsApplied}
+use Rattle.coap_server.specs.Trace.{Own, Handling, Silent, Replies, Serves, Waits, Notifies, Call, Sets, Removes}
+use Rattle.coap_server.specs.Trace.{Feeds, Ticks, NextOut}
 use Rattle.coap_common.proofs.Facts.Adds.{left_append}
 use Rattle.coap_world.specs.Delivery.{FedToServer}
 use Rattle.coap_world.specs.Events.{Config}
@@ -36,25 +35,17 @@ use Rattle.coap_world.proofs.Delivery.HopsAreEntries.{server_asked_next}
 abbrev pub IsAt : ℕ → Call → Type 0
 IsAt t (Sets now path format body answer left) = now ≡ t
 IsAt t (Removes now path answer left) = now ≡ t
-IsAt t (Delays path ms answer) = Unit {0}
-IsAt t (Plains path answer) = Unit {0}
 IsAt t (Feeds now from bytes word up came h below) = now ≡ t
 IsAt t (Ticks now word below room d passed h id answer) = now ≡ t
-IsAt t (NextOut answer) = Unit {0}
-IsAt t (Gets path answer) = Unit {0}
-IsAt t (TellsApplied answer) = Unit {0}
+IsAt t _ = Unit {0}
 
 -- the moment that counts: an earlier one than the last counts as the last
 abbrev pub Counts : ℕ → ℕ → Call → Type 0
 Counts t clock (Sets now path format body answer left) = max clock now ≡ t
 Counts t clock (Removes now path answer left) = max clock now ≡ t
-Counts t clock (Delays path ms answer) = Unit {0}
-Counts t clock (Plains path answer) = Unit {0}
 Counts t clock (Feeds now from bytes word up came h below) = max clock now ≡ t
 Counts t clock (Ticks now word below room d passed h id answer) = max clock now ≡ t
-Counts t clock (NextOut answer) = Unit {0}
-Counts t clock (Gets path answer) = Unit {0}
-Counts t clock (TellsApplied answer) = Unit {0}
+Counts t clock _ = Unit {0}
 
 counts : (t clock : ℕ) (c : Call) → clock ≤ t → IsAt t c → Counts t clock c
 counts t clock (Sets now path format body answer left) h at = omega (arith, h, at)
@@ -144,14 +135,6 @@ module _ (config : Config) where
 
   asks_done : (t : ℕ) (past : List Call) (c : Call) → IsBy t past → Counts t (own past).clock c
       → Done t (Fed c) (before past) (server_asks config past c)
-  asks_done t past (Sets now path format body answer left) by at =
-      nothing_done t (Fed (Sets now path format body answer left)) (before past) by.layer
-  asks_done t past (Removes now path answer left) by at =
-      nothing_done t (Fed (Removes now path answer left)) (before past) by.layer
-  asks_done t past (Delays path ms answer) by at = nothing_done t (Fed (Delays path ms answer)) (before past) by.layer
-  asks_done t past (Plains path answer) by at = nothing_done t (Fed (Plains path answer)) (before past) by.layer
-  asks_done t past (Gets path answer) by at = nothing_done t (Fed (Gets path answer)) (before past) by.layer
-  asks_done t past (TellsApplied answer) by at = nothing_done t (Fed (TellsApplied answer)) (before past) by.layer
   asks_done t past (NextOut answer) by at = takes t (Fed (NextOut answer)) (before past) (L.Gives answer) by.layer
   asks_done t past (Feeds now from bytes word up came w below) by at =
       let F = Fed (Feeds now from bytes word up came w below) in
@@ -169,6 +152,7 @@ module _ (config : Config) where
       (asks t past (Ticks now word below room d passed w id answer) by at))
       (ends t F (exchanges past) (responding (heard (own past) now (ticking (own past) now below room d)) d passed w
       word id) (ticking (own past) now below room d) k)
+  asks_done t past c by at = nothing_done t (Fed c) (before past) by.layer
 
   end_by : (t : ℕ) (s : Own) (c : Call) → s.clock ≤ t → Counts t s.clock c → (steps.after s c).clock ≤ t
   end_by t s (Sets now path format body answer left) h at = omega (arith, at)

@@ -1,6 +1,5 @@
 -- A CON that was acknowledged, or handed up, isn't handed up again.
-use Rattle.std.proofs.Common.{◌≡◌, ◌≤◌, inl, inr, ℕ, ◌+◌, Some, List, [], ◌∷◌, ◌++◌, map, refl, sym, subst, ◌∙◌}
-use Rattle.std.proofs.Common.{arith}
+use Rattle.std.proofs.Common.{◌≡◌, ◌≤◌, inl, inr, ℕ, ◌+◌, Some, List, [], ◌∷◌, ◌++◌, map, refl, sym, subst, ◌∙◌, arith}
 use Rattle.coap_types.specs.Past.{Ever, Sometime}
 use Rattle.coap_types.proofs.Facts.Traces.{Ever_map, Ever_back}
 use Rattle.coap_types.specs.declared.transmission.TheConstants.{LAST_ARRIVAL_MS as last_arrival}
@@ -17,11 +16,9 @@ use Rattle.coap_server.specs.Follows.Told.{TakesAck}
 use Rattle.coap_server.proofs.Facts.EachCall.{acks_arrive}
 use Rattle.coap_world.specs.Events.{client_end, server_end, Config}
 use Rattle.coap_world.specs.Hops.{hops_at, hops_in, across, server_adds}
-use Rattle.coap_world.specs.Record.{Entry, OfClient, OfServer, server_trace}
-use Rattle.coap_world.specs.Record.{Setting, DelayOf, PlainOf, gives_it}
+use Rattle.coap_world.specs.Record.{Entry, OfClient, OfServer, server_trace, Setting, DelayOf, PlainOf, gives_it}
 use Rattle.coap_world.proofs.Delivery.ChannelAcross.{near_across, channel_across}
-use Rattle.coap_world.proofs.Delivery.HopsAreEntries.{near_near, near_far}
-use Rattle.coap_world.proofs.Delivery.HopsAreEntries.{far_is}
+use Rattle.coap_world.proofs.Delivery.HopsAreEntries.{near_near, near_far, far_is}
 use Rattle.coap_world.proofs.Requests.OfACall.{Lawful, lawful_back}
 use Rattle.coap_world.proofs.Observations.Following.{AckedBehind}
 use Rattle.coap_world.proofs.Observations.Positions.{across_append, across_far, AtServer, server_entries}

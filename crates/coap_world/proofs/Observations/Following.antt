@@ -1,6 +1,5 @@
 -- What a server tells under one registration, as long as there is one alone.
-use Rattle.std.proofs.Common.{◌≡◌, inl, inr, ℕ, true, false, Some, List, [], ◌∷◌, ◌++◌, refl, ap, sym}
-use Rattle.std.proofs.Common.{subst, ◌∙◌}
+use Rattle.std.proofs.Common.{◌≡◌, inl, inr, ℕ, true, false, Some, List, [], ◌∷◌, ◌++◌, refl, ap, sym, subst, ◌∙◌}
 use Rattle.coap_types.specs.Past.{Ever, Sometime, Always}
 use Rattle.coap_types.proofs.Facts.Traces.{Ever_front, Ever_back, Sometime_back, Always_back}
 use Rattle.coap_types.specs.declared.endpoint.Endpoint.{Endpoint}
@@ -14,10 +13,8 @@ use Rattle.coap_server.specs.Law.{ServerLaw, own_of, layer_of}
 use Rattle.coap_server.specs.Follows.Tells.{FollowsOn, HearsAck, InCon, InReply, NoneMade, Pair, Telling, Way, telling}
 use Rattle.coap_server.proofs.Facts.Laws as facts
 use Rattle.coap_server.specs.Follows.Adds.{call_adds}
-use Rattle.coap_server.specs.Follows.Told.{Conveys, TellsIn, ServesPair, pair_of, IsUnder, AreUnder}
-use Rattle.coap_server.specs.Follows.Told.{AllServePairs}
-use Rattle.coap_server.proofs.Facts.EachCall.{layer_next}
-use Rattle.coap_server.proofs.Facts.EachCall.{all_serve_pairs, are_under}
+use Rattle.coap_server.specs.Follows.Told.{Conveys, TellsIn, ServesPair, pair_of, IsUnder, AreUnder, AllServePairs}
+use Rattle.coap_server.proofs.Facts.EachCall.{layer_next, all_serve_pairs, are_under}
 use Rattle.coap_world.proofs.Observations.RepliesRegister.{reply_registers}
 
 -- where something happened, and what came behind it and before

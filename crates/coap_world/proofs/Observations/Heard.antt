@@ -1,7 +1,6 @@
 -- What a client hears of an observation the server told before, in which call, and when.
-use Rattle.std.proofs.Common.{◌≡◌, ◌⊎◌, ◌≤◌, inl, inr, ℕ, ◌+◌, true, Option, Some, None, List, [], ◌∷◌, ◌++◌, map, refl, ap, sym}
-use Rattle.std.proofs.Common.{subst, ◌∙◌, cond}
-use Rattle.coap_types.specs.Bytes.{AreBytes}
+use Rattle.std.proofs.Common.{◌≡◌, ◌⊎◌, ◌≤◌, inl, inr, ℕ, ◌+◌, true, Option, Some, None, List, [], ◌∷◌, ◌++◌, map, refl}
+use Rattle.std.proofs.Common.{ap, sym, subst, ◌∙◌, cond}
 use Rattle.coap_types.specs.Past.{Ever, Sometime, Always}
 use Rattle.coap_types.specs.declared.transmission.TheConstants.{MAX_LATENCY_MS as max_latency}
 use Rattle.coap_types.proofs.Facts.Traces.{by_law, Ever_map, Ever_of_Sometime}
@@ -30,8 +29,7 @@ use Rattle.coap_world.specs.Events.{client_end, server_end, Config}
 use Rattle.coap_world.specs.Hops.{hops_in, across, client_adds}
 use Rattle.coap_world.specs.Record.{Entry, OfClient, client_of, server_trace}
 use Rattle.coap_world.proofs.Delivery.ChannelAcross.{near_across, channel_across}
-use Rattle.coap_world.proofs.Delivery.HopsAreEntries.{near_far, far_near}
-use Rattle.coap_world.proofs.Delivery.HopsAreEntries.{far_is}
+use Rattle.coap_world.proofs.Delivery.HopsAreEntries.{near_far, far_near, far_is}
 use Rattle.coap_world.proofs.Requests.OfACall.{Lawful}
 use Rattle.coap_world.proofs.Observations.Positions.{across_near, located}
 use Rattle.coap_world.proofs.Observations.ToldThen.{told_in_non}
@@ -41,7 +39,6 @@ pub record ConHeard (m : Message) (at : ℕ) (adds : List T.Entry) (hs : List Ho
   pub con : Open
   pub begun_before : Ever (λ b. begun b ≡ Some con) (near_of hs)
   pub to_is : con.to ≡ client_end
-  pub are : AreBytes con.bytes
   pub spells : Spells con.bytes m
   pub up : Ever (HandsUpAs server_end con) adds
   pub from : con.first ≤ at
@@ -50,13 +47,11 @@ pub record ConHeard (m : Message) (at : ℕ) (adds : List T.Entry) (hs : List Ho
 
 pub record NonHeard (m : Message) (at : ℕ) (hs : List Hop) : Type 0 where
   pub bytes : List ℕ
-  pub are : AreBytes bytes
   pub spells : Spells bytes m
   pub sent : Ever (PlainSent client_end bytes at) (near_of hs)
 
 pub record AckHeard (m : Message) (hs : List Hop) : Type 0 where
   pub bytes : List ℕ
-  pub are : AreBytes bytes
   pub spells : Spells bytes m
   pub given : Ever (λ e. e.call ≡ T.Reply client_end m.id bytes) (far_of hs)
 
@@ -85,7 +80,6 @@ module _ (one other : Setup) (m : Message) where
           con = k.con;
           begun_before = k.begun_before;
           to_is = k.to_is;
-          are = k.are;
           spells = k.spells;
           up = inr k.up;
           from = k.from;
@@ -99,7 +93,6 @@ module _ (one other : Setup) (m : Message) where
           con = b.con;
           begun_before = subst (Ever (λ e. begun e ≡ Some b.con)) (near_far adds hs) b.begun;
           to_is = b.to_is;
-          are = subst AreBytes (sym b.bytes_are) by.are_bytes;
           spells = subst (λ z. Spells z m) (sym b.bytes_are) by.spells;
           up = inl (record {
             message = incoming past x law h.hears kept;
@@ -125,7 +118,6 @@ module _ (one other : Setup) (m : Message) where
         kind in
         record {
           bytes = by.bytes;
-          are = by.are_bytes;
           spells = by.spells;
           sent = subst (λ n. Ever (PlainSent client_end by.bytes n) (near_of hs)) h.at_is
               (subst (Ever (PlainSent client_end by.bytes x.at)) (near_far adds hs) sent);
@@ -158,7 +150,6 @@ module _ (one other : Setup) (m : Message) where
         (far_ever (λ b. b.call ≡ T.Reply client_end a.0.id a.3.bytes) past there) in
         record {
           bytes = c.bytes;
-          are = c.are_bytes;
           spells = c.spells;
           given = subst (λ z. Ever (λ b. b.call ≡ T.Reply client_end m.id z) (far_of hs)) (sym bytes)
               (subst (λ z. Ever (λ b. b.call ≡ T.Reply client_end z a.3.bytes) (far_of hs)) a.2 given);
@@ -231,7 +222,7 @@ module _ (config : Config) where
           told = by_law (TellsSent config.limits config.server_szx config.server_setup) (Added P) (TellsCon k.con m)
               (λ p b l h. (
                 subst (λ z. TellsIn config.limits config.server_szx (InCon k.con.id) z m p b) k.to_is
-                    (l.0.begun_now k.con m h k.are k.spells note),
+                    (l.0.begun_now k.con m h k.spells note),
                 h,
               )) (trace past) told there;
           from = k.from;
@@ -246,7 +237,7 @@ module _ (config : Config) where
         let there = located config.limits config.server_szx config.server_setup P (trace past)
         (subst (Ever P) (far_is config past) k.given) in
         by_law (TellsSent config.limits config.server_szx config.server_setup) (Added P) (TellsAck m)
-        (λ p b l h. l.0.replied client_end k.bytes m h k.are k.spells note) (trace past) told there
+        (λ p b l h. l.0.replied client_end k.bytes m h k.spells note) (trace past) told there
 
     -- in a NON, which the server's layer sent in that call, at most MAX_LATENCY before
     pub non_sent : m.kind ≡ Non → (k : NonHeard m at (across (hops_in config past)))
@@ -269,7 +260,7 @@ module _ (config : Config) where
         (λ p b l h.
         elim (l.0.plain client_end k.bytes m
         (Ever_map P (λ e. PlainOut e (record { to = client_end; bytes = k.bytes })) (λ e z. z.goes)
-        (call_adds config.limits config.server_szx config.server_setup p b) h) k.are k.spells note) [
+        (call_adds config.limits config.server_szx config.server_setup p b) h) k.spells note) [
           | inl z ↦ inl z.1
           | inr z ↦ (let then = told_in_non config p b z.told client_end k.bytes at z.here h in
               inr (record { tells = z; from = then.0; till = then.1 }))

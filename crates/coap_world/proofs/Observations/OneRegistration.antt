@@ -1,7 +1,5 @@
 -- While an observation isn't cancelled, the server serves one request under its token.
-use Rattle.std.proofs.Common.{◌≡◌, ◌≤◌, ◌⊎◌, inl, inr, ℕ, Some, List, [], ◌∷◌, map, refl, ap, sym, subst, ◌∙◌}
-use Rattle.std.proofs.Common.{arith}
-use Rattle.coap_types.specs.Bytes.{AreBytes}
+use Rattle.std.proofs.Common.{◌≡◌, ◌≤◌, ◌⊎◌, inl, inr, ℕ, Some, List, [], ◌∷◌, map, refl, ap, sym, subst, ◌∙◌, arith}
 use Rattle.coap_types.specs.Past.{Ever, Sometime, Always}
 use Rattle.coap_codec.specs.Message.{Message, Spells}
 use Rattle.coap_layer.specs.Channel.{near_of}
@@ -27,8 +25,8 @@ use Rattle.coap_server.specs.Follows.Told.{ServesNon, ServesPair}
 use Rattle.coap_world.specs.CameFrom.{request_of}
 use Rattle.coap_world.specs.Events.{client_end, server_end, Config}
 use Rattle.coap_world.specs.Hops.{hops_at, hops_in}
-use Rattle.coap_world.specs.Record.{Entry, OfClient, OfServer, client_of, server_trace}
-use Rattle.coap_world.specs.Record.{Setting, DelayOf, PlainOf, gives_it, settings}
+use Rattle.coap_world.specs.Record.{Entry, OfClient, OfServer, client_of, server_trace, Setting, DelayOf, PlainOf}
+use Rattle.coap_world.specs.Record.{gives_it, settings}
 use Rattle.coap_world.proofs.Requests.HandedUpOnce.{OneConBy, up_once, once_counted}
 use Rattle.coap_world.proofs.Delivery.HopsAreEntries.{near_is, far_is}
 use Rattle.coap_world.proofs.Requests.CameFrom.{same_request}
@@ -87,11 +85,11 @@ module _ (config : Config) (all : List Entry) (whole : Lawful config all) (numbe
           let n : d.number ≡ number = cc r in
           absurd (none (record { sending = x; sent = there; cancels = d.cancels ∙ ap (λ z. Cancelling z) n }))
 
-  not_ended : (con other : Open) (m : Message) → AreBytes con.bytes → Spells con.bytes m → con.id ≡ m.id
+  not_ended : (con other : Open) (m : Message) → Spells con.bytes m → con.id ≡ m.id
       → m.token ≡ token → Ends server_end config.client_sizes (client_of all) con other → ⊥
-  not_ended con other m are spells id here e =
+  not_ended con other m spells id here e =
       let same = is_first e.first e.first_sent (sym
-      (ap (λ (z : Message). z.token) (same_request con m e.first e.begins are spells id)) ∙ here) in
+      (ap (λ (z : Message). z.token) (same_request con m e.first e.begins spells id)) ∙ here) in
       let r : Registering e.deregisters.number e.deregisters.path
       ≡ Registering number path = sym e.deregisters.registers
       ∙ (ap (λ (z : Sending). z.operation) same ∙ registers) in
@@ -103,17 +101,17 @@ module _ (config : Config) (all : List Entry) (whole : Lawful config all) (numbe
       })
 
   one_con : OneConBy token (near_of (hops_in config all))
-  one_con a b i j x y ab bb sa sb ia ib ta tb =
+  one_con a b i j x y sa sb ia ib ta tb =
       let near = near_is config all in
       by (client_facts.one_con server_end config.client_sizes config.client_setup (client_of all) whole.client a b
-      (subst (Ever (λ e. begun e ≡ Some a)) near i) (subst (Ever (λ e. begun e ≡ Some b)) near j) x y ab bb sa sb
+      (subst (Ever (λ e. begun e ≡ Some a)) near i) (subst (Ever (λ e. begun e ≡ Some b)) near j) x y sa sb
       (ta ∙ sym tb))
     where
       by : (a ≡ b) ⊎ (Ends server_end config.client_sizes (client_of all) a b
           ⊎ Ends server_end config.client_sizes (client_of all) b a) → a ≡ b
       by (inl same) = same
-      by (inr (inl e)) = absurd (not_ended a b x ab sa ia ta e)
-      by (inr (inr e)) = absurd (not_ended b a y bb sb ib tb e)
+      by (inr (inl e)) = absurd (not_ended a b x sa ia ta e)
+      by (inr (inr e)) = absurd (not_ended b a y sb ib tb e)
 
   abbrev pub pair : Pair
   pair = record { to = client_end; token = token }
@@ -146,7 +144,6 @@ module _ (config : Config) (all : List Entry) (whole : Lawful config all) (numbe
   record Known (x : Serving) : Type 0 where
     con : Open
     begun_there : Ever (λ b. begun b ≡ Some con) (near_of (hops_in config all))
-    are_bytes : AreBytes con.bytes
     spells : Spells con.bytes (request_of con.id first)
     asked : x.asked ≡ asked_of client_end (request_of con.id first)
 
@@ -161,7 +158,6 @@ module _ (config : Config) (all : List Entry) (whole : Lawful config all) (numbe
       record {
         con = t.came.con;
         begun_there = later.1 t.came.con t.begun_before;
-        are_bytes = t.came.are_bytes;
         spells = subst (λ z. Spells t.came.con.bytes (request_of t.came.con.id z)) same t.came.spells;
         asked = t.came.asked ∙ ap (λ z. asked_of client_end (request_of t.came.con.id z)) same;
       }
@@ -169,7 +165,7 @@ module _ (config : Config) (all : List Entry) (whole : Lawful config all) (numbe
   same_asked_by : (x y : Serving) → Known x → Known y → x.asked ≡ y.asked
   same_asked_by x y k l =
       let c : k.con ≡ l.con = one_con k.con l.con k.begun_there l.begun_there (request_of k.con.id first)
-      (request_of l.con.id first) k.are_bytes l.are_bytes k.spells l.spells refl refl token_is token_is in
+      (request_of l.con.id first) k.spells l.spells refl refl token_is token_is in
       k.asked ∙ (ap (λ (z : Open). asked_of client_end (request_of z.id first)) c ∙ sym l.asked)
 
   abbrev own : List Entry → S.Own
@@ -217,8 +213,8 @@ module _ (config : Config) (all : List Entry) (whole : Lawful config all) (numbe
       let fewer = (server_facts.served config.limits config.server_szx config.server_setup t law.server).0 x a.here in
       let counted = (server_facts.counts config.limits config.server_szx config.server_setup t law.server).0 x.asked in
       let its : x.asked.token ≡ token = a.under in
-      let cons : OneConBy x.asked.token (near_of (hops_in config (e ∷ past))) = λ p q i j m n pb qb pm qn pi qi tp tq.
-      one_con p q (later.1 p i) (later.1 q j) m n pb qb pm qn pi qi (tp ∙ its) (tq ∙ its)
+      let cons : OneConBy x.asked.token (near_of (hops_in config (e ∷ past))) = λ p q i j m n pm qn pi qi tp tq.
+      one_con p q (later.1 p i) (later.1 q j) m n pm qn pi qi (tp ∙ its) (tq ∙ its)
       in
       let nons = subst NoNons (sym (near_is config (e ∷ past)))
       (client_facts.nons server_end config.client_sizes config.client_setup (client_of past)) in

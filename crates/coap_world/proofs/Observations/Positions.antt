@@ -13,8 +13,7 @@ use Rattle.coap_server.specs.Follows.Adds.{call_adds}
 use Rattle.coap_server.proofs.Facts.EachCall.{layer_next}
 use Rattle.coap_world.specs.Events.{Config}
 use Rattle.coap_world.specs.Hops.{across}
-use Rattle.coap_world.specs.Record.{Entry, OfClient, OfServer, client_of, server_trace}
-use Rattle.coap_world.specs.Record.{Setting, gives_it, settings}
+use Rattle.coap_world.specs.Record.{Entry, OfClient, OfServer, client_of, server_trace, Setting, gives_it, settings}
 
 module _ {E : Type 0} where
   -- at one entry both, or one of them behind the other

@@ -5,13 +5,12 @@ use Rattle.coap_resource.specs.Content.{Held}
 use Rattle.coap_resource.specs.Serves.{Question, Reply}
 use Rattle.coap_exchange.specs.declared.answerer.Asked.{Asked}
 use Rattle.coap_exchange.specs.declared.answerer.Due.TheVariants as due
-use Rattle.coap_server.specs.Follows.Tells.{InCon, InReply, Telling, Way, answer_tells, telling, telling_of, tells, tells_if}
-use Rattle.coap_server.specs.Follows.Tells.{way_of}
+use Rattle.coap_server.specs.Follows.Tells.{InCon, InReply, Telling, Way, answer_tells, telling, telling_of, tells}
+use Rattle.coap_server.specs.Follows.Tells.{tells_if, way_of}
 use Rattle.coap_server.specs.Handling.{incoming, ticking, heard}
 use Rattle.coap_server.specs.Observers.{registers}
 use Rattle.coap_server.specs.Plain.{by_plain}
-use Rattle.coap_server.specs.Trace.{Own, Serves, Notifies, Call}
-use Rattle.coap_server.specs.Trace.{Feeds, Ticks}
+use Rattle.coap_server.specs.Trace.{Own, Serves, Notifies, Call, Feeds, Ticks}
 
 answers_by : (s : Own) (a : Asked) (q : Question) (way : Way) (b : Bool) (x : Telling)
     → tells_if b s.clock s.store a q way ≡ Some x → x.registers ≡ true

@@ -39,8 +39,7 @@ use Rattle.coap_world.proofs.Observations.Positions.{behind, client_entries}
 use Rattle.coap_world.proofs.Observations.ToldThen.{told_in_con}
 use Rattle.coap_world.proofs.Observations.TagOfAValue.{tag_of_first, shown_of, newest_number, one_registration}
 use Rattle.coap_world.proofs.Observations.Taken.{sizes, HeardTold, in_con, in_ack, in_non, non_here, not_earlier}
-use Rattle.coap_world.proofs.Observations.Taken.{TakenTold}
-use Rattle.coap_world.proofs.Observations.Taken.{formats_back, taken_here, taken_told}
+use Rattle.coap_world.proofs.Observations.Taken.{TakenTold, formats_back, taken_here, taken_told}
 use Rattle.coap_world.proofs.Reports.FormatsSet.{FormatsIn}
 use Rattle.coap_world.proofs.Requests.OfACall.{Lawful, lawful_back}
 

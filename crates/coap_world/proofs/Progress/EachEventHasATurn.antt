@@ -4,7 +4,6 @@ use Rattle.std.proofs.Common.{length, length-append, refl, ap, sym}
 use Rattle.std.proofs.Common.{subst, ◌∙◌, append_assoc, cond, arith}
 use Rattle.coap_types.specs.Path.{same_path}
 use Rattle.coap_types.specs.declared.endpoint.Endpoint.{Endpoint}
-use Rattle.coap_types.specs.Bytes.{AreBytes}
 use Rattle.std.proofs.lemmas.Bool.{lt-ltb}
 use Rattle.coap_layer.specs.Machine.State as layer
 use Rattle.coap_client.specs.Trace as C
@@ -27,7 +26,6 @@ use Rattle.coap_world.specs.LegalEvents.{MayHappen}
 use Rattle.coap_world.specs.Record.{Entry, OfClient, OfServer, Turn, entries_of, client_of, server_of, begun_with}
 use Rattle.coap_world.specs.Record.{server_trace, OnClient, OnServer, DelayOf, PlainOf, gives_it}
 use Rattle.coap_world.specs.Record.{IsOne, AreTicks, FeedsClient, FeedsServer, Makes, ClientTick, ServerTick, RecordOf}
-use Rattle.coap_world.proofs.Progress.GivenOutIsBytes.{given_are}
 use Rattle.coap_world.proofs.Delivery.OneEndATurn.{client_client, client_server, server_server, server_client}
 use Rattle.coap_world.proofs.Recording.PlainPaths.{few_plain, may_be}
 
@@ -124,20 +122,20 @@ module _ (config : Config) (events : List Event) (turns : List Turn) (run : Reco
       (sym (ap (λ xs. xs ++ begun_with config) (server_server list all) ∙ same)) outs.1)
 
   -- a datagram
-  to_client : (what : What) → MayHappen turns (event what) → (from : Endpoint) (bytes : List ℕ) → AreBytes bytes
+  to_client : (what : What) → MayHappen turns (event what) → (from : Endpoint) (bytes : List ℕ)
       → ((calls : List C.Call) (entries : List Entry) → IsOne (FeedsClient at word from bytes) false calls
       → OnClient calls entries → Makes turns at word what false entries) → Follows config events turns (event what)
-  to_client what may from bytes are makes =
-      let k = client_goes_on.feeds at from bytes word are in
+  to_client what may from bytes makes =
+      let k = client_goes_on.feeds at from bytes word in
       let call : C.Call = C.Feeds at from bytes word k.0 k.1 k.2 k.3 k.4 k.5 in
       of_client what may (call ∷ []) k.6 (λ entries on. makes (call ∷ []) entries
       (call, (k.0, k.1, k.2, k.3, k.4, k.5, refl), refl) on)
 
-  to_server : (what : What) → MayHappen turns (event what) → (from : Endpoint) (bytes : List ℕ) → AreBytes bytes
+  to_server : (what : What) → MayHappen turns (event what) → (from : Endpoint) (bytes : List ℕ)
       → ((calls : List S.Call) (entries : List Entry) → IsOne (FeedsServer at word from bytes) false calls
       → OnServer calls entries → Makes turns at word what false entries) → Follows config events turns (event what)
-  to_server what may from bytes are makes =
-      let k = server_goes_on.feeds at from bytes word are in
+  to_server what may from bytes makes =
+      let k = server_goes_on.feeds at from bytes word in
       let call : S.Call = S.Feeds at from bytes word k.0 k.1 k.2 k.3 in
       of_server what may (call ∷ []) k.4 (λ entries on. makes (call ∷ []) entries
       (call, (k.0, k.1, k.2, k.3, refl), refl) on)
@@ -177,18 +175,17 @@ module _ (config : Config) (events : List Event) (turns : List Turn) (run : Reco
   by_what TickServer may =
       let k = (server_facts.rests config.limits config.server_szx config.server_setup servers run.server).ticks at word in
       of_server TickServer may k.0 k.2 (λ entries on. (k.0, are_ticks (ServerTick at word) k.0 k.1, on))
-  by_what (StrangerToClient from bytes) may = to_client (StrangerToClient from bytes) may from bytes may.range.1
+  by_what (StrangerToClient from bytes) may = to_client (StrangerToClient from bytes) may from bytes
       (λ calls entries one on. (calls, one, on))
-  by_what (StrangerToServer from bytes) may = to_server (StrangerToServer from bytes) may from bytes may.range.1
+  by_what (StrangerToServer from bytes) may = to_server (StrangerToServer from bytes) may from bytes
       (λ calls entries one on. (calls, one, on))
   by_what (Deliver number) may =
       let g = may.comes.0 in
       let is = may.comes.1 in
-      let are = given_are config events turns run (record { range = range; events = legal }) g number is in
       elim may.comes.2 as (λ u. Follows config events turns (event (Deliver number))) [
-        | inl to ↦ to_client (Deliver number) may g.from g.packet.bytes are
+        | inl to ↦ to_client (Deliver number) may g.from g.packet.bytes
             (λ calls entries one on. (g, is, inr (to, calls, one, on)))
-        | inr to ↦ to_server (Deliver number) may g.from g.packet.bytes are
+        | inr to ↦ to_server (Deliver number) may g.from g.packet.bytes
             (λ calls entries one on. (g, is, inl (to, calls, one, on)))
       ]
 

@@ -1,6 +1,6 @@
 -- One call of the client, and what leads to it then: what it sent under each token is noted.
-use Rattle.std.proofs.Common.{◌≡◌, ℕ, Bool, true, false, cond, Option, Some, None, List, [], ◌∷◌, ◌++◌, refl}
-use Rattle.std.proofs.Common.{sym, ap, subst, ◌∙◌, Result, Ok, Err}
+use Rattle.std.proofs.Common.{◌≡◌, ℕ, Bool, true, false, cond, Option, Some, None, List, [], ◌∷◌, ◌++◌, refl, sym, ap}
+use Rattle.std.proofs.Common.{subst, ◌∙◌, Result, Ok, Err}
 use Rattle.std.specs.BTreeMap.{is_at}
 use Rattle.std.specs.Cmp.Lexicographic.{slice_cmp, texts_ties}
 use Rattle.std.specs.Option.{option_map}
@@ -14,7 +14,7 @@ use Rattle.coap_exchange.specs.declared.asker.AskRefusal.{AskRefusal}
 use Rattle.coap_client.specs.declared.refusals.CallRefusal.{CallRefusal}
 use Rattle.coap_client.specs.declared.refusals.CancelRefusal.{CancelRefusal}
 use Rattle.coap_client.specs.Deeds.{effect}
-use Rattle.coap_client.specs.Effects.{Deed, Rests, Asks, Keeps, Releases, Effect}
+use Rattle.coap_client.specs.Effects.{Deed, Asks, Effect}
 use Rattle.coap_client.specs.Law.{own_of}
 use Rattle.coap_client.specs.Own.{Own}
 use Rattle.coap_client.specs.Led as client
@@ -39,9 +39,7 @@ asked_so : (e : Effect) (d : Deed) (token : Result (List ℕ) AskRefusal)
     → requested d token ≡ sent_as (sent_by e d token)
 asked_so e (Asks op) (Ok token) = refl
 asked_so e (Asks op) (Err why) = refl
-asked_so e Rests token = refl
-asked_so e (Keeps t) token = refl
-asked_so e (Releases t) token = refl
+asked_so e _ token = refl
 
 -- a datagram or a tick
 abbrev pub IsInput : C.Call → Type 0

@@ -12,8 +12,7 @@ use Rattle.coap_block.specs.Sizes.{Sizes}
 use Rattle.coap_client.specs.Follows.Begins.{WasSent}
 use Rattle.coap_client.specs.Law.{own_of}
 use Rattle.coap_client.specs.Follows.Order.{call_of}
-use Rattle.coap_client.specs.Own.{Operation, Calling}
-use Rattle.coap_client.specs.Own.{operation_number}
+use Rattle.coap_client.specs.Own.{Operation, Calling, operation_number}
 use Rattle.coap_client.specs.Follows.Tokens.{Deregisters}
 use Rattle.coap_client.specs.Trace as C
 use Rattle.coap_client.specs.Follows.Words.{Sending, sends}

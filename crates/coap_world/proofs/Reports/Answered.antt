@@ -10,25 +10,23 @@ use Rattle.coap_codec.proofs.Facts.EveryDatagram.{one_message}
 use Rattle.coap_layer.specs.Trace as T
 use Rattle.coap_layer.specs.Trace.{with_head}
 use Rattle.coap_layer.proofs.Facts.Hops.{far_ever}
-use Rattle.coap_observe.specs.Observers.{Observer}
 use Rattle.coap_exchange.specs.AnswererSteps.{content_with}
 use Rattle.coap_exchange.specs.AnswererTrace as R
 use Rattle.coap_client.specs.Follows.Hears.{Hears}
 use Rattle.coap_client.specs.Trace as C
 use Rattle.coap_client.specs.Follows.Words.{hears}
 use Rattle.coap_server.specs.Follows.Gives.{Carries, IsEmpty, CarriesResponse}
-use Rattle.coap_server.specs.Follows.Observes.{WasMade}
 use Rattle.coap_client.proofs.Facts.Laws as client_facts
 use Rattle.coap_server.proofs.Facts.Laws as server_facts
-use Rattle.coap_world.specs.Answers.{IsResponse, replies, continues, refuses, notifies, AnswersAt}
-use Rattle.coap_world.specs.Answers.{AllAnswered}
+use Rattle.coap_world.specs.Answers.{IsResponse, replies, continues, refuses, notifies, AnswersAt, AllAnswered}
 use Rattle.coap_world.specs.Events.{client_end, server_end, Config}
 use Rattle.coap_world.specs.Hops.{hops_in, client_adds}
-use Rattle.coap_world.specs.Record.{Entry, OfClient, OfServer, client_of, server_trace}
-use Rattle.coap_world.specs.Record.{Setting, DelayOf, PlainOf, gives_it, settings}
+use Rattle.coap_world.specs.Record.{Entry, OfClient, OfServer, client_of, server_trace, Setting, DelayOf, PlainOf}
+use Rattle.coap_world.specs.Record.{gives_it, settings}
 use Rattle.coap_world.proofs.Reports.HeardWasSent.{Reads, SendsTo, was_given}
 use Rattle.coap_world.proofs.Delivery.HopsAreEntries.{client_layer, client_next, near_is, far_is}
 use Rattle.coap_world.proofs.Requests.OfACall.{Lawful, lawful_back}
+use Rattle.coap_world.proofs.Reports.BegunWith.{none_made}
 
 module _ (config : Config) where
   -- the response that a datagram carries was made here
@@ -36,12 +34,6 @@ module _ (config : Config) where
   CarriesAt p past (OfClient c) = ⊥
   CarriesAt p past (OfServer c) = CarriesResponse config.limits config.server_szx config.server_setup p
       (server_trace config past) c
-
-  none_made : (o : Observer) (ss : List Setting) → WasMade config.limits config.server_szx (map gives_it ss) o → ⊥
-  none_made o [] h = h
-  none_made o (s ∷ ss) (inr h) = none_made o ss h
-  none_made o (DelayOf d ∷ ss) (inl h) = let here = h.made.here in cc here
-  none_made o (PlainOf p ∷ ss) (inl h) = let here = h.made.here in cc here
 
   none_begun : (p : T.Packet) (ss : List Setting)
       → Sometime (λ past c. CarriesResponse config.limits config.server_szx config.server_setup p past c) (map gives_it ss)
@@ -54,7 +46,7 @@ module _ (config : Config) where
   none_begun p (PlainOf q ∷ ss) (inl (inl k)) = let here = k.here in cc here
   none_begun p (PlainOf q ∷ ss) (inl (inr (inl k))) = let here = k.taken in cc here
   none_begun p (PlainOf q ∷ ss) (inl (inr (inr (inl k)))) = let here = k.handed in cc here
-  none_begun p (s ∷ ss) (inl (inr (inr (inr k)))) = none_made k.observer ss k.made
+  none_begun p (s ∷ ss) (inl (inr (inr (inr k)))) = none_made config k.observer ss k.made
 
   in_entries : (p : T.Packet) (all : List Entry)
       → Sometime (λ past c. CarriesResponse config.limits config.server_szx config.server_setup p past c)
@@ -70,7 +62,7 @@ module _ (config : Config) where
         → IsResponse m there token r
     response there token r k =
         let is : m ≡ with_head k.kind k.id (content_with token r) =
-        one_message p.bytes m (with_head k.kind k.id (content_with token r)) reads.are_bytes reads.spells k.spells
+        one_message p.bytes m (with_head k.kind k.id (content_with token r)) reads.spells k.spells
         in
         record {
           to_client = sym k.there ∙ to;
@@ -99,7 +91,7 @@ module _ (config : Config) where
 
     not_empty : IsEmpty p → ⊥
     not_empty k =
-        let is : m ≡ k.0 = one_message p.bytes m k.0 reads.are_bytes reads.spells k.1 in
+        let is : m ≡ k.0 = one_message p.bytes m k.0 reads.spells k.1 in
         let none : role_of m.code ≡ role.Empty = ap role_of (ap (λ (y : Message). y.code) is ∙ k.2) in
         cc (none, reads.role)
 

@@ -50,7 +50,7 @@ module _ (config : Config) (number : ℕ) (all : List Entry) (small : config.cli
         let s : o.sending ≡ p.sending = same_sending a v o i ∙ sym (same_sending b w p j) in
         let c : o.con ≡ p.con =
         one_con config number all small whole in_range k sent of o.con p.con o.begun_there p.begun_there
-        (request_of o.con.id o.sending) (request_of p.con.id p.sending) o.are_bytes p.are_bytes o.spells p.spells
+        (request_of o.con.id o.sending) (request_of p.con.id p.sending) o.spells p.spells
         refl refl
         (ap (λ (z : Sending). z.token) (same_sending a v o i)) (ap (λ (z : Sending). z.token) (same_sending b w p j))
         in
@@ -71,8 +71,8 @@ module _ (config : Config) (number : ℕ) (all : List Entry) (small : config.cli
     handed_few a from token =
         let t : List S.Call = server_trace config all in
         let cons : OneConBy a.token (near_of (hops_in config all)) =
-        λ p q i j m n pb qb pm qn pi qi tp tq. one_con config number all small whole in_range k sent of p q i j m n
-        pb qb pm qn pi qi (tp ∙ token) (tq ∙ token) in
+        λ p q i j m n pm qn pi qi tp tq. one_con config number all small whole in_range k sent of p q i j m n
+        pm qn pi qi (tp ∙ token) (tq ∙ token) in
         let nons = subst NoNons (sym (near_is config all))
         (client_facts.nons server_end config.client_sizes config.client_setup (client_of all)) in
         let few = once_counted a (hops_in config all)

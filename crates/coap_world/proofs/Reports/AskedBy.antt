@@ -1,6 +1,5 @@
 -- Which request of the client it is that is served, or that registered an observer, and what it asks.
-use Rattle.std.proofs.Common.{◌≡◌, ◌≤◌, inl, inr, ℕ, min, Option, Some, None, List, [], ◌∷◌, map, ap, sym, subst}
-use Rattle.std.proofs.Common.{◌∙◌, arith}
+use Rattle.std.proofs.Common.{◌≡◌, ◌≤◌, inl, inr, ℕ, min, Option, Some, None, List, [], ◌∷◌, ap, sym, subst, ◌∙◌, arith}
 use Rattle.coap_types.specs.Recognised.{recognised}
 use Rattle.coap_types.specs.RequestPath.{path_of}
 use Rattle.coap_types.specs.declared.block.Block.{Block}
@@ -18,33 +17,31 @@ use Rattle.coap_server.specs.Follows.Observes.{WasMade}
 use Rattle.coap_server.specs.Follows.Reads.{ReadsOf}
 use Rattle.coap_server.specs.Follows.Serves.{Serving}
 use Rattle.coap_server.specs.Follows.Table.{HasNoFault, NoFaultIn}
-use Rattle.coap_server.specs.Checks.{Verdict, Ignored, Refused, Asks, Uploads}
+use Rattle.coap_server.specs.Checks.{Verdict, Asks, Uploads}
 use Rattle.coap_server.specs.Trace as S
 use Rattle.coap_server.proofs.Facts.Laws as server_facts
 use Rattle.coap_world.specs.CameFrom.{request_of}
 use Rattle.coap_world.specs.Events.{client_end, Config}
-use Rattle.coap_world.specs.Record.{Entry, OfClient, OfServer, client_of, server_trace}
-use Rattle.coap_world.specs.Record.{Setting, DelayOf, PlainOf, gives_it, settings}
+use Rattle.coap_world.specs.Record.{Entry, OfClient, OfServer, client_of, server_trace, settings}
 use Rattle.coap_world.specs.Words.{ServesAt}
 use Rattle.coap_world.proofs.Requests.LastRequests.{Final}
 use Rattle.coap_world.proofs.Requests.OfACall.{Lawful, lawful_back, final_of, options_asked}
 use Rattle.coap_world.proofs.Requests.Traced.{sent_later, traced, brought_in}
 use Rattle.coap_world.proofs.Reports.PathRead.{path_read}
+use Rattle.coap_world.proofs.Reports.BegunWith.{none_made}
 
 -- what is asked of the store has the server's block size
 szx_asked : (limits : Limits) (szx : ℕ) (past : List S.Call) (c : S.Call) (a : Asked) (q : Question) (m : Message) (v : Verdict)
     → AsksBy limits szx past c a q v → ReadsOf szx m v → q.szx ≡ szx
-szx_asked limits szx past c a q m Ignored h r = absurd h
-szx_asked limits szx past c a q m (Refused code) h r = absurd h
 szx_asked limits szx past c a q m (Asks p) h r = ap (λ (z : Question). z.szx) h ∙ ap (λ (z : Question). z.szx) r.0.is
 szx_asked limits szx past c a q m (Uploads p b) h r = ap (λ (z : Question). z.szx) h.question
     ∙ ap (λ (z : Question). z.szx) r.0.is
+szx_asked limits szx past c a q m _ h r = absurd h
 
 good_of : (m : Message) (v : Verdict) → NoFaultIn m v → Final v → HasNoFault m
-good_of m Ignored h final = absurd final
-good_of m (Refused code) h final = absurd final
 good_of m (Asks q) h final = h
 good_of m (Uploads q b) h final = h
+good_of m _ h final = absurd final
 
 min_least : (a b : ℕ) → min a b ≤ b
 min_least a b = omega arith
@@ -107,16 +104,9 @@ module _ (config : Config) where
     size = k.size;
   }
 
-  none_made : (o : Observer) (ss : List Setting)
-      → WasMade config.limits config.server_szx (map gives_it ss) o → ⊥
-  none_made o [] h = h
-  none_made o (s ∷ ss) (inr h) = none_made o ss h
-  none_made o (DelayOf d ∷ ss) (inl h) = let here = h.made.here in cc here
-  none_made o (PlainOf p ∷ ss) (inl h) = let here = h.made.here in cc here
-
   pub registered_by : (o : Observer) (w : List Entry) → Lawful config w → o.to ≡ client_end
       → WasMade config.limits config.server_szx (server_trace config w) o → RegisteredBy o w
-  registered_by o [] law to h = absurd (none_made o (settings config) h)
+  registered_by o [] law to h = absurd (none_made config o (settings config) h)
   registered_by o (OfClient c ∷ past) law to h =
       later o past (OfClient c) (registered_by o past (lawful_back config past (OfClient c) law) to h)
   registered_by o (OfServer c ∷ past) law to (inr h) =

@@ -1,16 +1,16 @@
 -- Where each exchange ends by an answer and each request is sent, what is reported of a call that is no GET is the code of
 -- a response that the server made to it.
-use Rattle.std.proofs.Common.{◌≡◌, ◌≢◌, ◌≤◌, ◌⊎◌, inl, inr, ℕ, nat_le, nat_lt, Bool, true, false, Some}
-use Rattle.std.proofs.Common.{List, [], ◌∷◌, length, refl, ap, sym, subst, ◌∙◌, cond, arith, Result, Ok, Err}
+use Rattle.std.proofs.Common.{◌≡◌, ◌≢◌, ◌≤◌, ◌⊎◌, inl, inr, ℕ, nat_le, nat_lt, Bool, true, false, Some, List, [], ◌∷◌}
+use Rattle.std.proofs.Common.{length, refl, ap, sym, subst, ◌∙◌, cond, arith, Result, Ok, Err}
 use Rattle.std.proofs.lemmas.Bool.Decides.{nat_tests}
 use Rattle.coap_types.specs.Past.{Always}
 use Rattle.coap_types.specs.declared.request.Method.{Method}
-use Rattle.coap_types.specs.declared.request.Method.TheVariants.{Get, Post, Put, Delete}
+use Rattle.coap_types.specs.declared.request.Method.TheVariants.{Get, Post, Put}
 use Rattle.coap_codec.specs.Message.{Message}
 use Rattle.coap_block.specs.Sizes.{Sizes}
 use Rattle.coap_block.specs.UploadStep.{UploadState}
 use Rattle.coap_client.specs.Follows.OfAnswers.{is_by_answer, IsBadFor, MayReport}
-use Rattle.coap_client.specs.Follows.OfCalls.{CarriesBody, IsOfCall}
+use Rattle.coap_client.specs.Follows.OfCalls.{CarriesBody}
 use Rattle.coap_client.specs.Follows.Taken.{AllTaken, next_number, waiting_in}
 use Rattle.coap_client.specs.Follows.Words.{Taken, WasTaken, takes}
 use Rattle.coap_client.specs.Own.{Transfer, Fetches, Uploads, Single, Calling}
@@ -98,10 +98,9 @@ module _ (m : Message) (tr : Transfer) (gets : (f : _) → tr ≡ Fetches f → 
 
 sends_small : (sizes : Sizes) (m : Method) (body : List ℕ) (u : UploadState) → m ≢ Get → CarriesBody sizes m body (Uploads u)
     → Rattle.coap_client.specs.Follows.OfCalls.SendsBody sizes body u
-sends_small sizes Get body u other h = absurd h
 sends_small sizes Post body u other h = h
 sends_small sizes Put body u other h = h
-sends_small sizes Delete body u other h = absurd h
+sends_small sizes _ body u other h = absurd h
 
 module _ (config : Config) (range : IsConfig config) (all : List Entry) (whole : Lawful config all)
     (in_range : (x : Taken) → WasTaken x (client_of all) → IsRequest x.request) where

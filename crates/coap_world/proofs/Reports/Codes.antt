@@ -9,8 +9,8 @@ use Rattle.coap_block.specs.Sizes.{Sizes}
 use Rattle.coap_block.specs.UploadStep.{UploadState, more_follows}
 use Rattle.coap_resource.specs.Content.{Content, Held, append_refusal, put_refusal}
 use Rattle.coap_resource.specs.Rate.{rate_refusal}
-use Rattle.coap_resource.specs.RequestOptions.{tag_of, precondition_fails, accepts, etag_names, block_of}
-use Rattle.coap_resource.specs.RequestOptions.{offset_by, szx_by}
+use Rattle.coap_resource.specs.RequestOptions.{tag_of, precondition_fails, accepts, etag_names, block_of, offset_by}
+use Rattle.coap_resource.specs.RequestOptions.{szx_by}
 use Rattle.coap_resource.specs.Serves.{Question, Reply}
 use Rattle.coap_resource.specs.Serves as R
 use Rattle.coap_resource.specs.declared.refusal.StoreRefusal.{StoreRefusal}
@@ -33,9 +33,7 @@ use Rattle.coap_client.specs.Follows.Codes.{Succeeds, Fails}
 -- the codes by which a request of a method is applied
 abbrev pub applied_by : Method → ℕ → Bool
 applied_by Get code = false
-applied_by Post code = is_success Post code
-applied_by Put code = is_success Put code
-applied_by Delete code = is_success Delete code
+applied_by method code = is_success method code
 
 -- what is reported
 
@@ -56,16 +54,14 @@ module _ (sizes : Sizes) (k : ℕ) (r : C.Request) (body : List ℕ) (code : ℕ
   of_upload : (method : Method) (u : UploadState) → CarriesBody sizes method body (Uploads u)
       → ((code == created) || (code == changed)) ≡ false → applied_by method code ≡ false
   of_upload Get u carries h = refl
-  of_upload Post u carries h = h
-  of_upload Put u carries h = h
   of_upload Delete u carries h = absurd carries
+  of_upload _ u carries h = h
 
   of_single : (method : Method) → CarriesBody sizes method body Single → (code == deleted) ≡ false
       → applied_by method code ≡ false
   of_single Get carries h = refl
-  of_single Post carries h = absurd carries
-  of_single Put carries h = absurd carries
   of_single Delete carries h = h
+  of_single _ carries h = absurd carries
 
   of_fetch : (method : Method) (f : _) → CarriesBody sizes method body (Fetches f) → applied_by method code ≡ false
   of_fetch Get f carries = refl
@@ -140,9 +136,7 @@ module _ (old : Content) (at : ℕ) (q : Question) (reply : Reply) (left : Conte
 
   failing : (method : Method) → Right method codes.PRECONDITION_FAILED.0
   failing Get = refl
-  failing Post = refl
-  failing Put = refl
-  failing Delete = refl
+  failing _ = refl
 
   unless_right : (b : Bool) → R.ServesUnless b old at q reply left → Right q.method reply.code
   unless_right true h =

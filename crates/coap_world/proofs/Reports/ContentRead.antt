@@ -1,7 +1,6 @@
 -- What a client reads from a 2.05 is what the server shows in it.
-use Rattle.std.proofs.Common.{◌≡◌, ◌<◌, ◌≤◌, ℕ, ◌/◌, ◌+◌, ◌^◌, ◌==◌, nat_lt, Bool, true, false, ◌&&◌, ◌||◌, Option, Some}
-use Rattle.std.proofs.Common.{None, is_some, List, length, refl, ap}
-use Rattle.std.proofs.Common.{sym, subst, ◌∙◌, cond, arith}
+use Rattle.std.proofs.Common.{◌≡◌, ◌<◌, ◌≤◌, ℕ, ◌/◌, ◌+◌, ◌^◌, ◌==◌, nat_lt, Bool, true, false, ◌&&◌, ◌||◌, Option}
+use Rattle.std.proofs.Common.{Some, None, is_some, List, length, refl, ap, sym, subst, ◌∙◌, cond, arith}
 use Rattle.std.specs.Prelude.{IfSome}
 use Rattle.std.specs.Option.{option_map}
 use Rattle.std.proofs.Math.Nat.{div-le_of_le-mul}
@@ -25,14 +24,13 @@ use Rattle.coap_resource.specs.RequestOptions.{tag_of, format_of}
 use Rattle.coap_resource.specs.ResponseOptions.{block_number}
 use Rattle.coap_resource.specs.ServedLaw.{IsPart}
 use Rattle.coap_resource.specs.Serves.{bare, content_reply, block2_of}
-use Rattle.coap_client.specs.Responses.{content, said, tag_in, format_in, is_notification, sequence_in}
+use Rattle.coap_client.specs.Responses.{content, said, tag_in, format_in, is_notification, sequence_in, block_at}
 use Rattle.coap_client.specs.Follows.Unchanged.{SaysBlock, SaysReply}
-use Rattle.coap_client.specs.Responses.{block_at}
 use Rattle.coap_server.specs.Observers.{sequence_if}
 use Rattle.coap_server.specs.Responses.{response_with}
 use Rattle.coap_world.proofs.Reports.ResponseRead.{written, all_read, sequence_read, format_read, block_read}
 use Rattle.coap_world.proofs.Reports.ResponseRead.{same_block}
-use Rattle.coap_world.proofs.Progress.BlocksInRange.{bit_small}
+use Rattle.coap_world.proofs.Reports.MoreBit.{bit_small}
 
 -- the payload is a part of the body: all of it without Block2, else the piece that Block2 says
 pub record IsPartOf (body : List ℕ) (m : Message) : Type 0 where

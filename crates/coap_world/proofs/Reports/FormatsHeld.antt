@@ -1,7 +1,6 @@
 -- What a server holds in a legal run has a format of 16 bits.
 use Rattle.std.proofs.Common.{◌≡◌, ◌<◌, ℕ, ◌==◌, max, nat_lt, Bool, true, false, Option, Some, None, List, [], ◌∷◌, map}
-use Rattle.std.proofs.Common.{length, refl, ap, sym, subst, cond}
-use Rattle.std.proofs.Common.{Result}
+use Rattle.std.proofs.Common.{length, refl, ap, sym, subst, cond, Result}
 use Rattle.std.specs.Prelude.{IfSome}
 use Rattle.std.proofs.lemmas.Bool.{ltb-true}
 use Rattle.coap_types.specs.Path.{same_path}
@@ -18,13 +17,12 @@ use Rattle.coap_resource.specs.declared.refusal.StoreRefusal.{StoreRefusal}
 use Rattle.coap_server.specs.Law.{own_of, ServerRows}
 use Rattle.coap_server.specs.Local.{SetsBy, RemovesBy}
 use Rattle.coap_server.specs.Trace as S
-use Rattle.coap_server.specs.Follows.Holds.{Does, Change, change_of, changed_by, change, held_then}
-use Rattle.coap_server.specs.Follows.Holds.{held_at}
+use Rattle.coap_server.specs.Follows.Holds.{Does, Change, change_of, changed_by, change, held_then, held_at}
 use Rattle.coap_server.specs.Follows.Serves.{Serving, serving}
 use Rattle.coap_server.proofs.Facts.Laws.{held_is, all_served}
 use Rattle.coap_world.specs.Events.{Config}
-use Rattle.coap_world.specs.Record.{Entry, OfClient, OfServer, server_trace}
-use Rattle.coap_world.specs.Record.{Setting, DelayOf, PlainOf, gives_it, settings}
+use Rattle.coap_world.specs.Record.{Entry, OfClient, OfServer, server_trace, Setting, DelayOf, PlainOf, gives_it}
+use Rattle.coap_world.specs.Record.{settings}
 use Rattle.coap_world.specs.Words.{last_at}
 use Rattle.coap_world.proofs.Requests.HoldsChanges.{Rows, rows_back}
 use Rattle.coap_world.proofs.Requests.ServedLeaves.{leaves}

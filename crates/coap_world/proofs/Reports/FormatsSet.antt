@@ -5,9 +5,7 @@ use Rattle.coap_types.specs.Past.{Always}
 use Rattle.coap_layer.specs.Trace.{Packet}
 use Rattle.coap_client.specs.Trace as C
 use Rattle.coap_server.specs.Trace as S
-use Rattle.coap_world.specs.Events.{What, Sets, Removes, TickServer}
-use Rattle.coap_world.specs.Events.{Deliver}
-use Rattle.coap_world.specs.Events.{StrangerToServer}
+use Rattle.coap_world.specs.Events.{What, Sets, Removes, TickServer, Deliver, StrangerToServer}
 use Rattle.coap_world.specs.Legal.{InRange, AllLegal}
 use Rattle.coap_world.specs.Record.{Entry, OfClient, OfServer, Turn, OnClient, OnServer, IsOne, AreTicks, Makes}
 use Rattle.coap_world.specs.Record.{ServerTick, entries_of}

@@ -9,8 +9,7 @@ use Rattle.coap_exchange.specs.AnswererFollows.{hits, same_asked}
 use Rattle.coap_exchange.proofs.Facts.ServerSide.{self_hits}
 use Rattle.coap_server.specs.Follows.Counts.{ups}
 use Rattle.coap_server.specs.Follows.HandedUpAsOften.{Counted}
-use Rattle.coap_server.specs.Follows.Serves.{Serving, serving, hands, asked_of, times_handed}
-use Rattle.coap_server.specs.Follows.Serves.{times_served, ServedOnce}
+use Rattle.coap_server.specs.Follows.Serves.{Serving, serving, hands, asked_of, times_handed, times_served, ServedOnce}
 use Rattle.coap_server.specs.Law.{own_of, layer_of}
 use Rattle.coap_server.specs.Trace.{Call}
 

@@ -4,11 +4,10 @@ use Rattle.coap_types.specs.Past.{Ever}
 use Rattle.coap_types.proofs.Facts.Traces.{Ever_map}
 use Rattle.coap_types.specs.Roles.{role_of}
 use Rattle.coap_types.specs.declared.endpoint.Endpoint.{Endpoint}
-use Rattle.coap_types.specs.declared.message.Kind.TheVariants.{Con, Non, Ack, Rst}
 use Rattle.coap_types.specs.declared.role.Role.TheVariants as role
-use Rattle.coap_types.specs.Bytes.{AreBytes}
 use Rattle.coap_codec.specs.Message.{Message, Spells}
-use Rattle.coap_layer.specs.Arrivals.{Arrival, Unreadable, Faulted, Whole, Shows}
+use Rattle.coap_types.specs.declared.message.Kind.TheVariants.{Con}
+use Rattle.coap_layer.specs.Arrivals.{Arrival, Faulted, Whole, Shows}
 use Rattle.coap_layer.specs.Channel.{Hop, Near, Far, near_of, OnFar, GaveOut, ChannelLaw}
 use Rattle.coap_layer.specs.Rows.{Stands, Row, Sorts, HandedAs, Arrives, rejects, drops, takes_ack, takes_reset}
 use Rattle.coap_layer.specs.Rows.{passes_reset, takes_answer, replays, hands_over}
@@ -20,16 +19,14 @@ use Rattle.coap_client.specs.Follows.Hears.{Hears}
 
 -- a response that is handed up is what the datagram spells
 pub record Reads (bytes : List ℕ) (m : Message) : Type 0 where
-  pub are_bytes : AreBytes bytes
   pub spells : Spells bytes m
   pub role : role_of m.code ≡ role.Response
 
 module _ (setup : Setup) (past : List T.Entry) (e : T.Entry) (from : Endpoint) (bytes : List ℕ) (m : Message)
-    (are : AreBytes bytes) (up : e.answer ≡ T.Becomes (T.Response m)) where
+    (up : e.answer ≡ T.Becomes (T.Response m)) where
   reads_this : (n : Message) → Spells bytes n → role_of n.code ≡ role.Response → e.answer ≡ T.Becomes (T.Response n)
       → Reads bytes m
   reads_this n s k is = let same : n ≡ m = cc (is, up) in record {
-    are_bytes = are;
     spells = subst (Spells bytes) same s;
     role = subst (λ (x : Message). role_of x.code ≡ role.Response) same k;
   }
@@ -50,18 +47,15 @@ module _ (setup : Setup) (past : List T.Entry) (e : T.Entry) (from : Endpoint) (
       go (inr (inr a)) = reads_this n s a.0 a.1
 
   arrived : (what : Arrival) → Shows bytes what → Arrives setup past e from what → Reads bytes m
-  arrived Unreadable s r = absurd (cc (r.0, up))
-  arrived (Faulted Con id) s r = absurd (cc (r.0, up))
-  arrived (Faulted Non id) s r = absurd (cc (r.0, up))
-  arrived (Faulted Ack id) s r = absurd (cc (r.0, up))
-  arrived (Faulted Rst id) s r = absurd (cc (r.0, up))
   arrived (Whole n) s r = sorted n s r
+  arrived (Faulted Con i) s r = absurd (cc (r.0, up))
+  arrived _ s r = absurd (cc (r.0, up))
 
 reads : (setup : Setup) (past : List T.Entry) (e : T.Entry) (from : Endpoint) (bytes : List ℕ) (m : Message)
     → Stands setup past e → e.call ≡ T.Receive from bytes → e.answer ≡ T.Becomes (T.Response m) → Reads bytes m
 reads setup past e from bytes m here call up =
     let row : Row setup past e (T.Receive from bytes) =
-    subst (Row setup past e) call here.row in arrived setup past e from bytes m row.0 up row.1.0 row.1.1 row.1.2
+    subst (Row setup past e) call here.row in arrived setup past e from bytes m up row.0 row.1 row.2
 
 -- the other layer sends these bytes there
 abbrev pub SendsTo : Endpoint → List ℕ → T.Entry → Type 0

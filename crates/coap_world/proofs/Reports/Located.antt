@@ -1,6 +1,5 @@
 -- Which request of the client it is that the server hands up, serves, or asks of its store.
 use Rattle.std.proofs.Common.{◌≡◌, ◌≤◌, inl, inr, ℕ, Some, List, [], ◌∷◌, ap, subst}
-use Rattle.coap_types.specs.Bytes.{AreBytes}
 use Rattle.coap_types.specs.MethodCode.{method_of}
 use Rattle.coap_types.specs.Past.{Sometime}
 use Rattle.coap_codec.specs.Message.{Message, Spells}
@@ -15,7 +14,7 @@ use Rattle.coap_server.specs.Follows.Reads.{ReadsOf}
 use Rattle.coap_server.specs.Follows.Serves.{Serving, hands}
 use Rattle.coap_server.specs.Follows.Takes.{Took, took, took_by, taken_by, takes_block}
 use Rattle.coap_block.specs.declared.block_verdict.BlockVerdict.{BlockVerdict}
-use Rattle.coap_block.specs.declared.block_verdict.BlockVerdict.TheVariants.{Refuse, Join, Done}
+use Rattle.coap_block.specs.declared.block_verdict.BlockVerdict.TheVariants.{Refuse}
 use Rattle.coap_block.specs.AssemblyState.{AssemblyState}
 use Rattle.coap_server.specs.Checks.{Verdict, Uploads, verdict_on}
 use Rattle.coap_server.specs.Handling.{incoming, heard}
@@ -35,8 +34,7 @@ use Rattle.coap_world.proofs.Requests.Traced.{sent_later, brought_in}
 
 ruled_asked : (v : BlockVerdict) (x y : Took) → took_by v x ≡ Some y → x.asked ≡ y.asked
 ruled_asked (Refuse why) x y h = absurd (cc h)
-ruled_asked (Join size) x y h = let e : x ≡ y = cc h in ap (λ (z : Took). z.asked) e
-ruled_asked Done x y h = let e : x ≡ y = cc h in ap (λ (z : Took). z.asked) e
+ruled_asked _ x y h = let e : x ≡ y = cc h in ap (λ (z : Took). z.asked) e
 
 taken_asked : (uploads : AssemblyState) (at : ℕ) (a : Asked) (v : Verdict) (y : Took) → taken_by uploads at a v ≡ Some y
     → a ≡ y.asked
@@ -74,7 +72,6 @@ module _ (config : Config) (number : ℕ) (all : List Entry) (small : config.cli
     pub con : Open
     pub sent : SentAll sending
     pub begun_there : Begun config number all small whole in_range con all
-    pub are_bytes : AreBytes con.bytes
     pub spells : Spells con.bytes (request_of con.id sending)
     pub asked : a ≡ asked_of client_end (request_of con.id sending)
     pub verdict : verdict_on config.server_szx (request_of con.id sending) ≡ v
@@ -88,7 +85,6 @@ module _ (config : Config) (number : ℕ) (all : List Entry) (small : config.cli
         con = k.con;
         sent = before.0 k.sending k.sent;
         begun_there = before.1 k.con k.begun_before;
-        are_bytes = k.are_bytes;
         spells = k.spells;
         asked = k.asked;
         verdict = k.verdict;
@@ -127,7 +123,6 @@ module _ (config : Config) (number : ℕ) (all : List Entry) (small : config.cli
           con = k.con;
           sent = later.0 k.sending k.sent;
           begun_there = (later_back config number all small whole in_range (OfServer c) w later).1 k.con k.begun_before;
-          are_bytes = k.are_bytes;
           spells = k.spells;
           asked = k.asked;
           verdict = k.verdict;

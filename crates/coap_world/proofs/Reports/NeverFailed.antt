@@ -1,6 +1,6 @@
 -- Where another response than a success is reported, no request of the call is applied, before or after.
-use Rattle.std.proofs.Common.{◌≡◌, ◌⊎◌, ◌≤◌, inl, inr, ℕ, max, Bool, true, false, ◌&&◌, Some, List, [], ◌∷◌}
-use Rattle.std.proofs.Common.{refl, ap, sym, subst, ◌∙◌}
+use Rattle.std.proofs.Common.{◌≡◌, ◌⊎◌, ◌≤◌, inl, inr, ℕ, max, Bool, true, false, ◌&&◌, Some, List, [], ◌∷◌, refl, ap}
+use Rattle.std.proofs.Common.{sym, subst, ◌∙◌}
 use Rattle.coap_types.specs.MethodCode.{method_code, method_of}
 use Rattle.coap_types.specs.Past.{Sometime}
 use Rattle.coap_types.specs.declared.request.Method.{Method}
@@ -21,7 +21,7 @@ use Rattle.coap_server.specs.Follows.Brings.{Comes}
 use Rattle.coap_server.specs.Follows.Gives.{refusal_by, refusal_of, refusal_in}
 use Rattle.coap_server.specs.Follows.Serves.{Serving, serving, hands, times_handed}
 use Rattle.coap_server.specs.Follows.Takes.{Took, took, took_by, taken_by, takes_block}
-use Rattle.coap_server.specs.Checks.{Verdict, Ignored, Refused, Asks, Uploads, verdict_on}
+use Rattle.coap_server.specs.Checks.{Verdict, Asks, Uploads, verdict_on}
 use Rattle.coap_server.specs.Law.{own_of}
 use Rattle.coap_server.specs.Observers.{is_get}
 use Rattle.coap_server.specs.Trace as S
@@ -55,8 +55,7 @@ use Rattle.coap_world.proofs.Reports.Unregistered.{NoneRegisters, none_made}
 
 ruled : (v : BlockVerdict) (x y : Took) (code : ℕ) → took_by v x ≡ Some y → refusal_by v ≡ Some code → ⊥
 ruled (ruling.Refuse why) x y code h k = cc h
-ruled (ruling.Join size) x y code h k = cc k
-ruled ruling.Done x y code h k = cc k
+ruled _ x y code h k = cc k
 
 judged : (uploads : AssemblyState) (at : ℕ) (a : Asked) (v : Verdict) (y : Took) (code : ℕ)
     → taken_by uploads at a v ≡ Some y → refusal_of uploads at a v ≡ Some code → ⊥
@@ -109,10 +108,9 @@ known_so P X (e ∷ past) (inr h) = known_so P X past h
 -- only a block is both refused without the store and asked of it
 uploads_it : (uploads : AssemblyState) (at : ℕ) (a : Asked) (code : ℕ) (v : Verdict) → Final v
     → refusal_of uploads at a v ≡ Some code → (q : Question) × (b : _) × (v ≡ Uploads q b)
-uploads_it uploads at a code Ignored final h = absurd final
-uploads_it uploads at a code (Refused n) final h = absurd final
 uploads_it uploads at a code (Asks q) final h = absurd (cc h)
 uploads_it uploads at a code (Uploads q b) final h = (q, b, refl)
+uploads_it uploads at a code _ final h = absurd final
 
 module _ (config : Config) (number : ℕ) (all : List Entry) (small : config.client_sizes.szx ≤ 6) (whole : Lawful config all)
     (in_range : (x : Taken) → WasTaken x (client_of all) → IsRequest x.request) where

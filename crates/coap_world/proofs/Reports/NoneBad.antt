@@ -1,8 +1,7 @@
 -- What the server answers to a block of a call is no bad block for the client: a 2.31 fits the block that was sent, and
 -- else it is an error or the answer to the last block (RFC 7959, section 2.5).
-use Rattle.std.proofs.Common.{◌≡◌, ◌≢◌, ◌≤◌, ◌<◌, inl, inr, ℕ, ◌+◌, ◌/◌, Bool, true, false, not}
-use Rattle.std.proofs.Common.{◌&&◌, ◌||◌, Option, Some, None, List, [], ◌∷◌, length, map, refl, ap, sym, subst, ◌∙◌}
-use Rattle.std.proofs.Common.{cond, arith}
+use Rattle.std.proofs.Common.{◌≡◌, ◌≢◌, ◌≤◌, ◌<◌, inl, inr, ℕ, ◌+◌, ◌/◌, Bool, true, false, not, ◌&&◌, ◌||◌, Option}
+use Rattle.std.proofs.Common.{Some, None, List, [], ◌∷◌, length, map, refl, ap, sym, subst, ◌∙◌, cond, arith}
 use Rattle.std.proofs.Math.Nat.{div-le_of_le-mul}
 use Rattle.std.proofs.lemmas.Bool.{ltb-true}
 use Rattle.coap_types.specs.BlockValue.{block_in, block_value}
@@ -28,7 +27,6 @@ use Rattle.coap_client.specs.Own.{Uploads, Calling}
 use Rattle.coap_client.specs.Responses.{block_at, said}
 use Rattle.coap_client.specs.Trace as C
 use Rattle.coap_client.proofs.Facts.Laws as client_facts
-use Rattle.coap_server.specs.Follows.Continues.{ContinuesFit}
 use Rattle.coap_server.specs.Follows.Serves.{Serving}
 use Rattle.coap_server.specs.Follows.Takes.{Took}
 use Rattle.coap_server.specs.Law.{own_of}

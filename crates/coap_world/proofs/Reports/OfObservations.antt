@@ -3,10 +3,9 @@ use Rattle.std.proofs.Common.{◌≡◌, ◌⊎◌, inl, inr, ℕ, Some, List, [
 use Rattle.coap_types.specs.RequestPath.{path_of}
 use Rattle.coap_block.specs.Sizes.{Sizes}
 use Rattle.coap_client.specs.Follows.Begins.{WasSent}
-use Rattle.coap_client.specs.Follows.OfObservations.{AsksFor, AreOfObservations}
-use Rattle.coap_client.specs.Follows.OfObservations.{observation_for}
+use Rattle.coap_client.specs.Follows.OfObservations.{AsksFor, AreOfObservations, observation_for}
 use Rattle.coap_client.specs.Follows.OfObservations as of
-use Rattle.coap_client.specs.Own.{Operation, Calling, Registering, Fetching, Cancelling, Dropped}
+use Rattle.coap_client.specs.Own.{Operation, Registering, Fetching, Cancelling}
 use Rattle.coap_client.specs.Follows.Tokens.{Deregisters}
 use Rattle.coap_client.specs.Trace as C
 use Rattle.coap_client.specs.Follows.Words.{Sending}
@@ -23,8 +22,7 @@ module _ (sizes : Sizes) (path : List (List ℕ)) (x : Sending) (past : List C.C
   asked_path (Registering n p) h = ap (λ r. path_of r.options) h.1 ∙ path_of_observe 0 path
   asked_path (Fetching n) h = ap (λ r. path_of r.options) h.1 ∙ path_of_fetch path (Some h.0)
   asked_path (Cancelling n) h = ap (λ r. path_of r.options) h.0 ∙ path_of_observe 1 path
-  asked_path (Calling n r t) h = absurd h
-  asked_path Dropped h = absurd h
+  asked_path _ h = absurd h
 
 -- the path that is asked for is that of the observation, which was taken before
 record IsOf (number : ℕ) (x : Sending) (t : List C.Call) : Type 0 where

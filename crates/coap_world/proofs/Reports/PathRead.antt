@@ -1,7 +1,6 @@
 -- The path that a server reads from a request is the one that the client asks for.
 use Rattle.std.proofs.Common.{◌≡◌, ℕ, ◌%◌, ◌==◌, Bool, true, false, ◌&&◌, ◌||◌, not, Option, Some, None, List, [], ◌∷◌}
-use Rattle.std.proofs.Common.{◌++◌, map, refl, ap, sym, subst, ◌∙◌}
-use Rattle.std.proofs.Common.{cond}
+use Rattle.std.proofs.Common.{◌++◌, map, refl, ap, sym, subst, ◌∙◌, cond}
 use Rattle.std.specs.List.{filter, list_any}
 use Rattle.std.specs.Cmp.{unsigned_Decides}
 use Rattle.std.proofs.lemmas.List.{append-nil}
@@ -17,12 +16,12 @@ use Rattle.coap_types.specs.declared.option_number.TheConstants.{IF_NONE_MATCH a
 use Rattle.coap_types.specs.declared.option_number.TheConstants.{CONTENT_FORMAT as content_format, ACCEPT as accept}
 use Rattle.coap_types.specs.declared.option_number.TheConstants.{BLOCK1 as block1, OBSERVE as observe}
 use Rattle.coap_types.specs.declared.request.Method.{Method}
-use Rattle.coap_types.specs.declared.request.Method.TheVariants.{Get, Post, Put, Delete}
+use Rattle.coap_types.specs.declared.request.Method.TheVariants.{Get, Delete}
 use Rattle.coap_block.specs.declared.fetch_progress.Asked.{Asked}
 use Rattle.coap_block.specs.UploadStep.{block_to_send}
 use Rattle.coap_client.specs.Own.{Transfer, Fetches, Uploads, Single}
-use Rattle.coap_client.specs.Requests.{flag_option, path_options, before_path, after_path, options_of}
-use Rattle.coap_client.specs.Requests.{block2_option, is_longer, block_option}
+use Rattle.coap_client.specs.Requests.{flag_option, path_options, before_path, after_path, options_of, block2_option}
+use Rattle.coap_client.specs.Requests.{is_longer, block_option}
 use Rattle.coap_client.specs.Trace as C
 use Rattle.coap_world.proofs.Requests.OptionsKept.{rest_of}
 
@@ -122,9 +121,8 @@ no_path_before _ r =
 
 no_path_after : (m : Method) (r : C.Request) → path_of (after_path m r) ≡ []
 no_path_after Get r = no_path_uint accept r.accept refl
-no_path_after Post r = no_path_uint content_format r.format refl
-no_path_after Put r = no_path_uint content_format r.format refl
 no_path_after Delete r = refl
+no_path_after _ r = no_path_uint content_format r.format refl
 
 pub no_path_block2 : (o : Option Asked) → path_of (block2_option o) ≡ []
 no_path_block2 None = refl

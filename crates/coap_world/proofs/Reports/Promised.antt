@@ -13,9 +13,7 @@ use Rattle.coap_world.proofs.Requests.HoldsChanges.{changes_held}
 use Rattle.coap_world.proofs.Requests.LocalChanges.{local_right}
 use Rattle.coap_world.proofs.Requests.Promised.{lawful, belongs, once, served}
 use Rattle.coap_world.proofs.Requests.OfACall.{Lawful}
-use Rattle.coap_client.proofs.Facts.EachCall.{reports_codes}
-use Rattle.coap_client.proofs.Facts.EachCall.{all_ends}
-use Rattle.coap_client.proofs.Facts.EachCall.{all_taken}
+use Rattle.coap_client.proofs.Facts.EachCall.{reports_codes, all_ends, all_taken}
 use Rattle.coap_world.specs.Agrees.{Agrees}
 use Rattle.coap_world.specs.Applied.{EachBelongs, AppliedWhole, AtMostOnce}
 use Rattle.coap_world.specs.Bounds.{AreBounded}

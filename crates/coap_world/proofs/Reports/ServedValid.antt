@@ -5,8 +5,7 @@ use Rattle.std.proofs.Common.{length, refl, ap, ◌∙◌, cond}
 use Rattle.coap_types.specs.declared.message.TheConstants.Code as codes
 use Rattle.coap_types.specs.declared.request.Method.TheVariants.{Get}
 use Rattle.coap_resource.specs.declared.refusal.StoreRefusal.{StoreRefusal}
-use Rattle.coap_resource.specs.declared.refusal.StoreRefusal.TheVariants.{Memory, TooLarge, TooManyPaths, RateExceeded}
-use Rattle.coap_resource.specs.declared.refusal.StoreRefusal.TheVariants.{VersionsSpent}
+use Rattle.coap_resource.specs.declared.refusal.StoreRefusal.TheVariants.{Memory}
 use Rattle.coap_resource.specs.Content.{Content, Held}
 use Rattle.coap_resource.specs.RequestOptions.{accepts, etag_names, block_of, offset_by, tag_of, szx_by}
 use Rattle.coap_resource.specs.ServedLaw.{IsOfGet}
@@ -18,10 +17,7 @@ valid = codes.VALID.0
 
 refusal_other : (why : StoreRefusal) → (refusal_code why == valid) ≡ false
 refusal_other Memory = refl
-refusal_other TooLarge = refl
-refusal_other TooManyPaths = refl
-refusal_other RateExceeded = refl
-refusal_other VersionsSpent = refl
+refusal_other _ = refl
 
 of_get : IsOfGet valid
 of_get = record {

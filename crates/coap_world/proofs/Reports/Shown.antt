@@ -1,7 +1,7 @@
 -- What a 2.05 shows that a client takes, the server held at the path that the client asked for, when it made that
 -- answer.
-use Rattle.std.proofs.Common.{◌≡◌, ◌<◌, ◌≤◌, inl, inr, ℕ, ◌==◌, Bool, true, false, Option, Some, None, List, []}
-use Rattle.std.proofs.Common.{◌∷◌, is_some, refl, ap, sym, subst, ◌∙◌, arith}
+use Rattle.std.proofs.Common.{◌≡◌, ◌<◌, ◌≤◌, inl, inr, ℕ, ◌==◌, Bool, true, false, Option, Some, None, List, [], ◌∷◌}
+use Rattle.std.proofs.Common.{is_some, refl, ap, sym, subst, ◌∙◌, arith}
 use Rattle.std.specs.Prelude.{IfSome}
 use Rattle.coap_types.specs.Past.{Sometime}
 use Rattle.coap_types.specs.Recognised.{lacks_critical}
@@ -26,8 +26,7 @@ use Rattle.coap_server.specs.Notifying.{notification, told, asks_for}
 use Rattle.coap_server.specs.Observers.{sequence_if}
 use Rattle.coap_server.specs.Responses.{response_with}
 use Rattle.coap_server.specs.Steps.{after}
-use Rattle.coap_server.specs.Trace.{Own, Serves, Notifies, Call}
-use Rattle.coap_server.specs.Trace.{Feeds, Ticks}
+use Rattle.coap_server.specs.Trace.{Own, Serves, Notifies, Call, Feeds, Ticks}
 use Rattle.coap_server.specs.Trace as S
 use Rattle.coap_server.specs.Uploads.{last_block}
 use Rattle.coap_server.specs.Follows.Gives.{NoticeOf}

@@ -1,7 +1,6 @@
 -- An ETag that a server finds in a request of a call is one of the call's.
 use Rattle.std.proofs.Common.{◌≡◌, ◌⊎◌, inl, inr, ℕ, ◌==◌, Bool, true, false, ◌&&◌, ◌||◌, Option, Some, None, List, []}
-use Rattle.std.proofs.Common.{◌∷◌, ◌++◌, map, refl, ap, sym, ◌∙◌}
-use Rattle.std.proofs.Common.{cond}
+use Rattle.std.proofs.Common.{◌∷◌, ◌++◌, map, refl, ap, sym, ◌∙◌, cond}
 use Rattle.std.specs.Cmp.Lexicographic.{bytes_decides}
 use Rattle.std.specs.List.{filter}
 use Rattle.coap_types.specs.BlockValue.{block_value}
@@ -16,13 +15,13 @@ use Rattle.coap_types.specs.declared.option_number.TheConstants.{IF_NONE_MATCH a
 use Rattle.coap_types.specs.declared.option_number.TheConstants.{CONTENT_FORMAT as content_format, ACCEPT as accept}
 use Rattle.coap_types.specs.declared.option_number.TheConstants.{BLOCK1 as block1}
 use Rattle.coap_types.specs.declared.request.Method.{Method}
-use Rattle.coap_types.specs.declared.request.Method.TheVariants.{Get, Post, Put, Delete}
+use Rattle.coap_types.specs.declared.request.Method.TheVariants.{Get, Delete}
 use Rattle.coap_block.specs.declared.fetch_progress.Asked.{Asked}
 use Rattle.coap_block.specs.UploadStep.{block_to_send}
 use Rattle.coap_resource.specs.RequestOptions.{tag_of, is_tag_of, etag_names}
 use Rattle.coap_client.specs.Own.{Transfer, Fetches, Uploads, Single}
-use Rattle.coap_client.specs.Requests.{flag_option, path_options, before_path, after_path, options_of}
-use Rattle.coap_client.specs.Requests.{block2_option, is_longer, block_option}
+use Rattle.coap_client.specs.Requests.{flag_option, path_options, before_path, after_path, options_of, block2_option}
+use Rattle.coap_client.specs.Requests.{is_longer, block_option}
 use Rattle.coap_client.specs.Trace as C
 
 -- it is among those that were sent
@@ -71,9 +70,8 @@ none_uint v n (Some k) other = ap (λ b. (b && is_tag_of v (uint k)) || false) o
 
 none_after : (v : ℕ) (m : Method) (r : C.Request) → etag_names v (after_path m r) ≡ false
 none_after v Get r = none_uint v accept r.accept refl
-none_after v Post r = none_uint v content_format r.format refl
-none_after v Put r = none_uint v content_format r.format refl
 none_after v Delete r = refl
+none_after v _ r = none_uint v content_format r.format refl
 
 none_block : (v : ℕ) (t : Transfer) → etag_names v (block_option t) ≡ false
 none_block v (Fetches f) = by f.asked

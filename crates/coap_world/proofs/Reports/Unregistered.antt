@@ -1,5 +1,5 @@
 -- The request of a call registers nobody.
-use Rattle.std.proofs.Common.{◌≡◌, ◌≤◌, inl, inr, ℕ, true, List, [], ◌∷◌, map, ◌∙◌}
+use Rattle.std.proofs.Common.{◌≡◌, ◌≤◌, inl, inr, ℕ, true, List, [], ◌∷◌, ◌∙◌}
 use Rattle.coap_observe.specs.Observers.{Observer}
 use Rattle.coap_client.specs.Follows.Words.{Taken, WasTaken}
 use Rattle.coap_server.specs.Follows.Observes.{WasMade}
@@ -8,11 +8,11 @@ use Rattle.coap_server.specs.Observers.{observes}
 use Rattle.coap_server.specs.Trace as S
 use Rattle.coap_world.specs.Events.{client_end, Config}
 use Rattle.coap_world.specs.Legal.{IsRequest}
-use Rattle.coap_world.specs.Record.{Entry, OfClient, OfServer, client_of, server_trace}
-use Rattle.coap_world.specs.Record.{Setting, DelayOf, PlainOf, gives_it, settings}
+use Rattle.coap_world.specs.Record.{Entry, OfClient, OfServer, client_of, server_trace, settings}
 use Rattle.coap_world.specs.Words.{ServesAt}
 use Rattle.coap_world.proofs.Reports.Located.{LaterAll}
 use Rattle.coap_world.proofs.Requests.OfACall.{Lawful, lawful_back, later_back}
+use Rattle.coap_world.proofs.Reports.BegunWith.{none_made as none_begun}
 
 module _ (config : Config) (number : ℕ) (all : List Entry) (small : config.client_sizes.szx ≤ 6) (whole : Lawful config all)
     (in_range : (x : Taken) → WasTaken x (client_of all) → IsRequest x.request) (token : List ℕ) where
@@ -25,17 +25,10 @@ module _ (config : Config) (number : ℕ) (all : List Entry) (small : config.cli
       → ServesAt config x w (OfServer c) → x.asked.from ≡ client_end → x.asked.token ≡ token
       → observes 0 x.question ≡ true → ⊥
 
-  none_begun : (o : Observer) (ss : List Setting)
-      → WasMade config.limits config.server_szx (map gives_it ss) o → ⊥
-  none_begun o [] h = h
-  none_begun o (DelayOf d ∷ ss) (inl h) = let here = h.made.here in cc here
-  none_begun o (PlainOf p ∷ ss) (inl h) = let here = h.made.here in cc here
-  none_begun o (s ∷ ss) (inr h) = none_begun o ss h
-
   -- so no observer has it
   pub none_made : NoneRegisters → (o : Observer) (w : List Entry) → Later w → Lawful config w → o.to ≡ client_end
       → o.token ≡ token → WasMade config.limits config.server_szx (server_trace config w) o → ⊥
-  none_made none o [] later law to same h = none_begun o (settings config) h
+  none_made none o [] later law to same h = none_begun config o (settings config) h
   none_made none o (OfClient c ∷ w) later law to same h =
       none_made none o w (later_back config number all small whole in_range (OfClient c) w later)
       (lawful_back config w (OfClient c) law) to same h

@@ -1,6 +1,6 @@
 -- A request that came whole, in no blocks, has all of the body of its call.
-use Rattle.std.proofs.Common.{◌≡◌, ◌⊎◌, ◌≤◌, ◌<◌, inl, inr, ℕ, zero, suc, ◌*◌, nat_lt, Bool, true, false}
-use Rattle.std.proofs.Common.{Some, None, List, [], ◌∷◌, length, take, drop, refl, ap, sym, subst, ◌∙◌, cond, arith}
+use Rattle.std.proofs.Common.{◌≡◌, ◌⊎◌, ◌≤◌, ◌<◌, inl, inr, ℕ, zero, suc, ◌*◌, nat_lt, Bool, true, false, Some, None}
+use Rattle.std.proofs.Common.{List, [], ◌∷◌, length, take, drop, refl, ap, sym, subst, ◌∙◌, cond, arith}
 use Rattle.std.proofs.lemmas.Bool.Decides.{nat_tests}
 use Rattle.coap_types.specs.BlockValue.{block_value}
 use Rattle.coap_types.specs.CoapOption.{option}
@@ -18,11 +18,10 @@ use Rattle.coap_block.specs.UploadStep.{UploadState, block_to_send, more_follows
 use Rattle.coap_resource.specs.Serves.{Question}
 use Rattle.coap_exchange.specs.declared.answerer.Asked.{Asked}
 use Rattle.coap_client.specs.Follows.Begins.{WasSent}
-use Rattle.coap_client.specs.Follows.Blocks.{carried, SendsPieces}
+use Rattle.coap_client.specs.Follows.Blocks.{carried}
 use Rattle.coap_client.specs.Follows.OfCalls.{CarriesBody}
 use Rattle.coap_client.specs.Own.{Transfer, Fetches, Uploads, Single, Calling}
 use Rattle.coap_client.specs.Requests.{is_longer, block_option, payload_of}
-use Rattle.coap_client.specs.Trace as C
 use Rattle.coap_client.specs.Follows.Words.{Taken, WasTaken, Sending}
 use Rattle.coap_server.specs.Follows.Reads.{ReadsOf}
 use Rattle.coap_server.specs.Follows.Serves.{Serving}
@@ -37,6 +36,7 @@ use Rattle.coap_world.proofs.Requests.LastRequests.{no_fetch, sends_body, small_
 use Rattle.coap_world.proofs.Requests.OfACall.{Lawful, Later, Known, one_sending}
 use Rattle.coap_world.proofs.Requests.ReadBack.{block_back}
 use Rattle.coap_world.proofs.Requests.Traced.{sent_later}
+use Rattle.coap_world.proofs.Uploads.Pieces.{begins_at}
 
 -- the request that came so
 record CameSo (config : Config) (a : Asked) (v : Verdict) (w : List Entry) : Type 0 where
@@ -55,12 +55,6 @@ came_so config a v (e ∷ w) came from (inr h) = let k =
     { past = k.past; entry = k.entry; came = k.came; sent = sent_later config k.came.sending w e k.sent }
 
 -- a block that is sent begins in its body
-begins_at : (sizes : Sizes) (t : List C.Call) → SendsPieces sizes t → (x : Sending) (number : ℕ) (u : UploadState)
-    → WasSent sizes x t → carried x.operation ≡ Some (record { number = number; upload = u }) → Begins u.body u.num u.szx
-begins_at sizes [] law x number u h of = absurd h
-begins_at sizes (c ∷ t) law x number u (inl h) of = (law.0 x (record { number = number; upload = u }) h of).sent.begins
-begins_at sizes (c ∷ t) law x number u (inr h) of = begins_at sizes t law.1 x number u h of
-
 -- a body that fits a block is its first block
 
 all_taken : {A : Type 0} (n : ℕ) (xs : List A) → length xs ≤ n → take n xs ≡ xs

@@ -1,7 +1,5 @@
 -- At most one applied request belongs to a call.
-use Rattle.std.proofs.Common.{◌≡◌, ◌≤◌, ◌⊎◌, inl, inr, ℕ, Some, List, [], ◌∷◌, refl, ap}
-use Rattle.std.proofs.Common.{sym, subst, ◌∙◌, arith}
-use Rattle.coap_types.specs.Bytes.{AreBytes}
+use Rattle.std.proofs.Common.{◌≡◌, ◌≤◌, ◌⊎◌, inl, inr, ℕ, Some, List, [], ◌∷◌, refl, ap, sym, subst, ◌∙◌, arith}
 use Rattle.coap_types.specs.Past.{Ever, Sometime, Always}
 use Rattle.coap_codec.specs.Message.{Message, Spells}
 use Rattle.coap_layer.specs.Channel.{near_of}
@@ -43,26 +41,26 @@ module _ (config : Config) (number : ℕ) (all : List Entry) (small : config.cli
 
   -- one CON has the token of a request of a call: no cancel of an observation has it, nor a registration
   not_registers : (k : Sending) → Sent config number all small whole in_range k all → call_of k.operation ≡ Some number
-      → (con other : Open) (m : Message) → AreBytes con.bytes → Spells con.bytes m → con.id ≡ m.id → m.token ≡ k.token
+      → (con other : Open) (m : Message) → Spells con.bytes m → con.id ≡ m.id → m.token ≡ k.token
       → Ends server_end config.client_sizes (client_of all) con other → ⊥
-  not_registers k sent of con other m are spells id token e =
+  not_registers k sent of con other m spells id token e =
       let same = one_sending config number all small whole in_range e.first k e.first_sent sent of
-      (sym (ap (λ (z : Message). z.token) (same_request con m e.first e.begins are spells id)) ∙ token) in
+      (sym (ap (λ (z : Message). z.token) (same_request con m e.first e.begins spells id)) ∙ token) in
       no_call e.first e.second number (ap (λ (z : Sending). call_of z.operation) same ∙ of) e.deregisters
 
   pub one_con : (k : Sending) → Sent config number all small whole in_range k all → call_of k.operation ≡ Some number
       → OneConBy k.token (near_of (hops_in config all))
-  one_con k sent of a b i j x y ab bb sa sb ia ib ta tb =
+  one_con k sent of a b i j x y sa sb ia ib ta tb =
       let near = near_is config all in
       by (client_facts.one_con server_end config.client_sizes config.client_setup (client_of all) whole.client a b
-      (subst (Ever (λ e. begun e ≡ Some a)) near i) (subst (Ever (λ e. begun e ≡ Some b)) near j) x y ab bb sa sb
+      (subst (Ever (λ e. begun e ≡ Some a)) near i) (subst (Ever (λ e. begun e ≡ Some b)) near j) x y sa sb
       (ta ∙ sym tb))
     where
       by : (a ≡ b) ⊎ (Ends server_end config.client_sizes (client_of all) a b
           ⊎ Ends server_end config.client_sizes (client_of all) b a) → a ≡ b
       by (inl same) = same
-      by (inr (inl e)) = absurd (not_registers k sent of a b x ab sa ia ta e)
-      by (inr (inr e)) = absurd (not_registers k sent of b a y bb sb ib tb e)
+      by (inr (inl e)) = absurd (not_registers k sent of a b x sa ia ta e)
+      by (inr (inr e)) = absurd (not_registers k sent of b a y sb ib tb e)
 
   -- so two are one request: only the last of a call can be applied
   same_asked_by : (v w : List Entry) (x y : Serving) → Knows v x → Knows w y → x.asked ≡ y.asked
@@ -71,7 +69,7 @@ module _ (config : Config) (number : ℕ) (all : List Entry) (small : config.cli
       (client_of all) whole.client k.sending l.sending number k.sent l.sent k.of_call l.of_call k.last l.last in
       let c : k.con ≡ l.con =
       one_con l.sending l.sent l.of_call k.con l.con k.begun_there l.begun_there (request_of k.con.id k.sending)
-      (request_of l.con.id l.sending) k.are_bytes l.are_bytes k.spells l.spells refl refl
+      (request_of l.con.id l.sending) k.spells l.spells refl refl
       (ap (λ (z : Sending). z.token) s) refl
       in
       k.asked ∙ (ap (λ (z : Open). asked_of client_end (request_of z.id k.sending)) c
@@ -118,8 +116,8 @@ module _ (config : Config) (number : ℕ) (all : List Entry) (small : config.cli
       let fewer = (server_facts.served config.limits config.server_szx config.server_setup t law.server).0 x a.here in
       let counted = (server_facts.counts config.limits config.server_szx config.server_setup t law.server).0 x.asked in
       let token : x.asked.token ≡ k.sending.token = ap (λ (z : Asked). z.token) k.asked in
-      let cons : OneConBy x.asked.token (near_of (hops_in config (e ∷ past))) = λ p q i j m n pb qb pm qn pi qi tp tq.
-      one_con k.sending k.sent k.of_call p q (later.1 p i) (later.1 q j) m n pb qb pm qn pi qi (tp ∙ token) (tq ∙ token)
+      let cons : OneConBy x.asked.token (near_of (hops_in config (e ∷ past))) = λ p q i j m n pm qn pi qi tp tq.
+      one_con k.sending k.sent k.of_call p q (later.1 p i) (later.1 q j) m n pm qn pi qi (tp ∙ token) (tq ∙ token)
       in
       let nons = subst NoNons (sym (near_is config (e ∷ past)))
       (client_facts.nons server_end config.client_sizes config.client_setup (client_of past)) in

@@ -9,8 +9,7 @@ use Rattle.coap_client.specs.Trace as C
 use Rattle.coap_client.specs.Trace.{Request}
 use Rattle.coap_client.specs.Follows.Words.{Taken, takes, WasTaken}
 use Rattle.coap_server.specs.Trace as S
-use Rattle.coap_world.specs.Events.{What, Calls, Observes, Cancels, Forgets, TickClient}
-use Rattle.coap_world.specs.Events.{Deliver, StrangerToClient}
+use Rattle.coap_world.specs.Events.{What, Calls, Observes, Cancels, Forgets, TickClient, Deliver, StrangerToClient}
 use Rattle.coap_world.specs.Legal.{IsRequest, InRange, AllLegal}
 use Rattle.coap_world.specs.Record.{Entry, OfClient, OfServer, Turn, OnClient, OnServer, Makes, ClientTick, client_of}
 use Rattle.coap_world.specs.Record.{entries_of}

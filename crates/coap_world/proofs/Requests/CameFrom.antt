@@ -6,7 +6,6 @@ use Rattle.coap_types.specs.Past.{Ever}
 use Rattle.coap_types.proofs.Facts.Traces.{Ever_map}
 use Rattle.coap_types.specs.declared.endpoint.Endpoint.{Endpoint}
 use Rattle.coap_types.specs.declared.message.Kind.TheVariants.{Con}
-use Rattle.coap_types.specs.Bytes.{AreBytes}
 use Rattle.coap_codec.specs.Message.{Message, Spells}
 use Rattle.coap_layer.specs.Channel.{Hop, Near, Far, near_of, far_of, OnFar, ChannelLaw, HandedBy, HandsUpAs, PlainSent}
 use Rattle.coap_layer.specs.Channel.{BegunAs}
@@ -47,7 +46,6 @@ pub record Found (near far : Endpoint) (V : Message → Type 0) (a : Asked) (hs 
   pub begun_before : Ever (λ b. begun b ≡ Some con) (near_of hs)
   pub to : con.to ≡ far
   pub message : Message
-  pub are_bytes : AreBytes con.bytes
   pub spells : Spells con.bytes message
   pub kind : message.kind ≡ Con
   pub id : con.id ≡ message.id
@@ -68,7 +66,6 @@ module _ (one other : Setup) (near far : Endpoint) (V : Message → Type 0) (a :
         begun_before = begun_more h past k.con k.begun_before;
         to = k.to;
         message = k.message;
-        are_bytes = k.are_bytes;
         spells = k.spells;
         kind = k.kind;
         id = k.id;
@@ -106,7 +103,6 @@ module _ (one other : Setup) (near far : Endpoint) (V : Message → Type 0) (a :
             begun_before = b.begun;
             to = b.to_is;
             message = up.message;
-            are_bytes = subst AreBytes (sym b.bytes_are) by.are_bytes;
             spells = subst (λ z. Spells z up.message) (sym b.bytes_are) by.spells;
             kind = k;
             id = b.id_is;
@@ -166,12 +162,12 @@ same_front (x ∷ xs) (y ∷ ys) zs h =
     ap (λ z. z ∷ xs) head ∙ ap (λ l. y ∷ l) (same_front xs ys zs tail)
 
 -- a CON of a request has one message
-pub same_request : (con : Open) (m : Message) (x : Sending) → IsRequestOf server_end con x → AreBytes con.bytes
+pub same_request : (con : Open) (m : Message) (x : Sending) → IsRequestOf server_end con x
     → Spells con.bytes m → con.id ≡ m.id → m ≡ request_of con.id x
-same_request con m x r are s id =
+same_request con m x r s id =
     let low = s.id in
     let small : con.id < 65536 = omega (arith, low, id) in
-    one_message con.bytes m (request_of con.id x) are s
+    one_message con.bytes m (request_of con.id x) s
     (subst (λ z. Spells z (request_of con.id x)) (sym r.bytes) (r.spelled _ con.id small))
 
 module _ (config : Config) where
@@ -213,14 +209,13 @@ module _ (config : Config) where
       let there = subst (Ever (λ b. begun b ≡ Some f.con)) (near_far adds (hops_in config past)) f.begun_before in
       let r = client_facts.begins server_end config.client_sizes config.client_setup (client_of past) own f.con
       (subst (Ever (λ b. begun b ≡ Some f.con)) (near_is config past) there) in
-      let same = same_request f.con f.message r.0 r.2 f.are_bytes f.spells f.id in
+      let same = same_request f.con f.message r.0 r.2 f.spells f.id in
       record {
         sending = r.0;
         sent = r.1;
         con = f.con;
         begun_before = there;
         is = r.2;
-        are_bytes = f.are_bytes;
         spells = subst (Spells f.con.bytes) same f.spells;
         arrives = k.1;
         asked = f.asked ∙ ap (asked_of client_end) same;

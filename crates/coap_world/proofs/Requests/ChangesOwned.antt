@@ -5,11 +5,9 @@ use Rattle.coap_types.specs.Past.{Always}
 use Rattle.coap_types.specs.Path.{same_path}
 use Rattle.coap_types.proofs.Facts.Paths.{same_path-decides}
 use Rattle.coap_resource.specs.Content.{Content}
-use Rattle.coap_server.specs.Trace.{Own, Call, Sets, Removes, Delays, Plains, Feeds, Ticks, NextOut, Gets}
-use Rattle.coap_server.specs.Trace.{TellsApplied}
+use Rattle.coap_server.specs.Trace.{Own, Call, Sets, Removes}
 use Rattle.coap_server.specs.Law.{own_of}
-use Rattle.coap_server.specs.Follows.Holds.{Change, change, change_of, changed_by, held_then}
-use Rattle.coap_server.specs.Follows.Holds.{ServesRight}
+use Rattle.coap_server.specs.Follows.Holds.{Change, change, change_of, changed_by, held_then, ServesRight}
 use Rattle.coap_server.specs.Follows.Serves.{Serving, serving}
 use Rattle.coap_server.proofs.Facts.Laws.{all_served}
 use Rattle.coap_world.specs.Events.{Config}
@@ -52,15 +50,7 @@ module _ (config : Config) (past : List Entry) where
   owner : (c : Call) → Right c → (y : Change) → change own c ≡ Some y → Owner y.path c
   owner (Sets now path format body answer left) right y h = inl (sym (path_of path own.store left y h))
   owner (Removes now path answer left) right y h = inl (sym (path_of path own.store left y h))
-  owner (Delays path ms answer) right y h = by_serving (Delays path ms answer) right _ refl y h h
-  owner (Plains path answer) right y h = by_serving (Plains path answer) right _ refl y h h
-  owner (Feeds now from bytes word up came w below) right y h =
-      by_serving (Feeds now from bytes word up came w below) right _ refl y h h
-  owner (Ticks now word below room d passed w id answer) right y h =
-      by_serving (Ticks now word below room d passed w id answer) right _ refl y h h
-  owner (Gets path answer) right y h = by_serving (Gets path answer) right _ refl y h h
-  owner (TellsApplied answer) right y h = by_serving (TellsApplied answer) right _ refl y h h
-  owner (NextOut answer) right y h = by_serving (NextOut answer) right _ refl y h h
+  owner c right y h = by_serving c right _ refl y h h
 
   owned_by : (c : Call) → Right c → (path : List (List ℕ)) (o : Option Change) → change own c ≡ o
       → (held_then path o (last_at config path past) ≡ last_at config path past) ⊎ Owner path c

@@ -15,8 +15,7 @@ use Rattle.coap_block.specs.UploadStep.{block_to_send}
 use Rattle.coap_resource.specs.Content.{Held}
 use Rattle.coap_resource.specs.RequestOptions.{if_match_names, matches, precondition_fails}
 use Rattle.coap_client.specs.Own.{Transfer, Fetches, Uploads, Single}
-use Rattle.coap_client.specs.Requests.{flag_option, path_options, block2_option, is_longer}
-use Rattle.coap_client.specs.Requests.{block_option}
+use Rattle.coap_client.specs.Requests.{flag_option, path_options, block2_option, is_longer, block_option}
 use Rattle.coap_client.specs.Trace as C
 use Rattle.coap_world.specs.Applied.{conditions_of}
 use Rattle.coap_world.proofs.Requests.ReadBack.{in_order, format_sent}

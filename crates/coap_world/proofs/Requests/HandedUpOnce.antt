@@ -3,7 +3,6 @@ use Rattle.std.proofs.Common.{◌≡◌, ◌≤◌, inl, inr, ℕ, ◌+◌, Bool
 use Rattle.std.proofs.Common.{ap, sym, subst, ◌∙◌, cond, arith}
 use Rattle.coap_types.specs.Past.{Ever, Always}
 use Rattle.coap_types.specs.declared.endpoint.Endpoint.{Endpoint}
-use Rattle.coap_types.specs.Bytes.{AreBytes}
 use Rattle.coap_codec.specs.Message.{Message, Spells}
 use Rattle.coap_layer.specs.Channel.{Hop, Near, Far, near_of, far_of, OnFar, ChannelLaw, HandsUpAs}
 use Rattle.coap_layer.specs.Trace as T
@@ -83,8 +82,8 @@ once_counted a (Far e ∷ past) h = by (counts_by a e (asked_at e.call e.answer)
 -- one CON has this token
 abbrev pub OneConBy : List ℕ → List T.Entry → Type 0
 OneConBy token t =
-    (a b : Open) → Ever (λ e. begun e ≡ Some a) t → Ever (λ e. begun e ≡ Some b) t → (x y : Message) → AreBytes a.bytes
-    → AreBytes b.bytes → Spells a.bytes x → Spells b.bytes y → a.id ≡ x.id → b.id ≡ y.id
+    (a b : Open) → Ever (λ e. begun e ≡ Some a) t → Ever (λ e. begun e ≡ Some b) t → (x y : Message)
+    → Spells a.bytes x → Spells b.bytes y → a.id ≡ x.id → b.id ≡ y.id
     → x.token ≡ token → y.token ≡ token → a ≡ b
 
 module _ (one other : Setup) (near far : Endpoint) (a : Asked) (from : a.from ≡ near) where
@@ -110,7 +109,7 @@ module _ (one other : Setup) (near far : Endpoint) (a : Asked) (from : a.from �
           let f = here one other near far Any a from past e law nons u in
           let g = find one other near far Any a from past (earlier one other near far past (Far e) law) nons k in
           let same : f.0.con ≡ g.con =
-          cons f.0.con g.con f.0.begun_before g.begun_before f.0.message g.message f.0.are_bytes g.are_bytes f.0.spells
+          cons f.0.con g.con f.0.begun_before g.begun_before f.0.message g.message f.0.spells
           g.spells f.0.id g.id (sym (ap (λ (x : Asked). x.token) f.0.asked))
           (sym (ap (λ (x : Asked). x.token) g.asked)) in
           (handed_once one other near far (Far e ∷ past) law f.0.con f.0.begun_before).0 f.1

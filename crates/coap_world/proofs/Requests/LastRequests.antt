@@ -1,6 +1,6 @@
 -- The request of a call that is applied is the last of that call.
-use Rattle.std.proofs.Common.{◌≡◌, ◌≤◌, ◌<◌, inl, inr, ℕ, ◌+◌, ◌^◌, nat_lt, Bool, true, false, not, Some}
-use Rattle.std.proofs.Common.{None, List, [], ◌∷◌, length, refl, ap, sym, subst, ◌∙◌, cond, arith}
+use Rattle.std.proofs.Common.{◌≡◌, ◌≤◌, ◌<◌, inl, inr, ℕ, ◌+◌, ◌^◌, nat_lt, Bool, true, false, not, Some, None, List}
+use Rattle.std.proofs.Common.{[], ◌∷◌, length, refl, ap, sym, subst, ◌∙◌, cond, arith}
 use Rattle.std.specs.Prelude.{IfSome}
 use Rattle.std.proofs.lemmas.Bool.Decides.{nat_tests}
 use Rattle.coap_types.specs.BlockValue.{block_by, block_value}
@@ -14,7 +14,7 @@ use Rattle.coap_types.specs.declared.block.Block.{Block}
 use Rattle.coap_types.specs.declared.direction.Direction.TheVariants.{Request}
 use Rattle.coap_types.specs.declared.option_number.TheConstants.{BLOCK1 as block1}
 use Rattle.coap_types.specs.declared.request.Method.{Method}
-use Rattle.coap_types.specs.declared.request.Method.TheVariants.{Get, Post, Put, Delete}
+use Rattle.coap_types.specs.declared.request.Method.TheVariants.{Get, Delete}
 use Rattle.coap_types.proofs.Facts.Blocks.{block_reads_back}
 use Rattle.coap_types.proofs.Facts.Uints.{uint_read}
 use Rattle.coap_block.specs.Sizes.{Sizes}
@@ -29,12 +29,11 @@ use Rattle.coap_client.specs.Trace as C
 use Rattle.coap_client.specs.Follows.Words.{Sending}
 use Rattle.coap_server.specs.Follows.Reads.{ReadsOf}
 use Rattle.coap_server.specs.Follows.Table.{HasNoFault, NoFaultIn}
-use Rattle.coap_server.specs.Checks.{Verdict, Ignored, Refused, Asks, Uploads as UploadsBlock, asks}
-use Rattle.coap_server.specs.Checks.{verdict_on}
+use Rattle.coap_server.specs.Checks.{Verdict, Asks, Uploads as UploadsBlock, asks, verdict_on}
 use Rattle.coap_server.proofs.Facts.Laws as server_facts
 use Rattle.coap_world.specs.CameFrom.{request_of}
 use Rattle.coap_world.proofs.Requests.ReadBack.{Changes, options_in, in_order, bare_options, reads_all, block_back}
-use Rattle.coap_world.proofs.Progress.BlocksInRange.{bit_small}
+use Rattle.coap_world.proofs.Reports.MoreBit.{bit_small}
 
 -- what was sent for a call, of the whole of its calls so far
 pub of_call_at : (sizes : Sizes) (t : List C.Call) → AreOfCalls sizes t → (x : Sending) (k : ℕ) → WasSent sizes x t
@@ -63,16 +62,13 @@ of_call_at sizes (c ∷ t) law x k (inr h) of =
 
 pub method_is : (m : Method) → method_of (method_code m).0 ≡ Some m
 method_is Get = refl
-method_is Post = refl
-method_is Put = refl
-method_is Delete = refl
+method_is _ = refl
 
 -- asked of the store: as it came, or by the last block
 abbrev pub Final : Verdict → Type 0
-Final Ignored = ⊥
-Final (Refused code) = ⊥
 Final (Asks q) = Unit {0}
 Final (UploadsBlock q b) = b.more ≡ false
+Final _ = ⊥
 
 pub no_fetch : (sizes : Sizes) (m : Method) (body : List ℕ) (f : _) → Changes m → CarriesBody sizes m body (Fetches f) → ⊥
 no_fetch sizes Get body f change h = change
@@ -81,9 +77,8 @@ no_fetch sizes _ body f change h = h
 pub sends_body : (sizes : Sizes) (m : Method) (body : List ℕ) (u : UploadState) → Changes m
     → CarriesBody sizes m body (Uploads u) → SendsBody sizes body u
 sends_body sizes Get body u change h = absurd change
-sends_body sizes Post body u change h = h
-sends_body sizes Put body u change h = h
 sends_body sizes Delete body u change h = absurd h
+sends_body sizes _ body u change h = h
 
 -- a body that fits a block is sent by one
 no_more : (u : UploadState) → is_longer u ≡ false → more_follows u ≡ false
@@ -117,10 +112,9 @@ module _ (sizes : Sizes) (szx id k : ℕ) (small : sizes.szx ≤ 6) (x : Sending
       ap (recognised Request) options_are ∙ reads_all g.request g.transfer change range none
 
   good_of : (v : Verdict) → NoFaultIn m v → Final v → HasNoFault m
-  good_of Ignored h final = absurd final
-  good_of (Refused code) h final = absurd final
   good_of (Asks q) h final = h
   good_of (UploadsBlock q b) h final = h
+  good_of _ h final = absurd final
 
   module _ (v : Verdict) (is : verdict_on szx m ≡ v) (final : Final v) where
     pub good : HasNoFault m
@@ -136,8 +130,6 @@ module _ (sizes : Sizes) (szx id k : ℕ) (small : sizes.szx ≤ 6) (x : Sending
 
     of_verdict : (u : UploadState) (n : ℕ) → n ≡ block_value (block_to_send u) → u.num ≤ 1048575 → u.szx ≤ 6
         → (w : Verdict) → ReadsOf szx m w → Final w → uint_at block1 (asks m) ≡ Some n → more_follows u ≡ false
-    of_verdict u n value num size Ignored r f h = absurd f
-    of_verdict u n value num size (Refused code) r f h = absurd f
     of_verdict u n value num size (Asks q) r f h = let e : None ≡ Some n = sym r.1 ∙ h in absurd (cc e)
     of_verdict u n value num size (UploadsBlock q b) r f h =
         let e : Some r.1.0 ≡ Some n = sym r.1.1 ∙ h in
@@ -146,6 +138,7 @@ module _ (sizes : Sizes) (szx id k : ℕ) (small : sizes.szx ≤ 6) (x : Sending
         ∙ (ap block_by (same ∙ value) ∙ block_reads_back (block_to_send u) num size) in
         let block_is : b ≡ block_to_send u = cc k in
         sym (ap (λ (z : Block). z.more) block_is) ∙ f
+    of_verdict u n value num size _ r f h = absurd f
 
     last_by : Changes g.request.method → (tr : Transfer) → g.transfer ≡ tr → (r : C.Request)
         → is_last (Calling k r tr) ≡ true

@@ -1,8 +1,6 @@
 -- Which request of a call it is that is applied for it, and what the store is asked with it.
-use Rattle.std.proofs.Common.{◌≡◌, ◌≤◌, ◌⊎◌, inl, inr, ℕ, true, Some, None, List, [], ◌∷◌, ap}
-use Rattle.std.proofs.Common.{sym, subst, ◌∙◌}
+use Rattle.std.proofs.Common.{◌≡◌, ◌≤◌, ◌⊎◌, inl, inr, ℕ, true, Some, None, List, [], ◌∷◌, ap, sym, subst, ◌∙◌}
 use Rattle.coap_types.specs.MethodCode.{method_of}
-use Rattle.coap_types.specs.Bytes.{AreBytes}
 use Rattle.coap_types.specs.Past.{Ever}
 use Rattle.coap_types.specs.RequestPath.{path_of}
 use Rattle.coap_types.specs.declared.request.Method.{Method}
@@ -28,7 +26,7 @@ use Rattle.coap_server.specs.Follows.Brings.{AsksBy}
 use Rattle.coap_server.specs.Follows.Holds.{Does}
 use Rattle.coap_server.specs.Follows.Reads.{ReadsOf}
 use Rattle.coap_server.specs.Follows.Serves.{Serving}
-use Rattle.coap_server.specs.Checks.{Verdict, Ignored, Refused, Asks, Uploads, asks}
+use Rattle.coap_server.specs.Checks.{Verdict, Asks, Uploads, asks}
 use Rattle.coap_server.specs.Law.{ServerLaw}
 use Rattle.coap_server.specs.Trace as S
 use Rattle.coap_client.proofs.Facts.Laws as client_facts
@@ -53,23 +51,19 @@ changes_by _ q old left h = tt
 -- what is asked of the store is of the request that was handed up
 pub final_of : (limits : Limits) (szx : ℕ) (past : List S.Call) (c : S.Call) (a : Asked) (q : Question) (v : Verdict)
     → AsksBy limits szx past c a q v → Final v
-final_of limits szx past c a q Ignored h = h
-final_of limits szx past c a q (Refused code) h = h
 final_of limits szx past c a q (Asks p) h = tt
 final_of limits szx past c a q (Uploads p b) h = h.last
+final_of limits szx past c a q _ h = h
 
 pub method_asked : (limits : Limits) (szx : ℕ) (past : List S.Call) (c : S.Call) (a : Asked) (q : Question) (m : Message)
     (v : Verdict) → AsksBy limits szx past c a q v → ReadsOf szx m v → method_of m.code ≡ Some q.method
-method_asked limits szx past c a q m Ignored h r = absurd h
-method_asked limits szx past c a q m (Refused code) h r = absurd h
 method_asked limits szx past c a q m (Asks p) h r = r.0.method ∙ ap (λ (z : Question). Some z.method) (sym h)
 method_asked limits szx past c a q m (Uploads p b) h r = r.0.method
     ∙ ap (λ (z : Question). Some z.method) (sym h.question)
+method_asked limits szx past c a q m _ h r = absurd h
 
 pub options_asked : (limits : Limits) (szx : ℕ) (past : List S.Call) (c : S.Call) (a : Asked) (q : Question) (m : Message)
     (v : Verdict) → AsksBy limits szx past c a q v → ReadsOf szx m v → (q.options ≡ asks m) × (q.path ≡ path_of (asks m))
-options_asked limits szx past c a q m Ignored h r = absurd h
-options_asked limits szx past c a q m (Refused code) h r = absurd h
 options_asked limits szx past c a q m (Asks p) h r = (
   ap (λ (z : Question). z.options) h ∙ ap (λ (z : Question). z.options) r.0.is,
   ap (λ (z : Question). z.path) h ∙ ap (λ (z : Question). z.path) r.0.is,
@@ -78,6 +72,7 @@ options_asked limits szx past c a q m (Uploads p b) h r = (
   ap (λ (z : Question). z.options) h.question ∙ ap (λ (z : Question). z.options) r.0.is,
   ap (λ (z : Question). z.path) h.question ∙ ap (λ (z : Question). z.path) r.0.is,
 )
+options_asked limits szx past c a q m _ h r = absurd h
 
 -- the request of a call is neither a registration nor a cancel
 pub no_call : (x y : Sending) (k : ℕ) → call_of x.operation ≡ Some k → Deregisters x y → ⊥
@@ -143,7 +138,6 @@ module _ (config : Config) (number : ℕ) (all : List Entry) (small : config.cli
     pub con : Open
     pub sent : Sent sending all
     pub begun_there : Begun con all
-    pub are_bytes : AreBytes con.bytes
     pub spells : Spells con.bytes (request_of con.id sending)
     pub asked : x.asked ≡ asked_of client_end (request_of con.id sending)
     pub of_call : call_of sending.operation ≡ Some number
@@ -214,7 +208,6 @@ module _ (config : Config) (number : ℕ) (all : List Entry) (small : config.cli
         con = k.came.con;
         sent = sent;
         begun_there = later.1 k.came.con k.begun_before;
-        are_bytes = k.came.are_bytes;
         spells = k.came.spells;
         asked = k.came.asked;
         of_call = of;

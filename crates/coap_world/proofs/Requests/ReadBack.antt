@@ -1,6 +1,6 @@
 -- What a server reads from a request of a call is what the call asks.
-use Rattle.std.proofs.Common.{◌≡◌, ◌<◌, ℕ, ◌==◌, Bool, true, false, Option, Some, None, List}
-use Rattle.std.proofs.Common.{[], ◌∷◌, ◌++◌, map, refl, ap, sym, subst, ◌∙◌, cond, arith, append_assoc}
+use Rattle.std.proofs.Common.{◌≡◌, ◌<◌, ℕ, ◌==◌, Bool, true, false, Option, Some, None, List, [], ◌∷◌, ◌++◌, map, refl}
+use Rattle.std.proofs.Common.{ap, sym, subst, ◌∙◌, cond, arith, append_assoc}
 use Rattle.std.specs.Prelude.{IfSome}
 use Rattle.std.specs.List.{filter}
 use Rattle.std.proofs.lemmas.Bool.{lt-ltb}
@@ -21,26 +21,23 @@ use Rattle.coap_resource.specs.RequestOptions.{format_of, within_16}
 use Rattle.coap_block.specs.declared.fetch_progress.Asked.{Asked}
 use Rattle.coap_block.specs.UploadStep.{block_to_send}
 use Rattle.coap_client.specs.Own.{Transfer, Fetches, Uploads, Single}
-use Rattle.coap_client.specs.Requests.{flag_option, path_options, before_path, after_path, options_of}
-use Rattle.coap_client.specs.Requests.{block2_option, is_longer, block_option}
+use Rattle.coap_client.specs.Requests.{flag_option, path_options, before_path, after_path, options_of, block2_option}
+use Rattle.coap_client.specs.Requests.{is_longer, block_option}
 use Rattle.coap_client.specs.Trace as C
-use Rattle.coap_world.proofs.Requests.AllRecognised.{KnownElective, NoFormat, run_known, one_known}
+use Rattle.coap_world.proofs.Requests.AllRecognised.{KnownElective, NoFormat, run_known, one_known, format_known}
+use Rattle.coap_world.proofs.Requests.AllRecognised.{critical_known}
 use Rattle.coap_world.proofs.Requests.OptionsKept.{all_recognised}
-use Rattle.coap_world.proofs.Requests.AllRecognised.{format_known, critical_known}
 
 -- a request that changes something
 abbrev pub Changes : Method → Type 0
 Changes Get = ⊥
-Changes Post = Unit {0}
-Changes Put = Unit {0}
-Changes Delete = Unit {0}
+Changes _ = Unit {0}
 
 -- the format that is sent
 abbrev pub format_sent : Method → Option ℕ → Option ℕ
-format_sent Get format = None
 format_sent Post format = format
 format_sent Put format = format
-format_sent Delete format = None
+format_sent _ format = None
 
 -- the options of such a request, in their order
 abbrev pub options_in : C.Request → Transfer → List CoapOption
@@ -69,9 +66,8 @@ ordered_with r format t =
 ordered_by : (r : C.Request) (m : Method) (t : Transfer) → Changes m
     → (before_path m r ++ (path_options r.path ++ after_path m r)) ++ block_option t ≡ in_order r m t
 ordered_by r Get t h = absurd h
-ordered_by r Post t h = ordered_with r (uint_option content_format r.format) t
-ordered_by r Put t h = ordered_with r (uint_option content_format r.format) t
 ordered_by r Delete t h = ordered_with r [] t
+ordered_by r _ t h = ordered_with r (uint_option content_format r.format) t
 
 pub ordered : (r : C.Request) (t : Transfer) → Changes r.method → options_in r t ≡ in_order r r.method t
 ordered r t h = ordered_by r r.method t h
@@ -79,15 +75,11 @@ ordered r t h = ordered_by r r.method t h
 -- a request that is sent is kept without its body
 bare_before : (m : Method) (r : C.Request) → before_path m (record r { body = [] }) ≡ before_path m r
 bare_before Get r = refl
-bare_before Post r = refl
-bare_before Put r = refl
-bare_before Delete r = refl
+bare_before _ r = refl
 
 bare_after : (m : Method) (r : C.Request) → after_path m (record r { body = [] }) ≡ after_path m r
 bare_after Get r = refl
-bare_after Post r = refl
-bare_after Put r = refl
-bare_after Delete r = refl
+bare_after _ r = refl
 
 pub bare_options : (r : C.Request) (t : Transfer) → options_in (record r { body = [] }) t ≡ options_in r t
 bare_options r t =
@@ -118,10 +110,9 @@ block_known Single before = tt
 
 small_sent : (m : Method) (format : Option ℕ) → IfSome format (λ f. f < 65536)
     → IfSome (format_sent m format) (λ f. f < 65536)
-small_sent Get format h = tt
 small_sent Post format h = h
 small_sent Put format h = h
-small_sent Delete format h = tt
+small_sent _ format h = tt
 
 known_in : (r : C.Request) (m : Method) (t : Transfer) → IfSome r.format (λ f. f < 65536)
     → KnownElective [] (in_order r m t)

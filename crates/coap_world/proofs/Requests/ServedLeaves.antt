@@ -1,8 +1,7 @@
 -- What a serving finds in the store is what the server holds, and what it leaves is what the server holds then.
 use Rattle.std.proofs.Common.{◌≡◌, Some, refl, ap, sym, ◌∙◌}
 use Rattle.coap_exchange.specs.declared.answerer.Due.TheVariants as due
-use Rattle.coap_server.specs.Trace.{Own, Serves, Call}
-use Rattle.coap_server.specs.Trace.{Feeds, Ticks}
+use Rattle.coap_server.specs.Trace.{Own, Serves, Call, Feeds, Ticks}
 use Rattle.coap_server.specs.Steps.{after}
 use Rattle.coap_server.specs.Follows.Serves.{Serving, serving}
 

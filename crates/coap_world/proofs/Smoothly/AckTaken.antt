@@ -1,6 +1,6 @@
 -- Where an exchange waits for a separate response, an Empty acknowledgement of its request was taken.
-use Rattle.std.proofs.Common.{◌≡◌, inl, inr, ⊎_elim, ℕ, max, Bool, true, false, Option, Some, None, List, [], ◌∷◌}
-use Rattle.std.proofs.Common.{◌++◌, refl, ap, sym, subst, ◌∙◌, Result, Ok, Err, append_assoc}
+use Rattle.std.proofs.Common.{◌≡◌, inl, inr, ⊎_elim, ℕ, max, Bool, true, false, Option, Some, None, List, [], ◌∷◌, ◌++◌}
+use Rattle.std.proofs.Common.{refl, ap, sym, subst, ◌∙◌, Result, Ok, Err, append_assoc}
 use Rattle.coap_types.specs.Past.{Ever, Sometime}
 use Rattle.coap_types.proofs.Facts.Endpoints.{same_endpoint_is}
 use Rattle.coap_types.proofs.Facts.Traces.{Always_back, Sometime_back}
@@ -22,14 +22,13 @@ use Rattle.coap_exchange.specs.declared.asker.Exchange.{Exchange}
 use Rattle.coap_exchange.specs.declared.asker.Turn.{Turn}
 use Rattle.coap_exchange.specs.declared.asker.Turn.TheVariants as turn_is
 use Rattle.coap_exchange.specs.declared.matching.Verdict.{Verdict}
-use Rattle.coap_exchange.specs.declared.matching.Verdict.TheVariants.{AnswerCon, Answer}
-use Rattle.coap_exchange.specs.declared.matching.Verdict.TheVariants.{Await, EndByReset}
+use Rattle.coap_exchange.specs.declared.matching.Verdict.TheVariants.{AnswerCon, Answer, Await, EndByReset}
 use Rattle.coap_exchange.proofs.Facts.ClientSide.{server_is}
 use Rattle.coap_exchange.proofs.Facts.Moves as move
 use Rattle.coap_exchange.proofs.Facts.Moves.{opened_none, ask_row}
 use Rattle.coap_exchange.proofs.Facts.Verdicts.{Fits, OfRequest, verdict_fits}
 use Rattle.coap_client.specs.Deeds.{effect, deeds, forgets}
-use Rattle.coap_client.specs.Effects.{Deed, Rests, Asks, Keeps, Releases, Effect, has_sent}
+use Rattle.coap_client.specs.Effects.{Deed, Rests, Asks, Effect, has_sent}
 use Rattle.coap_client.specs.Events.{closed}
 use Rattle.coap_client.specs.Follows.Words.{Sending, sends, sent_by}
 use Rattle.coap_client.specs.Law.{ClientLaw, own_of, lower_of, layer_of}
@@ -81,8 +80,6 @@ module _ (server : Endpoint) (setup : Setup) where
     unsent_runs Rests token is none law =
         ap running (append_assoc (deeds e.deed e.own m w sent token kept) (input ∷ []) past)
         ∙ quiet_runs e.deed e.own m w sent token kept (input ∷ past) (λ op h. cc (h, is))
-    unsent_runs (Keeps k) token is none law = refl
-    unsent_runs (Releases k) token is none law = refl
     unsent_runs (Asks op) (Ok key) is none law = absurd (cc none)
     unsent_runs (Asks op) (Err why) is none law =
         let c : Effect = closed m e (Asks op) (Err why) in
@@ -94,6 +91,7 @@ module _ (server : Endpoint) (setup : Setup) where
         ∙ quiet_runs c.deed c.own m w sent (Err why) kept (ask ∷ input ∷ past) (failed_quiet has_sent e.own (Some op))
         ∙ refused_runs (input ∷ past) m w (message_of e.own.observations op) sent why
         (Always_back _ front (ask ∷ input ∷ past) (subst (X.AskerLaw server setup) parts law))
+    unsent_runs _ token is none law = refl
 
 -- what is acknowledged by an arrival
 record ByAck (from : Endpoint) (up : L.Answer) (s : E.Own) : Type 0 where
@@ -117,9 +115,8 @@ same_acked y z o a b none acked =
     acked (ap (λ (e : Exchange). e.acked) (sym k) ∙ none)
 
 none_ended : (turn : Turn) (y z : Exchange) → running_unless turn (Some y) ≡ Some z → Some y ≡ Some z
-none_ended turn_is.Idle y z h = h
-none_ended turn_is.Copied y z h = h
 none_ended (turn_is.End e) y z h = absurd (cc h)
+none_ended _ y z h = h
 
 -- a forgetting asks for no request
 no_forget : (answer : Bool) (number : ℕ) (s : Own) (op : Operation) → forgets answer number s ≡ Asks op → ⊥
@@ -196,12 +193,7 @@ module _ (server : Endpoint) (sizes : Sizes) (setup : Setup) where
         same_runs (C.Forgets number kept answer)
         (sym (quiet_runs server setup (forgets answer number s) s 0 0 L.Nothing _ kept (lower_of sizes t)
         (no_forget answer number s)) ∙ h)
-    ack_fed (C.Calls now r a) law none h = same_runs (C.Calls now r a) h
-    ack_fed (C.Observes now path a) law none h = same_runs (C.Observes now path a) h
-    ack_fed (C.Cancels now number a) law none h = same_runs (C.Cancels now number a) h
-    ack_fed (C.NextOut a) law none h = same_runs (C.NextOut a) h
-    ack_fed (C.NextReport a) law none h = same_runs (C.NextReport a) h
-    ack_fed (C.Asked a) law none h = same_runs (C.Asked a) h
+    ack_fed c law none h = same_runs c h
 
 -- an acknowledgement of this CON is taken, and is Empty
 pub record TakesEmpty (con : Open) (past : List L.Entry) (e : L.Entry) : Type 0 where

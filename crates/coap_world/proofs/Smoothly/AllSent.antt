@@ -1,10 +1,9 @@
 -- In a smooth run in which nothing is observed and each exchange ends by an answer, each request is sent.
-use Rattle.std.proofs.Common.{◌≡◌, ℕ, ◌+◌, true, false, cond, Option, Some, None, List, [], ◌∷◌}
-use Rattle.std.proofs.Common.{refl, ap, sym, ◌∙◌, arith, is_some, ◌&&◌}
+use Rattle.std.proofs.Common.{◌≡◌, ℕ, ◌+◌, true, false, cond, Option, Some, None, List, [], ◌∷◌, refl, ap, sym, ◌∙◌}
+use Rattle.std.proofs.Common.{arith, is_some, ◌&&◌}
 use Rattle.coap_types.specs.Past.{Always}
 use Rattle.coap_layer.specs.Taking.{is_then}
 use Rattle.coap_exchange.specs.Counts.{count_then}
-use Rattle.coap_exchange.specs.declared.asker.Event.TheVariants as event_of
 use Rattle.coap_client.specs.Follows.CallsAlone.{CallsAlone}
 use Rattle.coap_client.specs.Follows.Free.{clock_of, is_answered, SentWhereAnswered}
 use Rattle.coap_client.specs.Follows.Tokens.{OwnTokens}
@@ -15,28 +14,18 @@ use Rattle.coap_world.specs.Events.{server_end, Config, Event}
 use Rattle.coap_world.specs.Legal.{Legal}
 use Rattle.coap_world.specs.Record.{Turn, RecordOf, entries_of, client_of}
 use Rattle.coap_world.specs.Smooth as W
-use Rattle.coap_world.specs.Smooth.{Smooth, NoneObserved, count_came, to_server}
+use Rattle.coap_world.specs.Smooth.{Smooth, NoneObserved, count_came}
 use Rattle.coap_world.proofs.Requests.Promised.{lawful}
 use Rattle.coap_world.proofs.Smoothly.FewHeard.{AtClock, few_heard, of_turns, clock_small}
 use Rattle.coap_world.proofs.Smoothly.HandedBetween.{answered_at, handed_between}
 use Rattle.coap_world.proofs.Smoothly.Standing.{stands}
+use Rattle.coap_exchange.specs.declared.asker.Event.TheVariants as event_of
 
 -- a call is answered where it has a moment for that
 answered_when : (c : C.Call) → is_some (answered_at c) ≡ is_answered c
 answered_when (C.Feeds now from bytes word up settled None sent token kept) = refl
 answered_when (C.Feeds now from bytes word up settled (Some (event_of.Answer m)) sent token kept) = refl
-answered_when (C.Feeds now from bytes word up settled (Some (event_of.Notice m)) sent token kept) = refl
-answered_when (C.Feeds now from bytes word up settled (Some event_of.Reset) sent token kept) = refl
-answered_when (C.Feeds now from bytes word up settled (Some event_of.Timeout) sent token kept) = refl
-answered_when (C.Feeds now from bytes word up settled (Some event_of.NoResponse) sent token kept) = refl
-answered_when (C.Calls now r a) = refl
-answered_when (C.Observes now path a) = refl
-answered_when (C.Cancels now number a) = refl
-answered_when (C.Forgets number kept a) = refl
-answered_when (C.Ticks now word below turn sent token kept a) = refl
-answered_when (C.NextOut a) = refl
-answered_when (C.NextReport a) = refl
-answered_when (C.Asked a) = refl
+answered_when _ = refl
 
 module _ (config : Config) (u : ℕ) where
   -- counted by the clock, as by these moments

@@ -1,6 +1,6 @@
 -- An answer is made where the server responds to a request of the client, if nothing is observed.
-use Rattle.std.proofs.Common.{◌≡◌, ◌⊎◌, inl, inr, ℕ, max, true, Option, Some, None, List, [], ◌∷◌}
-use Rattle.std.proofs.Common.{refl, ap, sym, subst, ◌∙◌, append_assoc}
+use Rattle.std.proofs.Common.{◌≡◌, ◌⊎◌, inl, inr, ℕ, max, true, Option, Some, None, List, [], ◌∷◌, refl, ap, sym, subst}
+use Rattle.std.proofs.Common.{◌∙◌, append_assoc}
 use Rattle.coap_types.specs.Past.{Ever, Always}
 use Rattle.coap_types.proofs.Facts.Traces.{Always_back}
 use Rattle.coap_types.specs.declared.endpoint.Endpoint.{Endpoint}
@@ -22,7 +22,7 @@ use Rattle.coap_server.specs.Asks.{lower, answering}
 use Rattle.coap_server.specs.Checks.{Verdict, Ignored, Refused, Asks, Uploads, verdict_on}
 use Rattle.coap_server.specs.Follows.Attended as attended
 use Rattle.coap_server.specs.Follows.Attended.{AnswersIt, WaitsToAsk, IsIgnored}
-use Rattle.coap_server.specs.Follows.Brings.{AsksBy, Completes}
+use Rattle.coap_server.specs.Follows.Brings.{AsksBy}
 use Rattle.coap_server.specs.Follows.Gives.{refusal_by, refusal_of, refusal_in}
 use Rattle.coap_server.specs.Follows.Serves.{Serving, serving, hands}
 use Rattle.coap_server.specs.Follows.Takes.{Took, took, took_by, taken_by, takes_block}
@@ -97,14 +97,13 @@ module _ (limits : Limits) (szx : ℕ) (past : List S.Call) (c : S.Call) where
   -- .. nor does a block that others follow
   more_asks_not : (a : Asked) (x : Took) (q : Question) (v : Verdict) → takes_block own c ≡ Some x → x.part.more ≡ true
       → ((p : Question) → v ≡ Asks p → takes_block own c ≡ None) → AsksBy limits szx past c a q v → ⊥
-  more_asks_not a x q Ignored is more none asks = asks
-  more_asks_not a x q (Refused n) is more none asks = asks
   more_asks_not a x q (Asks p) is more none asks = let z = sym (none p refl) ∙ is in cc z
   more_asks_not a x q (Uploads p b) is more none asks =
       let both : Some x ≡ Some (took a p b) = sym is ∙ asks.takes in
       let same : x ≡ took a p b = cc both in
       let z = sym more ∙ (ap (λ (y : Took). y.part.more) same ∙ asks.last) in
       cc z
+  more_asks_not a x q _ is more none asks = asks
 
 module _ (config : Config) where
   abbrev trace : List Entry → List S.Call
@@ -126,7 +125,6 @@ module _ (config : Config) where
     sent = k.sent;
     begun_there = near_later (λ b. begun b ≡ Some k.con) (hops_at config past (OfServer c)) (hops_in config past)
         k.begun_before;
-    are_bytes = k.are_bytes;
     spells = k.spells;
     asked = k.asked;
   }
@@ -244,7 +242,6 @@ module _ (config : Config) where
         con = k.came.con;
         sent = k.sent;
         begun_there = k.begun_before;
-        are_bytes = k.came.are_bytes;
         spells = k.came.spells;
         asked = k.came.asked;
       }

@@ -1,6 +1,6 @@
 -- An acknowledgement with the response that comes while its exchange is open: that exchange was acknowledged before.
-use Rattle.std.proofs.Common.{◌≡◌, inl, inr, ⊎_elim, ℕ, ◌==◌, true, false, List, [], ◌∷◌}
-use Rattle.std.proofs.Common.{◌++◌, map, refl, ap, sym, subst, ◌∙◌}
+use Rattle.std.proofs.Common.{◌≡◌, inl, inr, ⊎_elim, ℕ, ◌==◌, true, false, List, [], ◌∷◌, ◌++◌, map, refl, ap, sym}
+use Rattle.std.proofs.Common.{subst, ◌∙◌, append_assoc}
 use Rattle.std.specs.Cmp.{unsigned_Decides}
 use Rattle.coap_types.specs.Past.{Ever, Sometime}
 use Rattle.coap_types.proofs.Facts.Endpoints.{same_endpoint_self}
@@ -35,7 +35,6 @@ use Rattle.coap_world.proofs.Smoothly.ExchangeOpen.{OpenOf, Runs, runs_of, Lonel
 use Rattle.coap_world.proofs.Smoothly.RequestOpen.{Alone, alone_now}
 use Rattle.coap_world.proofs.Smoothly.Standing.{ForClient, client_behind}
 use Rattle.coap_world.proofs.Smoothly.WhereItArrives.{ClientFed, at_client, near_found, no_near}
-use Rattle.std.proofs.Common.{append_assoc}
 
 -- the response to this request, in the acknowledgement of this CON
 pub record IsAckWith (request : Open) (x : Sending) (bytes : List ℕ) (m : Message) : Type 0 where

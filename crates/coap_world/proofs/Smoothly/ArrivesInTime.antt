@@ -2,14 +2,13 @@
 use Rattle.std.proofs.Common.{◌≡◌, ◌⊎◌, inl, inr, ⊎_elim, ◌≤◌, ◌<◌, ℕ, ◌+◌, false, Some, None, List}
 use Rattle.std.proofs.Common.{[], ◌∷◌, ◌++◌, map, length, refl, ap, sym, subst, ◌∙◌, arith}
 use Rattle.std.proofs.lemmas.List.{length-append}
-use Rattle.coap_types.specs.Past.{Ever, Sometime, all_of}
+use Rattle.coap_types.specs.Past.{Ever, all_of}
 use Rattle.coap_types.proofs.Facts.Traces.{Ever_front, Ever_back, Ever_of_Sometime, Sometime_back}
 use Rattle.coap_types.specs.declared.endpoint.Endpoint.{Endpoint}
 use Rattle.coap_layer.specs.Channel.{Hop, Near, Far, OnNear, OnFar}
 use Rattle.coap_layer.specs.Sends.{IsIn}
 use Rattle.coap_layer.specs.Taking.{ArrivesWithin}
 use Rattle.coap_layer.specs.Trace as L
-use Rattle.coap_layer.specs.Trace.{Packet}
 use Rattle.coap_client.specs.Trace as C
 use Rattle.coap_server.specs.Trace as S
 use Rattle.coap_world.specs.Events.{client_end, server_end, Config, Deliver}
@@ -21,8 +20,10 @@ use Rattle.coap_world.specs.Record.{given_in, entries_of, client_of, server_trac
 use Rattle.coap_world.specs.Smooth.{max_age, WasDelivered}
 use Rattle.coap_world.proofs.Delivery.GivenOutBefore.{number_unique, not_later}
 use Rattle.coap_world.proofs.Delivery.Received.{are_received}
-use Rattle.coap_world.proofs.Smoothly.SentIsGivenOut.{front, front_is, numbered_in, near_given, far_given}
+use Rattle.coap_world.proofs.Smoothly.SentIsGivenOut.{numbered_in, near_given, far_given}
+use Rattle.coap_world.proofs.Delivery.End.{front, front_is}
 use Rattle.coap_world.proofs.Smoothly.Standing.{AllMade, Stands, before, record_of, turned, side_of}
+use Rattle.coap_world.proofs.Delivery.GivenOutBefore.{below_length}
 pub use Rattle.coap_world.proofs.Delivery.FedInTime.{in_or_late, apart}
 
 -- two lists in one, parted at an element
@@ -48,18 +49,12 @@ none_there (x ∷ later) before h e = cc e
 
 -- a number that was delivered is of a datagram that was given out before
 
-below : {A : Type 0} (n : ℕ) (x : A) (t : List A) → Sometime (λ before s. (s ≡ x) × (length before ≡ n)) t
-    → n < length t
-below n x [] h = absurd h
-below n x (y ∷ t) (inl h) = let e = h.1 in omega (arith, e)
-below n x (y ∷ t) (inr h) = let k = below n x t h in omega (arith, k)
-
 delivers : (n : ℕ) (turn : Turn) (past : List Turn)
     → Makes past turn.event.at turn.event.word turn.event.what turn.refused turn.entries
     → turn.event.what ≡ Deliver n → n < length (all_of given_in past)
 delivers n turn past made is =
     let m = subst (λ w. Makes past turn.event.at turn.event.word w turn.refused turn.entries) is made in
-    below n m.0 (all_of given_in past) m.1
+    below_length n m.0 (all_of given_in past) m.1
 
 delivered_below : (n : ℕ) (past : List Turn) → AllMade past → WasDelivered n past → n < length (all_of given_in past)
 delivered_below n [] made h = absurd h

@@ -48,7 +48,7 @@ use Rattle.coap_world.proofs.Smoothly.OnTime.{on_time}
 use Rattle.coap_world.proofs.Smoothly.PlainRequests.{was_plain}
 use Rattle.coap_world.proofs.Smoothly.RequestOpen.{HasCon, has_con}
 use Rattle.coap_world.proofs.Smoothly.RequestTaken.{RepliedAt, ComesTo, request_taken}
-use Rattle.coap_world.proofs.Smoothly.SentIsGivenOut.{front, front_is}
+use Rattle.coap_world.proofs.Delivery.End.{front, front_is}
 use Rattle.coap_world.proofs.Smoothly.Standing.{record_of}
 use Rattle.coap_world.proofs.Smoothly.WaitsNow.{WaitsNow, waits_now}
 use Rattle.coap_world.proofs.Smoothly.WhereItArrives.{no_near}

@@ -1,17 +1,14 @@
 -- Each Confirmable message of a client carries a request, and each of a server a response.
-use Rattle.std.proofs.Common.{◌≡◌, inl, inr, ℕ, ◌<◌, Some, List, [], ◌∷◌}
-use Rattle.std.proofs.Common.{Result, Ok, refl, ap, sym, subst, ◌∙◌, arith}
+use Rattle.std.proofs.Common.{◌≡◌, inl, inr, ℕ, ◌<◌, Some, List, [], ◌∷◌, Result, Ok, refl, ap, sym, subst, ◌∙◌, arith}
 use Rattle.coap_types.specs.Past.{Ever}
 use Rattle.coap_types.specs.MethodCode.{method_code}
 use Rattle.coap_types.specs.Roles.{role_of}
-use Rattle.coap_types.specs.declared.endpoint.Endpoint.{Endpoint}
 use Rattle.coap_types.specs.declared.message.Kind.TheVariants.{Con}
 use Rattle.coap_types.specs.declared.request.Method.{Method}
-use Rattle.coap_types.specs.declared.request.Method.TheVariants.{Get, Post, Put, Delete}
+use Rattle.coap_types.specs.declared.request.Method.TheVariants.{Get}
 use Rattle.coap_types.specs.declared.role.Role.TheVariants as role
 use Rattle.coap_codec.specs.Message.{Spells}
 use Rattle.coap_codec.specs.Spelling.{message_bytes}
-use Rattle.coap_layer.specs.Machine.State.{start}
 use Rattle.coap_layer.specs.Rows.{LayerLaw, Row, IsSpelled, Confirms}
 use Rattle.coap_layer.specs.Sends.{SpellsCon}
 use Rattle.coap_layer.specs.Taking.{IsTold}
@@ -21,7 +18,6 @@ use Rattle.coap_layer.specs.Words.{Open, begun}
 use Rattle.coap_layer.specs.declared.setup.Setup.{Setup}
 use Rattle.coap_layer.proofs.Facts.Laws.{begins_of, cons_spelled, spelled_begun}
 use Rattle.coap_exchange.specs.AnswererLaw as answerer
-use Rattle.coap_exchange.specs.AnswererSteps as P
 use Rattle.coap_exchange.specs.AnswererTrace as R
 use Rattle.coap_exchange.specs.AskerTrace as A
 use Rattle.coap_exchange.specs.declared.asker.AskRefusal.{AskRefusal}
@@ -36,8 +32,9 @@ use Rattle.coap_client.specs.Trace as C
 use Rattle.coap_block.specs.Sizes.{Sizes}
 use Rattle.coap_world.specs.CameFrom.{request_of}
 use Rattle.coap_world.specs.Events.{server_end}
-use Rattle.coap_world.proofs.Delivery.EntriesInTime.{Every, every_join}
-use Rattle.coap_world.proofs.Smoothly.Confirms.{IsAskedSo, IsEntrySo, SendsSo, sends_so, entries_so}
+use Rattle.coap_world.proofs.Delivery.EntriesInTime.{Every}
+use Rattle.coap_world.proofs.Smoothly.Confirms.{IsEntrySo}
+use Rattle.coap_world.proofs.Smoothly.OnlyResponses.{IsResponse, all_respond}
 
 -- what is sent is the message of an operation
 
@@ -73,9 +70,7 @@ was_message sizes x (c ∷ t) (inr h) = was_message sizes x t h
 
 method_asks : (m : Method) → role_of (method_code m).0 ≡ role.Request
 method_asks Get = refl
-method_asks Post = refl
-method_asks Put = refl
-method_asks Delete = refl
+method_asks _ = refl
 
 asks_in : (os : List Observation) (op : Operation) → role_of (message_of os op).code ≡ role.Request
 asks_in os (Calling number r t) = method_asks r.method
@@ -103,24 +98,6 @@ request_told setup t con x law h r m =
     }
 
 -- what a server confirms is a response
-
-abbrev IsResponse : Endpoint → L.Content → Type 0
-IsResponse to content = role_of content.code ≡ role.Response
-
-abbrev Any : Endpoint → L.Content → Type 0
-Any to content = Unit {0}
-
-responds_so : (s : R.Own) (c : R.Call) → P.IsRight s c → SendsSo IsResponse Any c
-responds_so s (R.Responds now a r word id) right = right.1.code
-responds_so s (R.Notifies now to token r word id) right = right.code
-responds_so s _ right = tt
-
-all_respond : (t : List R.Call) → answerer.AnswererLaw t → Every (IsAskedSo IsResponse Any) (answerer.lower_of t)
-all_respond [] law = tt
-all_respond (c ∷ t) law =
-    every_join (IsAskedSo IsResponse Any) (P.lower (answerer.own_of t) c) (answerer.lower_of t)
-    (sends_so IsResponse Any (answerer.own_of t) c (responds_so (answerer.own_of t) c law.0)) (all_respond t law.1)
-
 pub record CarriesResponse (con : Open) : Type 0 where
   pub content : L.Content
   pub response : role_of content.code ≡ role.Response
@@ -128,7 +105,7 @@ pub record CarriesResponse (con : Open) : Type 0 where
   pub spells : Spells con.bytes (with_head Con con.id content)
   pub small : con.id < 65536
 
-con_carries : (setup : Setup) (t : List L.Entry) (con : Open) → LayerLaw setup t → Every (IsEntrySo IsResponse Any) t
+con_carries : (setup : Setup) (t : List L.Entry) (con : Open) → LayerLaw setup t → Every (IsEntrySo IsResponse IsResponse) t
     → Ever (λ b. begun b ≡ Some con) t → CarriesResponse con
 con_carries setup [] con law all h = absurd h
 con_carries setup (e ∷ t) con law all (inr h) = con_carries setup t con law.1 all.1 h
@@ -150,7 +127,7 @@ pub server_carries : (setup : Setup) (t : List R.Call) (con : Open) → answerer
     → LayerLaw setup (answerer.below_of setup t) → Ever (λ b. begun b ≡ Some con) (answerer.below_of setup t)
     → CarriesResponse con
 server_carries setup t con rows law h = con_carries setup (answerer.below_of setup t) con law
-    (entries_so IsResponse Any (start setup) (answerer.lower_of t) (all_respond t rows)) h
+    (all_respond setup t rows) h
 
 pub response_told : (con : Open) → CarriesResponse con → IsTold con.bytes
 response_told con k = record { message = with_head Con con.id k.content; spells = k.spells; class = inr k.response }

@@ -1,7 +1,7 @@
 -- Where nothing is observed and each exchange ends by an answer, a CON that the server begins for the client while an
 -- exchange is open carries the answer to its request.
-use Rattle.std.proofs.Common.{◌≡◌, ◌⊎◌, inl, inr, ⊎_elim, ◌≤◌, ◌<◌, ℕ, Some, None, List, [], ◌∷◌, ◌++◌, map, refl}
-use Rattle.std.proofs.Common.{ap, sym, subst, ◌∙◌, arith, append_assoc}
+use Rattle.std.proofs.Common.{◌≡◌, ◌⊎◌, inl, inr, ⊎_elim, ◌≤◌, ◌<◌, ℕ, Some, None, List, [], ◌∷◌, ◌++◌, map, refl, ap}
+use Rattle.std.proofs.Common.{sym, subst, ◌∙◌, arith, append_assoc}
 use Rattle.coap_types.specs.Past.{Ever, Always}
 use Rattle.coap_types.proofs.Facts.Traces.{Ever_append, Ever_map, Ever_of_Since}
 use Rattle.coap_layer.specs.Trace as L
@@ -36,13 +36,16 @@ use Rattle.coap_world.proofs.Requests.OfACall.{Lawful, lawful_back}
 use Rattle.coap_world.proofs.Requests.Promised.{lawful}
 use Rattle.coap_world.proofs.Smoothly.ConsAnswer.{RespondsTo, NotifiesTo, con_of}
 use Rattle.coap_world.proofs.Smoothly.ExchangeOpen.{OpenOf}
-use Rattle.coap_world.proofs.Smoothly.FewArrive.{client_at, server_at}
+use Rattle.coap_world.proofs.Delivery.ClientTurns.{all_at as client_at}
+use Rattle.coap_world.proofs.Delivery.ServerTurns.{all_at as server_at}
 use Rattle.coap_world.proofs.Smoothly.NoObservers.{none_made}
 use Rattle.coap_world.proofs.Smoothly.OfOpen.{of_open_exchange}
 use Rattle.coap_world.proofs.Smoothly.Standing.{Stands, before, record_of, turned, side_of}
 use Rattle.coap_world.proofs.Smoothly.TicksAnswer.{ticks_answer}
 use Rattle.coap_world.proofs.Smoothly.TicksInTime.{lifted}
 use Rattle.coap_world.proofs.Smoothly.YoungCalls.{began_at}
+use Rattle.coap_world.proofs.Delivery.ClientTurns.{turn_calls as client_turn_calls}
+use Rattle.coap_world.proofs.Delivery.ServerTurns.{turn_calls as server_turn_calls}
 
 -- what holds of one holds of each before it
 pub calls_before : (P : List C.Call → C.Call → Type 0) (later older : List Entry) → Always P (client_of (later ++ older))
@@ -159,11 +162,10 @@ module _ (config : Config) (range : IsConfig config)
       by : ClientTurn turn.event.at turn.entries ⊎ ServerTurn turn.event.at turn.entries
           → OpenOf server_end config.client_sizes config.client_setup at x (client_of (entries_of past))
       by (inr on) =
-          let cs : List S.Call = S.NextOut None ∷ (map (λ p. S.NextOut (Some p)) on.on.outs ++ on.calls) in
+          let cs : List S.Call = server_turn_calls on.on.outs on.calls in
           subst (OpenOf server_end config.client_sizes config.client_setup at x) (ap (λ z. client_of (z ++ entries_of past)) on.on.is ∙ client_server cs (entries_of past)) o
       by (inl on) =
-          let cs : List C.Call = C.NextReport None ∷ (map (λ r. C.NextReport (Some r)) on.on.reports
-          ++ C.NextOut None ∷ (map (λ p. C.NextOut (Some p)) on.on.outs ++ on.calls)) in
+          let cs : List C.Call = client_turn_calls on.on.outs on.on.reports on.calls in
           behind cs (client_of (entries_of past))
           (client_at turn.event.at on.on.outs on.on.reports on.calls on.at)
           (subst (OpenOf server_end config.client_sizes config.client_setup at x) (ap (λ z. client_of (z ++ entries_of past)) on.on.is ∙ client_client cs (entries_of past)) o)
@@ -195,13 +197,12 @@ module _ (config : Config) (range : IsConfig config)
         by : ClientTurn turn.event.at turn.entries ⊎ ServerTurn turn.event.at turn.entries
             → CarriesAnswer x con ⊎ There past
         by (inl on) =
-            let cs : List C.Call = C.NextReport None ∷ (map (λ r. C.NextReport (Some r)) on.on.reports
-            ++ C.NextOut None ∷ (map (λ p. C.NextOut (Some p)) on.on.outs ++ on.calls)) in
+            let cs : List C.Call = client_turn_calls on.on.outs on.on.reports on.calls in
             inr (subst (λ z. Begun at x con to (server_layer config (z ++ begun_with config)))
             (ap (λ z. server_of (z ++ entries_of past)) on.on.is
             ∙ server_client cs (entries_of past)) h)
         by (inr on) =
-            let cs : List S.Call = S.NextOut None ∷ (map (λ p. S.NextOut (Some p)) on.on.outs ++ on.calls) in
+            let cs : List S.Call = server_turn_calls on.on.outs on.calls in
             in_calls at x con to cs (entries_of past)
             (subst (λ z. Lawful config (z ++ entries_of past)) on.on.is law) o
             (subst (λ z. Begun at x con to (server_layer config (server_trace config (z ++ entries_of past)))) on.on.is h)
@@ -220,12 +221,11 @@ module _ (config : Config) (range : IsConfig config)
           where
             by : ClientTurn u.event.at u.entries ⊎ ServerTurn u.event.at u.entries → (con.first ≤ till) ⊎ There older
             by (inl on) =
-                let cs : List C.Call = C.NextReport None ∷ (map (λ r. C.NextReport (Some r)) on.on.reports
-                ++ C.NextOut None ∷ (map (λ p. C.NextOut (Some p)) on.on.outs ++ on.calls)) in
+                let cs : List C.Call = client_turn_calls on.on.outs on.on.reports on.calls in
                 inr (subst (λ z. Begun at x con to (server_layer config (z ++ begun_with config)))
                 (ap (λ z. server_of (z ++ entries_of older)) on.on.is ∙ server_client cs (entries_of older)) there)
             by (inr on) =
-                let cs : List S.Call = S.NextOut None ∷ (map (λ p. S.NextOut (Some p)) on.on.outs ++ on.calls) in
+                let cs : List S.Call = server_turn_calls on.on.outs on.calls in
                 let is : server_trace config (u.entries ++ entries_of older) ≡ cs ++ server_trace config (entries_of older) =
                 ap (λ l. l ++ begun_with config) (ap (λ z. server_of (z ++ entries_of older)) on.on.is
                 ∙ server_server cs (entries_of older))

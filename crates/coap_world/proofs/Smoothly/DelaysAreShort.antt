@@ -1,6 +1,6 @@
 -- In a run the delays are those with which the server began.
-use Rattle.std.proofs.Common.{◌≡◌, inl, inr, ◌≤◌, ℕ, Bool, true, false, Some, None, List, [], ◌∷◌, ◌++◌, map, refl}
-use Rattle.std.proofs.Common.{ap, sym, subst, ◌∙◌}
+use Rattle.std.proofs.Common.{◌≡◌, inl, inr, ◌≤◌, ℕ, Bool, true, false, Some, List, [], ◌∷◌, ◌++◌, map, refl, ap, sym}
+use Rattle.std.proofs.Common.{subst, ◌∙◌}
 use Rattle.std.specs.List.{All}
 use Rattle.std.proofs.lemmas.List.Elements.{All-head, All-tail}
 use Rattle.coap_types.specs.Past.{Ever}
@@ -9,15 +9,15 @@ use Rattle.coap_client.specs.Trace as C
 use Rattle.coap_server.specs.Follows.Delayed.{sets_delay}
 use Rattle.coap_server.specs.Trace as S
 use Rattle.coap_server.specs.Trace.{Delay}
-use Rattle.coap_world.specs.Events.{Config, What, Sets, Removes, TickServer}
-use Rattle.coap_world.specs.Events.{Deliver, StrangerToServer}
+use Rattle.coap_world.specs.Events.{Config, What, Sets, Removes, TickServer, Deliver, StrangerToServer}
 use Rattle.coap_world.specs.Record.{Entry, OfClient, OfServer, Turn, OnClient, OnServer, ServerTick, Makes, entries_of}
-use Rattle.coap_world.specs.Record.{DelayOf, PlainOf, gives_it}
-use Rattle.coap_world.specs.Record.{server_trace}
+use Rattle.coap_world.specs.Record.{DelayOf, PlainOf, gives_it, server_trace}
 use Rattle.coap_world.specs.Smooth.{max_delay}
 use Rattle.coap_world.proofs.Delivery.EntriesInTime.{Every, every_join}
 use Rattle.coap_world.proofs.Delivery.OneEndATurn.{each_one, each_tick}
 use Rattle.coap_world.proofs.Smoothly.Standing.{AllMade}
+use Rattle.coap_world.proofs.Delivery.ClientTurns.{turn_calls as client_turn_calls}
+use Rattle.coap_world.proofs.Delivery.ServerTurns.{turn_calls as server_turn_calls}
 
 -- the entry sets no delay
 abbrev pub SetsNone : Entry → Type 0
@@ -43,14 +43,13 @@ outs_set_none (p ∷ outs) calls h = (refl, outs_set_none outs calls h)
 on_client : (calls : List C.Call) (entries : List Entry) → OnClient calls entries → Every SetsNone entries
 on_client calls entries on =
     subst (Every SetsNone) (sym on.is)
-    (none_of_client (C.NextReport None ∷ (map (λ r. C.NextReport (Some r)) on.reports
-    ++ C.NextOut None ∷ (map (λ p. C.NextOut (Some p)) on.outs ++ calls))))
+    (none_of_client (client_turn_calls on.outs on.reports calls))
 
 on_server : (calls : List S.Call) (entries : List Entry) → Every NotSet calls → OnServer calls entries
     → Every SetsNone entries
 on_server calls entries h on =
     subst (Every SetsNone) (sym on.is)
-    (none_of_server (S.NextOut None ∷ (map (λ p. S.NextOut (Some p)) on.outs ++ calls))
+    (none_of_server (server_turn_calls on.outs calls)
     (refl, outs_set_none on.outs calls h))
 
 module _ (past : List Turn) (t : ℕ) (word : ℕ) (refused : Bool) (entries : List Entry) where

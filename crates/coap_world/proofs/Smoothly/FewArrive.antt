@@ -1,6 +1,6 @@
 -- In a smooth run few messages come to the message layer of an end: those that its calls are handed.
 use Rattle.std.proofs.Common.{◌≡◌, ◌⊎◌, inl, inr, ◌≤◌, ℕ, ◌+◌, Bool, true, false, cond, Option, Some, None, List, []}
-use Rattle.std.proofs.Common.{◌∷◌, ◌++◌, map, refl, ap, sym, subst, ◌∙◌, arith, append_assoc, if◌then◌else◌}
+use Rattle.std.proofs.Common.{◌∷◌, ◌++◌, refl, ap, sym, subst, ◌∙◌, arith, append_assoc, if◌then◌else◌}
 use Rattle.coap_types.proofs.Facts.Traces.{Always_back}
 use Rattle.coap_types.specs.declared.endpoint.Endpoint.{Endpoint}
 use Rattle.coap_codec.specs.Message.{Message}
@@ -16,23 +16,20 @@ use Rattle.coap_common.proofs.Facts.Adds.{entries_append}
 use Rattle.coap_client.specs.Trace as C
 use Rattle.coap_server.specs.Trace as S
 use Rattle.coap_world.specs.Events.{Config}
-use Rattle.coap_world.specs.Hops.{client_asks, client_asked, client_adds, server_asks, server_asked, server_adds}
 use Rattle.coap_world.specs.InTime.{FewArrive}
-use Rattle.coap_world.specs.Record.{Entry, Turn, entries_of, client_of, server_of, server_trace}
-use Rattle.coap_world.specs.Record.{begun_with}
+use Rattle.coap_world.specs.Record.{Entry, Turn, entries_of, client_of, server_of, server_trace, begun_with}
 use Rattle.coap_world.specs.Smooth as W
 use Rattle.coap_world.specs.Smooth.{came_at, to_client, to_server, count_came}
 use Rattle.coap_world.proofs.Delivery.ClientInTime as client
 use Rattle.coap_world.proofs.Delivery.ClientTurns as client_turns
 use Rattle.coap_world.proofs.Delivery.EntriesInTime.{Every, Timely}
-use Rattle.coap_world.proofs.Delivery.HopsAreEntries.{client_layer, server_layer, client_next, server_next, near_is, far_is}
-use Rattle.coap_world.proofs.Delivery.HopsAreEntries.{client_asked_next, server_asked_next}
+use Rattle.coap_world.proofs.Delivery.HopsAreEntries.{client_layer, server_layer, near_is, far_is}
 use Rattle.coap_world.proofs.Delivery.OneEndATurn.{ClientTurn, ServerTurn, client_client, client_server, server_server}
 use Rattle.coap_world.proofs.Delivery.OneEndATurn.{server_client}
 use Rattle.coap_world.proofs.Delivery.ServerInTime as server
 use Rattle.coap_world.proofs.Delivery.ServerTurns as server_turns
-use Rattle.coap_world.proofs.Delivery.ServerTurns.{trace_is}
-use Rattle.coap_world.proofs.Delivery.TakenAtOnce.{all_by}
+use Rattle.coap_world.proofs.Delivery.BothEnds.{trace_is, client_side, server_side}
+use Rattle.coap_world.proofs.Delivery.End.{End, IsGood, down, layer, layer_next, adds, all_by}
 use Rattle.coap_world.proofs.Smoothly.OthersTakeNone.{IsSilent, quiet_entries, Behind, Makes, makes_out, makes_fed}
 use Rattle.coap_world.proofs.Smoothly.OthersTakeNone.{makes_none, client_call, client_up, server_call, server_up}
 use Rattle.coap_world.proofs.Smoothly.OthersTakeNone.{client_makes, server_makes}
@@ -108,7 +105,8 @@ module _ (old : State) (asks : List Asked) (call : L.Call) (up : L.Answer) (k : 
   pub parts : entries old asks ≡ newer ++ made old k.now call ∷ []
   parts = ap (entries old) k.is ∙ entries_append old k.front (asked k.now call up ∷ [])
 
-  front_count : (since : ℕ) (t : List L.Entry) → came since (entries old asks ++ t) ≡ came since (made old k.now call ∷ t)
+  front_count : (since : ℕ) (t : List L.Entry) → came since (entries old asks ++ t)
+      ≡ came since (made old k.now call ∷ t)
   front_count since t =
       ap (λ l. came since (l ++ t)) parts ∙ ap (came since) (append_assoc newer (made old k.now call ∷ []) t)
       ∙ silent_count since newer (made old k.now call ∷ t)
@@ -117,68 +115,64 @@ module _ (old : State) (asks : List Asked) (call : L.Call) (up : L.Answer) (k : 
   oldest : (P : L.Entry → Type 0) → Every P (entries old asks) → P (made old k.now call)
   oldest P h = (Always_back (λ past e. P e) newer (made old k.now call ∷ []) (subst (Every P) parts h)).0
 
-module _ (config : Config) (since t : ℕ) where
-  -- the server
+-- the calls of an end, of which each makes at most one message come
+module _ {config : Config} {X : Type 0} (end : End config X) (call : X → L.Call) (up : X → L.Answer)
+    (to : X → Option ℕ)
+    (makes : (past : List X) (c : X) → Makes ((answer : _) × (c ≡ end.out answer)) (call c) (up c) (end.asks past c))
+    (since t : ℕ)
+    (last : (c : X) (e : L.Entry) (rest : List L.Entry) → e.call ≡ call c → e.answer ≡ up c
+    → ((from : Endpoint) (bytes : List ℕ) → e.call ≡ L.Receive from bytes → e.at ≡ t) → end.IsAt t c
+    → came since (e ∷ rest) ≤ one (W.is_then since (to c)) + came since rest) where
+  step : (past : List X) (c : X) → IsGood end (c ∷ past) → end.IsBy t past → end.IsAt t c
+      → came since (layer end (c ∷ past)) ≤ one (W.is_then since (to c)) + came since (layer end past)
+  step past c good by at =
+      subst (λ l. came since l ≤ one (W.is_then since (to c)) + came since (layer end past))
+      (sym (layer_next end past c)) (go (makes past c))
+    where
+      all : List L.Entry
+      all = layer end past
 
+      old : State
+      old = left_after (start end.setup) (end.asked past)
+
+      go : Makes ((answer : _) × (c ≡ end.out answer)) (call c) (up c) (end.asks past c)
+          → came since (adds end past c ++ all) ≤ one (W.is_then since (to c)) + came since all
+      go (makes_out o) =
+          let k : came since (adds end past c ++ all) ≡ came since all =
+          ap (λ d. came since (adds end past d ++ all)) o.1
+          ∙ ap (λ a. came since (entries old a ++ all)) (end.takes past o.0) in
+          omega (arith, k)
+      go (makes_none q) = let k = silent_count since (adds end past c) all
+          (quiet_entries old (end.asks past c) q) in omega (arith, k)
+      go (makes_fed k) =
+          let e : L.Entry = made old k.now (call c) in
+          let same = front_count old (end.asks past c) (call c) (up c) k since all in
+          let times = oldest old (end.asks past c) (call c) (up c) k (Timely t (end.Fed c))
+          (end.timely t past c by at) in
+          let answer = last_answer (start end.setup) (end.asks past c) (end.asked past) good.0
+          (subst (λ a. Steps (start end.setup) a good.0) (end.asked_next past c) good.1) (call c) (up c) k in
+          let less = last c e all refl answer
+          (λ from bytes is. (let a = (times.fed from bytes is).1 in let b = times.till in omega (arith, a, b))) at in
+          omega (arith, same, less)
+
+  calls : (cs past known : List X) → IsGood end (cs ++ past) → end.IsBy t past → Every (end.IsAt t) cs
+      → came since (layer end past) ≤ count_came to since known
+      → came since (layer end (cs ++ past)) ≤ count_came to since (cs ++ known)
+  calls [] past known good by at less = less
+  calls (c ∷ cs) past known good by at less =
+      let rest = calls cs past known (down end (cs ++ past) c good) by at.1 less in
+      let here = step (cs ++ past) c good (all_by end t cs past by at.1) at.0 in
+      let whole = one_counts (W.is_then since (to c)) _ _ rest in
+      omega (arith, here, whole)
+
+module _ (since t : ℕ) where
   server_last : (c : S.Call) (e : L.Entry) (rest : List L.Entry) → e.call ≡ server_call c → e.answer ≡ server_up c
       → ((from : Endpoint) (bytes : List ℕ) → e.call ≡ L.Receive from bytes → e.at ≡ t) → server.IsAt t c
       → came since (e ∷ rest) ≤ one (W.is_then since (to_server c)) + came since rest
   server_last (S.Feeds now from bytes word up came h below) e rest call answer at is =
       received_count since e rest from bytes up now call answer (at from bytes call ∙ sym is)
-  server_last (S.Ticks now word below room d passed h id a) e rest call answer at is =
-      let k = none_count since e rest (ap (λ d. handed_in d e.answer) call) in omega (arith, k)
   server_last _ e rest call answer at is =
       let k = none_count since e rest (ap (λ d. handed_in d e.answer) call) in omega (arith, k)
-
-  server_step : (past : List S.Call) (c : S.Call) → server_turns.IsGood config (c ∷ past) → server.IsBy config t past
-      → server.IsAt t c
-      → came since (server_layer config (c ∷ past))
-      ≤ one (W.is_then since (to_server c)) + came since (server_layer config past)
-  server_step past c good by at =
-      subst (λ l. came since l ≤ one (W.is_then since (to_server c)) + came since (server_layer config past))
-      (sym (server_next config past c)) (go (server_makes config past c))
-    where
-      layer : List L.Entry
-      layer = server_layer config past
-
-      old : State
-      old = left_after (start config.server_setup) (server_asked config past)
-
-      go : Makes ((answer : _) × (c ≡ S.NextOut answer)) (server_call c) (server_up c) (server_asks config past c)
-          → came since (server_adds config past c ++ layer) ≤ one (W.is_then since (to_server c)) + came since layer
-      go (makes_out o) = subst (λ d. came since (server_adds config past d ++ layer)
-          ≤ one (W.is_then since (to_server d)) + came since layer) (sym o.1)
-          (let k : came since (server_adds config past (S.NextOut o.0) ++ layer) ≡ came since layer = refl in
-          omega (arith, k))
-      go (makes_none q) = let k = silent_count since (server_adds config past c) layer
-          (quiet_entries old (server_asks config past c) q) in omega (arith, k)
-      go (makes_fed k) =
-          let e : L.Entry = made old k.now (server_call c) in
-          let same = front_count old (server_asks config past c) (server_call c) (server_up c) k since layer in
-          let times = oldest old (server_asks config past c) (server_call c) (server_up c) k (Timely t (server.Fed c))
-          (server.adds_timely config t past c by at) in
-          let answer = last_answer (start config.server_setup) (server_asks config past c)
-          (server_asked config past) good.0 (subst (λ a. Steps (start config.server_setup) a good.0)
-          (server_asked_next config past c) good.1) (server_call c) (server_up c) k in
-          let less = server_last c e layer refl answer
-          (λ from bytes is. (let a = (times.fed from bytes is).1 in let b = times.till in omega (arith, a, b))) at in
-          omega (arith, same, less)
-
-  server_calls : (cs past now_and_before : List S.Call) → server_turns.IsGood config (cs ++ past) → server.IsBy config t past
-      → Every (server.IsAt t) cs
-      → came since (server_layer config past) ≤ count_came to_server since now_and_before
-      → came since (server_layer config (cs ++ past)) ≤ count_came to_server since (cs ++ now_and_before)
-  server_calls [] past known good by at less = less
-  server_calls (c ∷ cs) past known good by at less =
-      let down = server_turns.down config (cs ++ past) c good in
-      let rest = server_calls cs past known down by at.1 less in
-      let here = server_step (cs ++ past) c good
-      (all_by t (server_adds config) (server.IsBy config t) (server.IsAt t) server.Fed (server.next_by config t)
-      (server.adds_timely config t) cs past by at.1) at.0 in
-      let whole = one_counts (W.is_then since (to_server c)) _ _ rest in
-      omega (arith, here, whole)
-
-  -- the client
 
   client_last : (c : C.Call) (e : L.Entry) (rest : List L.Entry) → e.call ≡ client_call c → e.answer ≡ client_up c
       → ((from : Endpoint) (bytes : List ℕ) → e.call ≡ L.Receive from bytes → e.at ≡ t) → client.IsAt t c
@@ -187,66 +181,6 @@ module _ (config : Config) (since t : ℕ) where
       received_count since e rest from bytes up now call answer (at from bytes call ∙ sym is)
   client_last _ e rest call answer at is =
       let k = none_count since e rest (ap (λ d. handed_in d e.answer) call) in omega (arith, k)
-
-  client_step : (past : List C.Call) (c : C.Call) → client_turns.IsGood config (c ∷ past) → client.IsBy config t past
-      → client.IsAt t c
-      → came since (client_layer config (c ∷ past))
-      ≤ one (W.is_then since (to_client c)) + came since (client_layer config past)
-  client_step past c good by at =
-      subst (λ l. came since l ≤ one (W.is_then since (to_client c)) + came since (client_layer config past))
-      (sym (client_next config past c)) (go (client_makes config past c))
-    where
-      layer : List L.Entry
-      layer = client_layer config past
-
-      old : State
-      old = left_after (start config.client_setup) (client_asked config past)
-
-      go : Makes ((answer : _) × (c ≡ C.NextOut answer)) (client_call c) (client_up c) (client_asks config past c)
-          → came since (client_adds config past c ++ layer) ≤ one (W.is_then since (to_client c)) + came since layer
-      go (makes_out o) = subst (λ d. came since (client_adds config past d ++ layer)
-          ≤ one (W.is_then since (to_client d)) + came since layer) (sym o.1)
-          (let k : came since (client_adds config past (C.NextOut o.0) ++ layer) ≡ came since layer = refl in
-          omega (arith, k))
-      go (makes_none q) = let k = silent_count since (client_adds config past c) layer
-          (quiet_entries old (client_asks config past c) q) in omega (arith, k)
-      go (makes_fed k) =
-          let e : L.Entry = made old k.now (client_call c) in
-          let same = front_count old (client_asks config past c) (client_call c) (client_up c) k since layer in
-          let times = oldest old (client_asks config past c) (client_call c) (client_up c) k (Timely t (client.Fed c))
-          (client.adds_timely config t past c by at) in
-          let answer = last_answer (start config.client_setup) (client_asks config past c)
-          (client_asked config past) good.0 (subst (λ a. Steps (start config.client_setup) a good.0)
-          (client_asked_next config past c) good.1) (client_call c) (client_up c) k in
-          let less = client_last c e layer refl answer
-          (λ from bytes is. (let a = (times.fed from bytes is).1 in let b = times.till in omega (arith, a, b))) at in
-          omega (arith, same, less)
-
-  client_calls : (cs past now_and_before : List C.Call) → client_turns.IsGood config (cs ++ past) → client.IsBy config t past
-      → Every (client.IsAt t) cs
-      → came since (client_layer config past) ≤ count_came to_client since now_and_before
-      → came since (client_layer config (cs ++ past)) ≤ count_came to_client since (cs ++ now_and_before)
-  client_calls [] past known good by at less = less
-  client_calls (c ∷ cs) past known good by at less =
-      let down = client_turns.down config (cs ++ past) c good in
-      let rest = client_calls cs past known down by at.1 less in
-      let here = client_step (cs ++ past) c good
-      (all_by t (client_adds config) (client.IsBy config t) (client.IsAt t) client.Fed (client.next_by config t)
-      (client.adds_timely config t) cs past by at.1) at.0 in
-      let whole = one_counts (W.is_then since (to_client c)) _ _ rest in
-      omega (arith, here, whole)
-
--- all calls of a turn have its moment
-
-pub client_at : (t : ℕ) (outs : List L.Packet) (reports : List C.Reported) (calls : List C.Call) → Every (client.IsAt t) calls
-    → Every (client.IsAt t) (C.NextReport None ∷ (map (λ r. C.NextReport (Some r)) reports
-    ++ C.NextOut None ∷ (map (λ p. C.NextOut (Some p)) outs ++ calls)))
-client_at t outs reports calls h =
-    (tt, client_turns.every_told t reports _ (tt, client_turns.every_out t outs calls h))
-
-pub server_at : (t : ℕ) (outs : List L.Packet) (calls : List S.Call) → Every (server.IsAt t) calls
-    → Every (server.IsAt t) (S.NextOut None ∷ (map (λ p. S.NextOut (Some p)) outs ++ calls))
-server_at t outs calls h = (tt, server_turns.every_out t outs calls h)
 
 module _ (config : Config) (since : ℕ) where
   abbrev ServerFew : List Entry → Type 0
@@ -259,19 +193,20 @@ module _ (config : Config) (since : ℕ) where
       → server_turns.IsGood config (server_trace config (entries ++ es))
       → server.IsBy config t (server_trace config es) → ServerFew es → ServerFew (entries ++ es)
   server_turn t entries es (inl turn) good by less =
-      let cs : List C.Call = C.NextReport None ∷ (map (λ r. C.NextReport (Some r)) turn.on.reports
-      ++ C.NextOut None ∷ (map (λ p. C.NextOut (Some p)) turn.on.outs ++ turn.calls)) in
+      let cs : List C.Call = client_turns.turn_calls turn.on.outs turn.on.reports turn.calls in
       let is : server_of (entries ++ es) ≡ server_of es = ap (λ z. server_of (z ++ es)) turn.on.is ∙ server_client cs es
       in
-      subst (λ s. came since (server_layer config (s ++ begun_with config)) ≤ count_came to_server since s) (sym is) less
+      subst (λ s. came since (server_layer config (s ++ begun_with config)) ≤ count_came to_server since s)
+      (sym is) less
   server_turn t entries es (inr turn) good by less =
-      let cs : List S.Call = S.NextOut None ∷ (map (λ p. S.NextOut (Some p)) turn.on.outs ++ turn.calls) in
+      let cs : List S.Call = server_turns.turn_calls turn.on.outs turn.calls in
       let is : server_trace config (entries ++ es) ≡ cs ++ server_trace config es =
       ap (λ z. server_trace config (z ++ es)) turn.on.is ∙ trace_is config cs es in
       let own : server_of (entries ++ es) ≡ cs ++ server_of es =
       ap (λ z. server_of (z ++ es)) turn.on.is ∙ server_server cs es in
-      let k = server_calls config since t cs (server_trace config es) (server_of es)
-      (subst (server_turns.IsGood config) is good) by (server_at t turn.on.outs turn.calls turn.at) less in
+      let k = calls (server_side config) server_call server_up to_server (server_makes config) since t
+      (server_last since t) cs (server_trace config es) (server_of es)
+      (subst (server_turns.IsGood config) is good) by (server_turns.all_at t turn.on.outs turn.calls turn.at) less in
       let a : came since (server_layer config (server_trace config (entries ++ es)))
       ≡ came since (server_layer config (cs ++ server_trace config es)) =
       ap (λ z. came since (server_layer config z)) is in
@@ -283,17 +218,18 @@ module _ (config : Config) (since : ℕ) where
       → client_turns.IsGood config (client_of (entries ++ es))
       → client.IsBy config t (client_of es) → ClientFew es → ClientFew (entries ++ es)
   client_turn t entries es (inr turn) good by less =
-      let cs : List S.Call = S.NextOut None ∷ (map (λ p. S.NextOut (Some p)) turn.on.outs ++ turn.calls) in
+      let cs : List S.Call = server_turns.turn_calls turn.on.outs turn.calls in
       let is : client_of (entries ++ es) ≡ client_of es = ap (λ z. client_of (z ++ es)) turn.on.is ∙ client_server cs es
       in
       subst (λ s. came since (client_layer config s) ≤ count_came to_client since s) (sym is) less
   client_turn t entries es (inl turn) good by less =
-      let cs : List C.Call = C.NextReport None ∷ (map (λ r. C.NextReport (Some r)) turn.on.reports
-      ++ C.NextOut None ∷ (map (λ p. C.NextOut (Some p)) turn.on.outs ++ turn.calls)) in
+      let cs : List C.Call = client_turns.turn_calls turn.on.outs turn.on.reports turn.calls in
       let is : client_of (entries ++ es) ≡ cs ++ client_of es =
       ap (λ z. client_of (z ++ es)) turn.on.is ∙ client_client cs es in
-      let k = client_calls config since t cs (client_of es) (client_of es)
-      (subst (client_turns.IsGood config) is good) by (client_at t turn.on.outs turn.on.reports turn.calls turn.at) less
+      let k = calls (client_side config) client_call client_up to_client (client_makes config) since t
+      (client_last since t) cs (client_of es) (client_of es)
+      (subst (client_turns.IsGood config) is good) by
+      (client_turns.all_at t turn.on.outs turn.on.reports turn.calls turn.at) less
       in
       subst (λ z. came since (client_layer config z) ≤ count_came to_client since z) (sym is) k
 

@@ -1,7 +1,8 @@
 -- In each EXCHANGE_LIFETIME of a smooth run the client hears at most one answer more than requests are handed up at the
 -- server.
-use Rattle.std.proofs.Common.{◌≡◌, ◌⊎◌, inl, inr, ⊎_elim, ◌≤◌, ◌<◌, ℕ, ◌+◌, ◌^◌, nat_le, Bool, true, false, cond, Option, Some}
-use Rattle.std.proofs.Common.{None, List, [], ◌∷◌, ◌++◌, map, refl, ap, sym, subst, ◌∙◌, arith, is_some, ◌&&◌, max}
+use Rattle.std.proofs.Common.{◌≡◌, ◌⊎◌, inl, inr, ⊎_elim, ◌≤◌, ◌<◌, ℕ, ◌+◌, ◌^◌, nat_le, Bool, true, false, cond}
+use Rattle.std.proofs.Common.{Option, Some, None, List, [], ◌∷◌, ◌++◌, map, refl, ap, sym, subst, ◌∙◌, arith, is_some}
+use Rattle.std.proofs.Common.{◌&&◌, max}
 use Rattle.std.proofs.lemmas.Bool.{le-leb, leb-true, cases_lt}
 use Rattle.coap_types.specs.Past.{Always}
 use Rattle.coap_types.specs.declared.transmission.TheConstants.{EXCHANGE_LIFETIME_MS as exchange_lifetime}
@@ -22,9 +23,12 @@ use Rattle.coap_world.proofs.Delivery.ClientInTime as client
 use Rattle.coap_world.proofs.Delivery.EntriesInTime.{Every, every_map}
 use Rattle.coap_world.proofs.Delivery.OneEndATurn.{ClientTurn, ServerTurn, client_client, client_server}
 use Rattle.coap_world.proofs.Delivery.ServerInTime as server
-use Rattle.coap_world.proofs.Smoothly.FewArrive.{client_at, server_at}
+use Rattle.coap_world.proofs.Delivery.ClientTurns.{all_at as client_at}
+use Rattle.coap_world.proofs.Delivery.ServerTurns.{all_at as server_at}
 use Rattle.coap_world.proofs.Smoothly.HandedBetween.{answered_at, heard_at, arrived_at, CameSince, AreBetween}
 use Rattle.coap_world.proofs.Smoothly.Standing.{Stands, before, ran, turned, side_of}
+use Rattle.coap_world.proofs.Delivery.ClientTurns.{turn_calls as client_turn_calls}
+use Rattle.coap_world.proofs.Delivery.ServerTurns.{turn_calls as server_turn_calls}
 
 -- what is heard, or handed up, is so at most at this moment
 pub record Till (n : ℕ) (e : Entry) : Type 0 where
@@ -284,7 +288,7 @@ module _ (config : Config) where
 
       by : OfTurns past → ClientTurn at turn.entries ⊎ ServerTurn at turn.entries → OfTurns (turn ∷ past)
       by old (inr on) =
-          let cs : List S.Call = S.NextOut None ∷ (map (λ p. S.NextOut (Some p)) on.on.outs ++ on.calls) in
+          let cs : List S.Call = server_turn_calls on.on.outs on.calls in
           let is : client_of (turn.entries ++ entries_of past) ≡ client_of (entries_of past) =
           ap (λ z. client_of (z ++ entries_of past)) on.on.is ∙ client_server cs (entries_of past) in
           joined (subst (Always (AtClock config.client_sizes)) (sym is) old.clock)
@@ -292,8 +296,7 @@ module _ (config : Config) where
           (server_timed at cs (entries_of past) (server_at at on.on.outs on.calls on.at)
           (record { rises = old.rises; till = old.till at s.legal.0.later })))
       by old (inl on) =
-          let cs : List C.Call = C.NextReport None ∷ (map (λ r. C.NextReport (Some r)) on.on.reports
-          ++ C.NextOut None ∷ (map (λ p. C.NextOut (Some p)) on.on.outs ++ on.calls)) in
+          let cs : List C.Call = client_turn_calls on.on.outs on.on.reports on.calls in
           let all = client_at at on.on.outs on.on.reports on.calls on.at in
           let is : client_of (turn.entries ++ entries_of past) ≡ cs ++ client_of (entries_of past) =
           ap (λ z. client_of (z ++ entries_of past)) on.on.is ∙ client_client cs (entries_of past) in

@@ -1,7 +1,6 @@
 -- A Confirmable message that is handed up is handed up as what it carries: a request or a response.
 use Rattle.std.proofs.Common.{◌≡◌, ◌⊎◌, inl, inr, ℕ, Bool, true, false, Option, Some, None, List, refl, ap, sym, subst}
 use Rattle.std.proofs.Common.{◌∙◌}
-use Rattle.coap_types.specs.Bytes.{AreBytes}
 use Rattle.coap_types.specs.Roles.{role_of}
 use Rattle.coap_types.specs.declared.endpoint.Endpoint.{Endpoint}
 use Rattle.coap_types.specs.declared.message.Kind.TheVariants.{Con}
@@ -53,15 +52,15 @@ module _ (setup : Setup) (past : List L.Entry) (e : L.Entry) (from : Endpoint) (
         a.1 ∙ ap (λ x. L.Becomes (L.Response x)) same,
       )
 
-  arrived : AreBytes bytes → (what : Arrival) → Shows bytes what → Arrives setup past e from what → AsItIs n e.answer
-  arrived are (Faulted Con i) s r = absurd (not_up L.Rejected r.0 refl)
-  arrived are (Whole m) s r = whole m (one_message bytes m n are s spells) r
-  arrived are _ s r = absurd (not_up L.Dropped r.0 refl)
+  arrived : (what : Arrival) → Shows bytes what → Arrives setup past e from what → AsItIs n e.answer
+  arrived (Faulted Con i) s r = absurd (not_up L.Rejected r.0 refl)
+  arrived (Whole m) s r = whole m (one_message bytes m n s spells) r
+  arrived _ s r = absurd (not_up L.Dropped r.0 refl)
 
   handed_as : AsItIs n e.answer
   handed_as =
       let row : Row setup past e (L.Receive from bytes) = subst (Row setup past e) call stands.row in
-      arrived row.0 row.1.0 row.1.1 row.1.2
+      arrived row.0 row.1 row.2
 
   -- .. so by its role
   pub as_request : role_of n.code ≡ role.Request → e.answer ≡ L.Becomes (L.Request n true)

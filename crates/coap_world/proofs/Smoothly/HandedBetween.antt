@@ -1,7 +1,7 @@
 -- Between two answers that the client hears, the server's message layer hands up a request: that of the exchange that the
 -- second of them answers.
-use Rattle.std.proofs.Common.{◌≡◌, ◌⊎◌, inl, inr, ℕ, true, Option, Some, None, List, [], ◌∷◌, map, refl, ap, sym}
-use Rattle.std.proofs.Common.{subst, ◌∙◌, is_some}
+use Rattle.std.proofs.Common.{◌≡◌, ◌⊎◌, inl, inr, ℕ, true, Option, Some, None, List, [], ◌∷◌, refl, ap, sym, subst, ◌∙◌}
+use Rattle.std.proofs.Common.{is_some}
 use Rattle.coap_types.specs.Past.{Ever, Sometime, Always}
 use Rattle.coap_codec.specs.Message.{Message}
 use Rattle.coap_layer.specs.Trace as L
@@ -32,8 +32,7 @@ use Rattle.coap_server.proofs.Facts.Laws as server_facts
 use Rattle.coap_world.specs.Answers.{IsAnswer, replies, continues, refuses, notifies, AnswersAt}
 use Rattle.coap_world.specs.Events.{client_end, server_end, Config}
 use Rattle.coap_world.specs.Hops.{server_adds}
-use Rattle.coap_world.specs.Record.{Entry, OfClient, OfServer, client_of, server_trace}
-use Rattle.coap_world.specs.Record.{Setting, DelayOf, PlainOf, gives_it, settings}
+use Rattle.coap_world.specs.Record.{Entry, OfClient, OfServer, client_of, server_trace, settings}
 use Rattle.coap_world.specs.Serves.{BroughtAt}
 use Rattle.coap_world.specs.Smooth.{came_at, to_server}
 use Rattle.coap_world.proofs.Delivery.HopsAreEntries.{server_layer, server_next}
@@ -43,6 +42,7 @@ use Rattle.coap_world.proofs.Requests.OfACall.{Lawful, lawful_back}
 use Rattle.coap_world.proofs.Requests.Traced.{brought_in}
 use Rattle.coap_world.proofs.Smoothly.ExchangeOpen.{OpenOf, open_of, last_of, runs_of}
 use Rattle.coap_world.proofs.Smoothly.WhereItArrives.{at_server}
+use Rattle.coap_world.proofs.Reports.BegunWith.{none_made}
 
 -- when an answer is heard, and when the server's layer hands something up
 
@@ -131,17 +131,10 @@ module _ (config : Config) where
       (brought_in config x.asked x.question (OfServer c ∷ past)
       ((server_facts.handed config.limits config.server_szx config.server_setup (c ∷ trace past) law.server).0 x here))
 
-  none_made : (o : Observer) (ss : List Setting)
-      → WasMade config.limits config.server_szx (map gives_it ss) o → ⊥
-  none_made o [] h = h
-  none_made o (s ∷ ss) (inr h) = none_made o ss h
-  none_made o (DelayOf d ∷ ss) (inl h) = let here = h.made.here in cc here
-  none_made o (PlainOf p ∷ ss) (inl h) = let here = h.made.here in cc here
-
   -- .. and so was a registration
   made_sent : (o : Observer) (w : List Entry) → Lawful config w → o.to ≡ client_end
       → WasMade config.limits config.server_szx (trace w) o → Sometime (HandsSent o.token) w
-  made_sent o [] law to h = absurd (none_made o (settings config) h)
+  made_sent o [] law to h = absurd (none_made config o (settings config) h)
   made_sent o (OfClient c ∷ w) law to h = inr (made_sent o w (lawful_back config w (OfClient c) law) to h)
   made_sent o (OfServer c ∷ w) law to (inr h) = inr (made_sent o w (lawful_back config w (OfServer c) law) to h)
   made_sent o (OfServer c ∷ w) law to (inl h) =

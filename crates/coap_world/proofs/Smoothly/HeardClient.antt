@@ -8,23 +8,23 @@ use Rattle.coap_layer.specs.Trace as L
 use Rattle.coap_layer.proofs.Facts.Hops.{far_ever}
 use Rattle.coap_server.specs.Follows.Observes.{AreObservers}
 use Rattle.coap_server.specs.Trace as S
-use Rattle.coap_world.specs.Events.{client_end, server_end, Config, What, Sets, Removes}
-use Rattle.coap_world.specs.Events.{TickServer, Deliver, StrangerToClient, StrangerToServer}
+use Rattle.coap_world.specs.Events.{client_end, server_end, Config, What, Sets, Removes, TickServer, Deliver}
+use Rattle.coap_world.specs.Events.{StrangerToClient, StrangerToServer}
 use Rattle.coap_world.specs.Hops.{server_adds, SendsAt, SentIn, hops_of}
 use Rattle.coap_client.specs.Trace as C
 use Rattle.coap_world.specs.Record.{Given, Entry, Turn, IsNumber, OnClient, OnServer, ServerTick, Makes, begun_with}
-use Rattle.coap_world.specs.Record.{given_in}
-use Rattle.coap_world.specs.Record.{entries_of, server_of, server_trace}
+use Rattle.coap_world.specs.Record.{given_in, entries_of, server_of, server_trace}
 use Rattle.coap_world.specs.Smooth.{IsOfAnEnd}
 use Rattle.coap_world.proofs.Delivery.EntriesInTime.{Every, every_join, every_map, Timely}
 use Rattle.coap_world.proofs.Delivery.HopsAreEntries.{server_layer, server_next, far_is}
 use Rattle.coap_world.proofs.Delivery.HopsAreFair.{apart}
-use Rattle.coap_world.proofs.Delivery.OneEndATurn.{each_one, each_tick, server_client}
-use Rattle.coap_world.proofs.Delivery.OneEndATurn.{server_server}
+use Rattle.coap_world.proofs.Delivery.OneEndATurn.{each_one, each_tick, server_client, server_server}
 use Rattle.coap_world.proofs.Delivery.ServerInTime as server
-use Rattle.coap_world.proofs.Smoothly.FewArrive.{server_at}
+use Rattle.coap_world.proofs.Delivery.ServerTurns.{all_at as server_at}
 use Rattle.coap_world.proofs.Smoothly.Standing.{Stands, before, ran, turned}
 use Rattle.coap_world.proofs.Smoothly.ToClient.{IsFromClient, GoesToClient, HeardClient, all_to_client}
+use Rattle.coap_world.proofs.Delivery.ClientTurns.{turn_calls as client_turn_calls}
+use Rattle.coap_world.proofs.Delivery.ServerTurns.{turn_calls as server_turn_calls}
 
 abbrev FeedsFromClient : S.Call → Type 0
 FeedsFromClient c = (from : Endpoint) (bytes : List ℕ) → server.Fed c from bytes → from ≡ client_end
@@ -138,12 +138,11 @@ module _ (config : Config) (observers : (t : List S.Call) → AreObservers confi
       by : ((calls : List C.Call) × OnClient calls turn.entries) ⊎ HearsTurn turn.event.at turn.entries
           → Heard (turn ∷ past)
       by (inl on) =
-          let cs : List C.Call = C.NextReport None ∷ (map (λ r. C.NextReport (Some r)) on.1.reports
-          ++ C.NextOut None ∷ (map (λ p. C.NextOut (Some p)) on.1.outs ++ on.0)) in
+          let cs : List C.Call = client_turn_calls on.1.outs on.1.reports on.0 in
           subst (λ z. HeardClient config observers (z ++ begun_with config))
           (sym (ap (λ z. server_of (z ++ entries_of past)) on.1.is ∙ server_client cs (entries_of past))) older
       by (inr on) =
-          let cs : List S.Call = S.NextOut None ∷ (map (λ p. S.NextOut (Some p)) on.on.outs ++ on.calls) in
+          let cs : List S.Call = server_turn_calls on.on.outs on.calls in
           let is : server_trace config (turn.entries ++ entries_of past) ≡ cs ++ server_trace config (entries_of past) =
           ap (λ l. l ++ begun_with config) (ap (λ z. server_of (z ++ entries_of past)) on.on.is
           ∙ server_server cs (entries_of past)) ∙ append_assoc cs (server_of (entries_of past)) (begun_with config) in

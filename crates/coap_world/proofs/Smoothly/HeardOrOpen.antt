@@ -1,6 +1,6 @@
 -- Where each exchange ends by an answer, that of a request that was sent is open, or its answer was heard.
-use Rattle.std.proofs.Common.{◌≡◌, ◌⊎◌, inl, inr, ℕ, max, Bool, true, false, not, cond, Option, Some, None, List, [], ◌∷◌}
-use Rattle.std.proofs.Common.{Result, refl, ap, sym, ◌∙◌}
+use Rattle.std.proofs.Common.{◌≡◌, ◌⊎◌, inl, inr, ℕ, max, Bool, true, false, not, cond, Option, Some, None, List, []}
+use Rattle.std.proofs.Common.{◌∷◌, Result, refl, ap, sym, ◌∙◌}
 use Rattle.coap_types.specs.Past.{Ever, Always}
 use Rattle.coap_types.specs.declared.endpoint.Endpoint.{Endpoint}
 use Rattle.coap_layer.specs.declared.setup.Setup.{Setup}
@@ -26,8 +26,7 @@ use Rattle.coap_client.specs.Reports.{lapse}
 use Rattle.coap_client.specs.Responses.{is_notification, sequence_in}
 use Rattle.coap_observe.specs.Newer.{is_newer}
 use Rattle.coap_client.specs.Observing.{releases, is_over, renewed, passed, noticed_by}
-use Rattle.coap_client.specs.Own.{Operation, Cancelling, Observation, Own}
-use Rattle.coap_client.specs.Own.{Transfer}
+use Rattle.coap_client.specs.Own.{Operation, Cancelling, Observation, Own, Transfer}
 use Rattle.coap_client.specs.Trace as C
 use Rattle.coap_client.proofs.Facts.Exchanges.{open_runs}
 use Rattle.coap_client.proofs.Facts.Laws.{back}

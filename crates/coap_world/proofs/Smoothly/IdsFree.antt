@@ -1,6 +1,6 @@
 -- In a smooth run in which nothing is observed a Message ID is free at each tick of the server.
-use Rattle.std.proofs.Common.{◌≡◌, ◌≤◌, ◌<◌, ℕ, zero, suc, ◌+◌, max, Bool, true, false, cond, ◌&&◌, Option, Some, None, List}
-use Rattle.std.proofs.Common.{[], ◌∷◌, ◌++◌, map, refl, ap, subst, ◌∙◌, arith}
+use Rattle.std.proofs.Common.{◌≡◌, ◌≤◌, ◌<◌, ℕ, zero, suc, ◌+◌, max, Bool, true, false, cond, ◌&&◌, Option, Some, None}
+use Rattle.std.proofs.Common.{List, [], ◌∷◌, ◌++◌, map, refl, ap, subst, ◌∙◌, arith}
 use Rattle.coap_types.specs.Past.{Always}
 use Rattle.coap_types.proofs.Facts.Traces.{Always_back}
 use Rattle.coap_types.specs.declared.endpoint.Endpoint.{Endpoint}
@@ -11,8 +11,7 @@ use Rattle.coap_layer.specs.Words.{Incoming, handed, clock}
 use Rattle.coap_observe.specs.Observers.{Observer}
 use Rattle.coap_exchange.specs.AnswererIds.{notifies, FewNotified, IdIsFree}
 use Rattle.coap_exchange.specs.Counts.{count_then}
-use Rattle.coap_exchange.specs.AnswererLaw.{ResponseLaw}
-use Rattle.coap_exchange.specs.AnswererLaw.{own_of as exchanges_of}
+use Rattle.coap_exchange.specs.AnswererLaw.{ResponseLaw, own_of as exchanges_of}
 use Rattle.coap_exchange.specs.AnswererTrace as R
 use Rattle.coap_exchange.specs.declared.answerer.Asked.{Asked}
 use Rattle.coap_exchange.specs.declared.answerer.Due.{Due}
@@ -29,8 +28,8 @@ use Rattle.coap_server.specs.Trace as S
 use Rattle.coap_server.proofs.Facts.Laws as server_facts
 use Rattle.coap_world.specs.Events.{Config}
 use Rattle.coap_world.specs.HasIds.{HasIds}
-use Rattle.coap_world.specs.Record.{Entry, OfClient, OfServer, Turn, entries_of, client_of, server_trace}
-use Rattle.coap_world.specs.Record.{Setting, DelayOf, PlainOf, gives_it, settings}
+use Rattle.coap_world.specs.Record.{Entry, OfClient, OfServer, Turn, entries_of, client_of, server_trace, Setting}
+use Rattle.coap_world.specs.Record.{DelayOf, PlainOf, gives_it, settings}
 use Rattle.coap_world.specs.Smooth.{TakesNoObservation, most_that_come}
 use Rattle.coap_world.proofs.Delivery.EntriesInTime.{Every, every_join}
 use Rattle.coap_world.proofs.Delivery.HopsAreEntries.{server_layer, far_is}

@@ -1,6 +1,6 @@
 -- Where the client observes nothing, it is no observer at the server: the request of a call has no Observe.
-use Rattle.std.proofs.Common.{◌≡◌, inl, inr, ℕ, ◌==◌, Bool, true, false, ◌&&◌, cond, Option, Some, None, List, [], ◌∷◌, ◌++◌}
-use Rattle.std.proofs.Common.{map, refl, ap, sym, subst, ◌∙◌}
+use Rattle.std.proofs.Common.{◌≡◌, inl, inr, ℕ, ◌==◌, Bool, true, false, ◌&&◌, cond, Option, Some, None, List, [], ◌∷◌}
+use Rattle.std.proofs.Common.{◌++◌, map, refl, ap, sym, subst, ◌∙◌}
 use Rattle.std.specs.List.{filter}
 use Rattle.coap_types.specs.BlockValue.{block_value}
 use Rattle.coap_types.specs.CoapOption.{CoapOption, option}
@@ -11,7 +11,7 @@ use Rattle.coap_types.specs.declared.direction.Direction.TheVariants as directio
 use Rattle.coap_types.specs.Uint.{uint}
 use Rattle.coap_types.specs.declared.option_number.TheConstants.{OBSERVE as observe, BLOCK1 as block1}
 use Rattle.coap_types.specs.declared.request.Method.{Method}
-use Rattle.coap_types.specs.declared.request.Method.TheVariants.{Get, Post, Put, Delete}
+use Rattle.coap_types.specs.declared.request.Method.TheVariants.{Get, Delete}
 use Rattle.coap_block.specs.UploadStep.{UploadState, block_to_send}
 use Rattle.coap_observe.specs.Observers.{Observer}
 use Rattle.coap_resource.specs.Serves.{Question}
@@ -25,14 +25,14 @@ use Rattle.coap_client.specs.Trace.{Request}
 use Rattle.coap_server.specs.Follows.Observes.{WasMade}
 use Rattle.coap_server.specs.Observers.{observes, is_number, is_get}
 use Rattle.coap_world.specs.Events.{client_end, Config}
-use Rattle.coap_world.specs.Record.{Entry, OfClient, OfServer, client_of, server_trace}
-use Rattle.coap_world.specs.Record.{Setting, DelayOf, PlainOf, gives_it, settings}
+use Rattle.coap_world.specs.Record.{Entry, OfClient, OfServer, client_of, server_trace, settings}
 use Rattle.coap_world.specs.Smooth.{TakesNoObservation}
 use Rattle.coap_world.proofs.Delivery.EntriesInTime.{Every, every_join}
 use Rattle.coap_world.proofs.Reports.AskedBy.{asked_by}
 use Rattle.coap_world.proofs.Requests.OfACall.{Lawful, lawful_back}
 use Rattle.coap_world.proofs.Smoothly.ConsCarry.{IsMessage, was_message}
 use Rattle.coap_world.proofs.Smoothly.PlainRequests.{of_none}
+use Rattle.coap_world.proofs.Reports.BegunWith.{none_made as none_begun}
 
 abbrev IsOther : CoapOption → Type 0
 IsOther o = (o.number == observe) ≡ false
@@ -60,9 +60,8 @@ before _ r = every_join IsOther _ _ (mapped _ refl r.if_match) (flagged _ refl r
 
 after : (m : Method) (r : Request) → AreOther (after_path m r)
 after Get r = of_uint _ refl r.accept
-after Post r = of_uint _ refl r.format
-after Put r = of_uint _ refl r.format
 after Delete r = tt
+after _ r = of_uint _ refl r.format
 
 asks_block : (o : Option _) → AreOther (block2_option o)
 asks_block None = tt
@@ -126,17 +125,10 @@ observes_none q options is other h = by (is_get q.method) h
     by false z = cc z
 
 module _ (config : Config) where
-  none_begun : (o : Observer) (ss : List Setting)
-      → WasMade config.limits config.server_szx (map gives_it ss) o → ⊥
-  none_begun o [] h = h
-  none_begun o (DelayOf d ∷ ss) (inl h) = let here = h.made.here in cc here
-  none_begun o (PlainOf p ∷ ss) (inl h) = let here = h.made.here in cc here
-  none_begun o (s ∷ ss) (inr h) = none_begun o ss h
-
   pub none_made : (o : Observer) (es : List Entry) → Lawful config es
       → AreOfObservations config.client_sizes (client_of es) → Always (λ p d. TakesNoObservation d) (client_of es)
       → o.to ≡ client_end → WasMade config.limits config.server_szx (server_trace config es) o → ⊥
-  none_made o [] law observed none to h = none_begun o (settings config) h
+  none_made o [] law observed none to h = none_begun config o (settings config) h
   none_made o (OfClient c ∷ past) law observed none to h =
       none_made o past (lawful_back config past (OfClient c) law) observed.1 none.1 to h
   none_made o (OfServer c ∷ past) law observed none to (inr h) =

@@ -1,28 +1,28 @@
 -- Where each exchange is young, none ends by a Reset: the server rejects no request.
-use Rattle.std.proofs.Common.{◌≡◌, ◌≢◌, inl, inr, ⊎_elim, ◌≤◌, ℕ, ◌+◌, max, Bool, true, Some, None, List}
-use Rattle.std.proofs.Common.{[], ◌∷◌, ◌++◌, map, refl, ap, sym, subst, ◌∙◌, arith, append_assoc, Result}
+use Rattle.std.proofs.Common.{◌≡◌, ◌≢◌, inl, inr, ⊎_elim, ◌≤◌, ℕ, ◌+◌, max, Bool, true, Some, None, List, [], ◌∷◌, ◌++◌}
+use Rattle.std.proofs.Common.{map, refl, ap, sym, subst, ◌∙◌, arith, append_assoc, Result}
 use Rattle.std.proofs.lemmas.List.{map-append}
-use Rattle.coap_types.specs.Bytes.{AreBytes}
 use Rattle.coap_types.specs.Past.{Ever, Sometime, Always, Since}
 use Rattle.coap_types.proofs.Facts.Endpoints.{same_endpoint_is}
 use Rattle.coap_types.proofs.Facts.Traces.{Always_back}
 use Rattle.coap_types.specs.Roles.{role_of}
 use Rattle.coap_types.specs.declared.endpoint.Endpoint.{Endpoint}
-use Rattle.coap_types.specs.declared.message.Kind.TheVariants.{Con, Non, Ack, Rst}
+use Rattle.coap_types.specs.declared.message.Kind.TheVariants.{Con, Rst}
 use Rattle.coap_types.specs.declared.role.Role.TheVariants as role
 use Rattle.coap_codec.specs.Message.{Message, Spells}
 use Rattle.coap_codec.proofs.Facts.EveryDatagram.{one_message}
-use Rattle.coap_layer.specs.Arrivals.{Arrival, Unreadable, Faulted, Whole, Shows}
+use Rattle.coap_layer.specs.Arrivals.{Arrival, Faulted, Whole, Shows}
 use Rattle.coap_layer.specs.Channel.{Hop, Near, Far, near_of, far_of, OnFarThen, Takes, RepliesTo, IsLatest}
 use Rattle.coap_layer.specs.Machine.State.{State, start, made}
 use Rattle.coap_layer.specs.Machine.Steps.{Steps, left_after}
-use Rattle.coap_layer.specs.Rows.{LayerLaw, Stands, Row, Sorts, HandedAs, Arrives, Outstanding, rejects, drops, takes_ack}
-use Rattle.coap_layer.specs.Rows.{takes_reset, passes_reset, takes_answer, replays, hands_over}
+use Rattle.coap_layer.specs.Rows.{LayerLaw, Stands, Row, Sorts, HandedAs, Arrives, Outstanding, rejects, drops}
+use Rattle.coap_layer.specs.Rows.{takes_ack, takes_reset, passes_reset, takes_answer, replays, hands_over}
 use Rattle.coap_layer.specs.Sends.{as_begun, IsIn, IsOpen}
 use Rattle.coap_layer.specs.Taking.{IsTold, HearsReset, ResetsMeant}
 use Rattle.coap_layer.specs.Trace as L
 use Rattle.coap_layer.specs.Words.{Incoming, Open, handed, handed_in, is_to, outstanding}
 use Rattle.coap_layer.specs.declared.setup.Setup.{Setup}
+use Rattle.coap_exchange.specs.declared.asker.Turn.TheVariants as turn_is
 use Rattle.coap_exchange.specs.AskerArrivals.{told, verdict_on}
 use Rattle.coap_exchange.specs.AskerLaw as X
 use Rattle.coap_exchange.specs.AskerSteps as P
@@ -30,10 +30,8 @@ use Rattle.coap_exchange.specs.AskerTrace as E
 use Rattle.coap_exchange.specs.declared.asker.AskRefusal.{AskRefusal}
 use Rattle.coap_exchange.specs.declared.asker.Event.TheVariants as event_is
 use Rattle.coap_exchange.specs.declared.asker.Exchange.{Exchange}
-use Rattle.coap_exchange.specs.declared.asker.Turn.TheVariants as turn_is
 use Rattle.coap_exchange.specs.declared.matching.Verdict.{Verdict}
-use Rattle.coap_exchange.specs.declared.matching.Verdict.TheVariants.{AnswerCon, Answer}
-use Rattle.coap_exchange.specs.declared.matching.Verdict.TheVariants.{NoticeCon, Notice, EndByReset}
+use Rattle.coap_exchange.specs.declared.matching.Verdict.TheVariants.{AnswerCon, Answer, NoticeCon, Notice, EndByReset}
 use Rattle.coap_exchange.proofs.Facts.ClientSide.{server_is}
 use Rattle.coap_exchange.proofs.Facts.Verdicts.{Fits, OfRequest, verdict_fits}
 use Rattle.coap_client.specs.Deeds.{close, deeds, effect}
@@ -87,20 +85,19 @@ reset_by s from up _ f h = absurd (cc h)
 
 -- .. and taken as an Empty message of what is outstanding
 record TakesIt (past : List L.Entry) (from : Endpoint) (bytes : List ℕ) (id : ℕ) : Type 0 where
-  are : AreBytes bytes
   message : Message
   spells : Spells bytes message
   kind : message.kind ≡ Rst
   matches : Outstanding past from id
 
 module _ (setup : Setup) (past : List L.Entry) (e : L.Entry) (from : Endpoint) (bytes : List ℕ) (id : ℕ)
-    (are : AreBytes bytes) (up : e.answer ≡ L.Becomes (L.Reset id)) where
+    (up : e.answer ≡ L.Becomes (L.Reset id)) where
   sorted : (n : Message) → Spells bytes n → Sorts setup past e (record { from = from; message = n })
       → TakesIt past from bytes id
   sorted n s (takes_reset r) =
       let k : L.Becomes (L.Reset n.id) ≡ L.Becomes (L.Reset id) = sym r.answer ∙ up in
       let same : n.id ≡ id = cc k in
-      record { are = are; message = n; spells = s; kind = r.kind; matches = subst (Outstanding past from) same r.matches }
+      record { message = n; spells = s; kind = r.kind; matches = subst (Outstanding past from) same r.matches }
   sorted n s (takes_ack r) = absurd (cc (r.answer, up))
   sorted n s (rejects r) = absurd (cc (r.answer, up))
   sorted n s (drops r) = absurd (cc (r.answer, up))
@@ -115,19 +112,16 @@ module _ (setup : Setup) (past : List L.Entry) (e : L.Entry) (from : Endpoint) (
       go (inr (inr a)) = absurd (cc (a.1, up))
 
   arrived : (what : Arrival) → Shows bytes what → Arrives setup past e from what → TakesIt past from bytes id
-  arrived Unreadable s r = absurd (cc (r.0, up))
-  arrived (Faulted Con i) s r = absurd (cc (r.0, up))
-  arrived (Faulted Non i) s r = absurd (cc (r.0, up))
-  arrived (Faulted Ack i) s r = absurd (cc (r.0, up))
-  arrived (Faulted Rst i) s r = absurd (cc (r.0, up))
   arrived (Whole n) s r = sorted n s r
+  arrived (Faulted Con i) s r = absurd (cc (r.0, up))
+  arrived _ s r = absurd (cc (r.0, up))
 
 takes_it : (setup : Setup) (past : List L.Entry) (e : L.Entry) (from : Endpoint) (bytes : List ℕ) (id : ℕ)
     → Stands setup past e → e.call ≡ L.Receive from bytes → e.answer ≡ L.Becomes (L.Reset id)
     → TakesIt past from bytes id
 takes_it setup past e from bytes id here call up =
     let row : Row setup past e (L.Receive from bytes) = subst (Row setup past e) call here.row in
-    arrived setup past e from bytes id row.0 up row.1.0 row.1.1 row.1.2
+    arrived setup past e from bytes id up row.0 row.1 row.2
 
 -- At the other end this request was handed up, and no request is rejected.
 module _ (setup : Setup) (con : Open) (n : Message) (spells : Spells con.bytes n) (kind : n.kind ≡ Con)
@@ -150,7 +144,7 @@ module _ (setup : Setup) (con : Open) (n : Message) (spells : Spells con.bytes n
   latest_is (y ∷ t) m at law (inr a) (inl b) = let k = sym a.0 ∙ b.0 in absurd (cc k)
   latest_is (y ∷ t) m at law (inr a) (inr b) = latest_is t m at law.1 a.1 b.1
 
-  module _ (bytes : List ℕ) (reset : Message) (are : AreBytes bytes) (spelled : Spells bytes reset)
+  module _ (bytes : List ℕ) (reset : Message) (spelled : Spells bytes reset)
       (is_reset : reset.kind ≡ Rst) where
     never_rejected : (hs : List Hop) → LayerLaw setup (far_of hs) → Always RejectsSo (far_of hs)
         → Sometime (OnFarThen (RepliesTo client_end con bytes)) hs → ⊥
@@ -161,7 +155,7 @@ module _ (setup : Setup) (con : Open) (n : Message) (spells : Spells con.bytes n
     never_rejected (Far e ∷ hs) law so (inl h) =
         let k = so.0 client_end con.id bytes h.call in
         let same = latest_is (far_of hs) k.at_once.to_what e.at law.1 h.to_it k.at_once.latest in
-        let alike : reset ≡ k.at_once.reply = one_message bytes reset k.at_once.reply are spelled k.at_once.spells in
+        let alike : reset ≡ k.at_once.reply = one_message bytes reset k.at_once.reply spelled k.at_once.spells in
         let rst : k.at_once.reply.kind ≡ Rst = ap (λ (z : Message). z.kind) (sym alike) ∙ is_reset in
         let z = sym (k.class rst) ∙ ap (λ (y : Message). role_of y.code) same ∙ class in
         cc z
@@ -291,7 +285,7 @@ module _ (config : Config) where
             (subst (Always (λ past z. (y : L.Entry) (d : Open) → z ≡ Near y → d.to ≡ server_end → IsTold d.bytes
             → (q : HearsReset d (near_of past) y) → Sometime (OnFarThen (RepliesTo client_end d q.bytes)) past)) hops
             meant)).0 e con refl to is_told hears in
-            never_rejected config.server_setup con n spells refl class bytes taken.message taken.are taken.spells
+            never_rejected config.server_setup con n spells refl class bytes taken.message taken.spells
             taken.kind (hops_in config es)
             (subst (LayerLaw config.server_setup) (sym (far_is config es))
             (server_facts.layer config.limits config.server_szx config.server_setup (server_trace config es) server))
@@ -316,32 +310,8 @@ module _ (config : Config) where
       → Meant (OfClient c ∷ es) → ends_as c ≢ Some Reset
   no_reset es (C.Feeds now from bytes w up settled (Some event_is.Reset) sent token kept) law server young meant is =
       never es now from bytes w up settled sent token kept law server young meant
-  no_reset es (C.Feeds now from bytes w up settled None sent token kept) law server young meant is = cc is
-  no_reset es (C.Feeds now from bytes w up settled (Some (event_is.Answer m)) sent token kept) law server young meant is =
-      cc is
-  no_reset es (C.Feeds now from bytes w up settled (Some (event_is.Notice m)) sent token kept) law server young meant is =
-      cc is
-  no_reset es (C.Feeds now from bytes w up settled (Some event_is.Timeout) sent token kept) law server young meant is =
-      cc is
-  no_reset es (C.Feeds now from bytes w up settled (Some event_is.NoResponse) sent token kept) law server young meant is =
-      cc is
-  no_reset es (C.Ticks now w below turn_is.Idle sent token kept answer) law server young meant is = cc is
-  no_reset es (C.Ticks now w below turn_is.Copied sent token kept answer) law server young meant is = cc is
   no_reset es (C.Ticks now w below (turn_is.End event_is.Timeout) sent token kept answer) law server young meant is = cc is
-  no_reset es (C.Ticks now w below (turn_is.End event_is.NoResponse) sent token kept answer) law server young meant is =
-      cc is
-  no_reset es (C.Ticks now w below (turn_is.End event_is.Reset) sent token kept answer) law server young meant is = cc is
-  no_reset es (C.Ticks now w below (turn_is.End (event_is.Answer m)) sent token kept answer) law server young meant is =
-      cc is
-  no_reset es (C.Ticks now w below (turn_is.End (event_is.Notice m)) sent token kept answer) law server young meant is =
-      cc is
-  no_reset es (C.Calls now r a) law server young meant is = cc is
-  no_reset es (C.Observes now path a) law server young meant is = cc is
-  no_reset es (C.Cancels now number a) law server young meant is = cc is
-  no_reset es (C.Forgets number kept a) law server young meant is = cc is
-  no_reset es (C.NextOut a) law server young meant is = cc is
-  no_reset es (C.NextReport a) law server young meant is = cc is
-  no_reset es (C.Asked a) law server young meant is = cc is
+  no_reset es _ law server young meant is = cc is
 
   pub never_reset : (es : List Entry) → ForClient config es → ForServer config es
       → Always (YoungAt config) (client_of es) → Meant es → Always (λ past c. ends_as c ≢ Some Reset) (client_of es)

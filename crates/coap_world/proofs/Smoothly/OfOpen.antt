@@ -35,7 +35,6 @@ module _ (config : Config) where
     con = k.con;
     sent = sent_later config k.sending es e k.sent;
     begun_there = near_later (λ b. begun b ≡ Some k.con) (hops_at config es e) (hops_in config es) k.begun_there;
-    are_bytes = k.are_bytes;
     spells = k.spells;
     asked = k.asked;
   }

@@ -1,22 +1,23 @@
 -- Where a datagram arrives at the server's message layer, the server is no later than that.
-use Rattle.std.proofs.Common.{◌≡◌, ◌⊎◌, inl, inr, ◌≤◌, ℕ, Some, None, List, [], ◌∷◌, ◌++◌, map, ap, sym, subst, ◌∙◌}
-use Rattle.std.proofs.Common.{arith, append_assoc}
+use Rattle.std.proofs.Common.{◌≡◌, ◌⊎◌, inl, inr, ◌≤◌, ℕ, List, [], ◌∷◌, ◌++◌, map, ap, sym, subst, ◌∙◌, arith}
+use Rattle.std.proofs.Common.{append_assoc}
 use Rattle.coap_types.specs.Past.{Always}
 use Rattle.coap_types.specs.declared.endpoint.Endpoint.{Endpoint}
 use Rattle.coap_layer.specs.Trace as L
 use Rattle.coap_client.specs.Trace as C
 use Rattle.coap_server.specs.Law.{own_of}
 use Rattle.coap_server.specs.Trace as S
-use Rattle.coap_server.specs.Trace.{Delay}
 use Rattle.coap_world.specs.Events.{Config}
 use Rattle.coap_world.specs.Hops.{server_adds}
-use Rattle.coap_world.specs.Record.{Turn, begun_with, entries_of, server_of, server_trace}
-use Rattle.coap_world.specs.Record.{Setting, DelayOf, PlainOf, gives_it, settings}
+use Rattle.coap_world.specs.Record.{Turn, begun_with, entries_of, server_of, server_trace, Setting, DelayOf, PlainOf}
+use Rattle.coap_world.specs.Record.{gives_it, settings}
 use Rattle.coap_world.proofs.Delivery.EntriesInTime.{Every, every_map, Timely}
 use Rattle.coap_world.proofs.Delivery.OneEndATurn.{ClientTurn, ServerTurn, server_client, server_server}
 use Rattle.coap_world.proofs.Delivery.ServerInTime as server
-use Rattle.coap_world.proofs.Smoothly.FewArrive.{server_at}
+use Rattle.coap_world.proofs.Delivery.ServerTurns.{all_at as server_at}
 use Rattle.coap_world.proofs.Smoothly.Standing.{Stands, before, turned, side_of}
+use Rattle.coap_world.proofs.Delivery.ClientTurns.{turn_calls as client_turn_calls}
+use Rattle.coap_world.proofs.Delivery.ServerTurns.{turn_calls as server_turn_calls}
 
 -- what holds of each holds of the oldest
 pub every_last : (Q : L.Entry → Type 0) (xs : List L.Entry) (e : L.Entry) → Every Q (xs ++ e ∷ []) → Q e
@@ -63,13 +64,12 @@ module _ (config : Config) where
           → ClientTurn turn.event.at turn.entries ⊎ ServerTurn turn.event.at turn.entries
           → Always OnTime (server_trace config (turn.entries ++ entries_of past))
       by older (inl on) =
-          let cs : List C.Call = C.NextReport None ∷ (map (λ r. C.NextReport (Some r)) on.on.reports
-          ++ C.NextOut None ∷ (map (λ p. C.NextOut (Some p)) on.on.outs ++ on.calls)) in
+          let cs : List C.Call = client_turn_calls on.on.outs on.on.reports on.calls in
           let is : server_of (turn.entries ++ entries_of past) ≡ server_of (entries_of past) =
           ap (λ z. server_of (z ++ entries_of past)) on.on.is ∙ server_client cs (entries_of past) in
           subst (λ l. Always OnTime (l ++ begun_with config)) (sym is) older
       by older (inr on) =
-          let cs : List S.Call = S.NextOut None ∷ (map (λ p. S.NextOut (Some p)) on.on.outs ++ on.calls) in
+          let cs : List S.Call = server_turn_calls on.on.outs on.calls in
           let is : server_trace config (turn.entries ++ entries_of past) ≡ cs ++ server_trace config (entries_of past) =
           ap (λ l. l ++ begun_with config)
           (ap (λ z. server_of (z ++ entries_of past)) on.on.is ∙ server_server cs (entries_of past))

@@ -1,7 +1,6 @@
 -- Where nothing is observed, a request of the client is answered by one call of the server.
 use Rattle.std.proofs.Common.{◌≡◌, ◌⊎◌, inl, inr, ◌≤◌, ◌<◌, ℕ, ◌+◌, Some, List, [], ◌∷◌, ◌++◌, refl, ap, sym, subst}
 use Rattle.std.proofs.Common.{◌∙◌, arith}
-use Rattle.coap_types.specs.Bytes.{AreBytes}
 use Rattle.coap_types.specs.Past.{Ever, Sometime, Always}
 use Rattle.coap_codec.specs.Message.{Spells}
 use Rattle.coap_layer.specs.Channel.{near_of}
@@ -80,7 +79,6 @@ module _ (config : Config) where
     pub con : Open
     pub sent : WasSent config.client_sizes sending (client_of es)
     pub begun_there : Ever (λ b. begun b ≡ Some con) (near_of (hops_in config es))
-    pub are_bytes : AreBytes con.bytes
     pub spells : Spells con.bytes (request_of con.id sending)
     pub asked : a ≡ asked_of client_end (request_of con.id sending)
 
@@ -92,10 +90,10 @@ module _ (config : Config) where
 
     -- one CON has a token
     pub one_con : (token : List ℕ) → OneConBy token (near_of (hops_in config es))
-    one_con token a b i j x y ab bb sa sb ia ib ta tb =
+    one_con token a b i j x y sa sb ia ib ta tb =
         let near = near_is config es in
         by (client_facts.one_con server_end config.client_sizes config.client_setup (client_of es) law.client a b
-        (subst (Ever (λ e. begun e ≡ Some a)) near i) (subst (Ever (λ e. begun e ≡ Some b)) near j) x y ab bb sa sb
+        (subst (Ever (λ e. begun e ≡ Some a)) near i) (subst (Ever (λ e. begun e ≡ Some b)) near j) x y sa sb
         (ta ∙ sym tb))
       where
         by : (a ≡ b) ⊎ (Ends server_end config.client_sizes (client_of es) a b
@@ -121,7 +119,7 @@ module _ (config : Config) where
         ∙ (same ∙ ap (λ (z : Asked). z.token) l.asked) in
         let s : k.sending ≡ l.sending = one_sending k.sending l.sending k.sent l.sent tokens in
         let c : k.con ≡ l.con = one_con l.sending.token k.con l.con k.begun_there l.begun_there
-        (request_of k.con.id k.sending) (request_of l.con.id l.sending) k.are_bytes l.are_bytes k.spells l.spells refl
+        (request_of k.con.id k.sending) (request_of l.con.id l.sending) k.spells l.spells refl
         refl tokens refl in
         k.asked ∙ (ap (λ (z : Open). asked_of client_end (request_of z.id k.sending)) c
         ∙ (ap (λ z. asked_of client_end (request_of l.con.id z)) s ∙ sym l.asked))

@@ -1,18 +1,16 @@
 -- A request that was answered in its acknowledgement got no Empty one.
-use Rattle.std.proofs.Common.{◌≡◌, inl, inr, ℕ, Some, None, List, [], ◌∷◌}
-use Rattle.std.proofs.Common.{refl, ap, sym, subst, ◌∙◌}
-use Rattle.coap_types.specs.Bytes.{AreBytes}
+use Rattle.std.proofs.Common.{◌≡◌, inl, inr, ℕ, Some, None, List, [], ◌∷◌, refl, ap, sym, subst, ◌∙◌}
 use Rattle.coap_types.specs.Past.{Ever, Sometime, Always, Since}
 use Rattle.coap_types.specs.Roles.{role_of}
 use Rattle.coap_types.specs.declared.endpoint.Endpoint.{Endpoint}
-use Rattle.coap_types.specs.declared.message.Kind.TheVariants.{Con, Non, Ack, Rst}
 use Rattle.coap_types.specs.declared.role.Role.TheVariants as role
 use Rattle.coap_codec.specs.Message.{Message, Spells}
 use Rattle.coap_codec.proofs.Facts.EveryDatagram.{one_message}
-use Rattle.coap_layer.specs.Arrivals.{Arrival, Unreadable, Faulted, Whole, Shows}
+use Rattle.coap_types.specs.declared.message.Kind.TheVariants.{Con}
+use Rattle.coap_layer.specs.Arrivals.{Arrival, Faulted, Whole, Shows}
 use Rattle.coap_layer.specs.Channel.{Hop, Near, Far, near_of, far_of, OnFarThen, Takes, RepliesTo, AcksReplied}
-use Rattle.coap_layer.specs.Rows.{LayerLaw, Stands, Row, Sorts, HandedAs, Arrives, rejects, drops, takes_ack, takes_reset}
-use Rattle.coap_layer.specs.Rows.{passes_reset, takes_answer, replays, hands_over}
+use Rattle.coap_layer.specs.Rows.{LayerLaw, Stands, Row, Sorts, HandedAs, Arrives, rejects, drops, takes_ack}
+use Rattle.coap_layer.specs.Rows.{takes_reset, passes_reset, takes_answer, replays, hands_over}
 use Rattle.coap_layer.specs.Sends.{as_begun}
 use Rattle.coap_layer.specs.Taking.{RepliedOnce}
 use Rattle.coap_layer.specs.Trace as L
@@ -23,16 +21,15 @@ use Rattle.coap_world.proofs.Smoothly.AckTaken.{TakesEmpty}
 
 -- what is taken as an Empty acknowledgement is one
 record IsEmptyMessage (bytes : List ℕ) : Type 0 where
-  are : AreBytes bytes
   message : Message
   spells : Spells bytes message
   class : role_of message.code ≡ role.Empty
 
 module _ (setup : Setup) (past : List L.Entry) (e : L.Entry) (from : Endpoint) (bytes : List ℕ) (id : ℕ)
-    (are : AreBytes bytes) (up : e.answer ≡ L.Becomes (L.Acked id)) where
+    (up : e.answer ≡ L.Becomes (L.Acked id)) where
   sorted : (n : Message) → Spells bytes n → Sorts setup past e (record { from = from; message = n })
       → IsEmptyMessage bytes
-  sorted n s (takes_ack r) = record { are = are; message = n; spells = s; class = r.class }
+  sorted n s (takes_ack r) = record { message = n; spells = s; class = r.class }
   sorted n s (rejects r) = absurd (cc (r.answer, up))
   sorted n s (drops r) = absurd (cc (r.answer, up))
   sorted n s (takes_reset r) = absurd (cc (r.answer, up))
@@ -47,18 +44,15 @@ module _ (setup : Setup) (past : List L.Entry) (e : L.Entry) (from : Endpoint) (
       go (inr (inr a)) = absurd (cc (a.1, up))
 
   arrived : (what : Arrival) → Shows bytes what → Arrives setup past e from what → IsEmptyMessage bytes
-  arrived Unreadable s r = absurd (cc (r.0, up))
-  arrived (Faulted Con i) s r = absurd (cc (r.0, up))
-  arrived (Faulted Non i) s r = absurd (cc (r.0, up))
-  arrived (Faulted Ack i) s r = absurd (cc (r.0, up))
-  arrived (Faulted Rst i) s r = absurd (cc (r.0, up))
   arrived (Whole n) s r = sorted n s r
+  arrived (Faulted Con i) s r = absurd (cc (r.0, up))
+  arrived _ s r = absurd (cc (r.0, up))
 
 is_empty : (setup : Setup) (past : List L.Entry) (e : L.Entry) (from : Endpoint) (bytes : List ℕ) (id : ℕ)
     → Stands setup past e → e.call ≡ L.Receive from bytes → e.answer ≡ L.Becomes (L.Acked id) → IsEmptyMessage bytes
 is_empty setup past e from bytes id here call up =
     let row : Row setup past e (L.Receive from bytes) = subst (Row setup past e) call here.row in
-    arrived setup past e from bytes id row.0 up row.1.0 row.1.1 row.1.2
+    arrived setup past e from bytes id up row.0 row.1 row.2
 
 -- it was given as the reply
 record EmptyGiven (con : Open) (hs : List Hop) : Type 0 where
@@ -139,7 +133,7 @@ one_reply setup request con bytes m hs same to there law acks once spells class 
     (replies_begun con k.bytes) hs k.given in
     let other = subst (λ z. Sometime (OnFarThen (RepliesTo client_end z k.bytes)) hs) same begun_so in
     never_both request bytes k.bytes
-    (λ is. (let alike : m ≡ k.empty.message = one_message k.bytes m k.empty.message k.empty.are
+    (λ is. (let alike : m ≡ k.empty.message = one_message k.bytes m k.empty.message
     (subst (λ b. Spells b m) is spells) k.empty.spells in
     let z = sym class ∙ ap (λ (y : Message). role_of y.code) alike ∙ k.empty.class in cc z))
     hs (once request there bytes k.bytes) (once request there k.bytes bytes) given other

@@ -5,7 +5,7 @@ use Rattle.std.proofs.Common.{Result, refl, ap, sym, subst, ◌∙◌, append_as
 use Rattle.std.proofs.lemmas.List.{append-nil}
 use Rattle.coap_types.specs.declared.endpoint.Endpoint.{Endpoint}
 use Rattle.coap_types.specs.declared.message.Kind.{Kind}
-use Rattle.coap_types.specs.declared.message.Kind.TheVariants.{Con, Non, Ack, Rst}
+use Rattle.coap_types.specs.declared.message.Kind.TheVariants.{Con}
 use Rattle.coap_codec.specs.Message.{Message}
 use Rattle.coap_layer.specs.Trace as L
 use Rattle.coap_layer.specs.Words.{handed, handed_in, takes_in}
@@ -19,7 +19,7 @@ use Rattle.coap_exchange.specs.declared.answerer.Due.TheVariants as due
 use Rattle.coap_exchange.specs.declared.asker.AskRefusal.{AskRefusal}
 use Rattle.coap_exchange.specs.declared.asker.Exchange.{Exchange}
 use Rattle.coap_exchange.specs.declared.matching.Opening.{Opening}
-use Rattle.coap_exchange.specs.declared.matching.Opening.TheVariants.{Running, Spent, Sends}
+use Rattle.coap_exchange.specs.declared.matching.Opening.TheVariants.{Running}
 use Rattle.coap_exchange.specs.declared.separate.Deferred.{Deferred}
 use Rattle.coap_exchange.specs.AnswererLaw as answerer
 use Rattle.coap_exchange.specs.AnswererSteps as answerer_steps
@@ -107,26 +107,21 @@ quiet_settle false server o settled = tt
 quiet_beneath : (now : ℕ) (o : Opening) (server : Endpoint) (content : L.Content) (word : ℕ) (sent : L.Answer)
     → IsQuiet (asked now (beneath o server content word) sent)
 quiet_beneath now Running server content word sent = record { takes = refl; hands = λ answer. refl }
-quiet_beneath now Spent server content word sent = record { takes = refl; hands = λ answer. refl }
-quiet_beneath now Sends server content word sent = record { takes = refl; hands = λ answer. refl }
+quiet_beneath now _ server content word sent = record { takes = refl; hands = λ answer. refl }
 
 -- it is no arrival, and takes nothing
 abbrev pub IsDeed : A.Call → Type 0
-IsDeed (A.Ask now r word below answer) = Unit {0}
 IsDeed (A.Receive now from bytes up settled answer) = ⊥
-IsDeed (A.Ticks now below answer) = Unit {0}
-IsDeed (A.Keep token answer) = Unit {0}
-IsDeed (A.Release token answer) = Unit {0}
 IsDeed (A.Take answer) = ⊥
+IsDeed _ = Unit {0}
 
 quiet_deed : (s : A.Own) (c : A.Call) → IsDeed c → Every IsQuiet (asker_steps.lower s c)
 quiet_deed s (A.Ask now r word below answer) h =
     (quiet_beneath now (opening_of s r) s.server (content_of (request_token s r) r) word below, tt)
-quiet_deed s (A.Receive now from bytes up settled answer) h = absurd h
 quiet_deed s (A.Ticks now below answer) h = (record { takes = refl; hands = λ a. refl }, tt)
 quiet_deed s (A.Keep token answer) h = tt
 quiet_deed s (A.Release token answer) h = tt
-quiet_deed s (A.Take answer) h = absurd h
+quiet_deed s _ h = absurd h
 
 quiet_deeds : (to : Endpoint) (setup : Setup) (past later : List A.Call) → Every IsDeed later
     → Every IsQuiet (asked_by_client to setup past later)
@@ -159,7 +154,7 @@ behind_arrival to setup past (d ∷ later) now from bytes up settled event h =
     (quiet_deed (asker.own_of to setup ((later ++ A.Receive now from bytes up settled event ∷ []) ++ past)) d h.0)
     (behind_arrival to setup past later now from bytes up settled event h.1)
 
-module _ (to : Endpoint) (w : Setup) (past : List A.Call) (e : Effect) (now word : ℕ) (sent : L.Answer)
+module _ (to : Endpoint) (setup : Setup) (past : List A.Call) (e : Effect) (now word : ℕ) (sent : L.Answer)
     (token : Result (List ℕ) AskRefusal) (kept : Bool) where
   abbrev later : List A.Call
   later = let c = close now e token in deeds c.deed c.own now word sent token kept
@@ -175,39 +170,31 @@ module _ (to : Endpoint) (w : Setup) (past : List A.Call) (e : Effect) (now word
 
   fed_behind : (m : ℕ) (from : Endpoint) (bytes : List ℕ) (up : L.Answer) (settled : Bool) (event : _)
       → Behind (L.Receive from bytes) up
-      (asked_by_client to w past (done_for e now word sent token kept (A.Receive m from bytes up settled event)))
+      (asked_by_client to setup past (done_for e now word sent token kept (A.Receive m from bytes up settled event)))
   fed_behind m from bytes up settled event =
-      subst (λ l. Behind (L.Receive from bytes) up (asked_by_client to w past l))
+      subst (λ l. Behind (L.Receive from bytes) up (asked_by_client to setup past l))
       (append_assoc later first (A.Receive m from bytes up settled event ∷ []))
-      (behind_arrival to w past (later ++ first) m from bytes up settled event both_deeds)
+      (behind_arrival to setup past (later ++ first) m from bytes up settled event both_deeds)
 
   ticked_quiet : (m : ℕ) (below : L.Answer) (turn : _)
-      → Every IsQuiet (asked_by_client to w past (done_for e now word sent token kept (A.Ticks m below turn)))
+      → Every IsQuiet (asked_by_client to setup past (done_for e now word sent token kept (A.Ticks m below turn)))
   ticked_quiet m below turn =
-      subst (λ l. Every IsQuiet (asked_by_client to w past l))
+      subst (λ l. Every IsQuiet (asked_by_client to setup past l))
       (append_assoc later first (A.Ticks m below turn ∷ []))
-      (quiet_deeds to w past ((later ++ first) ++ A.Ticks m below turn ∷ [])
+      (quiet_deeds to setup past ((later ++ first) ++ A.Ticks m below turn ∷ [])
       (every_join IsDeed (later ++ first) (A.Ticks m below turn ∷ []) both_deeds (tt, tt)))
 
 -- the server's exchanges
 
 abbrev IsWork : R.Call → Type 0
 IsWork (R.Incoming now from bytes up answer) = ⊥
-IsWork (R.Answers a r below) = Unit {0}
-IsWork (R.Defers now a delay answer) = Unit {0}
-IsWork (R.Ticks now below room answer) = Unit {0}
-IsWork (R.Responds now a r word id) = Unit {0}
-IsWork (R.Ready now to answer) = Unit {0}
-IsWork (R.Notifies now to token r word id) = Unit {0}
-IsWork (R.NotifiesPlain now to token r id) = Unit {0}
 IsWork (R.Take answer) = ⊥
+IsWork _ = Unit {0}
 
 quiet_answering : (s : R.Own) (kind : Kind) (a : request.Asked) (r : R.Response) (now : ℕ) (below : L.Answer)
     → IsQuiet (asked now (answerer_steps.answering s kind a r) below)
 quiet_answering s Con a r now below = record { takes = refl; hands = λ answer. refl }
-quiet_answering s Non a r now below = record { takes = refl; hands = λ answer. refl }
-quiet_answering s Ack a r now below = record { takes = refl; hands = λ answer. refl }
-quiet_answering s Rst a r now below = record { takes = refl; hands = λ answer. refl }
+quiet_answering s _ a r now below = record { takes = refl; hands = λ answer. refl }
 
 quiet_deferring : (b : Bool) (a : request.Asked) → Every IsQuiet (deferring b a)
 quiet_deferring true a = (record { takes = refl; hands = λ answer. refl }, tt)

@@ -1,6 +1,6 @@
 -- In a smooth run each Confirmable message is taken within 1,000 ms, and each of the server's is over within 2,000.
-use Rattle.std.proofs.Common.{◌≡◌, ◌⊎◌, inl, inr, ⊎_elim, ◌<◌, ℕ, ◌+◌, Some, List, [], ◌∷◌, ◌++◌, map, refl}
-use Rattle.std.proofs.Common.{ap, sym, subst, ◌∙◌, arith, append_assoc}
+use Rattle.std.proofs.Common.{◌≡◌, ◌⊎◌, inl, inr, ⊎_elim, ◌<◌, ℕ, ◌+◌, Some, List, [], ◌∷◌, ◌++◌, map, refl, ap, sym}
+use Rattle.std.proofs.Common.{subst, ◌∙◌, arith, append_assoc}
 use Rattle.coap_types.specs.Past.{Ever, Sometime}
 use Rattle.coap_types.proofs.Facts.Traces.{Ever_append, Always_back, Sometime_back}
 use Rattle.coap_types.specs.declared.message.Kind.TheVariants.{Con, Ack, Rst}
@@ -28,10 +28,12 @@ use Rattle.coap_world.proofs.Delivery.ChannelAcross.{near_across, far_across}
 use Rattle.coap_world.proofs.Delivery.HopsAreAChannel as joined
 use Rattle.coap_world.proofs.Delivery.HopsAreEntries.{client_layer, client_next, near_is, far_is}
 use Rattle.coap_world.proofs.Smoothly.ArrivesInTime.{arrive_in_time}
-use Rattle.coap_world.proofs.Smoothly.ConsCarry.{request_told, was_message, CarriesResponse, server_carries, response_told}
+use Rattle.coap_world.proofs.Smoothly.ConsCarry.{request_told, was_message, CarriesResponse, server_carries}
+use Rattle.coap_world.proofs.Smoothly.ConsCarry.{response_told}
 use Rattle.coap_world.proofs.Smoothly.HandedAs.{as_response}
 use Rattle.coap_world.proofs.Smoothly.Standing.{ForClient, Stands, before, record_of, client_behind}
 use Rattle.coap_world.proofs.Smoothly.WhereItArrives.{AtClient, at_client, near_found, no_near}
+use Rattle.coap_world.proofs.Observations.Positions.{across_near, across_far}
 
 -- lists that end alike
 
@@ -44,14 +46,6 @@ same_end [] [] y x e = cc e
 same_end [] (z ∷ b) y x e = let k : [] ≡ b ++ x ∷ [] = cc e in absurd (no_end b x k)
 same_end (z ∷ a) [] y x e = let k : a ++ y ∷ [] ≡ [] = cc e in absurd (no_end a y (sym k))
 same_end (z ∷ a) (w ∷ b) y x e = let k : a ++ y ∷ [] ≡ b ++ x ∷ [] = cc e in same_end a b y x k
-
-across_near : (xs : List L.Entry) (hs : List Hop) → across (map Near xs ++ hs) ≡ map Far xs ++ across hs
-across_near [] hs = refl
-across_near (x ∷ xs) hs = ap (λ l. Far x ∷ l) (across_near xs hs)
-
-across_far : (xs : List L.Entry) (hs : List Hop) → across (map Far xs ++ hs) ≡ map Near xs ++ across hs
-across_far [] hs = refl
-across_far (x ∷ xs) hs = ap (λ l. Near x ∷ l) (across_far xs hs)
 
 pub near_back : (P : L.Entry → Type 0) (hs : List Hop) → Ever (OnFar P) (across hs) → Ever (OnNear P) hs
 near_back P [] h = h

@@ -1,11 +1,12 @@
 -- A server that hears from the client alone sends to the client alone, and answers no other.
-use Rattle.std.proofs.Common.{◌≡◌, ◌⊎◌, inl, inr, ⊎_elim, ℕ, zero, suc, Bool, true, false, Option, Some, None, List, [], ◌∷◌, ◌++◌}
-use Rattle.std.proofs.Common.{refl, ap, sym, subst, ◌∙◌}
+use Rattle.std.proofs.Common.{◌≡◌, ◌⊎◌, inl, inr, ⊎_elim, ℕ, zero, suc, Bool, true, false, Option, Some, None, List, []}
+use Rattle.std.proofs.Common.{◌∷◌, ◌++◌, refl, ap, sym, subst, ◌∙◌}
 use Rattle.coap_types.specs.Past.{Ever, Sometime}
 use Rattle.coap_types.proofs.Facts.Traces.{Ever_append, Ever_map, Ever_of_Since, Always_back}
 use Rattle.coap_types.specs.declared.endpoint.Endpoint.{Endpoint}
 use Rattle.coap_codec.specs.Message.{Message}
-use Rattle.coap_layer.specs.Sends.{IsIn, GoesOut, EachGoesOut, first, copy, plain as in_non, reply as in_reply, stored, reset}
+use Rattle.coap_layer.specs.Sends.{IsIn, GoesOut, EachGoesOut, first, copy, plain as in_non, reply as in_reply, stored}
+use Rattle.coap_layer.specs.Sends.{reset}
 use Rattle.coap_layer.specs.Trace as L
 use Rattle.coap_layer.specs.Words.{Open, begun, Awaited, awaited_of, awaits_in, awaits, from_there, handed_by}
 use Rattle.coap_layer.proofs.Facts.Laws.{each_goes_out}
@@ -33,8 +34,8 @@ use Rattle.coap_world.specs.Hops.{server_adds}
 use Rattle.coap_world.proofs.Delivery.EntriesInTime.{Every, every_join, every_map}
 use Rattle.coap_world.proofs.Delivery.HopsAreEntries.{server_layer, server_next}
 use Rattle.coap_world.proofs.Smoothly.Confirms.{IsEntrySo}
-use Rattle.coap_world.proofs.Smoothly.ConsAnswer.{Confirms, Plain, RespondsTo, NotifiesTo, plain_to, exchange_calls, adds_so}
-use Rattle.coap_world.proofs.Smoothly.ConsAnswer.{con_of}
+use Rattle.coap_world.proofs.Smoothly.ConsAnswer.{Confirms, Plain, RespondsTo, NotifiesTo, plain_to, exchange_calls}
+use Rattle.coap_world.proofs.Smoothly.ConsAnswer.{adds_so, con_of}
 use Rattle.coap_world.proofs.Smoothly.ConsOfOpen.{of_each}
 
 -- what arrives came from the client
@@ -154,8 +155,7 @@ module _ (config : Config) (observers : (t : List S.Call) → AreObservers confi
     answered s p (S.Serves q reply left) below (inl k) = some_is p.0.from k
     answered s p (S.Serves q reply left) below (inr k) = absurd (none_deferred _ _ _ p.0 k)
     answered s p (S.Waits q delay) below k = absurd (none_deferred _ _ _ p.0 k)
-    answered s p S.Silent below k = absurd k
-    answered s p (S.Notifies o reply) below k = absurd k
+    answered s p _ below k = absurd k
 
     not_asked : (at : ℕ) (o : Observer) → Here (R.Ready at o.to false ∷ []) → ⊥
     not_asked at o (inl k) = cc k

@@ -1,6 +1,5 @@
 -- Where each exchange is young at each event, it is at each call of the client, and at each entry of its message layer.
-use Rattle.std.proofs.Common.{◌≡◌, ◌⊎◌, inl, inr, ◌≤◌, ℕ, ◌+◌, Some, None, List, [], ◌∷◌, ◌++◌, map, ap, sym, subst}
-use Rattle.std.proofs.Common.{◌∙◌, arith}
+use Rattle.std.proofs.Common.{◌≡◌, ◌⊎◌, inl, inr, ◌≤◌, ℕ, ◌+◌, List, [], ◌∷◌, ◌++◌, ap, sym, subst, ◌∙◌, arith}
 use Rattle.coap_types.specs.Past.{Always}
 use Rattle.coap_layer.specs.Trace as L
 use Rattle.coap_block.specs.Sizes.{Sizes}
@@ -17,8 +16,10 @@ use Rattle.coap_world.specs.SmoothAnswers.{max_open, AreYoung}
 use Rattle.coap_world.proofs.Delivery.ClientInTime as client
 use Rattle.coap_world.proofs.Delivery.EntriesInTime.{Every, every_map, Timely}
 use Rattle.coap_world.proofs.Delivery.OneEndATurn.{ClientTurn, ServerTurn, client_client, client_server}
-use Rattle.coap_world.proofs.Smoothly.FewArrive.{client_at}
+use Rattle.coap_world.proofs.Delivery.ClientTurns.{all_at as client_at}
 use Rattle.coap_world.proofs.Smoothly.Standing.{Stands, before, turned, side_of}
+use Rattle.coap_world.proofs.Delivery.ClientTurns.{turn_calls as client_turn_calls}
+use Rattle.coap_world.proofs.Delivery.ServerTurns.{turn_calls as server_turn_calls}
 
 -- what begins in a turn begins at its moment
 pub began_at : (sizes : Sizes) (t at : ℕ) (past : List C.Call) (c : C.Call) → client.IsAt t c → BeginsAt sizes at past c
@@ -82,13 +83,12 @@ module _ (config : Config) where
           → ClientTurn turn.event.at turn.entries ⊎ ServerTurn turn.event.at turn.entries
           → Always YoungAt (client_of (turn.entries ++ entries_of past))
       by older (inr on) =
-          let cs : List S.Call = S.NextOut None ∷ (map (λ p. S.NextOut (Some p)) on.on.outs ++ on.calls) in
+          let cs : List S.Call = server_turn_calls on.on.outs on.calls in
           let is : client_of (turn.entries ++ entries_of past) ≡ client_of (entries_of past) =
           ap (λ z. client_of (z ++ entries_of past)) on.on.is ∙ client_server cs (entries_of past) in
           subst (Always YoungAt) (sym is) older
       by older (inl on) =
-          let cs : List C.Call = C.NextReport None ∷ (map (λ r. C.NextReport (Some r)) on.on.reports
-          ++ C.NextOut None ∷ (map (λ p. C.NextOut (Some p)) on.on.outs ++ on.calls)) in
+          let cs : List C.Call = client_turn_calls on.on.outs on.on.reports on.calls in
           let is : client_of (turn.entries ++ entries_of past) ≡ cs ++ client_of (entries_of past) =
           ap (λ z. client_of (z ++ entries_of past)) on.on.is ∙ client_client cs (entries_of past) in
           subst (Always YoungAt) (sym is)

@@ -24,13 +24,13 @@ use Rattle.coap_server.specs.Follows.Holds as D
 use Rattle.coap_server.specs.Follows.Reads.{ReadsOf}
 use Rattle.coap_server.specs.Follows.Serves.{Serving}
 use Rattle.coap_server.specs.Follows.Takes.{took}
-use Rattle.coap_server.specs.Checks.{Verdict, Ignored, Refused, Asks, Uploads as UploadsBlock}
+use Rattle.coap_server.specs.Checks.{Verdict, Asks, Uploads as UploadsBlock}
 use Rattle.coap_server.specs.Law.{own_of}
 use Rattle.coap_server.specs.Trace as S
 use Rattle.coap_client.proofs.Facts.Laws as client_facts
 use Rattle.coap_server.proofs.Facts.Laws as server_facts
 use Rattle.coap_server.proofs.Facts.Laws.{version_is}
-use Rattle.coap_world.specs.Applied.{Does}
+use Rattle.coap_world.specs.Applied.{Does, body_of, IsWhole, AppliedWhole}
 use Rattle.coap_world.specs.CameFrom.{request_of, ComesAt}
 use Rattle.coap_world.specs.Events.{client_end, server_end, Config}
 use Rattle.coap_world.specs.Legal.{IsRequest}
@@ -43,7 +43,6 @@ use Rattle.coap_world.proofs.Requests.ServedLeaves.{leaves}
 use Rattle.coap_world.proofs.Requests.OfACall.{Lawful, lawful_back, Later, later_back, Known, known}
 use Rattle.coap_world.proofs.Requests.ReadBack.{Changes, format_back, format_sent}
 use Rattle.coap_world.proofs.Requests.Traced.{brought_in}
-use Rattle.coap_world.specs.Applied.{body_of, IsWhole, AppliedWhole}
 use Rattle.coap_world.proofs.Uploads.Parts.{Sent, Part, part_back, one_sending}
 use Rattle.coap_world.proofs.Uploads.Pieces.{one_request}
 use Rattle.coap_world.proofs.Uploads.WholeBody.{upload, whole_body}
@@ -151,8 +150,7 @@ module _ (config : Config) (number : ℕ) (all : List Entry) (small : config.cli
         let here = subst (λ q. Comes config.limits config.server_szx config.server_setup
         (server_trace config past) c x.asked (Asks q)) (sym h) comes in inl (inl here, as_it_came past c part here)
     by_verdict past c part (UploadsBlock p b) comes h = inr (by_blocks past c part p b h)
-    by_verdict past c part Ignored comes h = absurd h
-    by_verdict past c part (Refused code) comes h = absurd h
+    by_verdict past c part _ comes h = absurd h
 
     came : (t : List Entry) → PartOf t → Sometime (BroughtAt config x.asked x.question) t → AsItCame t ⊎ ByBlocks
     came [] part h = absurd h
@@ -180,10 +178,9 @@ module _ (config : Config) (number : ℕ) (all : List Entry) (small : config.cli
     some_there (inr z) = inr z.body
 
     by_method : (m : Method) → (k.request).method ≡ m → AsItCame w ⊎ ByBlocks → (x.question).body ≡ body_of m k.request
-    by_method Put is h = with_body Put is (λ e. cc e) (some_there h)
-    by_method Post is h = with_body Post is (λ e. cc e) (some_there h)
     by_method Delete is h = none_there is h
     by_method Get is h = absurd (subst Changes is k.change)
+    by_method c is h = with_body c is (λ e. cc e) (some_there h)
 
     pub body_whole : Sometime (BroughtAt config x.asked x.question) w
         → (x.question).body ≡ body_of (k.request).method k.request

@@ -99,7 +99,7 @@ module _ (config : Config) (all : List Entry) (small : config.client_sizes.szx â
       record {
         sent = earlier.sent k.sending k.sent;
         begun_there = earlier.begun_there k.con k.begun_before;
-        carries = record { is = k.is; are_bytes = k.are_bytes; spells = k.spells };
+        carries = record { is = k.is; spells = k.spells };
         block = o.part_of;
       }
 

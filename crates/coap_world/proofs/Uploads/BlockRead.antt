@@ -1,7 +1,6 @@
 -- The block that a server reads is the one that the client sent.
 use Rattle.std.proofs.Common.{◌≡◌, ◌≤◌, ◌<◌, ℕ, nat_lt, ◌||◌, Bool, true, false, Option, Some, None, List, [], ◌∷◌}
-use Rattle.std.proofs.Common.{length, refl, ap, sym, subst, ◌∙◌}
-use Rattle.std.proofs.Common.{cond, arith}
+use Rattle.std.proofs.Common.{length, refl, ap, sym, subst, ◌∙◌, cond, arith}
 use Rattle.std.specs.Prelude.{IfSome}
 use Rattle.coap_types.specs.BlockValue.{block_by, block_value}
 use Rattle.coap_types.specs.CoapOption.{option}
@@ -14,7 +13,7 @@ use Rattle.coap_types.specs.Uint.{uint}
 use Rattle.coap_types.specs.declared.block.Block.{Block}
 use Rattle.coap_types.specs.declared.direction.Direction.TheVariants.{Request}
 use Rattle.coap_types.specs.declared.message.Kind.{Kind}
-use Rattle.coap_types.specs.declared.message.Kind.TheVariants.{Con, Non, Ack, Rst}
+use Rattle.coap_types.specs.declared.message.Kind.TheVariants.{Con}
 use Rattle.coap_types.specs.declared.path.TheConstants.{MAX_SEGMENTS as max_segments}
 use Rattle.coap_types.specs.declared.option_number.TheConstants.{BLOCK1 as block1, BLOCK2 as block2}
 use Rattle.coap_types.specs.declared.option_number.TheConstants.{PROXY_URI as proxy_uri, PROXY_SCHEME as proxy_scheme}
@@ -35,10 +34,8 @@ use Rattle.coap_client.specs.Trace as C
 use Rattle.coap_client.specs.Follows.Words.{WasTaken, Sending}
 use Rattle.coap_server.specs.Follows.Reads.{ReadsOf}
 use Rattle.coap_server.specs.Follows.Table.{HasNoFault, NoFaultIn}
-use Rattle.coap_server.specs.Checks.{Verdict, Refused, Uploads as UploadsBlock, asks, verdict_on}
-use Rattle.coap_server.specs.Checks.{bad_by}
-use Rattle.coap_server.specs.Checks.{proxying_not_supported}
-use Rattle.coap_server.specs.Checks.{bad_request, asked_by, uploading, question, is_reserved}
+use Rattle.coap_server.specs.Checks.{Verdict, Refused, Uploads as UploadsBlock, asks, verdict_on, bad_by}
+use Rattle.coap_server.specs.Checks.{proxying_not_supported, bad_request, asked_by, uploading, question, is_reserved}
 use Rattle.coap_server.proofs.Facts.Laws as server_facts
 use Rattle.coap_world.specs.CameFrom.{request_of}
 use Rattle.coap_world.proofs.Requests.LastRequests.{method_is, no_fetch, sends_body, small_value, code_is, options_read}
@@ -76,9 +73,7 @@ asked_changes szx (Some method) m q b h =
 
 bad_none : (kind : Kind) (q : Question) (b : Block) → bad_by kind ≡ UploadsBlock q b → ⊥
 bad_none Con q b h = cc h
-bad_none Non q b h = cc h
-bad_none Ack q b h = cc h
-bad_none Rst q b h = cc h
+bad_none _ q b h = cc h
 
 pub uploads_change : (szx : ℕ) (m : Message) (q : Question) (b : Block) → verdict_on szx m ≡ UploadsBlock q b
     → Changes q.method

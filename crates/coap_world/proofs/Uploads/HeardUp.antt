@@ -1,9 +1,8 @@
 -- A request that was answered was handed up before.
 use Rattle.std.proofs.Common.{◌≡◌, ◌≤◌, inl, inr, ℕ, Some, List, [], ◌∷◌, ◌++◌, map, refl, ap, sym, subst, ◌∙◌}
-use Rattle.coap_types.specs.Bytes.{AreBytes}
 use Rattle.coap_types.specs.Past.{Ever, Sometime}
 use Rattle.coap_types.specs.declared.endpoint.Endpoint.{Endpoint}
-use Rattle.coap_types.proofs.Facts.Traces.{Ever_front, Ever_back, Ever_by_law}
+use Rattle.coap_types.proofs.Facts.Traces.{Ever_front, Ever_back, Ever_by_law, Sometime_map}
 use Rattle.coap_codec.specs.Message.{Message, Spells}
 use Rattle.coap_layer.specs.Channel.{Hop, Near, OnFar, HandsUpAs, Takes}
 use Rattle.coap_layer.specs.Trace as T
@@ -25,14 +24,13 @@ use Rattle.coap_world.specs.CameFrom.{request_of, ComesAt}
 use Rattle.coap_world.specs.Events.{client_end, server_end, Config}
 use Rattle.coap_world.specs.Hops.{hops_in, hops_at, client_adds}
 use Rattle.coap_world.specs.Legal.{IsRequest}
-use Rattle.coap_world.specs.Record.{Entry, OfClient, OfServer, client_of, server_trace}
-use Rattle.coap_world.specs.Record.{Setting, DelayOf, PlainOf, gives_it, settings}
+use Rattle.coap_world.specs.Record.{Entry, OfClient, OfServer, client_of, server_trace, Setting, DelayOf, PlainOf}
+use Rattle.coap_world.specs.Record.{gives_it, settings}
 use Rattle.coap_world.specs.Serves.{BroughtAt}
 use Rattle.coap_world.proofs.Reports.Answered.{all_answered}
 use Rattle.coap_world.proofs.Requests.OfACall.{Lawful}
 use Rattle.coap_world.proofs.Requests.Traced.{brought_in}
 use Rattle.coap_world.proofs.Uploads.Parts.{Begun, Sent, Carries, Part, part_back, one_con}
-use Rattle.coap_types.proofs.Facts.Traces.{Sometime_map}
 use Rattle.coap_observe.specs.Observers.{Observer}
 
 off_near : (P : T.Entry → Type 0) (adds : List T.Entry) (hs : List Hop) → Ever (OnFar P) (map Near adds ++ hs)
@@ -51,17 +49,17 @@ module _ (config : Config) (all : List Entry) (small : config.client_sizes.szx �
     abbrev UpIn : List Hop → Type 0
     UpIn hs = Ever (OnFar (HandsUpAs client_end old)) hs
 
-    same_con : (con : Open) (n : Message) → Begun config con all → AreBytes con.bytes → Spells con.bytes n
+    same_con : (con : Open) (n : Message) → Begun config con all → Spells con.bytes n
         → con.id ≡ n.id → n.token ≡ x.token → con ≡ old
-    same_con con n b are s id token = one_con config all small whole in_range x k sent of con old b begun_all n
-        (request_of old.id x) are carries.are_bytes s carries.spells id refl token refl
+    same_con con n b s id token = one_con config all small whole in_range x k sent of con old b begun_all n
+        (request_of old.id x) s carries.spells id refl token refl
 
     comes_up : (past : List Entry) (e : Entry) (a : Asked) (v : Verdict) → PartOf (e ∷ past) → ComesAt config a v past e
         → a.from ≡ client_end → a.token ≡ x.token → UpIn (hops_in config (e ∷ past))
     comes_up past e a v p comes from token =
         let f = p.law.came.0 a v comes from in
         let there = (part_back config all small whole in_range past e p).begun_there f.con f.begun_before in
-        let same = same_con f.con (request_of f.con.id f.sending) there f.are_bytes f.spells refl
+        let same = same_con f.con (request_of f.con.id f.sending) there f.spells refl
         (sym (ap (λ (z : Asked). z.token) f.asked) ∙ token) in
         Ever_front (OnFar (HandsUpAs client_end old)) (hops_at config past e) (hops_in config past)
         (subst (λ z. Ever (OnFar (HandsUpAs client_end z)) (hops_at config past e)) same f.arrives)

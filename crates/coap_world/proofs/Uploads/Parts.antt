@@ -1,6 +1,5 @@
 -- A part of a lawful record, and of which request a block is that the server takes.
-use Rattle.std.proofs.Common.{◌≡◌, ◌≤◌, ◌⊎◌, inl, inr, ℕ, Option, Some, None, List, [], ◌∷◌, refl, ap, sym, subst, ◌∙◌}
-use Rattle.coap_types.specs.Bytes.{AreBytes}
+use Rattle.std.proofs.Common.{◌≡◌, ◌≤◌, ◌⊎◌, inl, inr, ℕ, Option, Some, None, List, ◌∷◌, refl, ap, sym, subst, ◌∙◌}
 use Rattle.coap_types.specs.MethodCode.{method_of}
 use Rattle.coap_types.specs.Past.{Ever}
 use Rattle.coap_types.specs.declared.block.Block.{Block}
@@ -29,13 +28,12 @@ use Rattle.coap_world.specs.Record.{Entry, OfServer, client_of, server_trace}
 use Rattle.coap_world.proofs.Delivery.HopsAreEntries.{near_is}
 use Rattle.coap_world.proofs.Requests.CameFrom.{same_request}
 use Rattle.coap_world.proofs.Requests.LastRequests.{of_call_at, method_is}
-use Rattle.coap_world.proofs.Requests.OfACall.{Lawful, lawful_back, no_call, no_call_behind}
+use Rattle.coap_world.proofs.Requests.OfACall.{Lawful, lawful_back, no_call, no_call_behind, taken_later}
 use Rattle.coap_world.proofs.Requests.ReadBack.{Changes}
 use Rattle.coap_world.proofs.Requests.Traced.{near_later, sent_later}
 use Rattle.coap_client.specs.Follows.Apart.{IsBlockOf}
 use Rattle.coap_world.proofs.Uploads.BlockRead.{uploads_change, ReadsBlock, reads_block}
 use Rattle.coap_world.proofs.Requests.Belongs.{get_at}
-use Rattle.coap_world.proofs.Requests.OfACall.{taken_later}
 
 -- what is sent for no call is a GET
 module _ (config : Config) where
@@ -52,13 +50,12 @@ module _ (config : Config) where
   -- the CON is this request that was sent
   pub record Carries (con : Open) (x : Sending) : Type 0 where
     pub is : IsRequestOf server_end con x
-    pub are_bytes : AreBytes con.bytes
     pub spells : Spells con.bytes (request_of con.id x)
 
   -- a CON has one token
   pub same_token : (con : Open) (x y : Sending) → Carries con x → IsRequestOf server_end con y → x.token ≡ y.token
   same_token con x y k r = ap (λ (m : Message). m.token)
-      (same_request con (request_of con.id x) y r k.are_bytes k.spells refl)
+      (same_request con (request_of con.id x) y r k.spells refl)
 
   -- the block that is taken here, and the request of the client in which it came
   pub record CameBlock (z : Took) (past : List Entry) (c : S.Call) : Type 0 where
@@ -111,28 +108,28 @@ module _ (config : Config) where
 
     -- .. and of one CON
     not_registers : (k : Sending) (number : ℕ) → Sent k all → call_of k.operation ≡ Some number
-        → (con other : Open) (m : Message) → AreBytes con.bytes → Spells con.bytes m → con.id ≡ m.id → m.token ≡ k.token
+        → (con other : Open) (m : Message) → Spells con.bytes m → con.id ≡ m.id → m.token ≡ k.token
         → Ends server_end config.client_sizes (client_of all) con other → ⊥
-    not_registers k number sent of con other m are spells id token e =
+    not_registers k number sent of con other m spells id token e =
         let same = one_sending e.first k number e.first_sent sent of
-        (sym (ap (λ (z : Message). z.token) (same_request con m e.first e.begins are spells id)) ∙ token) in
+        (sym (ap (λ (z : Message). z.token) (same_request con m e.first e.begins spells id)) ∙ token) in
         no_call e.first e.second number (ap (λ (z : Sending). call_of z.operation) same ∙ of) e.deregisters
 
     pub one_con : (k : Sending) (number : ℕ) → Sent k all → call_of k.operation ≡ Some number → (a b : Open)
-        → Begun a all → Begun b all → (x y : Message) → AreBytes a.bytes → AreBytes b.bytes → Spells a.bytes x
+        → Begun a all → Begun b all → (x y : Message) → Spells a.bytes x
         → Spells b.bytes y → a.id ≡ x.id → b.id ≡ y.id
         → x.token ≡ k.token → y.token ≡ k.token → a ≡ b
-    one_con k number sent of a b i j x y ab bb sa sb ia ib ta tb =
+    one_con k number sent of a b i j x y sa sb ia ib ta tb =
         let near = near_is config all in
         by (client_facts.one_con server_end config.client_sizes config.client_setup (client_of all) whole.client a b
-        (subst (Ever (λ e. begun e ≡ Some a)) near i) (subst (Ever (λ e. begun e ≡ Some b)) near j) x y ab bb sa sb
+        (subst (Ever (λ e. begun e ≡ Some a)) near i) (subst (Ever (λ e. begun e ≡ Some b)) near j) x y sa sb
         (ta ∙ sym tb))
       where
         by : (a ≡ b) ⊎ (Ends server_end config.client_sizes (client_of all) a b
             ⊎ Ends server_end config.client_sizes (client_of all) b a) → a ≡ b
         by (inl same) = same
-        by (inr (inl e)) = absurd (not_registers k number sent of a b x ab sa ia ta e)
-        by (inr (inr e)) = absurd (not_registers k number sent of b a y bb sb ib tb e)
+        by (inr (inl e)) = absurd (not_registers k number sent of a b x sa ia ta e)
+        by (inr (inr e)) = absurd (not_registers k number sent of b a y sb ib tb e)
 
     -- of which upload the block is that is taken here
     pub record OfUpload (z : Took) (past : List Entry) (c : S.Call) : Type 0 where

@@ -1,7 +1,6 @@
 -- The blocks of a call are pieces of its body, and a number is of one call.
 use Rattle.std.proofs.Common.{◌≡◌, ◌≤◌, ◌+◌, inl, inr, ℕ, nat_lt, false, Option, Some, None, List, [], ◌∷◌, length}
-use Rattle.std.proofs.Common.{refl, ap, sym, subst, ◌∙◌, arith}
-use Rattle.std.proofs.Common.{Ok}
+use Rattle.std.proofs.Common.{refl, ap, sym, subst, ◌∙◌, arith, Ok}
 use Rattle.std.proofs.lemmas.Bool.Decides.{nat_tests}
 use Rattle.coap_types.specs.Past.{Ever}
 use Rattle.coap_types.specs.Piece.{size_of, offset_of, part_of, Begins, Piece}
@@ -32,7 +31,7 @@ whole_is parts a b w pieces = one_body_at_server parts a b w (inl (in_order w))
     }
 
 -- what is sent is a piece
-begins_at : (sizes : Sizes) (t : List C.Call) → SendsPieces sizes t → (x : Sending) (number : ℕ) (u : UploadState)
+pub begins_at : (sizes : Sizes) (t : List C.Call) → SendsPieces sizes t → (x : Sending) (number : ℕ) (u : UploadState)
     → WasSent sizes x t → carried x.operation ≡ Some (record { number = number; upload = u }) → Begins u.body u.num u.szx
 begins_at sizes [] law x number u h of = absurd h
 begins_at sizes (c ∷ t) law x number u (inl h) of = ((law.0 x (record { number = number; upload = u }) h of).sent).begins

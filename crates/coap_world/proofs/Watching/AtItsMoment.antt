@@ -1,5 +1,5 @@
 -- In a smooth run each call of an end has its entries in its message layer at the moment of its event.
-use Rattle.std.proofs.Common.{◌⊎◌, inl, inr, ℕ, Some, None, List, [], ◌∷◌, ◌++◌, map, sym, subst}
+use Rattle.std.proofs.Common.{◌⊎◌, inl, inr, ℕ, List, [], ◌∷◌, ◌++◌, map, sym, subst}
 use Rattle.coap_types.specs.Past.{Always}
 use Rattle.coap_client.specs.Trace as C
 use Rattle.coap_server.specs.Trace as S
@@ -10,8 +10,11 @@ use Rattle.coap_world.proofs.Delivery.ClientInTime as client
 use Rattle.coap_world.proofs.Delivery.EntriesInTime.{Every, Timely}
 use Rattle.coap_world.proofs.Delivery.OneEndATurn.{ClientTurn, ServerTurn}
 use Rattle.coap_world.proofs.Delivery.ServerInTime as server
-use Rattle.coap_world.proofs.Smoothly.FewArrive.{client_at, server_at}
+use Rattle.coap_world.proofs.Delivery.ClientTurns.{all_at as client_at}
+use Rattle.coap_world.proofs.Delivery.ServerTurns.{all_at as server_at}
 use Rattle.coap_world.proofs.Smoothly.Standing.{Stands, before, turned, side_of}
+use Rattle.coap_world.proofs.Delivery.ClientTurns.{turn_calls as client_turn_calls}
+use Rattle.coap_world.proofs.Delivery.ServerTurns.{turn_calls as server_turn_calls}
 
 module _ (config : Config) where
   pub record ClientAt (past : List C.Call) (c : C.Call) : Type 0 where
@@ -63,13 +66,12 @@ module _ (config : Config) where
       by : Always AtMoment (entries_of past) → ClientTurn t turn.entries ⊎ ServerTurn t turn.entries
           → Always AtMoment (turn.entries ++ entries_of past)
       by older (inl on) =
-          let cs : List C.Call = C.NextReport None ∷ (map (λ r. C.NextReport (Some r)) on.on.reports
-          ++ C.NextOut None ∷ (map (λ p. C.NextOut (Some p)) on.on.outs ++ on.calls)) in
+          let cs : List C.Call = client_turn_calls on.on.outs on.on.reports on.calls in
           subst (λ z. Always AtMoment (z ++ entries_of past)) (sym on.on.is)
           (client_calls t (entries_of past) cs (client_at t on.on.outs on.on.reports on.calls on.at)
           (turned config turn past s).still.client older).1
       by older (inr on) =
-          let cs : List S.Call = S.NextOut None ∷ (map (λ p. S.NextOut (Some p)) on.on.outs ++ on.calls) in
+          let cs : List S.Call = server_turn_calls on.on.outs on.calls in
           subst (λ z. Always AtMoment (z ++ entries_of past)) (sym on.on.is)
           (server_calls t (entries_of past) cs (server_at t on.on.outs on.calls on.at)
           (turned config turn past s).still.server older).1

@@ -1,6 +1,5 @@
 -- What a server sends under a Message ID arrives behind its sending (RFC 7252, section 4.4).
 use Rattle.std.proofs.Common.{◌≡◌, ◌⊎◌, inl, inr, ⊎_elim, ◌≤◌, ℕ, ◌+◌, Some, List, [], ◌∷◌, ◌++◌, refl, ap, sym, subst, ◌∙◌, arith}
-use Rattle.coap_types.specs.Bytes.{AreBytes}
 use Rattle.coap_types.specs.Past.{Ever, Always}
 use Rattle.coap_types.specs.declared.message.Kind.TheVariants.{Con, Non}
 use Rattle.coap_types.specs.declared.transmission.TheConstants.{ID_REUSE_AFTER_MS as id_reuse_after}
@@ -25,14 +24,13 @@ use Rattle.coap_world.proofs.Delivery.ChannelAcross.{near_across}
 use Rattle.coap_world.proofs.Delivery.HopsAreEntries.{server_layer, server_next, far_is}
 use Rattle.coap_world.proofs.Observations.Positions.{across_append}
 use Rattle.coap_world.proofs.Smoothly.ArrivesInTime.{to_far}
-use Rattle.coap_world.proofs.Smoothly.SentIsGivenOut.{front, front_is}
+use Rattle.coap_world.proofs.Delivery.End.{front, front_is}
 use Rattle.coap_world.proofs.Smoothly.Standing.{ForServer}
 use Rattle.coap_world.proofs.Smoothly.WhereItArrives.{near_found, no_near}
 
 -- an entry of the client's layer hands up this response of the server, at most 1,000 ms behind that moment
 pub record HandsUpSoon (m : Message) (since : ℕ) (e : L.Entry) : Type 0 where
   pub bytes : List ℕ
-  pub are_bytes : AreBytes bytes
   pub spells : Spells bytes m
   pub call : e.call ≡ L.Receive server_end bytes
   pub answer : e.answer ≡ L.Becomes (L.Response m)
@@ -52,11 +50,11 @@ module _ (m : Message) (since : ℕ) (kind : (m.kind ≡ Con) ⊎ (m.kind ≡ No
       let first = b.first_is in
       record { answer = b.answer_is ∙ ap L.Sent id; young = omega (arith, first, least, till) }
 
-  non_gave : (bytes : List ℕ) (when : ℕ) → AreBytes bytes → Spells bytes m → since ≤ when → (y : L.Entry)
+  non_gave : (bytes : List ℕ) (when : ℕ) → Spells bytes m → since ≤ when → (y : L.Entry)
       → PlainSent client_end bytes when y → GaveLately m.id since y
-  non_gave bytes when are spells least y p =
+  non_gave bytes when spells least y p =
       let till = p.till in
-      let same = one_message bytes _ m are p.goes.spells spells in
+      let same = one_message bytes _ m p.goes.spells spells in
       record {
         answer = p.goes.answer ∙ ap (λ (x : Message). L.Sent x.id) same;
         young = omega (arith, least, till);
@@ -78,7 +76,7 @@ module _ (m : Message) (since : ℕ) (kind : (m.kind ≡ Con) ⊎ (m.kind ≡ No
           (near_of hs) b.begun
       by (inr non) =
           Ever_map (PlainSent client_end r.bytes e.at) (GaveLately m.id since)
-          (non_gave r.bytes e.at r.are_bytes r.spells r.from) (near_of hs)
+          (non_gave r.bytes e.at r.spells r.from) (near_of hs)
           (nons.0 e r.bytes m refl r.call r.spells non)
 
 -- no Message ID is given twice in 400 s

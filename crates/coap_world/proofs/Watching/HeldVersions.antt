@@ -1,7 +1,7 @@
 -- What a path holds later is the same, or has a later version; each version is the number of a change (RFC 7252, section
 -- 5.10.6).
-use Rattle.std.proofs.Common.{◌≡◌, ◌≤◌, ◌<◌, ◌⊎◌, inl, inr, ℕ, ◌+◌, ◌^◌, Bool, true, false, Option, Some, None, List, []}
-use Rattle.std.proofs.Common.{◌∷◌, ◌++◌, refl, ap, sym, subst, ◌∙◌, cond, arith}
+use Rattle.std.proofs.Common.{◌≡◌, ◌≤◌, ◌<◌, ◌⊎◌, inl, inr, ℕ, ◌+◌, ◌^◌, Bool, true, false, Option, Some, None, List}
+use Rattle.std.proofs.Common.{[], ◌∷◌, ◌++◌, refl, ap, sym, subst, ◌∙◌, cond, arith}
 use Rattle.coap_types.specs.Path.{same_path}
 use Rattle.coap_observe.specs.Versions.{sequence_number}
 use Rattle.coap_resource.specs.Content.{Held}
@@ -15,8 +15,7 @@ use Rattle.coap_world.specs.Events.{Config}
 use Rattle.coap_world.specs.Record.{Entry, OfClient, OfServer, server_trace}
 use Rattle.coap_world.specs.Words.{holds_at, last_at, changes_in}
 use Rattle.coap_world.proofs.Smoothly.Standing.{ForServer, server_behind}
-use Rattle.coap_world.specs.HeldVersions.{IsOrFollows, VersionsRise, VersionsAreCounted}
-use Rattle.coap_world.specs.HeldVersions.{VersionsAreNumbers}
+use Rattle.coap_world.specs.HeldVersions.{IsOrFollows, VersionsRise, VersionsAreCounted, VersionsAreNumbers}
 
 -- a small version is its own sequence number
 pub own_number : (version : ℕ) → version < 2 ^ 23 → sequence_number version ≡ version

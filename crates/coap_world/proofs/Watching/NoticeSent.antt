@@ -1,7 +1,7 @@
 -- A notification goes out in the call that makes it, at its moment, in a CON or in a NON, as a response (RFC 7641, sections
 -- 3.2 and 4.5).
-use Rattle.std.proofs.Common.{◌≡◌, inl, inr, ⊎_elim, ℕ, Bool, true, false, Some, List, [], ◌∷◌, refl, sym}
-use Rattle.std.proofs.Common.{subst, ◌∙◌, arith, ◌<◌, ◌≤◌}
+use Rattle.std.proofs.Common.{◌≡◌, inl, inr, ⊎_elim, ℕ, Bool, true, false, Some, List, [], ◌∷◌, refl, sym, subst, ◌∙◌}
+use Rattle.std.proofs.Common.{arith, ◌<◌, ◌≤◌}
 use Rattle.coap_types.specs.Past.{Ever, Always}
 use Rattle.coap_types.proofs.Facts.Traces.{Ever_front}
 use Rattle.coap_types.specs.Roles.{role_of}
@@ -12,14 +12,10 @@ use Rattle.coap_types.specs.declared.role.Role.TheVariants as role
 use Rattle.coap_codec.specs.Message.{Spells}
 use Rattle.coap_codec.specs.Spelling.{message_bytes}
 use Rattle.coap_layer.specs.Follows.{IdsSmall}
-use Rattle.coap_layer.specs.Machine.State.{start}
 use Rattle.coap_layer.specs.Rows.{LayerLaw, Row, Stands as Stands_in}
 use Rattle.coap_layer.specs.Trace as L
 use Rattle.coap_layer.specs.Trace.{with_head}
-use Rattle.coap_exchange.specs.AnswererLaw as answerer
-use Rattle.coap_exchange.specs.AnswererSteps as P
 use Rattle.coap_exchange.specs.AnswererSteps.{content_with}
-use Rattle.coap_exchange.specs.AnswererTrace as R
 use Rattle.coap_server.specs.Follows.GoesOut.{InEither}
 use Rattle.coap_server.specs.Follows.Observes.{Notice, notice, plain_in}
 use Rattle.coap_server.specs.Law.{own_of, lower_of}
@@ -30,14 +26,15 @@ use Rattle.coap_server.proofs.Facts.Laws as server_facts
 use Rattle.coap_world.specs.Events.{Config}
 use Rattle.coap_world.specs.Hops.{server_adds}
 use Rattle.coap_world.specs.Record.{Entry, OfServer, server_trace}
-use Rattle.coap_world.proofs.Delivery.EntriesInTime.{Every, every_join}
+use Rattle.coap_world.proofs.Delivery.EntriesInTime.{Every}
 use Rattle.coap_world.proofs.Delivery.HopsAreEntries.{server_layer, server_next}
 use Rattle.coap_world.proofs.Delivery.HopsAreFair.{found_in}
 use Rattle.coap_world.proofs.Delivery.ServerInTime as server
-use Rattle.coap_world.proofs.Smoothly.Confirms.{IsAskedSo, IsEntrySo, SendsSo, sends_so, entries_so}
+use Rattle.coap_world.proofs.Smoothly.Confirms.{IsEntrySo}
 use Rattle.coap_world.proofs.Smoothly.Standing.{ForServer}
 use Rattle.coap_world.specs.NoticesCome.{server_moment}
 use Rattle.coap_world.proofs.Watching.AtItsMoment.{ServerAt}
+use Rattle.coap_world.proofs.Smoothly.OnlyResponses.{IsResponse, all_respond}
 
 -- what holds at each entry holds where one is
 pub always_in : {E : Type 0} (P : List E → E → Type 0) (t : List E) (y : E) → Always P t → Ever (λ z. z ≡ y) t
@@ -45,24 +42,6 @@ pub always_in : {E : Type 0} (P : List E → E → Type 0) (t : List E) (y : E) 
 always_in P [] y all h = absurd h
 always_in P (e ∷ t) y all (inl h) = (t, subst (P t) h all.0)
 always_in P (e ∷ t) y all (inr h) = always_in P t y all.1 h
-
--- what a server sends in a CON or in a NON is a response
-
-abbrev IsResponse : Endpoint → L.Content → Type 0
-IsResponse to content = role_of content.code ≡ role.Response
-
-responds_so : (s : R.Own) (c : R.Call) → P.IsRight s c → SendsSo IsResponse IsResponse c
-responds_so s (R.Responds now a r word id) right = right.1.code
-responds_so s (R.Notifies now to token r word id) right = right.code
-responds_so s (R.Answers a r below) right = right.1.code
-responds_so s (R.NotifiesPlain now to token r id) right = right.code
-responds_so s _ right = tt
-
-all_respond : (t : List R.Call) → answerer.AnswererLaw t → Every (IsAskedSo IsResponse IsResponse) (answerer.lower_of t)
-all_respond [] law = tt
-all_respond (c ∷ t) law =
-    every_join (IsAskedSo IsResponse IsResponse) (P.lower (answerer.own_of t) c) (answerer.lower_of t)
-    (sends_so IsResponse IsResponse (answerer.own_of t) c (responds_so (answerer.own_of t) c law.0)) (all_respond t law.1)
 
 -- a call that notifies is a tick, and its moment is the server's
 
@@ -105,9 +84,8 @@ module _ (config : Config) where
     layer = server_facts.layer config.limits config.server_szx config.server_setup (c ∷ t) law
 
     respond : Every (IsEntrySo IsResponse IsResponse) (server_layer config (c ∷ t))
-    respond = entries_so IsResponse IsResponse (start config.server_setup)
-        (answerer.lower_of (lower_of config.limits config.server_szx (c ∷ t)))
-        (all_respond (lower_of config.limits config.server_szx (c ∷ t)) law.exchanges.rows)
+    respond = all_respond config.server_setup
+        (lower_of config.limits config.server_szx (c ∷ t)) law.exchanges.rows
 
     module _ (y : L.Entry) (among : Ever (λ z. z ≡ y) (server_adds config t c)) where
       in_layer : Ever (λ z. z ≡ y) (server_layer config (c ∷ t))

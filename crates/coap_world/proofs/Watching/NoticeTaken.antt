@@ -15,7 +15,7 @@ use Rattle.coap_codec.specs.Spelling.{message_bytes}
 use Rattle.coap_codec.proofs.Facts.EveryDatagram.{one_message}
 use Rattle.coap_codec.proofs.Facts.Spelling.{one_spelling}
 use Rattle.coap_layer.specs.Channel.{Hop, Near, Far, near_of, far_of, OnNear, OnFar, ChannelLaw}
-use Rattle.coap_layer.specs.Rows.{LayerLaw, Row}
+use Rattle.coap_layer.specs.Rows.{LayerLaw}
 use Rattle.coap_layer.specs.Taking.{came, NonsTakenWithin, HandsUpWithin, SendsNon, SentNon, TakesWithin}
 use Rattle.coap_layer.specs.Trace as L
 use Rattle.coap_layer.specs.Trace.{with_head}
@@ -61,10 +61,8 @@ module _ (setup : Setup) (m : Message) (response : role_of m.code ≡ role.Respo
   con_up : (con : Open) → Spells con.bytes m → m.kind ≡ Con → TakesWithin max_age server_end con e
       → HandsUpSoon m con.first e
   con_up con spells kind k =
-      let row : Row setup past e (L.Receive server_end con.bytes) = subst (Row setup past e) k.takes.call law.0.row in
       record {
         bytes = con.bytes;
-        are_bytes = row.0;
         spells = spells;
         call = k.takes.call;
         answer = as_response setup past e server_end con.id con.bytes m law.0 k.takes.call spells kind k.takes.up response;
@@ -76,13 +74,12 @@ module _ (setup : Setup) (m : Message) (response : role_of m.code ≡ role.Respo
   non_up non spells k =
       let by = (handed_spelled setup (e ∷ past) law).0 _ k.up.up in
       let bytes_are : non.bytes ≡ by.bytes = one_spelling k.up.message non.bytes by.bytes k.up.spells by.spells in
-      let same : k.up.message ≡ m = one_message by.bytes k.up.message m by.are_bytes by.spells
+      let same : k.up.message ≡ m = one_message by.bytes k.up.message m by.spells
       (subst (λ b. Spells b m) bytes_are spells) in
       let up : handed e ≡ Some (record { from = server_end; message = m }) =
       subst (λ x. handed e ≡ Some (record { from = server_end; message = x })) same k.up.up in
       record {
         bytes = by.bytes;
-        are_bytes = by.are_bytes;
         spells = subst (λ b. Spells b m) bytes_are spells;
         call = by.call;
         answer = up_as_response setup past e server_end by.bytes m law.0 by.call

@@ -18,8 +18,7 @@ use Rattle.coap_server.specs.Law.{ServerLaw, own_of}
 use Rattle.coap_server.specs.Notifying.{NotifiesNext, asks_for, behind, marked, told}
 use Rattle.coap_server.specs.Observers.{registers}
 use Rattle.coap_server.specs.Plain.{by_plain}
-use Rattle.coap_server.specs.Trace.{Call, Own, Serves, Notifies}
-use Rattle.coap_server.specs.Trace.{Feeds, Ticks}
+use Rattle.coap_server.specs.Trace.{Call, Own, Serves, Notifies, Feeds, Ticks}
 
 next_told : (next : Option Observer) (store : Content) (o : Observer) (reply : Reply)
     → NotifiesNext next store (Notifies o reply) → reply ≡ told store o

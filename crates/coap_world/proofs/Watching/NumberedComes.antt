@@ -1,7 +1,7 @@
 -- In a smooth run each message of the server that has a Message ID is handed up at the client within 1,000 ms, whatever its
 -- type (RFC 7252, sections 4.2 and 4.3).
-use Rattle.std.proofs.Common.{◌≡◌, inl, inr, ℕ, ◌+◌, ◌/◌, ◌%◌, ◌<◌, Some, List, [], ◌∷◌, ◌++◌, refl}
-use Rattle.std.proofs.Common.{ap, sym, subst, ◌∙◌, arith, append_assoc}
+use Rattle.std.proofs.Common.{◌≡◌, inl, inr, ℕ, ◌+◌, ◌/◌, ◌%◌, ◌<◌, Some, List, [], ◌∷◌, ◌++◌, refl, ap, sym, subst}
+use Rattle.std.proofs.Common.{◌∙◌, arith, append_assoc}
 use Rattle.coap_types.specs.Past.{Ever}
 use Rattle.coap_types.proofs.Facts.Traces.{Ever_map, Ever_back}
 use Rattle.coap_types.specs.declared.endpoint.Endpoint.{Endpoint}
@@ -16,7 +16,8 @@ use Rattle.coap_layer.specs.Ids.{Issued}
 use Rattle.coap_layer.specs.Machine.State.{start}
 use Rattle.coap_layer.specs.Rows.{LayerLaw, Stands as Stands_in, Row, IsSpelled, Plains}
 use Rattle.coap_layer.specs.Sends.{IsIn}
-use Rattle.coap_layer.specs.Taking.{came, IsTold, TakesWithin, SentNon, SendsNon, HandsUpWithin, NonsTakenWithin, FewCome}
+use Rattle.coap_layer.specs.Taking.{came, IsTold, TakesWithin, SentNon, SendsNon, HandsUpWithin, NonsTakenWithin}
+use Rattle.coap_layer.specs.Taking.{FewCome}
 use Rattle.coap_layer.specs.Trace as L
 use Rattle.coap_layer.specs.Trace.{with_head}
 use Rattle.coap_layer.specs.Words.{Open, begun, begun_in, numbers}
@@ -43,7 +44,8 @@ use Rattle.coap_world.proofs.Smoothly.FewArrive.{few_arrive}
 use Rattle.coap_world.proofs.Smoothly.HeardClient.{heard_client}
 use Rattle.coap_world.proofs.Smoothly.ToClient.{GoesToClient, all_to_client, cons_to}
 use Rattle.coap_world.proofs.Watching.CountedById.{HandsUpSoon}
-use Rattle.coap_world.proofs.Watching.WhatIsNumbered.{SendsNew, in_con, in_non, IsOfNew, all_of_new, IsResponse, all_respond}
+use Rattle.coap_world.proofs.Watching.WhatIsNumbered.{SendsNew, in_con, in_non, IsOfNew, all_of_new}
+use Rattle.coap_world.proofs.Smoothly.OnlyResponses.{IsResponse, all_respond}
 
 -- the bytes of a message say its Message ID
 same_id : (bytes : List ℕ) (m n : Message) → Spells bytes m → Spells bytes n → m.id ≡ n.id

@@ -1,6 +1,5 @@
 -- A Confirmable or a Non-confirmable message with the code of a response is handed up as a response.
 use Rattle.std.proofs.Common.{◌≡◌, inl, inr, ℕ, None, Some, List, refl, ap, sym, subst, ◌∙◌}
-use Rattle.coap_types.specs.Bytes.{AreBytes}
 use Rattle.coap_types.specs.Roles.{role_of}
 use Rattle.coap_types.specs.declared.endpoint.Endpoint.{Endpoint}
 use Rattle.coap_types.specs.declared.message.Kind.TheVariants.{Con}
@@ -44,13 +43,13 @@ module _ (setup : Setup) (past : List L.Entry) (e : L.Entry) (from : Endpoint) (
       go (inr (inl a)) = absurd (request a.0)
       go (inr (inr a)) = a.1 ∙ ap (λ x. L.Becomes (L.Response x)) same
 
-  arrived : AreBytes bytes → (what : Arrival) → Shows bytes what → Arrives setup past e from what
+  arrived : (what : Arrival) → Shows bytes what → Arrives setup past e from what
       → e.answer ≡ L.Becomes (L.Response n)
-  arrived are (Faulted Con i) s r = absurd (not_up L.Rejected r.0 refl)
-  arrived are (Whole m) s r = whole m (one_message bytes m n are s spells) r
-  arrived are _ s r = absurd (not_up L.Dropped r.0 refl)
+  arrived (Faulted Con i) s r = absurd (not_up L.Rejected r.0 refl)
+  arrived (Whole m) s r = whole m (one_message bytes m n s spells) r
+  arrived _ s r = absurd (not_up L.Dropped r.0 refl)
 
   pub up_as_response : e.answer ≡ L.Becomes (L.Response n)
   up_as_response =
       let row : Row setup past e (L.Receive from bytes) = subst (Row setup past e) call stands.row in
-      arrived row.0 row.1.0 row.1.1 row.1.2
+      arrived row.0 row.1 row.2

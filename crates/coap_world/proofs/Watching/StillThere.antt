@@ -13,6 +13,7 @@ pub mod NeverFails
 pub mod Rejected
 pub mod ResetCases
 pub mod ResetLaws
+pub mod LastNon
 pub mod NoReset
 pub mod OneObservation
 pub mod EndsIt

@@ -1,7 +1,6 @@
 -- While the one observation of a client goes on, it takes in each response under the token of the registration, and so
 -- each notification that comes (RFC 7641, section 3.2).
-use Rattle.std.proofs.Common.{◌≡◌, ◌⊎◌, inl, inr, ℕ, true, false, Some, List, [], ◌∷◌, ◌++◌, ap, sym, subst}
-use Rattle.std.proofs.Common.{◌∙◌}
+use Rattle.std.proofs.Common.{◌≡◌, ◌⊎◌, inl, inr, ℕ, true, false, Some, List, [], ◌∷◌, ◌++◌, ap, sym, subst, ◌∙◌}
 use Rattle.std.proofs.Common.{append_assoc, is_some}
 use Rattle.coap_types.proofs.Facts.Endpoints.{same_endpoint_self}
 use Rattle.coap_types.specs.Past.{Always}

@@ -5,7 +5,7 @@ use Rattle.std.proofs.Common.{[], ◌∷◌, ◌++◌, refl, ap, sym, subst, ◌
 use Rattle.std.proofs.Math.Decide.{dec_le}
 use Rattle.std.specs.Prelude.{IfSome}
 use Rattle.coap_types.specs.Past.{Sometime, Always}
-use Rattle.coap_types.proofs.Facts.Traces.{Always_back, Sometime_back}
+use Rattle.coap_types.proofs.Facts.Traces.{Sometime_back}
 use Rattle.coap_codec.specs.Message.{Message}
 use Rattle.coap_observe.specs.Newer.{Newer}
 use Rattle.coap_observe.specs.Versions.{sequence_number}
@@ -27,14 +27,12 @@ use Rattle.coap_client.specs.Trace.{Call}
 use Rattle.coap_client.proofs.Facts.EachCall.{are_taken}
 use Rattle.coap_client.proofs.Facts.Watches.{are_answered, are_noticed}
 use Rattle.coap_block.specs.Sizes.{Sizes}
-use Rattle.coap_server.specs.Follows.Told.{ServesPair, pair_of}
-use Rattle.coap_server.specs.Follows.Tells.{Pair, Telling}
-use Rattle.coap_server.specs.Law.{ServerLaw, own_of}
+use Rattle.coap_server.specs.Follows.Tells.{Telling}
+use Rattle.coap_server.specs.Law.{own_of}
 use Rattle.coap_server.specs.Notifying.{notification}
 use Rattle.coap_server.specs.Observers.{sequence}
 use Rattle.coap_server.specs.Responses.{response_with}
 use Rattle.coap_server.specs.Trace as S
-use Rattle.coap_server.proofs.Facts.EachCall.{are_under}
 use Rattle.coap_server.proofs.Facts.Laws as server_facts
 use Rattle.coap_world.specs.Current.{shown_as}
 use Rattle.coap_world.specs.Events.{client_end, server_end, Config}
@@ -43,7 +41,7 @@ use Rattle.coap_world.specs.Rising.{Names}
 use Rattle.coap_world.specs.Smooth.{max_age}
 use Rattle.coap_world.specs.Words.{holds_at}
 use Rattle.coap_world.proofs.Observations.Chain.{Rise, RisesNext, above, newest_taken}
-use Rattle.coap_world.proofs.Observations.Following.{OnceOf, split, follow_here, told_since}
+use Rattle.coap_world.proofs.Observations.Following.{OnceOf, split}
 use Rattle.coap_world.proofs.Observations.OneRegistration.{serves_once}
 use Rattle.coap_world.proofs.Observations.OneVersion.{one_version}
 use Rattle.coap_world.proofs.Observations.Positions.{AtClient, client_entries, order_of}
@@ -65,6 +63,7 @@ use Rattle.coap_world.proofs.Watching.Newest.{registered_taken}
 use Rattle.coap_world.proofs.Watching.NoticesTell.{NotifiedBy, notified_by, tells_held}
 use Rattle.coap_world.proofs.Watching.Runs.{lawful_of, trace_more}
 use Rattle.coap_world.proofs.Watching.ToldHeld.{ToldHeld, Tells}
+use Rattle.coap_world.proofs.Watching.ToldInOrder.{told_behind, not_first}
 
 -- the mark of what was taken has its number
 sequence_taken : (sizes : Sizes) (n : Newly) (t : List Call) → AreTaken sizes t
@@ -255,76 +254,6 @@ module _ (config : Config) (x : Observed) (held : Held) (turn : Turn) (past : Li
       once = serves_once config es lawful x.number token registered.sending registered.sent registered.path
           registered.registers registered.token_is k.none_cancelled
 
-      -- the calls before, and that one
-      record Two (P Q : List S.Call → S.Call → Type 0) : Type 0 where
-        after : List S.Call
-        oldest : List S.Call
-        first : S.Call
-        second : S.Call
-        is_first : P oldest first
-        is_second : Q (after ++ first ∷ oldest) second
-        law : ServerLaw config.limits config.server_szx config.server_setup (second ∷ (after ++ first ∷ oldest))
-        once_there : OnceOf config.limits config.server_szx config.server_setup
-            (record { to = client_end; token = token }) (second ∷ (after ++ first ∷ oldest))
-
-      two : (P Q : List S.Call → S.Call → Type 0) → Sometime (λ p b. Q p b × Sometime P p) calls → Two P Q
-      two P Q s =
-          let a = split (λ p b. Q p b × Sometime P p) calls s in
-          let b = split P a.older a.here.1 in
-          let whole : calls ≡ a.newer ++ (a.entry ∷ (b.newer ++ b.entry ∷ b.older)) =
-          a.is ∙ ap (λ l. a.newer ++ a.entry ∷ l) b.is in
-          record {
-            after = b.newer;
-            oldest = b.older;
-            first = b.entry;
-            second = a.entry;
-            is_first = b.here;
-            is_second = subst (λ l. Q l a.entry) b.is a.here.0;
-            law = server_facts.back config.limits config.server_szx config.server_setup a.newer
-                (a.entry ∷ (b.newer ++ b.entry ∷ b.older))
-                (subst (ServerLaw config.limits config.server_szx config.server_setup) whole lawful.server);
-            once_there = Always_back _ a.newer (a.entry ∷ (b.newer ++ b.entry ∷ b.older))
-                (subst (OnceOf config.limits config.server_szx config.server_setup
-                (record { to = client_end; token = token })) whole once);
-          }
-
-      pair_is : (y : Telling) → y.to ≡ client_end → y.token ≡ token
-          → pair_of config.limits config.server_szx y ≡ record { to = client_end; token = token }
-      pair_is y to under = ap {B = Pair} (λ z. record { to = z; token = y.token }) to
-          ∙ ap {B = Pair} (λ z. record { to = client_end; token = z }) under
-
-      -- told behind that it shows a later version
-      told_behind : Sometime (λ p b. B p b × Sometime A p) calls → u.version < t_n.told.version
-      told_behind s =
-          let w = two A B s in
-          (follow_here config.limits config.server_szx config.server_setup w.after w.oldest w.first w.second u t_n.told w.law
-          (subst (λ p. OnceOf config.limits config.server_szx config.server_setup p (w.second ∷ (w.after ++ w.first ∷ w.oldest)))
-          (sym (pair_is u h.to_is h.token_is)) w.once_there)
-          w.is_first.is w.is_second.is
-          (w.is_second.to_is ∙ sym h.to_is) (w.is_second.token_is ∙ sym h.token_is)).version
-
-      -- what makes the registration is told first
-      not_first : u.registers ≡ true → Sometime (λ p b. A p b × Sometime B p) calls → ⊥
-      not_first registers s =
-          let w = two B A s in
-          let under = are_under config.limits config.server_szx config.server_setup (w.second ∷ (w.after ++ w.first ∷ w.oldest))
-          w.law in
-          let made : Sometime (ServesPair config.limits config.server_szx (pair_of config.limits config.server_szx t_n.told))
-          (w.first ∷ w.oldest) =
-          told_since config.limits config.server_szx config.server_setup w.oldest w.first t_n.told
-          (Always_back _ w.after (w.first ∷ w.oldest) under.1).0 w.is_first.is in
-          let before : Sometime (ServesPair config.limits config.server_szx (record { to = client_end; token = token }))
-          (w.after ++ w.first ∷ w.oldest) =
-          Sometime_back _ w.after (w.first ∷ w.oldest)
-          (subst (λ p. Sometime (ServesPair config.limits config.server_szx p) (w.first ∷ w.oldest))
-          (pair_is t_n.told w.is_first.to_is w.is_first.token_is) made) in
-          elim (under.0 u w.is_second.is) [
-            | inl now_made ↦ w.once_there.0
-                (subst (λ p. ServesPair config.limits config.server_szx p (w.after ++ w.first ∷ w.oldest) w.second)
-                (pair_is u h.to_is h.token_is) now_made.1) before
-            | inr not_now ↦ cc (registers, not_now.0)
-          ]
-
       -- it is taken in here, or is not newer than what was taken before
       came : (newer older : List Entry) (d : Call) (m : Message) → es ≡ newer ++ OfClient d ∷ older → IsNoticeOf held m
           → IsTakenIn config x m (client_of older) d → held.version ≤ t_n.shows.version
@@ -438,7 +367,8 @@ module _ (config : Config) (x : Observed) (held : Held) (turn : Turn) (past : Li
         where
           in_notice : (b : Bool) → u.registers ≡ b → Sometime (λ p b. A p b × Sometime B p) calls
               → held.version ≤ t_n.shows.version
-          in_notice true is s = absurd (not_first is s)
+          in_notice true is s =
+              absurd (not_first config token calls lawful.server once u t_n.told h.to_is h.token_is is s)
           in_notice false is s = by_notice (notified_by (own h.older) h.call u h.is is)
 
           by : Sometime (λ p b. A p b × B p b) calls
@@ -450,7 +380,7 @@ module _ (config : Config) (x : Observed) (held : Held) (turn : Turn) (past : Li
               let b = t_n.version in
               omega (arith, one, a, b)
           by (inr (inl s)) =
-              let less = told_behind s in
+              let less = told_behind config token calls lawful.server once u t_n.told h.to_is h.token_is s in
               let a = h.version in
               let b = t_n.version in
               omega (arith, less, a, b)

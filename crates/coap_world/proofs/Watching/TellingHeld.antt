@@ -1,6 +1,6 @@
 -- What a call of the server tells, its path holds, before that call and behind it (RFC 7641, section 4.2).
-use Rattle.std.proofs.Common.{◌≡◌, ◌⊎◌, inl, inr, ℕ, ◌==◌, nat_lt, Bool, true, false, ◌&&◌, Option, Some, None, List, ◌∷◌}
-use Rattle.std.proofs.Common.{length, refl, ap, sym, ◌∙◌}
+use Rattle.std.proofs.Common.{◌≡◌, ◌⊎◌, inl, inr, ℕ, ◌==◌, nat_lt, Bool, true, false, ◌&&◌, Option, Some, None, List}
+use Rattle.std.proofs.Common.{◌∷◌, length, refl, ap, sym, ◌∙◌}
 use Rattle.std.specs.Cmp.{unsigned_Decides}
 use Rattle.coap_types.specs.declared.endpoint.Endpoint.{Endpoint}
 use Rattle.coap_layer.specs.declared.setup.Setup.{Setup}
@@ -18,8 +18,7 @@ use Rattle.coap_server.specs.Law.{own_of, ServerLaw}
 use Rattle.coap_server.specs.Observers.{registers, observes}
 use Rattle.coap_server.specs.Plain.{by_plain}
 use Rattle.coap_server.specs.Steps.{after}
-use Rattle.coap_server.specs.Trace.{Own, Serves, Notifies, Call}
-use Rattle.coap_server.specs.Trace.{Feeds, Ticks}
+use Rattle.coap_server.specs.Trace.{Own, Serves, Notifies, Call, Feeds, Ticks}
 use Rattle.coap_server.specs.Follows.Serves.{Serving, serving, serving_of}
 use Rattle.coap_server.specs.Follows.Tells.{Telling, Way, InCon, InReply, telling_of, tells, tells_if, telling, way_of}
 use Rattle.coap_server.proofs.Facts.Laws as server_facts

@@ -1,21 +1,14 @@
 -- What a server gives a Message ID is a response or a notification, in a CON or in a NON (RFC 7252, sections 4.2 and 4.3).
 use Rattle.std.proofs.Common.{◌≡◌, ◌≤◌, ℕ, Bool, true, false, List, [], ◌∷◌, cond, refl, arith}
-use Rattle.coap_types.specs.Roles.{role_of}
 use Rattle.coap_types.specs.declared.endpoint.Endpoint.{Endpoint}
-use Rattle.coap_types.specs.declared.role.Role.TheVariants as role
 use Rattle.coap_layer.specs.Ids.{Issued}
-use Rattle.coap_layer.specs.Machine.State.{State, start, moment, answer_of, is_failed}
-use Rattle.coap_layer.specs.Machine.State.{is_copy_due, tick_of}
+use Rattle.coap_layer.specs.Machine.State.{State, moment, answer_of, is_failed, is_copy_due, tick_of}
 use Rattle.coap_layer.specs.Machine.Steps.{Asked, left_after, entries}
 use Rattle.coap_layer.specs.Rows.{LayerLaw}
 use Rattle.coap_layer.specs.Trace as L
 use Rattle.coap_layer.specs.Words.{Open, clock, issued, issued_by, numbers}
 use Rattle.coap_layer.specs.declared.setup.Setup.{Setup}
-use Rattle.coap_exchange.specs.AnswererLaw as answerer
-use Rattle.coap_exchange.specs.AnswererSteps as P
-use Rattle.coap_exchange.specs.AnswererTrace as R
 use Rattle.coap_world.proofs.Delivery.EntriesInTime.{Every, every_join}
-use Rattle.coap_world.proofs.Smoothly.Confirms.{IsAskedSo, IsEntrySo, SendsSo, sends_so, entries_so}
 
 -- by which calls of a layer
 
@@ -72,25 +65,3 @@ up_to setup t (e ∷ es) law h = (h, up_to setup t es law.1 (let a = law.0.time 
 pub clock_left : (old : State) (asks : List Asked) (t : ℕ) → (left_after old asks).clock ≤ t → clock (entries old asks) ≤ t
 clock_left old [] t h = omega arith
 clock_left old (a ∷ asks) t h = h
-
--- what it carries
-
-abbrev pub IsResponse : Endpoint → L.Content → Type 0
-IsResponse to content = role_of content.code ≡ role.Response
-
-responds_so : (s : R.Own) (c : R.Call) → P.IsRight s c → SendsSo IsResponse IsResponse c
-responds_so s (R.Answers a r below) right = right.1.code
-responds_so s (R.Responds now a r word id) right = right.1.code
-responds_so s (R.Notifies now to token r word id) right = right.code
-responds_so s (R.NotifiesPlain now to token r id) right = right.code
-responds_so s _ right = tt
-
-asked_so : (t : List R.Call) → answerer.AnswererLaw t → Every (IsAskedSo IsResponse IsResponse) (answerer.lower_of t)
-asked_so [] law = tt
-asked_so (c ∷ t) law =
-    every_join (IsAskedSo IsResponse IsResponse) (P.lower (answerer.own_of t) c) (answerer.lower_of t)
-    (sends_so IsResponse IsResponse (answerer.own_of t) c (responds_so (answerer.own_of t) c law.0)) (asked_so t law.1)
-
-pub all_respond : (setup : Setup) (t : List R.Call) → answerer.AnswererLaw t
-    → Every (IsEntrySo IsResponse IsResponse) (answerer.below_of setup t)
-all_respond setup t law = entries_so IsResponse IsResponse (start setup) (answerer.lower_of t) (asked_so t law)

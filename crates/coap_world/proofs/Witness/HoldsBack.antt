@@ -1,58 +1,26 @@
 -- A legal run in which an upload is held back until no block of a failed one can come (RFC 7252, section 4.8.2).
 pub mod Client
 pub mod Server
-use Rattle.std.proofs.Common.{◌≡◌, inl, inr, Some, List, [], ◌∷◌, map, refl, arith}
-use Rattle.coap_types.specs.Past.{Always, Sometime}
+use Rattle.std.proofs.Common.{inl, inr, List, [], ◌∷◌, map, refl}
+use Rattle.coap_types.specs.Past.{Sometime}
 use Rattle.coap_client.specs.Trace.{Timeout}
 use Rattle.coap_common.specs.SuccessCodes.{created}
 use Rattle.coap_world.specs.Events.{Calls, TickClient, Deliver, client_end}
-use Rattle.coap_world.specs.Legal.{AllLegal}
 use Rattle.coap_world.specs.LegalEvents.{event}
-use Rattle.coap_world.specs.Record.{Given, Entry, OfClient, OfServer, Turn, Makes, entries_of}
+use Rattle.coap_world.specs.Record.{Entry, OfClient, OfServer, Turn, entries_of}
 use Rattle.coap_world.specs.Words.{AppliesFor, SentFor}
 use Rattle.coap_world.specs.LegalRuns.{from_client, from_server, reported}
 use Rattle.coap_types.proofs.Facts.Bytes.{bytes_are}
-use Rattle.coap_world.proofs.Witness.TurnsMade.{a_turn, client_turn, to_server, on_client, rests, legal_at}
-use Rattle.coap_world.specs.LateRuns.{key, by_16, answer_bytes}
-use Rattle.coap_world.specs.LateRuns.{uploading, continue, second_done, lost_body, held_body, lost_first, lost_second}
-use Rattle.coap_world.specs.LateRuns.{held_first, held_second, held_third, HoldsBack}
-use Rattle.coap_world.proofs.Witness.LateTurns.{called, begins, answer, goes_on, ends, copies, copied, expires, drops}
-use Rattle.coap_world.proofs.Witness.LateTurns.{answers, range}
-use Rattle.coap_world.proofs.Witness.LateTurns.{to_the_client, to_the_server, by_16_range}
+use Rattle.coap_world.proofs.Witness.TurnsMade.{a_turn, client_turn, to_server, rests, AllMade, to_client, rested}
+use Rattle.coap_world.proofs.Witness.TurnsMade.{ticked, call_taken, to_the_client, to_the_server, ◌⨾◌}
+use Rattle.coap_world.specs.LateRuns.{key, by_16, answer_bytes, uploading, continue, second_done, lost_body, held_body}
+use Rattle.coap_world.specs.LateRuns.{lost_first, lost_second, held_first, held_second, held_third, HoldsBack}
+use Rattle.coap_world.proofs.Witness.LateTurns.{called, begins, answer, goes_on, ends, copied, expires, drops, answers}
+use Rattle.coap_world.proofs.Witness.LateTurns.{range, by_16_range}
 use Rattle.coap_world.proofs.Witness.HoldsBack.Client as client
 use Rattle.coap_world.proofs.Witness.HoldsBack.Server as server
-
--- the datagrams that are delivered, by their numbers
-
-abbrev given_0 : Given
-given_0 = from_client 0 lost_first
-
-abbrev given_1 : Given
-given_1 = from_server 0 client_end (answer_bytes continue 0 8)
-
-abbrev given_6 : Given
-given_6 = from_client 30000 lost_second
-
-abbrev given_7 : Given
-given_7 = from_server 130000 client_end (answer_bytes continue 1 24)
-
-abbrev given_8 : Given
-given_8 = from_client 130001 held_first
-
-abbrev given_9 : Given
-given_9 = from_server 130001 client_end (answer_bytes continue 2 8)
-
-abbrev given_10 : Given
-given_10 = from_client 130001 held_second
-
-abbrev given_11 : Given
-given_11 = from_server 130001 client_end (answer_bytes continue 3 24)
-
-abbrev given_12 : Given
-given_12 = from_client 130001 held_third
-
-abbrev given_13 : Given
-given_13 = from_server 130001 client_end (answer_bytes created 4 32)
+use Rattle.std.specs.Prelude.{Ok}
+use Rattle.coap_world.proofs.Witness.TurnTests.{InRanges, a_run}
 
 -- the turns up to the last copy
 
@@ -68,87 +36,19 @@ turns_lost =
     a_turn (event 0 (Calls (uploading lost_body))) (map OfClient (client_turn [] [] (called 0 0 lost_body))) ∷
     []
 
-made_lost : Always (λ past t. Makes past t.event.at t.event.word t.event.what t.refused t.entries) turns_lost
-made_lost = (
-  (
-    copies 30000,
-    ((_, _, _, _, _, refl), ((_, _, _, _, _, refl), tt)),
-    on_client [] (to_server lost_second ∷ []) (copies 30000),
-  ),
-  (
-    (
-      copies 14000,
-      ((_, _, _, _, _, refl), ((_, _, _, _, _, refl), tt)),
-      on_client [] (to_server lost_second ∷ []) (copies 14000),
-    ),
-    (
-      (
-        copies 6000,
-        ((_, _, _, _, _, refl), ((_, _, _, _, _, refl), tt)),
-        on_client [] (to_server lost_second ∷ []) (copies 6000),
-      ),
-      (
-        (
-          copies 2000,
-          ((_, _, _, _, _, refl), ((_, _, _, _, _, refl), tt)),
-          on_client [] (to_server lost_second ∷ []) (copies 2000),
-        ),
-        (
-          (
-            given_1,
-            inl (refl, refl),
-            to_the_client 0 given_1 [] (to_server lost_second ∷ []) (goes_on 0 0 8 1) refl
-                (_, _, _, _, _, _, refl),
-          ),
-          (
-            (
-              given_0,
-              inl (refl, refl),
-              to_the_server 0 given_0 (answer_bytes continue 0 8) server.takes_lost_first refl
-                  (_, _, _, _, refl),
-            ),
-            (
-              (
-                begins 0 0,
-                ((_, _, _, _, _, refl), ((_, _, _, _, _, refl), tt)),
-                on_client [] (to_server lost_first ∷ []) (begins 0 0),
-              ),
-              ((called 0 0 lost_body, (_, (_, refl), refl), on_client [] [] (called 0 0 lost_body)), tt),
-            ),
-          ),
-        ),
-      ),
-    ),
-  ),
-)
-
-legal_lost : AllLegal turns_lost
-legal_lost = (
-  legal_at 30000 TickClient (omega arith) tt (omega arith) tt,
-  (
-    legal_at 14000 TickClient (omega arith) tt (omega arith) tt,
-    (
-      legal_at 6000 TickClient (omega arith) tt (omega arith) tt,
-      (
-        legal_at 2000 TickClient (omega arith) tt (omega arith) tt,
-        (
-          legal_at 0 (Deliver 1) (omega arith) tt (omega arith) (given_1, inl (refl, refl), inl refl, omega arith),
-          (
-            legal_at 0 (Deliver 0) (omega arith) tt (omega arith) (given_0, inl (refl, refl), inr refl, omega arith),
-            (
-              legal_at 0 TickClient (omega arith) tt (omega arith) tt,
-              (
-                legal_at 0 (Calls (uploading lost_body)) (omega arith)
-                    (range lost_body (bytes_are lost_body refl)) tt tt,
-                tt,
-              ),
-            ),
-          ),
-        ),
-      ),
-    ),
-  ),
-)
+made_lost : AllMade turns_lost
+made_lost =
+    ticked 30000 [] (to_server lost_second ∷ []) _ (_, _, _, _, _, refl) ⨾
+    ticked 14000 [] (to_server lost_second ∷ []) _ (_, _, _, _, _, refl) ⨾
+    ticked 6000 [] (to_server lost_second ∷ []) _ (_, _, _, _, _, refl) ⨾
+    ticked 2000 [] (to_server lost_second ∷ []) _ (_, _, _, _, _, refl) ⨾
+    (let g = from_server 0 client_end (answer_bytes continue 0 8) in
+    (g, inl (refl, refl), to_the_client 0 g [] (to_server lost_second ∷ []) refl _ _ _ _ _ _)) ⨾
+    (let g = from_client 0 lost_first in
+    (g, inl (refl, refl), to_the_server 0 g (to_client (answer_bytes continue 0 8) ∷ []) refl _ _ _ _)) ⨾
+    ticked 0 [] (to_server lost_first ∷ []) _ (_, _, _, _, _, refl) ⨾
+    call_taken 0 (uploading lost_body) (Ok 0) ⨾
+    tt
 
 -- .. and from its Timeout on
 
@@ -171,132 +71,33 @@ turns =
     a_turn (event 62000 TickClient) (map OfClient (client_turn (reported Timeout ∷ []) [] expires)) ∷
     turns_lost
 
-made : Always (λ past t. Makes past t.event.at t.event.word t.event.what t.refused t.entries) turns
-made = (
-  (
-    given_13,
-    inl (refl, refl),
-    to_the_client 130001 given_13 (second_done ∷ []) []
-        (ends 130001 (answer_bytes created 4 32) (answer created 4 32)) refl (_, _, _, _, _, _, refl),
-  ),
-  (
-    (
-      given_12,
-      inl (refl, refl),
-      to_the_server 130001 given_12 (answer_bytes created 4 32) server.puts refl
-          (_, _, _, _, refl),
-    ),
-    (
-      (
-        given_11,
-        inl (refl, refl),
-        to_the_client 130001 given_11 [] (to_server held_third ∷ [])
-            (goes_on 130001 3 24 4) refl (_, _, _, _, _, _, refl),
-      ),
-      (
-        (
-          given_10,
-          inl (refl, refl),
-          to_the_server 130001 given_10 (answer_bytes continue 3 24) server.takes_second refl
-              (_, _, _, _, refl),
-        ),
-        (
-          (
-            given_9,
-            inl (refl, refl),
-            to_the_client 130001 given_9 [] (to_server held_second ∷ [])
-                (goes_on 130001 2 8 3) refl (_, _, _, _, _, _, refl),
-          ),
-          (
-            (
-              given_8,
-              inl (refl, refl),
-              to_the_server 130001 given_8 (answer_bytes continue 2 8) server.takes_first refl
-                  (_, _, _, _, refl),
-            ),
-            (
-              (
-                begins 130001 2,
-                ((_, _, _, _, _, refl), ((_, _, _, _, _, refl), tt)),
-                on_client [] (to_server held_first ∷ []) (begins 130001 2),
-              ),
-              (
-                (
-                  given_7,
-                  inl (refl, refl),
-                  to_the_client 130000 given_7 [] [] (drops (answer_bytes continue 1 24)) refl
-                      (_, _, _, _, _, _, refl),
-                ),
-                (
-                  (
-                    given_6,
-                    inl (refl, refl),
-                    to_the_server 130000 given_6
-                        (answer_bytes continue 1 24) server.takes_lost_second refl (_, _, _, _, refl),
-                  ),
-                  (
-                    (rests 130000 ∷ [], ((_, _, _, _, _, refl), tt), on_client [] [] (rests 130000 ∷ [])),
-                    (
-                      (called 62000 1 held_body, (_, (_, refl), refl), on_client [] [] (called 62000 1 held_body)),
-                      (
-                        (
-                          expires,
-                          ((_, _, _, _, _, refl), ((_, _, _, _, _, refl), tt)),
-                          on_client (reported Timeout ∷ []) [] expires,
-                        ),
-                        made_lost,
-                      ),
-                    ),
-                  ),
-                ),
-              ),
-            ),
-          ),
-        ),
-      ),
-    ),
-  ),
-)
+made : AllMade turns
+made =
+    (let g = from_server 130001 client_end (answer_bytes created 4 32) in
+    (g, inl (refl, refl), to_the_client 130001 g (second_done ∷ []) [] refl _ _ _ _ _ _)) ⨾
+    (let g = from_client 130001 held_third in
+    (g, inl (refl, refl), to_the_server 130001 g (to_client (answer_bytes created 4 32) ∷ []) refl _ _ _ _)) ⨾
+    (let g = from_server 130001 client_end (answer_bytes continue 3 24) in
+    (g, inl (refl, refl), to_the_client 130001 g [] (to_server held_third ∷ []) refl _ _ _ _ _ _)) ⨾
+    (let g = from_client 130001 held_second in
+    (g, inl (refl, refl), to_the_server 130001 g (to_client (answer_bytes continue 3 24) ∷ []) refl _ _ _ _)) ⨾
+    (let g = from_server 130001 client_end (answer_bytes continue 2 8) in
+    (g, inl (refl, refl), to_the_client 130001 g [] (to_server held_second ∷ []) refl _ _ _ _ _ _)) ⨾
+    (let g = from_client 130001 held_first in
+    (g, inl (refl, refl), to_the_server 130001 g (to_client (answer_bytes continue 2 8) ∷ []) refl _ _ _ _)) ⨾
+    ticked 130001 [] (to_server held_first ∷ []) _ (_, _, _, _, _, refl) ⨾
+    (let g = from_server 130000 client_end (answer_bytes continue 1 24) in
+    (g, inl (refl, refl), to_the_client 130000 g [] [] refl _ _ _ _ _ _)) ⨾
+    (let g = from_client 30000 lost_second in
+    (g, inl (refl, refl), to_the_server 130000 g (to_client (answer_bytes continue 1 24) ∷ []) refl _ _ _ _)) ⨾
+    rested 130000 ⨾
+    call_taken 62000 (uploading held_body) (Ok 1) ⨾
+    ticked 62000 (reported Timeout ∷ []) [] _ (_, _, _, _, _, refl) ⨾
+    made_lost
 
-legal : AllLegal turns
-legal = (
-  legal_at 130001 (Deliver 13) (omega arith) tt (omega arith) (given_13, inl (refl, refl), inl refl, omega arith),
-  (
-    legal_at 130001 (Deliver 12) (omega arith) tt (omega arith) (given_12, inl (refl, refl), inr refl, omega arith),
-    (
-      legal_at 130001 (Deliver 11) (omega arith) tt (omega arith) (given_11, inl (refl, refl), inl refl, omega arith),
-      (
-        legal_at 130001 (Deliver 10) (omega arith) tt (omega arith) (given_10, inl (refl, refl), inr refl, omega arith),
-        (
-          legal_at 130001 (Deliver 9) (omega arith) tt (omega arith) (given_9, inl (refl, refl), inl refl, omega arith),
-          (
-            legal_at 130001 (Deliver 8) (omega arith) tt (omega arith)
-                (given_8, inl (refl, refl), inr refl, omega arith),
-            (
-              legal_at 130001 TickClient (omega arith) tt (omega arith) tt,
-              (
-                legal_at 130000 (Deliver 7) (omega arith) tt (omega arith)
-                    (given_7, inl (refl, refl), inl refl, omega arith),
-                (
-                  legal_at 130000 (Deliver 6) (omega arith) tt (omega arith)
-                      (given_6, inl (refl, refl), inr refl, omega arith),
-                  (
-                    legal_at 130000 TickClient (omega arith) tt (omega arith) tt,
-                    (
-                      legal_at 62000 (Calls (uploading held_body)) (omega arith)
-                          (range held_body (bytes_are held_body refl)) (omega arith) tt,
-                      (legal_at 62000 TickClient (omega arith) tt (omega arith) tt, legal_lost),
-                    ),
-                  ),
-                ),
-              ),
-            ),
-          ),
-        ),
-      ),
-    ),
-  ),
-)
+-- .. of which these numbers are in range
+ranges : InRanges turns
+ranges = (range held_body (bytes_are held_body refl), (range lost_body (bytes_are lost_body refl), tt))
 
 -- the last block of the held upload is applied for its call
 
@@ -312,12 +113,7 @@ applied = inr (inr (inr (inr (inr (inr (inl (record
 
 pub held_back : HoldsBack
 held_back = record {
-  run = record {
-    turns = turns;
-    made = record { events_are = refl; made = made; client = client.lawful; server = server.lawful };
-    legal = record { range = by_16_range; events = legal };
-    gives = refl;
-  };
+  run = a_run turns refl made client.lawful server.lawful by_16_range ranges refl refl;
   reports = refl;
   applied = applied;
   once = refl;

@@ -1,16 +1,10 @@
--- The turns of uploads of which a block comes late: their calls, the newest first, that their events make them, and
--- what goes out in them (RFC 7252, section 4.2; RFC 7959, section 2.5).
-use Rattle.std.proofs.Common.{◌≡◌, ◌≤◌, ◌<◌, inl, inr, ℕ, true, false, Some, None, List, [], ◌∷◌, map, length, Ok, refl}
-use Rattle.std.proofs.Common.{arith}
+-- The turns of uploads of which a block comes late: their calls, the newest first (RFC 7252, section 4.2; RFC 7959,
+-- section 2.5).
+use Rattle.std.proofs.Common.{ℕ, true, false, Some, None, List, [], ◌∷◌, Ok, arith}
 use Rattle.std.specs.Prelude.{codes}
 use Rattle.coap_types.specs.Bytes.{AreBytes}
-use Rattle.coap_types.specs.CoapOption.{CoapOption}
 use Rattle.coap_types.specs.declared.message.Kind.TheVariants.{Con, Ack}
 use Rattle.coap_codec.specs.Message.{Message}
-use Rattle.coap_codec.specs.Spelling.{option_bytes, options_bytes}
-use Rattle.coap_layer.proofs.Facts.Sendable.{sendable_when_short}
-use Rattle.coap_layer.specs.Machine.State.{State, Arrived, May, Step, answer_of, moment, forgotten, after, made}
-use Rattle.coap_layer.specs.Rows.{IsSpelled}
 use Rattle.coap_layer.specs.Trace as L
 use Rattle.coap_exchange.specs.AnswererSteps.{asked_of}
 use Rattle.coap_exchange.specs.declared.asker.Event.TheVariants as event
@@ -19,11 +13,9 @@ use Rattle.coap_client.specs.Trace as C
 use Rattle.coap_server.specs.Trace as S
 use Rattle.coap_world.specs.Events.{client_end, server_end}
 use Rattle.coap_world.specs.Legal.{IsConfig, IsRequest}
-use Rattle.coap_world.specs.Record.{Given, OfClient, OfServer, FeedsClient, FeedsServer, Delivers}
 use Rattle.coap_world.specs.LateRuns.{key, by_16, answer_bytes, block_bytes, uploading, continue}
 use Rattle.coap_world.proofs.Witness.InWords.{config_range, t_is, no_tags}
-use Rattle.coap_world.proofs.Witness.TurnsMade.{client_turn, server_turn, to_server, to_client, asks, rests, on_client}
-use Rattle.coap_world.proofs.Witness.TurnsMade.{on_server}
+use Rattle.coap_world.proofs.Witness.TurnsMade.{client_turn, server_turn, to_server, to_client, asks, rests}
 
 -- of the client: a call is taken; a tick sends its first request
 
@@ -90,58 +82,6 @@ takes at id value payload =
 
 abbrev pub answers : List ℕ → S.Call → List S.Call
 answers bytes c = server_turn (to_client bytes ∷ []) (c ∷ [])
-
--- a message that is remembered, with its reply
-abbrev pub answered : ℕ → ℕ → List ℕ → Arrived
-answered at id reply = record { from = client_end; id = id; at = at; con = true; reply = Some reply }
-
--- what a delivery makes
-
-pub to_the_client : (at : ℕ) (g : Given) (reports : List C.Reported) (outs : List L.Packet) (c : C.Call)
-    → g.packet.to ≡ client_end
-    → FeedsClient at 0 g.from g.packet.bytes c → Delivers g at 0 false
-    (map OfClient (client_turn reports outs (c ∷ [])))
-to_the_client at g reports outs c to feeds = inr (to, c ∷ [], (c, feeds, refl), on_client reports outs (c ∷ []))
-
-pub to_the_server : (at : ℕ) (g : Given) (reply : List ℕ) (c : S.Call) → g.packet.to ≡ server_end
-    → FeedsServer at 0 g.from g.packet.bytes c → Delivers g at 0 false (map OfServer (answers reply c))
-to_the_server at g reply c to feeds = inl (to, c ∷ [], (c, feeds, refl), on_server (to_client reply ∷ []) (c ∷ []))
-
--- a step of a message layer, which its state and the call determine
-pub step : {old : State} {now : ℕ} {call : L.Call} → May old call
-    → Step old now call (answer_of old (moment old now call) call) (forgotten (after old (made old now call)))
-step may = record { may = may; right = refl; new_is = refl }
-
--- what goes out is spelled: a block of at most 16 bytes, and a response with Block1
-
-pub block_spelled : (id value : ℕ) (payload : List ℕ) → length payload ≤ 16
-    → IsSpelled (record { code = 3; token = key id; options = (block id value payload).options; payload = payload })
-unfolding option_bytes options_bytes
-block_spelled id value payload few = (sendable_when_short _ (record {
-  some = omega arith;
-  code = omega arith;
-  id = omega arith;
-  token = omega arith;
-  order = refl;
-  numbers = refl;
-  short = refl;
-}) (omega (arith, few))).spelled
-
-abbrev says : ℕ → ℕ → List CoapOption → L.Content
-says code id options = record { code = code; token = key id; options = options; payload = [] }
-
-pub response_spelled : (code id value : ℕ) → 0 < code → code < 256
-    → IsSpelled (says code id (record { number = 27; value = value ∷ [] } ∷ []))
-unfolding option_bytes options_bytes
-response_spelled code id value some small = (sendable_when_short _ (record {
-  some = omega (arith, some);
-  code = omega (arith, small);
-  id = omega arith;
-  token = omega arith;
-  order = refl;
-  numbers = refl;
-  short = refl;
-}) (omega arith)).spelled
 
 -- words and sizes, and a request, are in range
 

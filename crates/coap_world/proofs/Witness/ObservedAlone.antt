@@ -1,7 +1,7 @@
 -- How the record of a run is shown to have one observation alone, that goes on, of short representations.
-use Rattle.std.proofs.Common.{◌≡◌, ◌≤◌, ◌+◌, ◌^◌, ℕ, Bool, true, false, ◌&&◌, not, Option, Some, None, is_some, List, []}
-use Rattle.std.proofs.Common.{◌∷◌, length, nat_le, refl, subst, cond, inl, inr}
-use Rattle.std.proofs.lemmas.Bool.{leb-true}
+use Rattle.std.proofs.Common.{◌≡◌, ◌≤◌, ◌+◌, ◌^◌, ℕ, Bool, true, false, ◌&&◌, not, Option, Some, None, is_some, List}
+use Rattle.std.proofs.Common.{[], ◌∷◌, length, nat_le, refl, subst, cond, inl, inr}
+use Rattle.std.proofs.lemmas.Bool.{leb-true, and_parts as all_of_both}
 use Rattle.coap_types.specs.Past.{Always}
 use Rattle.coap_resource.specs.Content.{Held}
 use Rattle.coap_client.specs.Follows.OfObservations.{Observed, observes}
@@ -13,7 +13,6 @@ use Rattle.coap_world.specs.Current.{is_taken, ObservesAlone, FitsABlock}
 use Rattle.coap_world.specs.Events.{Config}
 use Rattle.coap_world.specs.Record.{Entry, OfClient, OfServer, client_of}
 use Rattle.coap_world.specs.Words.{ReportsAt, holds_at}
-use Rattle.std.proofs.lemmas.Bool.{and_parts as all_of_both}
 
 -- none of the calls is taken on
 abbrev pub none : List C.Call → Bool

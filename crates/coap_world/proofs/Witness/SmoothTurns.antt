@@ -62,13 +62,6 @@ observes (c ∷ past) = observes past
 
 pub none_taken : (calls : List C.Call) → observes calls ≡ false → Always (λ past c. TakesNoObservation c) calls
 none_taken [] h = tt
-none_taken (C.Calls now r answer ∷ past) h = (tt, none_taken past h)
 none_taken (C.Observes now path (Ok number) ∷ past) h = absurd (cc h)
 none_taken (C.Observes now path (Err why) ∷ past) h = (tt, none_taken past h)
-none_taken (C.Cancels now number answer ∷ past) h = (tt, none_taken past h)
-none_taken (C.Forgets number kept answer ∷ past) h = (tt, none_taken past h)
-none_taken (C.Feeds now from bytes word up settled event sent token kept ∷ past) h = (tt, none_taken past h)
-none_taken (C.Ticks now word below turn sent token kept answer ∷ past) h = (tt, none_taken past h)
-none_taken (C.NextOut answer ∷ past) h = (tt, none_taken past h)
-none_taken (C.NextReport answer ∷ past) h = (tt, none_taken past h)
-none_taken (C.Asked answer ∷ past) h = (tt, none_taken past h)
+none_taken (c ∷ past) h = (tt, none_taken past h)

@@ -1,24 +1,23 @@
 -- A legal run in which a POST is applied after its Timeout (RFC 7252, sections 4.2 and 4.8.2).
 pub mod Client
 pub mod Server
-use Rattle.std.proofs.Common.{◌≡◌, inl, inr, Some, List, [], ◌∷◌, map, refl, arith}
-use Rattle.std.specs.Prelude.{codes}
-use Rattle.coap_types.specs.Past.{Always}
+use Rattle.std.proofs.Common.{inl, Some, List, [], ◌∷◌, map, refl, arith}
+use Rattle.std.specs.Prelude.{codes, Ok}
 use Rattle.coap_types.specs.Path.{IsPath}
-use Rattle.coap_world.specs.Events.{Calls, Sets, TickClient, Deliver, client_end}
-use Rattle.coap_world.specs.Legal.{IsRequest, AllLegal}
+use Rattle.coap_world.specs.Events.{Calls, Sets, TickClient, Deliver}
+use Rattle.coap_world.specs.Legal.{IsRequest}
 use Rattle.coap_world.specs.LegalEvents.{event}
-use Rattle.coap_world.specs.Record.{OfClient, OfServer, Turn, Makes, entries_of}
+use Rattle.coap_world.specs.Record.{OfClient, OfServer, Turn, entries_of}
 use Rattle.coap_world.specs.SmoothAnswers.{AreYoung, EndByAnswers}
 use Rattle.coap_world.specs.SmoothRuns.{Unanswered}
 use Rattle.coap_types.proofs.Facts.Bytes.{bytes_are}
 use Rattle.coap_world.proofs.Witness.InWords.{config_range, path_of_one, no_tags}
-use Rattle.coap_world.proofs.Witness.TurnsMade.{a_turn, client_turn, server_turn, to_server, to_client, on_client}
-use Rattle.coap_world.proofs.Witness.TurnsMade.{on_server, legal_at}
-use Rattle.coap_world.specs.LegalRuns.{config, from_client, from_server, plain, log, post, call_bytes, changed_bytes}
-use Rattle.coap_world.specs.LegalRuns.{TimesOut}
+use Rattle.coap_world.proofs.Witness.TurnsMade.{a_turn, client_turn, server_turn, to_server, to_client, AllMade, ticked}
+use Rattle.coap_world.proofs.Witness.TurnsMade.{call_taken, change_taken, to_the_server, ◌⨾◌}
+use Rattle.coap_world.specs.LegalRuns.{config, from_client, plain, log, post, call_bytes, changed_bytes, TimesOut}
 use Rattle.coap_world.proofs.Witness.TimesOut.Client as client
 use Rattle.coap_world.proofs.Witness.TimesOut.Server as server
+use Rattle.coap_world.proofs.Witness.TurnTests.{InRanges, a_run}
 
 log_is : IsPath log
 log_is = path_of_one (codes "log") (omega arith) (bytes_are (codes "log") refl)
@@ -46,101 +45,27 @@ turns =
     a_turn (event 0 (Sets log (Some plain) (codes "x"))) (map OfServer (server_turn [] server.set)) ∷
     []
 
-made : Always (λ past t. Makes past t.event.at t.event.word t.event.what t.refused t.entries) turns
-made = (
-  (
-    from_client 30000 call_bytes,
-    inl (refl, refl),
-    inl (refl, server.serves, (_, (_, _, _, _, refl), refl), on_server (to_client changed_bytes ∷ []) server.serves),
-  ),
-  (
-    (
-      client.expires,
-      ((_, _, _, _, _, refl), ((_, _, _, _, _, refl), tt)),
-      on_client (client.failed ∷ []) [] client.expires,
-    ),
-    (
-      (
-        client.copies 30000,
-        ((_, _, _, _, _, refl), ((_, _, _, _, _, refl), tt)),
-        on_client [] (to_server call_bytes ∷ []) (client.copies 30000),
-      ),
-      (
-        (
-          client.copies 14000,
-          ((_, _, _, _, _, refl), ((_, _, _, _, _, refl), tt)),
-          on_client [] (to_server call_bytes ∷ []) (client.copies 14000),
-        ),
-        (
-          (
-            client.copies 6000,
-            ((_, _, _, _, _, refl), ((_, _, _, _, _, refl), tt)),
-            on_client [] (to_server call_bytes ∷ []) (client.copies 6000),
-          ),
-          (
-            (
-              client.copies 2000,
-              ((_, _, _, _, _, refl), ((_, _, _, _, _, refl), tt)),
-              on_client [] (to_server call_bytes ∷ []) (client.copies 2000),
-            ),
-            (
-              (
-                client.ticked,
-                ((_, _, _, _, _, refl), ((_, _, _, _, _, refl), tt)),
-                on_client [] (to_server call_bytes ∷ []) client.ticked,
-              ),
-              (
-                (client.called, (_, (_, refl), refl), on_client [] [] client.called),
-                ((server.set, (_, (_, _, refl), refl), on_server [] server.set), tt),
-              ),
-            ),
-          ),
-        ),
-      ),
-    ),
-  ),
-)
+made : AllMade turns
+made =
+    (let g = from_client 30000 call_bytes in
+    (g, inl (refl, refl), to_the_server 130000 g (to_client changed_bytes ∷ []) refl _ _ _ _)) ⨾
+    ticked 62000 (client.failed ∷ []) [] _ (_, _, _, _, _, refl) ⨾
+    ticked 30000 [] (to_server call_bytes ∷ []) _ (_, _, _, _, _, refl) ⨾
+    ticked 14000 [] (to_server call_bytes ∷ []) _ (_, _, _, _, _, refl) ⨾
+    ticked 6000 [] (to_server call_bytes ∷ []) _ (_, _, _, _, _, refl) ⨾
+    ticked 2000 [] (to_server call_bytes ∷ []) _ (_, _, _, _, _, refl) ⨾
+    ticked 0 [] (to_server call_bytes ∷ []) _ (_, _, _, _, _, refl) ⨾
+    call_taken 0 post (Ok 0) ⨾
+    change_taken 0 log (Some plain) (codes "x") _ (_, _, refl) ⨾
+    tt
 
-legal : AllLegal turns
-legal = (
-  legal_at 130000 (Deliver 4) (omega arith) tt (omega arith)
-      (from_client 30000 call_bytes, inl (refl, refl), inr refl, omega arith),
-  (
-    legal_at 62000 TickClient (omega arith) tt (omega arith) tt,
-    (
-      legal_at 30000 TickClient (omega arith) tt (omega arith) tt,
-      (
-        legal_at 14000 TickClient (omega arith) tt (omega arith) tt,
-        (
-          legal_at 6000 TickClient (omega arith) tt (omega arith) tt,
-          (
-            legal_at 2000 TickClient (omega arith) tt (omega arith) tt,
-            (
-              legal_at 0 TickClient (omega arith) tt (omega arith) tt,
-              (
-                legal_at 0 (Calls post) (omega arith) range (omega arith) tt,
-                (
-                  legal_at 0 (Sets log (Some plain) (codes "x")) (omega arith)
-                      (log_is, omega arith, bytes_are (codes "x") refl) tt tt,
-                  tt,
-                ),
-              ),
-            ),
-          ),
-        ),
-      ),
-    ),
-  ),
-)
+-- .. of which these numbers are in range
+ranges : InRanges turns
+ranges = (range, ((log_is, omega arith, bytes_are (codes "x") refl), tt))
 
 pub timed_out : TimesOut
 timed_out = record {
-  run = record {
-    turns = turns;
-    made = record { events_are = refl; made = made; client = client.lawful; server = server.lawful };
-    legal = record { range = config_range; events = legal };
-    gives = refl;
-  };
+  run = a_run turns refl made client.lawful server.lawful config_range ranges refl refl;
   reports = refl;
   holds = refl;
 }

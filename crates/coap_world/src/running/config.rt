@@ -1,7 +1,7 @@
 //! With what a run begins.
 ghost use Rattle.std.specs.Prelude.{◌≡◌, ◌≢◌, ◌≤◌, ◌↔◌, [], true, false, Err, is_some, IfSome, IsSome, OnErr, OnOk};
 ghost use Rattle.coap_server.specs.Deferring.{delay_of, delays_with, may_delay};
-ghost use Rattle.coap_server.specs.declared.server.delaying.DelayRefusal.TheVariants as delay_refusals;
+ghost use Rattle.coap_server.specs.declared.server.delays.DelayRefusal.TheVariants as delay_refusals;
 ghost use Rattle.coap_block.specs.Sizes.{usual_sizes};
 ghost use Rattle.coap_resource.specs.Limits.{usual_limits};
 ghost use Rattle.coap_server.specs.Plain.{is_plain, may_be_plain, plains_with};

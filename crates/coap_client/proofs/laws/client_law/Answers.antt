@@ -2,8 +2,7 @@ use Rattle.coap_layer.proofs.Facts.Laws.{copies_in_time}
 use Rattle.coap_client.specs.Law.{lower_of, layer_of}
 use Rattle.coap_client.proofs.Sending.NoNons.{no_nons}
 use Rattle.coap_common.proofs.Facts.AskerReplies.{replies_so}
-use Rattle.coap_client.proofs.Turning.Leading.{client_start, led_client, client_stands, client_layer}
-use Rattle.coap_client.proofs.Turning.Leading.{client_back}
+use Rattle.coap_client.proofs.Turning.Leading.{client_start, led_client, client_stands, client_layer, client_back}
 use Rattle.coap_client.proofs.Exact.Exactly.{is_exact}
 use Rattle.coap_client.proofs.Places.Once.{known, reported_once}
 use Rattle.coap_client.proofs.Places.Gives.{waits}

@@ -1,6 +1,5 @@
 -- The entry of its message layer with which a call of a server begins: of a Reset that arrives, and of a failure.
-use Rattle.std.proofs.Common.{◌≡◌, ℕ, List, [], ◌∷◌, ◌++◌, refl, ap, sym, subst}
-use Rattle.std.proofs.Common.{◌∙◌, append_assoc}
+use Rattle.std.proofs.Common.{◌≡◌, ℕ, List, [], ◌∷◌, ◌++◌, refl, ap, sym, subst, ◌∙◌, append_assoc}
 use Rattle.coap_types.proofs.Facts.Traces.{Always_back}
 use Rattle.coap_types.specs.declared.endpoint.Endpoint.{Endpoint}
 use Rattle.coap_layer.specs.Machine.State.{State, start, made, moment, answer_of}

@@ -1,35 +1,33 @@
 -- A Reset that comes under the Message ID of a Non-confirmable message, while that is young, is the reply that the other
 -- layer was given to that very message (RFC 7252, sections 4.3 and 4.4).
-use Rattle.std.proofs.Common.{◌≡◌, ◌⊎◌, inl, inr, ⊎_elim, ℕ, ◌+◌, ◌≤◌}
-use Rattle.std.proofs.Common.{Some, List, [], ◌∷◌, ◌++◌, refl, ap, sym, ◌∙◌, subst, arith, append_assoc}
-use Rattle.coap_types.specs.Bytes.{AreBytes}
+use Rattle.std.proofs.Common.{◌≡◌, ◌⊎◌, inl, inr, ⊎_elim, ℕ, ◌+◌, ◌≤◌, Some, List, [], ◌∷◌, ◌++◌, refl, ap, sym, ◌∙◌}
+use Rattle.std.proofs.Common.{subst, arith, append_assoc}
 use Rattle.coap_types.specs.Past.{Ever, Sometime, Always}
 use Rattle.coap_types.specs.declared.endpoint.Endpoint.{Endpoint}
 use Rattle.coap_types.specs.declared.message.Kind.TheVariants.{Con, Non, Rst}
 use Rattle.coap_types.specs.declared.transmission.TheConstants.{EXCHANGE_LIFETIME_MS as exchange_lifetime}
 use Rattle.coap_types.specs.declared.transmission.TheConstants.{MAX_LATENCY_MS as max_latency}
-use Rattle.coap_types.proofs.Facts.Traces.{Ever_of_Sometime, Ever_of_Since, Sometime_of_Ever, Ever_map}
-use Rattle.coap_types.proofs.Facts.Traces.{by_suffix, forget}
+use Rattle.coap_types.proofs.Facts.Traces.{Ever_of_Sometime, Ever_of_Since, Sometime_of_Ever, Ever_map, by_suffix}
+use Rattle.coap_types.proofs.Facts.Traces.{forget}
 use Rattle.coap_codec.specs.Message.{Message, Spells}
 use Rattle.coap_codec.proofs.Facts.EveryDatagram.{one_message}
 use Rattle.coap_layer.specs.Arrivals.{Faulted, Whole, Shows}
 use Rattle.coap_layer.specs.Channel.{HandedBy, Hop, Near, Far, near_of, far_of, OnFar, OnFarThen, GaveOut, IsLatest}
-use Rattle.coap_layer.specs.Channel.{RepliesAtOnce, RepliesSo, ChannelLaw, BegunAs, PlainSent, SentSo}
-use Rattle.coap_layer.specs.Channel.{ArrivesAsSent}
+use Rattle.coap_layer.specs.Channel.{RepliesAtOnce, RepliesSo, ChannelLaw, BegunAs, PlainSent, SentSo, ArrivesAsSent}
 use Rattle.coap_layer.specs.Rows.{LayerLaw, Row}
-use Rattle.coap_layer.specs.Sends.{IsIn, ReplyOut, StoredOut, ResetOut, SpellsCon, GoesOut, first, copy, plain}
-use Rattle.coap_layer.specs.Sends.{reply, stored, reset}
-use Rattle.coap_layer.specs.Trace.{Content, with_head, Packet, Receive, Reply, Confirm, Plain}
-use Rattle.coap_layer.specs.Trace.{Unmatched, Sent, Becomes, Entry}
-use Rattle.coap_layer.specs.Words.{Incoming, handed}
-use Rattle.coap_layer.specs.Words.{Open, begun}
+use Rattle.coap_layer.specs.Sends.{IsIn, ReplyOut, StoredOut, ResetOut, SpellsCon, GoesOut, first, copy, plain, reply}
+use Rattle.coap_layer.specs.Sends.{stored, reset}
+use Rattle.coap_layer.specs.Trace.{Content, with_head, Packet, Receive, Reply, Confirm, Plain, Unmatched, Sent, Becomes}
+use Rattle.coap_layer.specs.Trace.{Entry}
+use Rattle.coap_layer.specs.Words.{Incoming, handed, Open, begun}
 use Rattle.coap_layer.specs.declared.setup.Setup.{Setup}
 use Rattle.coap_layer.proofs.Facts.Arrivals.{one_arrival}
 use Rattle.coap_layer.proofs.Facts.Hops.{to_far, near_later, earlier}
 use Rattle.coap_layer.proofs.Facts.Laws.{begins_of, begun_as, each_goes_out, handed_spelled, nons_sent, spelled_begun}
 use Rattle.coap_layer.proofs.Facts.Sendings.{some_in}
 use Rattle.coap_world.proofs.Watching.StillThere.RepliesFed.{Gives}
-use Rattle.coap_world.proofs.Watching.StillThere.ResetSays.{HeardReset, reset_id, no_fault, spelled_reply, latest_of, sent_what, arrived_reset, same_entry}
+use Rattle.coap_world.proofs.Watching.StillThere.ResetSays.{HeardReset, reset_id, no_fault, spelled_reply, latest_of}
+use Rattle.coap_world.proofs.Watching.StillThere.ResetSays.{sent_what, arrived_reset, same_entry}
 
 record Lawful (setup : Setup) (t : List Entry) : Type 0 where
   law : LayerLaw setup t
@@ -93,16 +91,16 @@ module _ (sent : AllSent) (one other : Setup) (near far : Endpoint) (whole : Lis
       ))) (near_of whole) (lift q p (λ e. begun e ≡ Some b.con) b.begun))))
 
   -- a NON under it that did is this one
-  same_non : (q : List Hop) (bytes : List ℕ) (m : Message) (when : ℕ) → P q → AreBytes bytes → Spells bytes m
+  same_non : (q : List Hop) (bytes : List ℕ) (m : Message) (when : ℕ) → P q → Spells bytes m
       → Ever (PlainSent far bytes when) (near_of q) → m.id ≡ id → when ≤ x.at → x.at ≤ when + max_latency
       → m ≡ with_head Non id content
-  same_non q bytes m when p are spells h is before after =
+  same_non q bytes m when p spells h is before after =
       let y = some_in (PlainSent far bytes when) (near_of q) h in
       let s = y.2 in
       let f = s.from in
       let t = s.till in
       let whole_is : m ≡ with_head Non s.goes.id s.goes.content =
-      one_message bytes m (with_head Non s.goes.id s.goes.content) are spells s.goes.spells in
+      one_message bytes m (with_head Non s.goes.id s.goes.content) spells s.goes.spells in
       let number : s.goes.id ≡ id = sym (ap (λ (z : Message). z.id) whole_is) ∙ is in
       let both = same_entry one id at y.0.at (omega (arith, late, t, after)) (omega (arith, young, f, before))
       (IsPlain content) (λ e. e ≡ y.0) (near_of whole) near_law non
@@ -122,7 +120,7 @@ module _ (sent : AllSent) (one other : Setup) (near far : Endpoint) (whole : Lis
   abbrev pub IsIt : Incoming → Type 0
   IsIt up = (up.from ≡ near) × (up.message ≡ with_head Non id content)
 
-  module _ (m : Message) (rst : m.kind ≡ Rst) (id_is : m.id ≡ id) (bytes : List ℕ) (are : AreBytes bytes)
+  module _ (m : Message) (rst : m.kind ≡ Rst) (id_is : m.id ≡ id) (bytes : List ℕ)
       (spells : Spells bytes m) where
     abbrev R : List Hop → Hop → Type 0
     R = OnFarThen (Gives near id bytes IsIt)
@@ -159,7 +157,7 @@ module _ (sent : AllSent) (one other : Setup) (near far : Endpoint) (whole : Lis
                 (omega (arith, here, before)) (omega (arith, here, after)))
             go (inr plain_kind) =
                 let here = z.1 in
-                same_non t u.bytes up.message y.at (down t (Far y) w) u.are_bytes u.spells
+                same_non t u.bytes up.message y.at (down t (Far y) w) u.spells
                 ((nons_sent one other near far (Far y ∷ t) w.law).0 y u.bytes up.message refl call u.spells plain_kind)
                 (of.1 ∙ number) (omega (arith, here, before)) (omega (arith, here, after))
 
@@ -167,7 +165,7 @@ module _ (sent : AllSent) (one other : Setup) (near far : Endpoint) (whole : Lis
         → (r : ReplyOut (far_of q) k (record { to = near; bytes = bytes })) → R q (Far k)
     given q k p before after r =
         let a : RepliesAtOnce (far_of q) k.at r.id bytes = p.law.far_replies.0 near r.id bytes r.call in
-        let same : a.reply ≡ m = one_message bytes a.reply m are a.spells spells in
+        let same : a.reply ≡ m = one_message bytes a.reply m a.spells spells in
         let number : r.id ≡ id = sym a.id_is ∙ (ap (λ (z : Message). z.id) same ∙ id_is) in
         let of = latest_of (far_of q) k.at a.to_what (record { from = near; id = r.id }) r.awaited a.latest in
         let some = r.awaited in (
@@ -187,7 +185,7 @@ module _ (sent : AllSent) (one other : Setup) (near far : Endpoint) (whole : Lis
         let a = spelled_reply near r.message.id bytes (far_of q) p.law.far_replies.1
         (Ever_of_Since _ _ (far_of q) r.given) in
         let number : r.message.id ≡ id =
-        sym a.id_is ∙ (ap (λ (y : Message). y.id) (one_message bytes a.message m are a.spells spells) ∙ id_is) in
+        sym a.id_is ∙ (ap (λ (y : Message). y.id) (one_message bytes a.message m a.spells spells) ∙ id_is) in
         no_con q r.bytes r.message.id k.at (down q (Far k) p)
         (begun_as one other near far q k r.bytes r.message p.law r.call r.spells r.kind) number before after
 
@@ -196,9 +194,6 @@ module _ (sent : AllSent) (one other : Setup) (near far : Endpoint) (whole : Lis
         → ResetOut k (record { to = near; bytes = bytes }) → ⊥
     not_rejected q k p before after r = ⊎_elim faulty read r.shows
       where
-        row : Row other (far_of q) k (Receive near r.bytes)
-        row = subst (Row other (far_of q) k) r.call p.law.far_law.0.row
-
         id_there : r.id ≡ id
         id_there = sym (reset_id m r.id (subst (λ (y : List ℕ). Spells y m) (ap (λ (y : Packet). y.bytes) r.is) spells))
             ∙ id_is
@@ -208,8 +203,8 @@ module _ (sent : AllSent) (one other : Setup) (near far : Endpoint) (whole : Lis
             (by_suffix (Lawful one) (SentSo far r.bytes k.at) (λ t e. ⊥)
             (λ t e l. record { law = l.law.1; replies = l.replies.1 })
             (λ t e l s. ⊎_elim
-            (λ z. (let a = one_arrival r.bytes (Whole z.0) row.0 z.1 in
-            let b = one_arrival r.bytes (Faulted Con r.id) row.0 h in cc (a, b)))
+            (λ z. (let a = one_arrival r.bytes (Whole z.0) z.1 in
+            let b = one_arrival r.bytes (Faulted Con r.id) h in cc (a, b)))
             (λ z. no_fault r.bytes z.0 r.id z.1 h)
             (sent_what one t e (record { to = far; bytes = r.bytes }) l.law l.replies s.goes)) (near_of q)
             (record { law = p.law.near_law; replies = p.law.near_replies })
@@ -232,7 +227,7 @@ module _ (sent : AllSent) (one other : Setup) (near far : Endpoint) (whole : Lis
 
         not_con_out : (c : Open) → SpellsCon c → packet ≡ record { to = c.to; bytes = c.bytes } → ⊥
         not_con_out c s is =
-            let same : s.0 ≡ m = one_message bytes s.0 m are
+            let same : s.0 ≡ m = one_message bytes s.0 m
             (subst (λ (y : List ℕ). Spells y s.0) (sym (ap (λ (y : Packet). y.bytes) is)) s.1) spells in
             let kind : s.0.kind ≡ m.kind = ap (λ (y : Message). y.kind) same in
             let con_is = s.2 in cc (kind, con_is, rst)
@@ -242,7 +237,7 @@ module _ (sent : AllSent) (one other : Setup) (near far : Endpoint) (whole : Lis
         out (copy r) =
             absurd (not_con_out r.con (spelled_begun other (k ∷ far_of q) r.con p.law.far_law (inr r.begun_before)) r.is)
         out (plain r) =
-            let same : with_head Non r.id r.content ≡ m = one_message bytes (with_head Non r.id r.content) m are r.spells spells in
+            let same : with_head Non r.id r.content ≡ m = one_message bytes (with_head Non r.id r.content) m r.spells spells in
             let kind : Non ≡ m.kind = ap (λ (y : Message). y.kind) same in absurd (cc (kind, rst))
         out (reply r) = given q k p g.from g.till r
         out (stored r) = absurd (not_stored q k p g.from g.till r)
@@ -251,7 +246,6 @@ module _ (sent : AllSent) (one other : Setup) (near far : Endpoint) (whole : Lis
   -- the Reset, and where it was given
   pub record IsReplied : Type 0 where
     pub bytes : List ℕ
-    pub are : AreBytes bytes
     pub message : Message
     pub spells : Spells bytes message
     pub kind : message.kind ≡ Rst
@@ -262,15 +256,14 @@ module _ (sent : AllSent) (one other : Setup) (near far : Endpoint) (whole : Lis
       let row : Row one (near_of whole) x (Receive far bytes) =
       subst (Row one (near_of whole) x) call all_law.near_law.0.row in
       let r : HeardReset bytes id =
-      arrived_reset one (near_of whole) x far bytes row.1.0 id row.0 row.1.1 row.1.2 answer in
+      arrived_reset one (near_of whole) x far bytes row.0 id row.1 row.2 answer in
       record {
         bytes = bytes;
-        are = r.are;
         message = r.message;
         spells = r.spells;
         kind = r.kind;
         given_there = by_suffix P (λ q k. OnFar (GaveOut near bytes x.at) k) (OnFarThen (Gives near id bytes IsIt)) down
-            (gave r.message r.kind r.id_is bytes r.are r.spells) whole
+            (gave r.message r.kind r.id_is bytes r.spells) whole
             (record { law = earlier one other near far whole (Near x) all_law; later = []; is = refl })
             (Sometime_of_Ever _ whole (all_law.fair.0 bytes call));
       }

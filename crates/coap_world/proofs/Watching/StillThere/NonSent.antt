@@ -1,6 +1,6 @@
 -- The last Non-confirmable notification of a registration: the entry of the message layer that sent it, and what it says.
-use Rattle.std.proofs.Common.{◌≡◌, inl, inr, ℕ, Bool, true, false, cond, Option, Some, None, List, [], ◌∷◌, ◌++◌}
-use Rattle.std.proofs.Common.{refl, ap, sym, subst, ◌∙◌}
+use Rattle.std.proofs.Common.{◌≡◌, inl, inr, ℕ, Bool, true, false, cond, Option, Some, None, List, [], ◌∷◌, ◌++◌, refl}
+use Rattle.std.proofs.Common.{ap, sym, subst, ◌∙◌}
 use Rattle.coap_types.specs.Past.{Sometime}
 use Rattle.coap_types.specs.Roles.{role_of}
 use Rattle.coap_types.specs.declared.endpoint.Endpoint.{Endpoint}
@@ -17,7 +17,8 @@ use Rattle.coap_exchange.specs.AnswererTrace as R
 use Rattle.coap_exchange.specs.declared.answerer.Asked.{Asked}
 use Rattle.coap_exchange.specs.declared.answerer.Due.TheVariants as due
 use Rattle.coap_server.specs.Asks.{notifies_by}
-use Rattle.coap_server.specs.Follows.Tells.{InCon, InReply, InNon, Telling, Way, registering, telling, telling_of, tells, tells_if, way_of}
+use Rattle.coap_server.specs.Follows.Tells.{InCon, InReply, InNon, Telling, Way, registering, telling, telling_of}
+use Rattle.coap_server.specs.Follows.Tells.{tells, tells_if, way_of}
 use Rattle.coap_server.specs.Follows.Ways.{is_pair, last_non, makes_it, non_by, non_then, number_in}
 use Rattle.coap_server.specs.Handling.{heard, incoming, ticking}
 use Rattle.coap_server.specs.Law.{ServerLaw, own_of, lower_of}
@@ -129,8 +130,7 @@ module _ (limits : Limits) (szx : ℕ) (to : Endpoint) (token : List ℕ) (non :
         number = ap (λ (y : Noted). y.id) z;
         at_is = ap (λ (y : Noted). y.at) z;
       })
-  way_case t c older x is (InCon id) w p k = inr (older k)
-  way_case t c older x is InReply w p k = inr (older k)
+  way_case t c older x is _ w p k = inr (older k)
 
   pair_case : (t : List S.Call) (c : S.Call) → Older t → (x : Telling) → telling (own_of limits szx t) c ≡ Some x → (b : Bool)
       → is_pair to token x.to x.token ≡ b

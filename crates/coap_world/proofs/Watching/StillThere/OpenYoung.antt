@@ -1,6 +1,6 @@
 -- In a smooth run no Confirmable message of the server to the client is outstanding for more than 2,000 ms, at any call.
-use Rattle.std.proofs.Common.{◌≡◌, ◌⊎◌, inl, inr, ⊎_elim, ◌≤◌, ℕ, ◌+◌, Some, None, List, [], ◌∷◌, ◌++◌, map, refl, ap}
-use Rattle.std.proofs.Common.{sym, subst, ◌∙◌, arith, append_assoc}
+use Rattle.std.proofs.Common.{◌≡◌, ◌⊎◌, inl, inr, ⊎_elim, ◌≤◌, ℕ, ◌+◌, Some, List, [], ◌∷◌, ◌++◌, map, refl, ap, sym}
+use Rattle.std.proofs.Common.{subst, ◌∙◌, arith, append_assoc}
 use Rattle.std.proofs.Math.Decide.{dec_le}
 use Rattle.coap_types.specs.Past.{Ever, Always}
 use Rattle.coap_types.proofs.Facts.Traces.{Ever_append}
@@ -23,9 +23,11 @@ use Rattle.coap_world.proofs.Delivery.HopsAreEntries.{server_layer, server_next,
 use Rattle.coap_world.proofs.Delivery.OneEndATurn.{ClientTurn, ServerTurn}
 use Rattle.coap_world.proofs.Delivery.ServerInTime as server
 use Rattle.coap_world.proofs.Smoothly.AllTaken.{Beneath, Goes, goes_before, taken_here}
-use Rattle.coap_world.proofs.Smoothly.FewArrive.{server_at}
+use Rattle.coap_world.proofs.Delivery.ServerTurns.{all_at as server_at}
 use Rattle.coap_world.proofs.Smoothly.RequestOpen.{open_was_begun}
 use Rattle.coap_world.proofs.Smoothly.Standing.{ForServer, server_behind, turned, side_of}
+use Rattle.coap_world.proofs.Delivery.ClientTurns.{turn_calls as client_turn_calls}
+use Rattle.coap_world.proofs.Delivery.ServerTurns.{turn_calls as server_turn_calls}
 
 -- the call of the server has this moment
 abbrev pub EntryAt : ℕ → Entry → Type 0
@@ -42,10 +44,9 @@ servers_at t (c ∷ cs) h = (h.0, servers_at t cs h.1)
 
 turn_at : (t : ℕ) (entries : List Entry) → ClientTurn t entries ⊎ ServerTurn t entries → Every (EntryAt t) entries
 turn_at t entries (inl on) = subst (Every (EntryAt t)) (sym on.on.is)
-    (clients_at t (C.NextReport None ∷ (map (λ r. C.NextReport (Some r)) on.on.reports
-    ++ C.NextOut None ∷ (map (λ p. C.NextOut (Some p)) on.on.outs ++ on.calls))))
+    (clients_at t (client_turn_calls on.on.outs on.on.reports on.calls))
 turn_at t entries (inr on) = subst (Every (EntryAt t)) (sym on.on.is)
-    (servers_at t (S.NextOut None ∷ (map (λ p. S.NextOut (Some p)) on.on.outs ++ on.calls))
+    (servers_at t (server_turn_calls on.on.outs on.calls)
     (server_at t on.on.outs on.calls on.at))
 
 -- what begins there begins no earlier

@@ -2,7 +2,6 @@
 -- registration: each is heard or noted, and what is so is acknowledged (RFC 7252, section 4.2; RFC 7641, section 3.6).
 use Rattle.std.proofs.Common.{◌≡◌, ◌⊎◌, ◌<◌, inl, inr, ℕ, Bool, true, false, cond, Some, None, List, []}
 use Rattle.std.proofs.Common.{◌∷◌, ◌++◌, refl, ap, sym, subst, ◌∙◌, append_assoc, arith}
-use Rattle.coap_types.specs.Bytes.{AreBytes}
 use Rattle.coap_types.specs.Past.{Ever}
 use Rattle.coap_types.specs.Recognised.{lacks_critical}
 use Rattle.coap_types.specs.Roles.{role_of}
@@ -88,7 +87,7 @@ module _ (setup : Setup) (past : List L.Entry) (e : L.Entry) (from : Endpoint) (
   as_response : e.answer ≡ L.Becomes (L.Response m)
   as_response =
       let row : Row setup past e (L.Receive from bytes) = subst (Row setup past e) call stands.row in
-      arrived row.1.0 row.1.2
+      arrived row.0 row.2
 
 -- it is this message of the server
 abbrev pub IsMessage : Message → Incoming → Type 0
@@ -110,9 +109,9 @@ module _ (acked : AllAcked) (config : Config) (x : Observed) (all : List Entry) 
     (token : List ℕ) (registered : WasRegistered config.client_sizes x.number token (client_of all)) where
   -- so it has no Reset
   pub never_replied : (later es : List Entry) → all ≡ later ++ es → (m reset : Message) → IsOfToken token m → (id : ℕ)
-      (bytes : List ℕ) → AreBytes bytes → Spells bytes reset → reset.kind ≡ Rst
+      (bytes : List ℕ) → Spells bytes reset → reset.kind ≡ Rst
       → RepliedAt config server_end id bytes (IsMessage m) es → ⊥
-  never_replied later es is m reset of id bytes are spells rst k = by done
+  never_replied later es is m reset of id bytes spells rst k = by done
     where
       d : C.Call
       d = k.call
@@ -187,7 +186,7 @@ module _ (acked : AllAcked) (config : Config) (x : Observed) (all : List Entry) 
       by : (m.kind ≡ Con) × (bytes ≡ ack_bytes m.id) → ⊥
       by h =
           let same : reset ≡ empty_of Ack m.id =
-          one_message bytes reset (empty_of Ack m.id) are spells
+          one_message bytes reset (empty_of Ack m.id) spells
           (subst (λ b. Spells b (empty_of Ack m.id)) (sym h.1) (ack_spells m.id small)) in
           let kind = sym rst ∙ ap (λ (z : Message). z.kind) same in
           cc kind

@@ -1,6 +1,6 @@
 -- A client gives a reply in the call that is fed the message to which it is given (RFC 7252, section 4.2).
-use Rattle.std.proofs.Common.{◌≡◌, ◌⊎◌, inl, inr, ℕ, max, Bool, Option, Some, None, List, [], ◌∷◌, ◌++◌}
-use Rattle.std.proofs.Common.{Result, refl, ap, sym, subst, ◌∙◌, append_assoc}
+use Rattle.std.proofs.Common.{◌≡◌, ◌⊎◌, inl, inr, ℕ, max, Bool, Option, Some, None, List, [], ◌∷◌, ◌++◌, Result, refl}
+use Rattle.std.proofs.Common.{ap, sym, subst, ◌∙◌, append_assoc}
 use Rattle.coap_types.specs.Past.{Ever, Sometime}
 use Rattle.coap_types.proofs.Facts.Traces.{Always_back}
 use Rattle.coap_types.specs.declared.endpoint.Endpoint.{Endpoint}
@@ -18,7 +18,7 @@ use Rattle.coap_exchange.specs.AskerSteps as asker_steps
 use Rattle.coap_exchange.specs.AskerTrace as A
 use Rattle.coap_exchange.specs.declared.asker.AskRefusal.{AskRefusal}
 use Rattle.coap_exchange.specs.declared.matching.Opening.{Opening}
-use Rattle.coap_exchange.specs.declared.matching.Opening.TheVariants.{Running, Spent, Sends}
+use Rattle.coap_exchange.specs.declared.matching.Opening.TheVariants.{Running}
 use Rattle.coap_common.specs.Adds.{asked_by_client}
 use Rattle.coap_client.specs.Deeds.{deeds, close, effect, forgets}
 use Rattle.coap_client.specs.Law as client_law
@@ -30,9 +30,7 @@ use Rattle.coap_world.specs.Record.{Entry, OfClient, OfServer, client_of}
 use Rattle.coap_world.proofs.Delivery.EntriesInTime.{Every, every_join}
 use Rattle.coap_world.proofs.Delivery.HopsAreEntries.{client_layer, client_next, client_asked_next}
 use Rattle.coap_world.proofs.Smoothly.FewArrive.{last_answer, newer, parts}
-use Rattle.coap_world.proofs.Smoothly.OthersTakeNone.{IsSilent, quiet_entries, Behind}
-use Rattle.coap_world.proofs.Smoothly.OthersTakeNone.{client_feeds}
-use Rattle.coap_world.proofs.Smoothly.OthersTakeNone.{IsDeed, deed_deeds}
+use Rattle.coap_world.proofs.Smoothly.OthersTakeNone.{IsSilent, quiet_entries, Behind, client_feeds, IsDeed, deed_deeds}
 
 -- it is no reply
 abbrev NoReply : L.Call → Type 0
@@ -43,17 +41,15 @@ NoneReplies asks = Every (λ (a : Asked). NoReply a.call) asks
 
 no_beneath : (o : Opening) (server : Endpoint) (content : L.Content) (word : ℕ) → NoReply (beneath o server content word)
 no_beneath Running server content word to id bytes is = cc is
-no_beneath Spent server content word to id bytes is = cc is
-no_beneath Sends server content word to id bytes is = cc is
+no_beneath _ server content word to id bytes is = cc is
 
 no_deed : (s : A.Own) (c : A.Call) → IsDeed c → NoneReplies (asker_steps.lower s c)
 no_deed s (A.Ask now r word below answer) h =
     (no_beneath (opening_of s r) s.server (content_of (request_token s r) r) word, tt)
 no_deed s (A.Receive now from bytes up settled answer) h = absurd h
-no_deed s (A.Ticks now below answer) h = (λ to id bytes is. cc is, tt)
 no_deed s (A.Keep token answer) h = tt
 no_deed s (A.Release token answer) h = tt
-no_deed s (A.Take answer) h = (λ to id bytes is. cc is, tt)
+no_deed s _ h = (λ to id bytes is. cc is, tt)
 
 no_deeds : (to : Endpoint) (setup : Setup) (past later : List A.Call) → Every IsDeed later
     → NoneReplies (asked_by_client to setup past later)

@@ -1,22 +1,20 @@
 -- In a smooth run no Reset ends an observation that goes on: neither one of a Confirmable message, nor one of its last
 -- Non-confirmable notification (RFC 7641, section 3.6).
-use Rattle.std.proofs.Common.{◌≡◌, ◌==◌, ◌&&◌, true, cond, inl, inr, ℕ, Some, None, List, [], ◌∷◌, refl, ap, sym}
-use Rattle.std.proofs.Common.{subst, ◌∙◌}
+use Rattle.std.proofs.Common.{◌≡◌, ◌==◌, true, cond, inl, inr, ℕ, Some, None, List, [], ◌∷◌, refl, ap, sym, subst, ◌∙◌}
 use Rattle.std.specs.Cmp.{unsigned_Decides}
-use Rattle.coap_types.specs.Bytes.{AreBytes}
 use Rattle.coap_types.specs.Past.{Sometime, Since}
 use Rattle.coap_types.specs.declared.endpoint.Endpoint.{Endpoint}
-use Rattle.coap_types.specs.declared.message.Kind.TheVariants.{Con, Non, Ack, Rst}
+use Rattle.coap_types.specs.declared.message.Kind.TheVariants.{Con, Rst}
 use Rattle.coap_types.specs.Roles.{role_of}
 use Rattle.coap_types.specs.SameEndpoint.{same_endpoint}
 use Rattle.coap_types.specs.declared.role.Role.TheVariants as role
 use Rattle.coap_types.proofs.Facts.Endpoints.{same_endpoint_is}
 use Rattle.coap_types.proofs.Facts.Traces.{Ever_map}
 use Rattle.coap_codec.specs.Message.{Message, Spells}
-use Rattle.coap_layer.specs.Arrivals.{Arrival, Unreadable, Faulted, Whole, Shows}
+use Rattle.coap_layer.specs.Arrivals.{Arrival, Faulted, Whole, Shows}
 use Rattle.coap_layer.specs.Channel.{Hop, IsLatest, Near, Far, OnFarThen, RepliesTo, Takes, far_of}
-use Rattle.coap_layer.specs.Rows.{Arrives, HandedAs, LayerLaw, Outstanding, Row, Sorts, Stands, rejects, drops, takes_ack}
-use Rattle.coap_layer.specs.Rows.{takes_reset, passes_reset, takes_answer, replays, hands_over}
+use Rattle.coap_layer.specs.Rows.{Arrives, HandedAs, LayerLaw, Outstanding, Row, Sorts, Stands, rejects, drops}
+use Rattle.coap_layer.specs.Rows.{takes_ack, takes_reset, passes_reset, takes_answer, replays, hands_over}
 use Rattle.coap_layer.specs.Sends.{IsIn, IsOpen, as_begun}
 use Rattle.coap_layer.specs.Trace as L
 use Rattle.coap_layer.specs.Words.{Incoming, Open, from_there, handed, handed_in, is_kept, is_to, outstanding}
@@ -30,7 +28,6 @@ use Rattle.std.proofs.lemmas.Bool.{and_parts as is_and}
 
 -- what is taken as a Reset of what is outstanding
 pub record TakesReset (past : List L.Entry) (from : Endpoint) (bytes : List ℕ) (id : ℕ) : Type 0 where
-  pub are : AreBytes bytes
   pub message : Message
   pub spells : Spells bytes message
   pub kind : message.kind ≡ Rst
@@ -58,20 +55,17 @@ sorted setup past e n id (hands_over r) h = absurd (up r.answer)
 pub takes_it : (setup : Setup) (past : List L.Entry) (e : L.Entry) (from : Endpoint) (bytes : List ℕ) (id : ℕ)
     → Stands setup past e → e.call ≡ L.Receive from bytes → e.answer ≡ L.Becomes (L.Reset id)
     → TakesReset past from bytes id
-takes_it setup past e from bytes id stands call answer = by row.1.0 row.1.1 row.1.2
+takes_it setup past e from bytes id stands call answer = by row.0 row.1 row.2
   where
     row : Row setup past e (L.Receive from bytes)
     row = subst (Row setup past e) call stands.row
 
     by : (what : Arrival) → Shows bytes what → Arrives setup past e from what → TakesReset past from bytes id
-    by Unreadable s r = let a = r.0 in absurd (cc (a, answer))
-    by (Faulted Con n) s r = let a = r.0 in absurd (cc (a, answer))
-    by (Faulted Non n) s r = let a = r.0 in absurd (cc (a, answer))
-    by (Faulted Ack n) s r = let a = r.0 in absurd (cc (a, answer))
-    by (Faulted Rst n) s r = let a = r.0 in absurd (cc (a, answer))
     by (Whole m) s r =
         let k = sorted setup past e (record { from = from; message = m }) id r answer in
-        record { are = row.0; message = m; spells = s; kind = k.0; matches = k.1 }
+        record { message = m; spells = s; kind = k.0; matches = k.1 }
+    by (Faulted Con n) s r = let a = r.0 in absurd (cc (a, answer))
+    by _ s r = let a = r.0 in absurd (cc (a, answer))
 
 -- what is outstanding to there under this Message ID
 pub record IsOut (from : Endpoint) (id : ℕ) (t : List L.Entry) : Type 0 where

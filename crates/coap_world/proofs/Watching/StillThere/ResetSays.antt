@@ -4,35 +4,29 @@ use Rattle.std.proofs.Common.{◌≡◌, ◌⊎◌, inl, inr, ⊎_elim, ℕ, ◌
 use Rattle.std.proofs.Common.{Option, Some, None, List, [], ◌∷◌, ◌++◌, refl, ap, sym, ◌∙◌, subst, arith, cond}
 use Rattle.std.specs.Cmp.{unsigned_Decides}
 use Rattle.std.specs.Int.{byte_at}
-use Rattle.coap_types.specs.Bytes.{AreBytes}
 use Rattle.coap_types.specs.Past.{Ever, Sometime, Always}
 use Rattle.coap_types.specs.SameEndpoint.{same_endpoint}
 use Rattle.coap_types.specs.declared.endpoint.Endpoint.{Endpoint}
-use Rattle.coap_types.specs.declared.message.Kind.TheVariants.{Con, Non, Ack, Rst}
+use Rattle.coap_types.specs.declared.message.Kind.TheVariants.{Con, Non, Rst}
 use Rattle.coap_types.specs.declared.message.TheConstants.{MESSAGE_IDS as message_ids}
 use Rattle.coap_types.specs.declared.transmission.TheConstants.{ID_REUSE_AFTER_MS as id_reuse_after}
 use Rattle.coap_types.proofs.Facts.Endpoints.{same_endpoint_is}
-use Rattle.coap_types.proofs.Facts.Traces.{Ever_of_Since, Ever_map, Ever_out}
-use Rattle.coap_types.proofs.Facts.Traces.{which_first}
+use Rattle.coap_types.proofs.Facts.Traces.{Ever_of_Since, Ever_map, Ever_out, which_first}
 use Rattle.coap_codec.specs.Faulty.{head_of}
 use Rattle.coap_codec.specs.Message.{Message, Spells}
 use Rattle.coap_codec.specs.declared.fault.Reason.{Reason}
-use Rattle.coap_codec.specs.declared.fault.Reason.TheVariants.{Short, Version, TokenLength, TokenCut, EmptyNotBare}
-use Rattle.coap_codec.specs.declared.fault.Reason.TheVariants.{DeltaReserved, LengthReserved, OptionCut, NumberTooLarge}
-use Rattle.coap_codec.specs.declared.fault.Reason.TheVariants.{NoPayload}
-use Rattle.coap_layer.specs.Arrivals.{Arrival, Unreadable, Faulted, Whole, Shows, by_head}
-use Rattle.coap_layer.specs.Channel.{IsLatest}
-use Rattle.coap_layer.specs.Channel.{RepliesSo}
+use Rattle.coap_codec.specs.declared.fault.Reason.TheVariants.{Short}
+use Rattle.coap_layer.specs.Arrivals.{Arrival, Faulted, Whole, Shows, by_head}
+use Rattle.coap_layer.specs.Channel.{IsLatest, RepliesSo}
 use Rattle.coap_layer.specs.EmptyMessages.{reset_bytes}
 use Rattle.coap_layer.specs.Ids.{AreApart, Issued}
 use Rattle.coap_layer.specs.Rows.{LayerLaw, Arrives, Sorts, HandedAs, rejects, drops, takes_ack, takes_reset}
 use Rattle.coap_layer.specs.Rows.{passes_reset, takes_answer, replays, hands_over}
-use Rattle.coap_layer.specs.Sends.{SpellsCon, GoesOut, first, copy, plain}
-use Rattle.coap_layer.specs.Sends.{reply, stored, reset}
-use Rattle.coap_layer.specs.Trace.{with_head, Packet, Call, Receive, Reply, Confirm, Plain, Ticks}
-use Rattle.coap_layer.specs.Trace.{Unmatched, Sent, Becomes, Entry}
-use Rattle.coap_layer.specs.Words.{Incoming, Awaited, handed_in, reply_in, awaits, awaits_in}
-use Rattle.coap_layer.specs.Words.{awaited_of, issued, issued_by, numbers}
+use Rattle.coap_layer.specs.Sends.{SpellsCon, GoesOut, first, copy, plain, reply, stored, reset}
+use Rattle.coap_layer.specs.Trace.{with_head, Packet, Call, Receive, Reply, Confirm, Plain, Ticks, Unmatched, Sent}
+use Rattle.coap_layer.specs.Trace.{Becomes, Entry}
+use Rattle.coap_layer.specs.Words.{Incoming, Awaited, handed_in, reply_in, awaits, awaits_in, awaited_of, issued}
+use Rattle.coap_layer.specs.Words.{issued_by, numbers}
 use Rattle.coap_layer.specs.declared.setup.Setup.{Setup}
 use Rattle.coap_layer.proofs.Facts.IdsApart.{ids_apart}
 use Rattle.coap_layer.proofs.Facts.Laws.{spelled_begun}
@@ -51,19 +45,11 @@ reset_id m id s =
 
 not_con : (reason : Reason) (rest : List ℕ) (id : ℕ) → Faulted Con id ≡ by_head (head_of reason (0x70 ∷ rest)) → ⊥
 not_con Short rest id h = cc h
-not_con Version rest id h = cc h
-not_con TokenLength rest id h = cc h
-not_con TokenCut rest id h = cc h
-not_con EmptyNotBare rest id h = cc h
-not_con DeltaReserved rest id h = cc h
-not_con LengthReserved rest id h = cc h
-not_con OptionCut rest id h = cc h
-not_con NumberTooLarge rest id h = cc h
-not_con NoPayload rest id h = cc h
+not_con _ rest id h = cc h
 
 pub no_fault : (bytes : List ℕ) (n id : ℕ) → bytes ≡ reset_bytes n → Shows bytes (Faulted Con id) → ⊥
 no_fault bytes n id is h =
-    not_con h.0 _ id (subst (λ (x : List ℕ). Faulted Con id ≡ by_head (head_of h.0 x)) is h.3)
+    not_con h.1.0 _ id (subst (λ (x : List ℕ). Faulted Con id ≡ by_head (head_of h.1.0 x)) is h.1.3)
 
 -- replies
 
@@ -142,7 +128,6 @@ sent_what setup past e p law replies (reset r) = inr (r.id, ap (λ (x : Packet).
 -- the Reset of what isn't outstanding
 
 pub record HeardReset (bytes : List ℕ) (id : ℕ) : Type 0 where
-  pub are : AreBytes bytes
   pub message : Message
   pub spells : Spells bytes message
   pub kind : message.kind ≡ Rst
@@ -165,16 +150,13 @@ sorted_reset setup past e n id (hands_over r) h = absurd (up r.answer)
     up (inr (inr a)) = let b = a.1 in cc (b, h)
 
 pub arrived_reset : (setup : Setup) (past : List Entry) (e : Entry) (from : Endpoint) (bytes : List ℕ) (what : Arrival) (id : ℕ)
-    → AreBytes bytes → Shows bytes what → Arrives setup past e from what → e.answer ≡ Becomes (Unmatched id)
+    → Shows bytes what → Arrives setup past e from what → e.answer ≡ Becomes (Unmatched id)
     → HeardReset bytes id
-arrived_reset setup past e from bytes Unreadable id are s r h = let a = r.0 in absurd (cc (a, h))
-arrived_reset setup past e from bytes (Faulted Con n) id are s r h = let a = r.0 in absurd (cc (a, h))
-arrived_reset setup past e from bytes (Faulted Non n) id are s r h = let a = r.0 in absurd (cc (a, h))
-arrived_reset setup past e from bytes (Faulted Ack n) id are s r h = let a = r.0 in absurd (cc (a, h))
-arrived_reset setup past e from bytes (Faulted Rst n) id are s r h = let a = r.0 in absurd (cc (a, h))
-arrived_reset setup past e from bytes (Whole m) id are s r h =
+arrived_reset setup past e from bytes (Whole m) id s r h =
     let k = sorted_reset setup past e (record { from = from; message = m }) id r h in
-    record { are = are; message = m; spells = s; kind = k.0; id_is = k.1 }
+    record { message = m; spells = s; kind = k.0; id_is = k.1 }
+arrived_reset setup past e from bytes (Faulted Con n) id s r h = let a = r.0 in absurd (cc (a, h))
+arrived_reset setup past e from bytes _ id s r h = let a = r.0 in absurd (cc (a, h))
 
 -- Of two entries that are given one Message ID within 400 s: they are one.
 module _ (setup : Setup) (id a b : ℕ) (low : a ≤ b + id_reuse_after) (high : b ≤ a + id_reuse_after)

@@ -1,25 +1,17 @@
 -- The server of a legal run: it answers a request later (RFC 7252, section 5.2.2).
 use Rattle.std.proofs.Common.{true, false, Some, None, List, [], ◌∷◌, ◌++◌, refl}
-use Rattle.coap_codec.specs.Spelling.{option_bytes, options_bytes}
-use Rattle.coap_codec.specs.Reading.{extended, value_at, nibbles_at, option_at, walk_of, walk, payload_at, frame_fault}
-use Rattle.coap_codec.specs.Reading.{body_at}
-use Rattle.coap_codec.specs.Decoded.{decoded}
-use Rattle.coap_layer.specs.Machine.State.{start}
-use Rattle.coap_layer.specs.Machine.Steps.{Asked, Steps, left_after}
 use Rattle.coap_layer.specs.Trace as L
-use Rattle.coap_exchange.specs.AnswererLaw as answerer
 use Rattle.coap_exchange.specs.AnswererSteps.{asked_of}
 use Rattle.coap_server.specs.Trace as S
-use Rattle.coap_server.specs.Law.{ServerLaw, ServerRows, lower_of}
-use Rattle.coap_world.specs.LegalRuns.{limits}
+use Rattle.coap_server.specs.Law.{ServerLaw}
+use Rattle.coap_world.specs.LegalRuns.{limits, t, get_bytes, empty_ack, separate_bytes}
 use Rattle.coap_world.specs.Events.{client_end}
-use Rattle.coap_types.proofs.Facts.Bytes.{bytes_are}
 use Rattle.coap_layer.specs.Machine.State.{usual}
 use Rattle.coap_exchange.specs.declared.answerer.Asked.{Asked as Request}
 use Rattle.coap_exchange.specs.declared.answerer.Due.TheVariants as due
-use Rattle.coap_world.specs.LegalRuns.{t, get_bytes, empty_ack, separate_bytes}
-use Rattle.coap_world.proofs.Witness.Gets.Server.{request, stored, question, reply, sets, stores, sendable}
+use Rattle.coap_world.proofs.Witness.Gets.Server.{request, stored, question, reply, sets, served, stores}
 use Rattle.coap_world.proofs.Witness.TurnsMade.{server_turn, to_client}
+use Rattle.coap_world.proofs.Witness.Tests.{messages, server_lawful}
 
 abbrev pub asked : Request
 asked = asked_of client_end request
@@ -45,108 +37,6 @@ calls =
     (server_turn (to_client separate_bytes ∷ []) ticked
     ++ (server_turn (to_client empty_ack ∷ []) waits ++ (server_turn [] (sets ∷ []) ++ S.Delays t 1000 true ∷ [])))
 
-rows : ServerRows limits 6 calls
-unfolding option_bytes options_bytes
-rows = (
-  tt,
-  (
-    refl,
-    (
-      tt,
-      (
-        tt,
-        (
-          (refl, refl),
-          (
-            (record { reply = reply; left = stored; serves = (refl, refl); is = refl }, refl),
-            (tt, (tt, (refl, (tt, ((refl, stores), (refl, tt)))))),
-          ),
-        ),
-      ),
-    ),
-  ),
-)
-
-answered : answerer.AnswererLaw (lower_of limits 6 calls)
-answered = (
-  tt,
-  (
-    refl,
-    (
-      tt,
-      (
-        tt,
-        (
-          refl,
-          (
-            (refl, record { code = refl; spelled = sendable }),
-            (refl, (tt, (tt, ((refl, refl, refl), (refl, (tt, tt)))))),
-          ),
-        ),
-      ),
-    ),
-  ),
-)
-
-abbrev run : List Asked
-run = answerer.lower_of (lower_of limits 6 calls)
-
-steps : Steps (start (usual 0)) run (left_after (start (usual 0)) run)
-unfolding decoded frame_fault body_at walk walk_of option_at nibbles_at value_at extended payload_at option_bytes
-    options_bytes
-steps = (
-  _,
-  (
-    _,
-    (
-      _,
-      (
-        _,
-        (
-          _,
-          (
-            _,
-            (
-              _,
-              (
-                _,
-                (
-                  _,
-                  (
-                    _,
-                    (
-                      _,
-                      (
-                        _,
-                        (
-                          _,
-                          (_, refl, record { may = tt; right = refl; new_is = refl }),
-                          record { may = bytes_are get_bytes refl; right = refl; new_is = refl },
-                        ),
-                        record { may = tt; right = refl; new_is = refl },
-                      ),
-                      record { may = refl; right = refl; new_is = refl },
-                    ),
-                    record { may = tt; right = refl; new_is = refl },
-                  ),
-                  record { may = tt; right = refl; new_is = refl },
-                ),
-                record { may = tt; right = refl; new_is = refl },
-              ),
-              record { may = tt; right = refl; new_is = refl },
-            ),
-            record { may = sendable; right = refl; new_is = refl },
-          ),
-          record { may = tt; right = refl; new_is = refl },
-        ),
-        record { may = tt; right = refl; new_is = refl },
-      ),
-      record { may = tt; right = refl; new_is = refl },
-    ),
-    record { may = bytes_are empty_ack refl; right = refl; new_is = refl },
-  ),
-  record { may = tt; right = refl; new_is = refl },
-)
-
 pub lawful : ServerLaw limits 6 (usual 0) calls
-lawful = record { rows = rows; exchanges = record { rows = answered; left = left_after (start (usual 0)) run; layer = steps } }
+unfolding messages
+lawful = server_lawful limits 6 calls (assumption (served 1000, stores)) refl refl

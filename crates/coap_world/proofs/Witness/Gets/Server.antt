@@ -1,33 +1,23 @@
 -- The server of a legal run: it is given a representation, and serves it (RFC 7252, sections 5.2.1 and 5.8.1).
-use Rattle.std.proofs.Common.{true, Some, None, List, [], ◌∷◌, ◌++◌, Ok, refl, arith}
+use Rattle.std.proofs.Common.{ℕ, true, Some, None, List, [], ◌∷◌, ◌++◌, Ok, refl}
 use Rattle.std.specs.Prelude.{codes}
 use Rattle.coap_types.specs.declared.message.Kind.TheVariants.{Con}
 use Rattle.coap_types.specs.declared.request.Method.TheVariants.{Get}
 use Rattle.coap_codec.specs.Message.{Message}
-use Rattle.coap_codec.specs.Spelling.{option_bytes, options_bytes}
-use Rattle.coap_codec.specs.Reading.{extended, value_at, nibbles_at, option_at, walk_of, walk, payload_at, frame_fault}
-use Rattle.coap_codec.specs.Reading.{body_at}
-use Rattle.coap_codec.specs.Decoded.{decoded}
-use Rattle.coap_layer.proofs.Facts.Sendable.{sendable_when_short}
-use Rattle.coap_layer.specs.Rows.{IsSpelled}
-use Rattle.coap_layer.specs.Machine.State.{start}
-use Rattle.coap_layer.specs.Machine.Steps.{Asked, Steps, left_after}
 use Rattle.coap_layer.specs.Trace as L
 use Rattle.coap_resource.specs.Content.{Content, Changes, nothing}
 use Rattle.coap_resource.specs.Rate.{counted, unused}
 use Rattle.coap_resource.specs.Serves.{Question, Reply}
-use Rattle.coap_exchange.specs.AnswererLaw as answerer
-use Rattle.coap_exchange.specs.AnswererSteps.{asked_of, content_of}
+use Rattle.coap_exchange.specs.AnswererSteps.{asked_of}
 use Rattle.coap_server.specs.Trace as S
-use Rattle.coap_server.specs.Serving.{response_to}
-use Rattle.coap_server.specs.Law.{ServerLaw, ServerRows, lower_of}
-use Rattle.coap_world.specs.LegalRuns.{limits}
+use Rattle.coap_server.specs.Law.{ServerLaw}
+use Rattle.coap_world.specs.LegalRuns.{limits, token, tag, plain, t, get_bytes, content_bytes}
 use Rattle.coap_world.specs.Events.{client_end}
-use Rattle.coap_types.proofs.Facts.Bytes.{bytes_are}
 use Rattle.coap_layer.specs.Machine.State.{usual}
-use Rattle.coap_world.specs.LegalRuns.{token, tag, plain, t, get_bytes, content_bytes}
 use Rattle.coap_world.proofs.Witness.OneHeld.{one, first}
 use Rattle.coap_world.proofs.Witness.TurnsMade.{server_turn, to_client}
+use Rattle.coap_world.proofs.Witness.Tests.{messages, server_lawful}
+use Rattle.coap_server.specs.Serving.{IsServed}
 
 -- the request
 abbrev pub request : Message
@@ -67,58 +57,9 @@ pub stores : Changes (nothing limits) 0 t (Some (record { version = 1; format = 
     stored
 stores = first limits 0 t (record { version = 1; format = Some plain; body = codes "hi" })
 
-pub sendable : IsSpelled (content_of (asked_of client_end request)
-    (response_to stored [] (asked_of client_end request) question reply))
-unfolding option_bytes options_bytes
-sendable = (sendable_when_short _ (record {
-  some = omega arith;
-  code = omega arith;
-  id = omega arith;
-  token = omega arith;
-  order = refl;
-  numbers = refl;
-  short = refl;
-}) (omega arith)).spelled
-
-rows : ServerRows limits 6 calls
-unfolding option_bytes options_bytes
-rows = (
-  tt,
-  (
-    tt,
-    (
-      record { reply = reply; left = stored; serves = (refl, refl); is = refl },
-      (tt, ((refl, stores), tt)),
-    ),
-  ),
-)
-
-answered : answerer.AnswererLaw (lower_of limits 6 calls)
-answered = (tt, (tt, ((refl, record { code = refl; spelled = sendable }, refl), (refl, (tt, tt)))))
-
-abbrev run : List Asked
-run = answerer.lower_of (lower_of limits 6 calls)
-
-steps : Steps (start (usual 0)) run (left_after (start (usual 0)) run)
-unfolding decoded frame_fault body_at walk walk_of option_at nibbles_at value_at extended payload_at option_bytes
-    options_bytes
-steps = (
-  _,
-  (
-    _,
-    (
-      _,
-      (
-        _,
-        (_, refl, record { may = tt; right = refl; new_is = refl }),
-        record { may = bytes_are get_bytes refl; right = refl; new_is = refl },
-      ),
-      record { may = refl; right = refl; new_is = refl },
-    ),
-    record { may = tt; right = refl; new_is = refl },
-  ),
-  record { may = tt; right = refl; new_is = refl },
-)
+pub served : (at : ℕ) → IsServed stored at question (S.Serves question reply stored)
+served at = record { reply = reply; left = stored; serves = (refl, refl); is = refl }
 
 pub lawful : ServerLaw limits 6 (usual 0) calls
-lawful = record { rows = rows; exchanges = record { rows = answered; left = left_after (start (usual 0)) run; layer = steps } }
+unfolding messages
+lawful = server_lawful limits 6 calls (assumption (served 5, stores)) refl refl

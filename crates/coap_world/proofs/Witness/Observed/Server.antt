@@ -1,39 +1,27 @@
 -- The server of a legal run: it registers the client, and tells it of a change (RFC 7641, sections 4.1 and 4.2).
-use Rattle.std.proofs.Common.{ℕ, true, false, Some, None, List, [], ◌∷◌, ◌++◌, Ok, refl, arith}
+use Rattle.std.proofs.Common.{ℕ, true, false, Some, None, List, [], ◌∷◌, ◌++◌, Ok, refl}
 use Rattle.std.specs.Prelude.{codes}
 use Rattle.coap_types.specs.declared.message.Kind.TheVariants.{Con}
 use Rattle.coap_types.specs.declared.request.Method.TheVariants.{Get}
 use Rattle.coap_codec.specs.Message.{Message}
-use Rattle.coap_codec.specs.Spelling.{option_bytes, options_bytes}
-use Rattle.coap_codec.specs.Reading.{extended, value_at, nibbles_at, option_at, walk_of, walk, payload_at, frame_fault}
-use Rattle.coap_codec.specs.Reading.{body_at}
-use Rattle.coap_codec.specs.Decoded.{decoded}
-use Rattle.coap_layer.proofs.Facts.Sendable.{sendable_when_short}
-use Rattle.coap_layer.specs.Rows.{IsSpelled}
-use Rattle.coap_layer.specs.Machine.State.{start}
-use Rattle.coap_layer.specs.Machine.Steps.{Asked, Steps, left_after}
 use Rattle.coap_layer.specs.Trace as L
 use Rattle.coap_resource.specs.Content.{Content, Held, Changes, nothing}
 use Rattle.coap_resource.specs.Rate.{counted, unused}
 use Rattle.coap_resource.specs.Serves.{Question, Reply}
-use Rattle.coap_exchange.specs.AnswererLaw as answerer
-use Rattle.coap_exchange.specs.AnswererSteps.{asked_of, content_of}
+use Rattle.coap_exchange.specs.AnswererSteps.{asked_of}
 use Rattle.coap_server.specs.Trace as S
-use Rattle.coap_server.specs.Serving.{response_to}
-use Rattle.coap_server.specs.Law.{ServerLaw, ServerRows, lower_of}
-use Rattle.coap_world.specs.LegalRuns.{limits}
+use Rattle.coap_server.specs.Law.{ServerLaw}
+use Rattle.coap_world.specs.LegalRuns.{limits, token, tag, plain, t, empty_ack}
 use Rattle.coap_world.specs.Events.{client_end}
-use Rattle.coap_types.proofs.Facts.Bytes.{bytes_are}
 use Rattle.coap_layer.specs.Machine.State.{usual}
 use Rattle.coap_observe.specs.Observers.{Observer}
 use Rattle.coap_exchange.specs.declared.answerer.Asked.{Asked as Request}
 use Rattle.coap_exchange.specs.declared.answerer.Due.TheVariants as due
-use Rattle.coap_exchange.specs.AnswererSteps.{content_with}
-use Rattle.coap_server.specs.Notifying.{notification}
-use Rattle.coap_world.specs.LegalRuns.{token, tag, plain, t, empty_ack}
 use Rattle.coap_world.specs.ObservationRuns.{observe_bytes, first_bytes, second_bytes}
 use Rattle.coap_world.proofs.Witness.OneHeld.{one, first, further}
 use Rattle.coap_world.proofs.Witness.TurnsMade.{server_turn, to_client}
+use Rattle.coap_world.proofs.Witness.Tests.{messages, server_lawful}
+use Rattle.coap_server.specs.Serving.{IsServed}
 
 -- what the path holds, in version 1 and in version 2
 
@@ -122,165 +110,9 @@ calls_before =
 abbrev pub calls : List S.Call
 calls = server_turn [] acknowledged ++ calls_before
 
-pub answer_sendable : IsSpelled (content_of asked (response_to a [] asked question (content 1 (codes "a"))))
-unfolding option_bytes options_bytes
-answer_sendable = (sendable_when_short _ (record {
-  some = omega arith;
-  code = omega arith;
-  id = omega arith;
-  token = omega arith;
-  order = refl;
-  numbers = refl;
-  short = refl;
-}) (omega arith)).spelled
-
-pub notice_sendable : IsSpelled (content_with token (notification b observer (content 2 (codes "b"))))
-unfolding option_bytes options_bytes
-notice_sendable = (sendable_when_short _ (record {
-  some = omega arith;
-  code = omega arith;
-  id = omega arith;
-  token = omega arith;
-  order = refl;
-  numbers = refl;
-  short = refl;
-}) (omega arith)).spelled
-
-rows : ServerRows limits 6 calls
-unfolding option_bytes options_bytes
-rows = (
-  tt,
-  (
-    refl,
-    (
-      tt,
-      (
-        tt,
-        (
-          (refl, refl),
-          (
-            (refl, refl),
-            (
-              tt,
-              (
-                (refl, second),
-                (
-                  tt,
-                  (
-                    tt,
-                    (
-                      record { reply = content 1 (codes "a"); left = a; serves = (refl, refl); is = refl },
-                      (tt, ((refl, first_change), tt)),
-                    ),
-                  ),
-                ),
-              ),
-            ),
-          ),
-        ),
-      ),
-    ),
-  ),
-)
-
-answered : answerer.AnswererLaw (lower_of limits 6 calls)
-answered = (
-  tt,
-  (
-    refl,
-    (
-      tt,
-      (
-        tt,
-        (
-          refl,
-          (
-            record { code = refl; spelled = notice_sendable },
-            (
-              tt,
-              (
-                refl,
-                (
-                  tt,
-                  (
-                    tt,
-                    (
-                      tt,
-                      (
-                        (refl, record { code = refl; spelled = answer_sendable }, refl),
-                        (refl, (tt, tt)),
-                      ),
-                    ),
-                  ),
-                ),
-              ),
-            ),
-          ),
-        ),
-      ),
-    ),
-  ),
-)
-
-abbrev run : List Asked
-run = answerer.lower_of (lower_of limits 6 calls)
-
-steps : Steps (start (usual 0)) run (left_after (start (usual 0)) run)
-unfolding decoded frame_fault body_at walk walk_of option_at nibbles_at value_at extended payload_at option_bytes
-    options_bytes
-steps = (
-  _,
-  (
-    _,
-    (
-      _,
-      (
-        _,
-        (
-          _,
-          (
-            _,
-            (
-              _,
-              (
-                _,
-                (
-                  _,
-                  (
-                    _,
-                    (
-                      _,
-                      (
-                        _,
-                        (
-                          _,
-                          (_, refl, record { may = tt; right = refl; new_is = refl }),
-                          record { may = bytes_are observe_bytes refl; right = refl; new_is = refl },
-                        ),
-                        record { may = refl; right = refl; new_is = refl },
-                      ),
-                      record { may = tt; right = refl; new_is = refl },
-                    ),
-                    record { may = tt; right = refl; new_is = refl },
-                  ),
-                  record { may = tt; right = refl; new_is = refl },
-                ),
-                record { may = tt; right = refl; new_is = refl },
-              ),
-              record { may = tt; right = refl; new_is = refl },
-            ),
-            record { may = notice_sendable; right = refl; new_is = refl },
-          ),
-          record { may = tt; right = refl; new_is = refl },
-        ),
-        record { may = tt; right = refl; new_is = refl },
-      ),
-      record { may = tt; right = refl; new_is = refl },
-    ),
-    record { may = bytes_are empty_ack refl; right = refl; new_is = refl },
-  ),
-  record { may = tt; right = refl; new_is = refl },
-)
+pub served : IsServed a 1 question (S.Serves question (content 1 (codes "a")) a)
+served = record { reply = content 1 (codes "a"); left = a; serves = (refl, refl); is = refl }
 
 pub lawful : ServerLaw limits 6 (usual 0) calls
-lawful = record { rows = rows; exchanges = record { rows = answered; left = left_after (start (usual 0)) run; layer = steps } }
+unfolding messages
+lawful = server_lawful limits 6 calls (assumption (served, first_change, second)) refl refl

@@ -2,21 +2,21 @@ use Rattle.std.proofs.Common.{◌≡◌, ◌<◌, ◌^◌, ◌∙◌, ℕ, max, 
 use Rattle.coap_types.specs.FirstMoment.{IsFirstMoment}
 use Rattle.coap_exchange.specs.Machine.Rests.{has_turn}
 use Rattle.coap_client.specs.Led.{State}
-use Rattle.coap_client.specs.Object.Happens.{WasLed, left}
-use Rattle.coap_client.specs.Object.Held.{own_of}
+use Rattle.coap_client.specs.Object.Happens.{WasLed}
+use Rattle.coap_client.specs.Object.Held.{seen}
 use Rattle.coap_client.specs.Turns.Due.{begins, has_work, latest}
 use Rattle.coap_client.proofs.Calls.DueLemmas.{none_of, some_of, does_of, from_of}
 use Rattle.coap_client.proofs.client.Client.due.Goals as goal
 
 pub returns : goal.returns
 returns g c =
-    let s0 : State = left (own_of c.self.inside.held) c.self.inside.asker.state in
+    let s0 : State = seen c.self.inside.parts in
     let s : State = c.args.self.now in
     let view : s0 ≡ s = c.self.view_is in
     let was : WasLed s = subst WasLed view c.self.invariant in
     let from = c.later-from.result.0 in
     let at : from ≡ latest s0 = c.later-from.ensures
-    ∙ ap (λ (n : ℕ). max n c.self.inside.held.clock.0) c.clock.ensures in
+    ∙ ap (λ (n : ℕ). max n c.self.inside.parts.held.clock.0) c.clock.ensures in
     let same : max s0.layer.own.clock from ≡ from = omega (arith, at) in
     let turns : IsFirstMoment (has_turn s0.layer) from c.due.result =
     subst (λ (n : ℕ). IsFirstMoment (has_turn s0.layer) n c.due.result) same c.due.ensures.first in

@@ -7,7 +7,7 @@ use Rattle.coap_client.proofs.client.Client.next_out.Goals as goal
 
 pub invariant_of-self : goal.invariant_of-self
 invariant_of-self g c = led_step _ _ _ c.self.invariant
-    (taken_out (own_of c.self.inside.held) c.self.inside.asker.state _ _ c.next_out.ensures.step)
+    (taken_out (own_of c.self.inside.parts.held) c.self.inside.parts.asker.state _ _ c.next_out.ensures.step)
 
 pub returns-clause-step : goal.returns-clause-step
 returns-clause-step g c = search rules

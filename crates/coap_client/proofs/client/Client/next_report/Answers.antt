@@ -1,15 +1,14 @@
 use Rattle.std.proofs.Common.{rules}
 use Rattle.std.specs.Option.{option_map}
 use Rattle.coap_client.specs.Trace.{NextReport}
-use Rattle.coap_client.specs.Object.Happens.{left}
-use Rattle.coap_client.specs.Object.Held.{own_of}
+use Rattle.coap_client.specs.Object.Held.{seen}
 use Rattle.coap_client.specs.Object.Shown.{shown_reported}
 use Rattle.coap_client.proofs.Calls.Watched.{led_step}
 use Rattle.coap_client.proofs.Calls.TakesOut.{if_no_report, if_report}
 use Rattle.coap_client.proofs.client.Client.next_report.Goals as goal
 
 pub invariant_of-self : goal.invariant_of-self
-invariant_of-self g c = led_step (left (own_of c.self.inside.held) c.self.inside.asker.state) _
+invariant_of-self g c = led_step (seen c.self.inside.parts) _
     (NextReport (option_map shown_reported c.pop_front.result)) c.self.invariant (search rules)
 
 pub returns-clause-step : goal.returns-clause-step

@@ -1,24 +1,22 @@
 use Rattle.coap_client.proofs.Turning.Leading.{led_client}
-use Rattle.coap_client.specs.Object.Happens.{left}
-use Rattle.coap_client.specs.Object.Held.{own_of}
-use Rattle.coap_client.proofs.Calls.IsLed.{both_err, closes_if, if_ok, on_err, same_led, same_left}
-use Rattle.coap_client.proofs.Calls.IsLed.{seen_step}
+use Rattle.coap_client.specs.Object.Held.{own_of, seen}
+use Rattle.coap_client.proofs.Calls.IsLed.{both_err, closes_if, if_ok, on_err, same_led, same_left, seen_step}
 use Rattle.coap_client.proofs.Calls.Watched.{apart, led_step}
 use Rattle.coap_client.proofs.Calls.WorkFalls.{ticks_fall}
 use Rattle.coap_client.proofs.client.Client.tick.Goals as goal
 
 pub tick-requires : goal.tick-requires
 tick-requires g c = record {
-  apart = apart (left (own_of c.self.inside.held) c.self.inside.asker.state) c.self.invariant;
+  apart = apart (seen c.self.inside.parts) c.self.invariant;
 }
 
 pub invariant_of-self : goal.invariant_of-self
 invariant_of-self g c =
     closes_if c.tick.result (if_ok c.tick.result
-    (λ did s. led_step (left (own_of c.self.inside.held) c.self.inside.asker.state) _ _ c.self.invariant s.5)
+    (λ did s. led_step (seen c.self.inside.parts) _ _ c.self.invariant s.5)
     c.tick.ensures.step)
-    (on_err c.tick.result (λ e. same_led (left (own_of c.self.inside.held) c.self.inside.asker.state) _ c.self.invariant
-    (same_left (own_of c.self.inside.held) _ c.self.inside.asker.state _ e.0 e.1))
+    (on_err c.tick.result (λ e. same_led (seen c.self.inside.parts) _ c.self.invariant
+    (same_left (own_of c.self.inside.parts.held) _ c.self.inside.parts.asker.state _ e.0 e.1))
     (both_err _ _ c.tick.result c.tick.ensures.own c.tick.ensures.layer))
 
 pub returns-clause-step : goal.returns-clause-step
@@ -29,7 +27,7 @@ returns-clause-step g c =
       s.2,
       s.3,
       s.4,
-      seen_step (left (own_of c.self.inside.held) c.self.inside.asker.state) _ _ _ c.self.view_is s.5,
+      seen_step (seen c.self.inside.parts) _ _ _ c.self.view_is s.5,
     ))
     c.tick.ensures.step
 

@@ -4,8 +4,7 @@ use Rattle.std.proofs.lemmas.Option.{slice_get-map}
 use Rattle.std.specs.Option.{option_map}
 use Rattle.coap_client.specs.Own.{Observation}
 use Rattle.coap_client.specs.Object.Shown.{shown_observation, shown_rest}
-use Rattle.coap_client.proofs.Calls.LiveLemmas.{found_at, found_none, map_set, none_changed, one_changed}
-use Rattle.coap_client.proofs.Calls.LiveLemmas.{place_within}
+use Rattle.coap_client.proofs.Calls.LiveLemmas.{found_at, found_none, map_set, none_changed, one_changed, place_within}
 use Rattle.coap_client.proofs.Calls.HeldLemmas.{rest_in}
 use Rattle.coap_client.proofs.client.observations.take_rest.Goals as goal
 

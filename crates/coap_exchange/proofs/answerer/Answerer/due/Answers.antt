@@ -1,13 +1,16 @@
-use Rattle.std.proofs.Common.{◌<◌, ◌^◌, ◌≡◌, ◌∙◌, ◌&&◌, ℕ, max, ap, arith, subst, refl}
+use Rattle.std.proofs.Common.{◌<◌, ◌^◌, ◌≡◌, ◌∙◌, ◌&&◌, ℕ, List, max, ap, arith, subst, refl}
 use Rattle.coap_types.specs.FirstMoment.{IsFirstMoment}
 use Rattle.coap_layer.specs.Machine.State.{is_free}
 use Rattle.coap_layer.specs.Machine.Waits.{any_has_step}
+use Rattle.coap_layer.specs.declared.setup.Setup.{Setup}
 use Rattle.coap_layer.proofs.Facts.FirstMoments.{free_on}
-use Rattle.coap_exchange.specs.AnswererLaw.{State}
+use Rattle.coap_exchange.specs.AnswererLaw.{Led, State}
+use Rattle.coap_exchange.specs.AnswererTrace.{Call}
 use Rattle.coap_exchange.specs.Machine.AnswererShown.{sending_as, state_of}
 use Rattle.coap_exchange.specs.Machine.Listed.{listed}
-use Rattle.coap_exchange.specs.Machine.Rests.{has_due, has_ready}
-use Rattle.coap_exchange.proofs.Resting.ServerRests.{none_of, some_of, does_of, from_of, ready_on}
+use Rattle.coap_exchange.specs.Machine.Rests.{AnswererRests, AnswererTurns, has_due, has_ready}
+use Rattle.coap_exchange.proofs.Resting.AtFirstMoments.{none_of, some_of, does_of, from_of}
+use Rattle.coap_exchange.proofs.Resting.ServerRests.{rests, turns, ready_on}
 use Rattle.coap_exchange.proofs.answerer.Answerer.due.Goals as goal
 
 pub returns : goal.returns
@@ -45,9 +48,13 @@ returns g c =
     let clocks : s.layer.clock ≡ s.own.clock = subst (λ (x : State). x.layer.clock ≡ x.own.clock) view refl in
     let range : max s.own.clock now < 2 ^ 64 = rw from_is at c.ready_from-ready.ensures.range in
     record {
-      none = none_of s now c.earlier.result clocks range first;
-      some = some_of s now c.earlier.result clocks first;
-      does = does_of s now c.earlier.result clocks first;
-      from = from_of s (max s.own.clock now) c.earlier.result first;
+      none = none_of s.own.clock (has_due s) (AnswererRests s) (λ later free. rests s later clocks free) now
+          c.earlier.result range first;
+      some = some_of s.own.clock (has_due s) (AnswererRests s) (λ later free. rests s later clocks free) now
+          c.earlier.result first;
+      does = does_of s.own.clock (has_due s)
+          (λ at. (setup : Setup) (t : List Call) → Led setup t s → AnswererTurns s at)
+          (λ at due setup t led. turns setup t s at led clocks due) now c.earlier.result first;
+      from = from_of s.own.clock (has_due s) (max s.own.clock now) c.earlier.result first;
       first = first;
     }

@@ -3,11 +3,12 @@ use Rattle.std.specs.Vec.{vec_len, vec_capacity}
 use Rattle.std.specs.Option.{option_map}
 use Rattle.coap_layer.specs.Machine.State as L
 use Rattle.coap_layer.specs.Machine.State.{answer_of, copies}
+use Rattle.coap_layer.specs.Machine.Steps.{Steps}
 use Rattle.coap_layer.specs.Trace as T
 use Rattle.coap_exchange.specs.declared.separate.Deferred.{Deferred}
 use Rattle.coap_exchange.specs.Machine.AnswererShown.{Shown, own_with, sending_as}
 use Rattle.coap_exchange.specs.Machine.WhatIsDue.{takes_con, takes_response}
-use Rattle.coap_exchange.specs.AnswererSteps.{failed_by, ready_at, ready_if, separate_unless}
+use Rattle.coap_exchange.specs.AnswererSteps.{asking_room, due_of, failed_by, ready_at, ready_if, separate_unless}
 use Rattle.coap_exchange.specs.Machine.Listed.{listed}
 use Rattle.coap_exchange.proofs.Leading.ServerLeads.{led_call}
 use Rattle.coap_exchange.proofs.Calls.ServerTicks.{asks_freely, asking_clock, may_respond, placed, readied, ticked}
@@ -37,6 +38,16 @@ is_ready g c =
     readied i.layer.state c.make_room.new.layer.state c.tick.new.self.state c.args.now.0 c.in_ok-tick.tick step.0
     c.in_ok-make_room.ensures.state step.1 step.2 c.would_tick-due.result c.ready.result c.unless_due-ready.result
     (first g c) c.would_tick-due.ensures.idle c.would_tick-due.ensures.due c.unless_due-ready.ensures found
+
+-- so the layer was asked whether its response can be sent, and that is what the tick did
+asks : (g : Over) (c : After-due_of g)
+    → Steps c.tick.new.self.state (asking_room c.args.now.0 (ready_if c.in_ok-tick.ensures.step.0 (first g c))
+    c.is_sendable-room.result) c.is_sendable-room.new.layer.state
+asks g c = c.is_sendable-room.ensures.steps (ready_if c.in_ok-tick.ensures.step.0 (first g c)) (is_ready g c)
+
+due_is : (g : Over) (c : After-due_of g)
+    → c.due_of.result ≡ due_of c.in_ok-tick.ensures.step.0 (first g c) c.is_sendable-room.result
+due_is g c = c.due_of.ensures.due c.in_ok-tick.ensures.step.0 (first g c) c.in_ok-tick.ensures.step.1 (is_ready g c)
 
 pub is_sendable-room-requires : goal.is_sendable-room-requires
 is_sendable-room-requires g c =
@@ -69,21 +80,15 @@ pub returns-clause-step : goal.returns-clause-step
 returns-clause-step g c =
     let i = c.self.inside in
     let step = c.in_ok-tick.ensures.step in
-    let now = c.args.now.0 in
     let k = (goal.at.returns-clause-step g c).After-due_of in
-    let d = first g k in
-    let ready = is_ready g k in
     let list = c.settle_down.ensures.now ∙ ap listed c.in_ok-make_room.ensures.items in (
       step.0,
       c.is_sendable-room.result,
-      ticked i.layer.state i.pending i.deferred (listed i.separate.items) i.ended (sending_as i.unmatched) c.args.self.now.state
-          (ap (λ s. s.state) c.self.view_is) c.make_room.new.layer.state c.tick.new.self.state
-          c.is_sendable-room.new.layer.state now step.0
-          c.is_sendable-room.result c.due_of.result c.take-self-inside.new.self
-          (listed c.unless_failed.new.separate.items) c.failed_by-self-inside.result c.in_ok-make_room.ensures.state
-          step.2
-          (c.is_sendable-room.ensures.steps (ready_if step.0 d) ready) (c.due_of.ensures.due step.0 d step.1 ready)
-          (search rules)
+      ticked i.layer.state i.pending i.deferred (listed i.separate.items) i.ended (sending_as i.unmatched)
+          c.args.self.now.state (ap (λ s. s.state) c.self.view_is) c.make_room.new.layer.state c.tick.new.self.state
+          c.is_sendable-room.new.layer.state c.args.now.0 step.0 c.is_sendable-room.result c.due_of.result
+          c.take-self-inside.new.self (listed c.unless_failed.new.separate.items) c.failed_by-self-inside.result
+          c.in_ok-make_room.ensures.state step.2 (asks g k) (due_is g k) (search rules)
           (c.unless_failed.ensures.now step.0 step.1 ∙ ap (separate_unless step.0) list)
           (c.failed_by-self-inside.ensures step.0 step.1
           ∙ ap (failed_by step.0) (ap listed c.deref-2.ensures.value ∙ list)),
@@ -98,76 +103,55 @@ returns-clause-ready g c a h =
     let step = c.in_ok-tick.ensures.step in
     let now = c.args.now.0 in
     let k = (goal.at.returns-clause-ready g c).After-due_of in
-    let d = first g k in
-    let ready = is_ready g k in
     let list = c.settle_down.ensures.now ∙ ap listed c.in_ok-make_room.ensures.items in
-    let first : L.Step i.layer.state now T.Ticks step.0 c.tick.new.self.state =
+    let tick : L.Step i.layer.state now T.Ticks step.0 c.tick.new.self.state =
     subst (λ x. L.Step x now T.Ticks step.0 c.tick.new.self.state) c.in_ok-make_room.ensures.state step.2 in
-    let clock = asking_clock now (ready_if step.0 d) c.is_sendable-room.result c.tick.new.self.state
+    let clock = asking_clock now (ready_if step.0 (first g k)) c.is_sendable-room.result c.tick.new.self.state
     c.is_sendable-room.new.layer.state i.layer.state.clock
-    (step_clock i.layer.state c.tick.new.self.state now T.Ticks step.0 first)
-    (c.is_sendable-room.ensures.steps (ready_if step.0 d) ready) in
-    may_respond i.layer.state i.pending i.deferred
-    (listed i.separate.items) i.ended (sending_as i.unmatched) c.is_sendable-room.new.layer.state now step.0 c.is_sendable-room.result
-    c.due_of.result c.take-self-inside.new.self
-    (listed c.unless_failed.new.separate.items) c.failed_by-self-inside.result _ a refl (λ sends. search rules) clock
-    (c.due_of.ensures.due step.0 d step.1 ready)
-    (c.unless_failed.ensures.now step.0 step.1 ∙ ap (separate_unless step.0) list)
-    (λ may x is. c.is_sendable-room.ensures.idle may x (ready ∙ is)) c.is_sendable-room.ensures.free h
+    (step_clock i.layer.state c.tick.new.self.state now T.Ticks step.0 tick) (asks g k) in
+    may_respond i.layer.state i.pending i.deferred (listed i.separate.items) i.ended (sending_as i.unmatched)
+    c.tick.new.self.state c.is_sendable-room.new.layer.state now step.0 c.is_sendable-room.result c.due_of.result
+    c.take-self-inside.new.self (listed c.unless_failed.new.separate.items) c.failed_by-self-inside.result _ a refl
+    (λ sends. search rules) clock (due_is g k)
+    (c.unless_failed.ensures.now step.0 step.1 ∙ ap (separate_unless step.0) list) (asks g k) h
 
 pub returns-clause-kept : goal.returns-clause-kept
 returns-clause-kept g c at there may =
     let i = c.self.inside in
     let step = c.in_ok-tick.ensures.step in
-    let now = c.args.now.0 in
     let k = (goal.at.returns-clause-kept g c).After-due_of in
-    let d = first g k in
-    let ready = is_ready g k in
     may_still c.args.self.now _ i.layer.state c.is_sendable-room.new.layer.state at there
     (sym (ap (λ s. s.state.layer) c.self.view_is)) refl (λ h. search rules)
     (ticked_confirms i.layer.state c.make_room.new.layer.state c.tick.new.self.state c.is_sendable-room.new.layer.state
-    now c.in_ok-tick.tick step.0 (ready_if step.0 d) c.is_sendable-room.result c.in_ok-make_room.ensures.state
-    step.1 step.2
-    (c.is_sendable-room.ensures.steps (ready_if step.0 d) ready) at there) may
+    c.args.now.0 c.in_ok-tick.tick step.0 (ready_if step.0 (first g k)) c.is_sendable-room.result
+    c.in_ok-make_room.ensures.state step.1 step.2 (asks g k) at there) may
 
 pub returns-clause-only : goal.returns-clause-only
 returns-clause-only g c a h =
-    let i = c.self.inside in
     let step = c.in_ok-tick.ensures.step in
-    let now = c.args.now.0 in
     let k = (goal.at.returns-clause-only g c).After-due_of in
-    let d = first g k in
-    let ready = is_ready g k in
-    sym (ap (λ s. takes_response s.state now) c.self.view_is)
-    ∙ ticked_ready i.layer.state c.make_room.new.layer.state c.tick.new.self.state c.is_sendable-room.new.layer.state
-    now c.in_ok-tick.tick step.0 d c.is_sendable-room.result c.in_ok-make_room.ensures.state step.1 step.2 a
-    (c.is_sendable-room.ensures.steps (ready_if step.0 d) ready) (sym (c.due_of.ensures.due step.0 d step.1 ready) ∙ h)
+    sym (ap (λ s. takes_response s.state c.args.now.0) c.self.view_is)
+    ∙ ticked_ready c.self.inside.layer.state c.make_room.new.layer.state c.tick.new.self.state
+    c.is_sendable-room.new.layer.state c.args.now.0 c.in_ok-tick.tick step.0 (first g k) c.is_sendable-room.result
+    c.in_ok-make_room.ensures.state step.1 step.2 a (asks g k) (sym (due_is g k) ∙ h)
 
 pub returns-clause-same : goal.returns-clause-same
 returns-clause-same g c h there =
-    let i = c.self.inside in
     let step = c.in_ok-tick.ensures.step in
-    let now = c.args.now.0 in
     let k = (goal.at.returns-clause-same g c).After-due_of in
-    let d = first g k in
-    let ready = is_ready g k in
-    ticked_same i.layer.state c.make_room.new.layer.state c.tick.new.self.state c.is_sendable-room.new.layer.state now
-    c.in_ok-tick.tick step.0 d c.is_sendable-room.result c.in_ok-make_room.ensures.state step.1 step.2
-    (c.is_sendable-room.ensures.steps (ready_if step.0 d) ready)
-    (sym (c.due_of.ensures.due step.0 d step.1 ready) ∙ h) there
-    ∙ ap (λ s. takes_con s.state now there) c.self.view_is
+    ticked_same c.self.inside.layer.state c.make_room.new.layer.state c.tick.new.self.state
+    c.is_sendable-room.new.layer.state c.args.now.0 c.in_ok-tick.tick step.0 (first g k) c.is_sendable-room.result
+    c.in_ok-make_room.ensures.state step.1 step.2 (asks g k) (sym (due_is g k) ∙ h) there
+    ∙ ap (λ s. takes_con s.state c.args.now.0 there) c.self.view_is
 
 pub returns-clause-fails : goal.returns-clause-fails
 returns-clause-fails g c none due =
-    let i = c.self.inside in
     let step = c.in_ok-tick.ensures.step in
     let now = c.args.now.0 in
     let k = (goal.at.returns-clause-fails g c).After-due_of in
-    let d = first g k in
-    let ready = is_ready g k in
-    ap Ok (c.due_of.ensures.due step.0 d step.1 ready
-    ∙ expires i.layer.state c.make_room.new.layer.state c.tick.new.self.state now step.0 d c.is_sendable-room.result
-    c.in_ok-make_room.ensures.state step.2
+    ap Ok (due_is g k
+    ∙ expires c.self.inside.layer.state c.make_room.new.layer.state c.tick.new.self.state now step.0 (first g k)
+    c.is_sendable-room.result c.in_ok-make_room.ensures.state step.2
     (ap (λ (s : Shown). copies (max s.state.own.clock now) s.state.layer.open_cons) c.self.view_is ∙ none)
     (λ e. due (sym (ap (λ (s : Shown). answer_of s.state.layer (max s.state.own.clock now) T.Ticks) c.self.view_is)
     ∙ e)))

@@ -1,11 +1,15 @@
-use Rattle.std.proofs.Common.{◌<◌, ◌^◌, ◌≡◌, ◌∙◌, ℕ, max, ap, arith, subst, refl}
+use Rattle.std.proofs.Common.{◌<◌, ◌^◌, ◌≡◌, ◌∙◌, ℕ, List, max, ap, arith, subst, refl}
+use Rattle.coap_types.specs.declared.endpoint.Endpoint.{Endpoint}
 use Rattle.coap_types.specs.FirstMoment.{IsFirstMoment}
 use Rattle.coap_layer.specs.Machine.Waits.{any_has_step}
+use Rattle.coap_layer.specs.declared.setup.Setup.{Setup}
 use Rattle.coap_exchange.specs.AskerArrivals.{acked_in, has_waited}
-use Rattle.coap_exchange.specs.AskerLaw.{State}
+use Rattle.coap_exchange.specs.AskerLaw.{Led, State}
+use Rattle.coap_exchange.specs.AskerTrace.{Call}
 use Rattle.coap_exchange.specs.Machine.AskerShown.{state_of}
-use Rattle.coap_exchange.specs.Machine.Rests.{has_turn}
-use Rattle.coap_exchange.proofs.Resting.ClientRests.{none_of, some_of, does_of, from_of}
+use Rattle.coap_exchange.specs.Machine.Rests.{AskerRests, AskerTurns, has_turn}
+use Rattle.coap_exchange.proofs.Resting.AtFirstMoments.{none_of, some_of, does_of, from_of}
+use Rattle.coap_exchange.proofs.Resting.ClientRests.{rests, turns}
 use Rattle.coap_exchange.proofs.asker.Asker.due.Goals as goal
 
 pub returns : goal.returns
@@ -33,9 +37,13 @@ returns g c =
     let clocks : s.layer.clock ≡ s.own.clock = subst (λ (x : State). x.layer.clock ≡ x.own.clock) view refl in
     let range : max s.own.clock now < 2 ^ 64 = rw from_is at c.waited_from.ensures.range in
     record {
-      none = none_of s now c.earlier.result clocks range first;
-      some = some_of s now c.earlier.result clocks first;
-      does = does_of s now c.earlier.result clocks first;
-      from = from_of s (max s.own.clock now) c.earlier.result first;
+      none = none_of s.own.clock (has_turn s) (AskerRests s) (λ later free. rests s later clocks free) now
+          c.earlier.result range first;
+      some = some_of s.own.clock (has_turn s) (AskerRests s) (λ later free. rests s later clocks free) now
+          c.earlier.result first;
+      does = does_of s.own.clock (has_turn s)
+          (λ at. (server : Endpoint) (setup : Setup) (t : List Call) → Led server setup t s → AskerTurns s at)
+          (λ at due server setup t led. turns server setup t s at led clocks due) now c.earlier.result first;
+      from = from_of s.own.clock (has_turn s) (max s.own.clock now) c.earlier.result first;
       first = first;
     }

@@ -28,7 +28,7 @@ take_in-mark-requires-clause-unknown g c up =
     let a = c.judge-arriving.result in
     let judged = c.judge-arriving.ensures h refl refl refl (sym c.would_give-free.ensures) in
     let arrives : IsArriving h at c.args.from (arrival_at c.args.bytes.now) a =
-    subst (λ x. IsArriving h at c.args.from x a) c.read-datagram.ensures.shows judged.0 in
+    subst (λ x. IsArriving h at c.args.from x a) c.read-datagram.ensures judged.0 in
     ap (is_remembered at c.args.from a.id.0) (same_arrivals c.in_ok-grow.ensures.settled c.in_ok-grow.ensures.newest)
     ∙ arrives.new up
 
@@ -37,12 +37,12 @@ returns-clause-step g c =
     let h : State = held c.self.inside.most c.self.inside.clock.0 c.self.inside.awaits c.self.inside.ids c.self.inside.lists in
     let at : ℕ = c.later.result.0 in
     let a = c.judge-arriving.result in
-    let shows = c.read-datagram.ensures.shows in
+    let shows = c.read-datagram.ensures in
     let judged = c.judge-arriving.ensures h refl refl refl (sym c.would_give-free.ensures) in
     received h c.args.now.0 c.args.from c.args.bytes.now a at (search rules) c.args.self.now.state _
     (arrivals_in c.take_in-mark.new.lists.entries) (open_now c.take_in-mark.new.lists.sendings.items)
     (option_to_list c.in_ok-sent.sent) c.take_in-mark.new.lists.waiting.items _
-    (ap (λ s. s.state) c.self.view_is) c.read-datagram.ensures.bytes
+    (ap (λ s. s.state) c.self.view_is)
     (subst (λ x. IsArriving h at c.args.from x a) shows judged.0)
     (ap Becomes (c.told.ensures ∙ (judged.1 ∙ ap (answer_to h at c.args.from) shows)))
     (c.take_in-mark.ensures.arrived ∙ ap (λ es. filter (is_live at)
@@ -63,7 +63,7 @@ returns-in_err-sent-clause-quiet g c quiet =
     let a = c.judge-arriving.result in
     let judged = c.judge-arriving.ensures h refl refl refl (sym c.would_give-free.ensures) in
     let arrives : IsArriving h at c.args.from (arrival_at c.args.bytes.now) a =
-    subst (λ x. IsArriving h at c.args.from x a) c.read-datagram.ensures.shows judged.0 in
+    subst (λ x. IsArriving h at c.args.from x a) c.read-datagram.ensures judged.0 in
     let none = quiet_so h c.args.now.0 c.args.from c.args.bytes.now a at c.args.self.now.state (search rules)
     (ap (λ s. s.state) c.self.view_is) arrives quiet in
     absurd (cc (c.in_err-sent.ensures.silent none.2))
@@ -75,7 +75,7 @@ returns-in_err-grow-clause-quiet g c quiet =
     let a = c.judge-arriving.result in
     let judged = c.judge-arriving.ensures h refl refl refl (sym c.would_give-free.ensures) in
     let arrives : IsArriving h at c.args.from (arrival_at c.args.bytes.now) a =
-    subst (λ x. IsArriving h at c.args.from x a) c.read-datagram.ensures.shows judged.0 in
+    subst (λ x. IsArriving h at c.args.from x a) c.read-datagram.ensures judged.0 in
     let none = quiet_so h c.args.now.0 c.args.from c.args.bytes.now a at c.args.self.now.state (search rules)
     (ap (λ s. s.state) c.self.view_is) arrives quiet in
     let unsent : c.is_some.result ≡ false = c.is_some.ensures
@@ -107,7 +107,7 @@ returns-clause-may_reply g c m up =
     let h : State = held c.self.inside.most c.self.inside.clock.0 c.self.inside.awaits c.self.inside.ids c.self.inside.lists in
     let at : ℕ = c.later.result.0 in
     let a = c.judge-arriving.result in
-    let shows = c.read-datagram.ensures.shows in
+    let shows = c.read-datagram.ensures in
     let judged = c.judge-arriving.ensures h refl refl refl (sym c.would_give-free.ensures) in
     let arrives : IsArriving h at c.args.from (arrival_at c.args.bytes.now) a =
     subst (λ x. IsArriving h at c.args.from x a) shows judged.0 in

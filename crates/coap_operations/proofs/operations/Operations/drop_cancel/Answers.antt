@@ -2,7 +2,8 @@ use Rattle.std.proofs.Common.{not, filter, ap, sym, subst, refl, ◌∙◌}
 use Rattle.slab.specs.Slab.{get}
 use Rattle.coap_operations.specs.Keys.{EachOnce, queue_of}
 use Rattle.coap_operations.specs.Listed.{Listed, is_cancel}
-use Rattle.coap_operations.proofs.KeyLemmas.{drop_queued, dropped_once, listed_is}
+use Rattle.coap_operations.proofs.KeyChanges.{listed_is}
+use Rattle.coap_operations.proofs.KeyLists.{drop_queued, dropped_once}
 use Rattle.coap_operations.proofs.operations.Operations.drop_cancel.Goals as goal
 
 pub invariant_of-self : goal.invariant_of-self

@@ -2,8 +2,8 @@ use Rattle.std.proofs.Common.{◌≡◌, ◌-◌, ◌++◌, [], ◌∷◌, lengt
 use Rattle.slab.specs.Slab.{get, slab_len}
 use Rattle.coap_operations.specs.Keys.{EachOnce, live_of, queue_of, running_of}
 use Rattle.coap_operations.specs.Listed.{Listed}
-use Rattle.coap_operations.proofs.KeyLemmas.{listed_is, living_len, observed_live, observed_once, observed_queue}
-use Rattle.coap_operations.proofs.KeyLemmas.{observed_running}
+use Rattle.coap_operations.proofs.KeyChanges.{listed_is, observed_live, observed_once, observed_queue, observed_running}
+use Rattle.coap_operations.proofs.KeyLists.{living_len}
 use Rattle.coap_operations.proofs.operations.Operations.go_live.Goals as goal
 
 pub push_reserved-requires : goal.push_reserved-requires

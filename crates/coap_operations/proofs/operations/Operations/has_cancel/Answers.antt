@@ -3,7 +3,7 @@ use Rattle.std.specs.List.{list_any}
 use Rattle.slab.specs.Slab.{get}
 use Rattle.coap_operations.specs.Keys.{is_cancel_key}
 use Rattle.coap_operations.specs.Listed.{Listed, is_cancel}
-use Rattle.coap_operations.proofs.KeyLemmas.{has_queued}
+use Rattle.coap_operations.proofs.KeyLists.{has_queued}
 use Rattle.coap_operations.proofs.operations.Operations.has_cancel.Goals as goal
 
 pub returns : goal.returns

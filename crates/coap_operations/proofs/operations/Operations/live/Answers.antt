@@ -3,7 +3,7 @@ use Rattle.std.proofs.lemmas.Bool.{ltb-false, ltb-true}
 use Rattle.std.proofs.lemmas.Option.{slice_get_past, slice_get_read}
 use Rattle.slab.specs.Slab.{get}
 use Rattle.coap_operations.specs.Listed.{Listed}
-use Rattle.coap_operations.proofs.KeyLemmas.{living_at, look_live}
+use Rattle.coap_operations.proofs.KeyLists.{living_at, look_live}
 use Rattle.coap_operations.proofs.operations.Operations.live.Goals as goal
 
 pub returns-in_err-get : goal.returns-in_err-get

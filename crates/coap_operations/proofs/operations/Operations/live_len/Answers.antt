@@ -1,7 +1,7 @@
 use Rattle.std.proofs.Common.{length, ap, arith}
 use Rattle.slab.specs.Slab.{get}
 use Rattle.coap_operations.specs.Listed.{Listed}
-use Rattle.coap_operations.proofs.KeyLemmas.{living_len}
+use Rattle.coap_operations.proofs.KeyLists.{living_len}
 use Rattle.coap_operations.proofs.operations.Operations.live_len.Goals as goal
 
 pub returns : goal.returns

@@ -9,8 +9,9 @@ use Rattle.slab.specs.Slab.{with_value}
 use Rattle.slab.proofs.SlabLemmas.{Updates-with_value}
 use Rattle.coap_operations.specs.declared.entry.Entry.TheVariants.{Observation}
 use Rattle.coap_operations.specs.Keys.{observation_in}
-use Rattle.coap_operations.proofs.KeyLemmas.{listed, listed_is, living_at, living_len, live_there, look_live}
-use Rattle.coap_operations.proofs.KeyLemmas.{same_queue, same_running, set_count, set_live}
+use Rattle.coap_operations.proofs.KeyChanges.{listed, listed_is, live_there, same_queue, same_running, set_count}
+use Rattle.coap_operations.proofs.KeyChanges.{set_live}
+use Rattle.coap_operations.proofs.KeyLists.{living_at, living_len, look_live}
 use Rattle.coap_operations.proofs.operations.Operations.live_mut.Goals as goal
 
 pub index-key-requires : goal.index-key-requires

@@ -3,7 +3,8 @@ use Rattle.slab.specs.Slab.{get, slab_len}
 use Rattle.coap_operations.specs.declared.queued.Queued.TheVariants as queued
 use Rattle.coap_operations.specs.Keys.{EachOnce, queue_of}
 use Rattle.coap_operations.specs.Listed.{Listed}
-use Rattle.coap_operations.proofs.KeyLemmas.{listed_is, new_live, new_running, pushed_once, pushed_queue, waiting_len}
+use Rattle.coap_operations.proofs.KeyChanges.{listed_is, new_live, new_running, pushed_once, pushed_queue}
+use Rattle.coap_operations.proofs.KeyLists.{waiting_len}
 use Rattle.coap_operations.proofs.operations.Operations.push.Goals as goal
 
 pub push-requires : goal.push-requires

@@ -3,7 +3,8 @@ use Rattle.slab.specs.Slab.{get}
 use Rattle.coap_operations.specs.declared.queued.Queued.TheVariants as queued
 use Rattle.coap_operations.specs.Keys.{EachOnce, queue_of}
 use Rattle.coap_operations.specs.Listed.{Listed}
-use Rattle.coap_operations.proofs.KeyLemmas.{cancel_once, cancel_queued, listed_is, waiting_len}
+use Rattle.coap_operations.proofs.KeyChanges.{listed_is}
+use Rattle.coap_operations.proofs.KeyLists.{cancel_once, cancel_queued, waiting_len}
 use Rattle.coap_operations.proofs.operations.Operations.push_cancel.Goals as goal
 
 pub push-requires : goal.push-requires

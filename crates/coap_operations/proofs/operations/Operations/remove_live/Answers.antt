@@ -3,8 +3,8 @@ use Rattle.std.proofs.lemmas.Option.{slice_get_read}
 use Rattle.slab.specs.Slab.{get, slab_len}
 use Rattle.coap_operations.specs.Keys.{EachOnce, live_of, queue_of, running_of}
 use Rattle.coap_operations.specs.Listed.{Listed}
-use Rattle.coap_operations.proofs.KeyLemmas.{listed_is, living_len, removed_live, removed_once, same_queue}
-use Rattle.coap_operations.proofs.KeyLemmas.{same_running}
+use Rattle.coap_operations.proofs.KeyChanges.{listed_is, removed_live, removed_once, same_queue, same_running}
+use Rattle.coap_operations.proofs.KeyLists.{living_len}
 use Rattle.coap_operations.proofs.operations.Operations.remove_live.Goals as goal
 
 pub remove-key-requires : goal.remove-key-requires

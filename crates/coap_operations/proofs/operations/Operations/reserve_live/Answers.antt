@@ -1,6 +1,6 @@
 use Rattle.std.proofs.Common.{length, ap, rules}
 use Rattle.slab.specs.Slab.{get}
-use Rattle.coap_operations.proofs.KeyLemmas.{living_len}
+use Rattle.coap_operations.proofs.KeyLists.{living_len}
 use Rattle.coap_operations.proofs.operations.Operations.reserve_live.Goals as goal
 
 pub returns-clause-room : goal.returns-clause-room

@@ -2,7 +2,7 @@ use Rattle.std.proofs.Common.{◌-◌, Some, ap, ◌∙◌}
 use Rattle.slab.specs.Slab.{get, slab_len}
 use Rattle.coap_operations.specs.declared.running.Running.TheVariants as running
 use Rattle.coap_operations.specs.Listed.{Listed}
-use Rattle.coap_operations.proofs.KeyLemmas.{listed_is, new_live, new_queue, started_is}
+use Rattle.coap_operations.proofs.KeyChanges.{listed_is, new_live, new_queue, started_is}
 use Rattle.coap_operations.proofs.operations.Operations.run.Goals as goal
 
 pub returns : goal.returns

@@ -3,7 +3,7 @@ use Rattle.slab.specs.Slab.{get, slab_len}
 use Rattle.coap_operations.specs.declared.running.Running.TheVariants as running
 use Rattle.coap_operations.specs.Keys.{EachOnce, running_of}
 use Rattle.coap_operations.specs.Listed.{Listed}
-use Rattle.coap_operations.proofs.KeyLemmas.{left_live, left_queue, listed_is}
+use Rattle.coap_operations.proofs.KeyChanges.{left_live, left_queue, listed_is}
 use Rattle.coap_operations.specs.declared.entry.Entry.TheVariants.{Operation}
 use Rattle.coap_operations.proofs.operations.Operations.take_running.Goals as goal
 

@@ -4,7 +4,7 @@ use Rattle.std.proofs.lemmas.Option.{slice_get_past, slice_get_read}
 use Rattle.slab.specs.Slab.{get}
 use Rattle.coap_operations.specs.Listed.{Listed, queued_map}
 use Rattle.coap_operations.specs.declared.queued.Queued.TheVariants.{Starts}
-use Rattle.coap_operations.proofs.KeyLemmas.{look, waiting_at}
+use Rattle.coap_operations.proofs.KeyLists.{look, waiting_at}
 use Rattle.coap_operations.proofs.operations.Operations.waiting.Goals as goal
 
 pub returns-in_err-number : goal.returns-in_err-number

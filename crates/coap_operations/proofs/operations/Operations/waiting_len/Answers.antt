@@ -1,7 +1,7 @@
 use Rattle.std.proofs.Common.{length, ap, ◌∙◌}
 use Rattle.slab.specs.Slab.{get}
 use Rattle.coap_operations.specs.Listed.{Listed}
-use Rattle.coap_operations.proofs.KeyLemmas.{waiting_len}
+use Rattle.coap_operations.proofs.KeyLists.{waiting_len}
 use Rattle.coap_operations.proofs.operations.Operations.waiting_len.Goals as goal
 
 pub returns-clause-len : goal.returns-clause-len

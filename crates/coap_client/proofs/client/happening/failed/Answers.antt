@@ -1,7 +1,0 @@
-use Rattle.coap_client.specs.Object.Held.{own_of}
-use Rattle.coap_client.proofs.Calls.Happening.{failed_happens}
-use Rattle.coap_client.proofs.client.happening.failed.Goals as goal
-
-pub returns-clause-happens : goal.returns-clause-happens
-returns-clause-happens g c at word = failed_happens _ _
-    (own_of c.args.held.now) _ _ at word c.fail.ensures.deed c.fail.ensures.own

@@ -1,8 +1,0 @@
-use Rattle.std.proofs.Common.{refl}
-use Rattle.coap_client.specs.Object.Held.{own_of}
-use Rattle.coap_client.proofs.Calls.Happening.{nothing_comes}
-use Rattle.coap_client.proofs.client.happening.happen.Goals as goal
-
-pub returns-in_default-clause-happens : goal.returns-in_default-clause-happens
-returns-in_default-clause-happens g c = nothing_comes
-    (own_of c.args.held.now) _ c.args.asker.now.state c.args.at.0 c.args.word c.args.event c.in_default.is refl

@@ -1,5 +1,0 @@
-use Rattle.std.proofs.Common.{◌-◌, length}
-use Rattle.coap_client.proofs.client.starting.+to_fetch_from.Given as goal
-
-abbrev pub decreases-to_fetch_from : goal.decreases-to_fetch_from
-decreases-to_fetch_from g l = length l.operations.now.live - l.from

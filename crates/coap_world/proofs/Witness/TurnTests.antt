@@ -1,0 +1,262 @@
+-- Tests by which the turns of a run are legal, and go smoothly: each is computed from the turns before; and a run.
+use Rattle.std.proofs.Common.{◌≡◌, ◌⊎◌, ◌≤◌, ◌+◌, ◌^◌, inl, inr, ⊎_elim, ℕ, nat_le, nat_lt, eqb, Bool, true, false}
+use Rattle.std.proofs.Common.{◌&&◌, ◌||◌, not, List, [], ◌∷◌, length, ap, refl, map}
+use Rattle.std.proofs.lemmas.Bool.{and_parts, or_cases, eqb-true, ltb-true, leb-true, not-true}
+use Rattle.coap_types.specs.Past.{Ever, Sometime, Always, all_of}
+use Rattle.coap_types.specs.SameEndpoint.{same_endpoint}
+use Rattle.coap_types.proofs.Facts.Endpoints.{same_endpoint_is}
+use Rattle.coap_world.specs.Events.{client_end, server_end, What, TickClient, TickServer, Deliver, StrangerToClient}
+use Rattle.coap_world.specs.Events.{StrangerToServer, Config, Event}
+use Rattle.coap_world.specs.Legal.{max_delivery, NotBefore, MayCome, InRange, IsLegal, AllLegal, IsConfig}
+use Rattle.coap_world.specs.Record.{Given, Turn, given_in, client_of, server_trace, entries_of}
+use Rattle.coap_world.specs.Smooth.{max_age, WasDelivered, ComesInOrder, HasTicked, IsOfAnEnd, GoesSmoothly}
+use Rattle.coap_world.proofs.Witness.SmoothTurns.{IsLower, none_higher, none_late}
+use Rattle.coap_client.specs.Law.{ClientLaw}
+use Rattle.coap_server.specs.Law.{ServerLaw}
+use Rattle.coap_world.specs.LegalRuns.{Runs}
+use Rattle.coap_world.proofs.Witness.TurnsMade.{AllMade}
+
+-- legal turns
+
+abbrev to_an_end : Given → Bool
+to_an_end g = same_endpoint g.packet.to client_end || same_endpoint g.packet.to server_end
+
+is_to : (g : Given) → to_an_end g ≡ true → (g.packet.to ≡ client_end) ⊎ (g.packet.to ≡ server_end)
+is_to g e = ⊎_elim (λ c. inl (same_endpoint_is g.packet.to client_end c))
+    (λ s. inr (same_endpoint_is g.packet.to server_end s)) (or_cases _ _ e)
+
+-- the datagram of this number comes
+abbrev comes_of : ℕ → ℕ → List Given → Bool
+comes_of number at [] = false
+comes_of number at (g ∷ gs) =
+    (eqb (length gs) number && (to_an_end g && nat_le at (g.at + max_delivery))) || comes_of number at gs
+
+coming : (number at : ℕ) (gs : List Given) → comes_of number at gs ≡ true
+    → (g : Given) × Sometime (λ before h. (h ≡ g) × (length before ≡ number)) gs
+    × ((g.packet.to ≡ client_end) ⊎ (g.packet.to ≡ server_end)) × (at ≤ g.at + max_delivery)
+coming number at [] e = absurd (cc e)
+coming number at (g ∷ gs) e = ⊎_elim
+    (λ here. let n = and_parts _ _ here in let k = and_parts _ _ n.1 in
+    (g, inl (refl, eqb-true (length gs) number n.0), is_to g k.0, leb-true at (g.at + max_delivery) k.1))
+    (λ h. let k = coming number at gs h in (k.0, inr k.1, k.2, k.3)) (or_cases _ _ e)
+
+abbrev comes : List Turn → ℕ → What → Bool
+comes past at (Deliver number) = comes_of number at (all_of given_in past)
+comes past at (StrangerToClient from bytes) = false
+comes past at (StrangerToServer from bytes) = false
+comes past at _ = true
+
+may_come : (past : List Turn) (at : ℕ) (what : What) → comes past at what ≡ true → MayCome past at what
+may_come past at (Deliver number) e = coming number at (all_of given_in past) e
+may_come past at (StrangerToClient from bytes) e = absurd (cc e)
+may_come past at (StrangerToServer from bytes) e = absurd (cc e)
+may_come past at _ e = tt
+
+abbrev is_later : List Turn → ℕ → Bool
+is_later [] at = true
+is_later (turn ∷ past) at = nat_le turn.event.at at
+
+later : (past : List Turn) (at : ℕ) → is_later past at ≡ true → NotBefore past at
+later [] at e = tt
+later (turn ∷ past) at e = leb-true turn.event.at at e
+
+abbrev is_legal : List Turn → Turn → Bool
+is_legal past t = nat_lt t.event.at (2 ^ 64) && (nat_lt t.event.word (2 ^ 64)
+    && (is_later past t.event.at && comes past t.event.at t.event.what))
+
+legal : (past : List Turn) (t : Turn) → InRange t.event.what → is_legal past t ≡ true → IsLegal past t
+legal past t range e =
+    let at = and_parts _ _ e in
+    let word = and_parts _ _ at.1 in
+    let now = and_parts _ _ word.1 in
+    record {
+      at = ltb-true t.event.at (2 ^ 64) at.0;
+      word = ltb-true t.event.word (2 ^ 64) word.0;
+      range = range;
+      later = later past t.event.at now.0;
+      comes = may_come past t.event.at t.event.what now.1;
+    }
+
+-- what is left to be shown: that the numbers of a call, an observation and a change are in range
+abbrev Ranges : What → Type 0 → Type 0
+Ranges TickClient Rest = Rest
+Ranges TickServer Rest = Rest
+Ranges (Deliver number) Rest = Rest
+Ranges what Rest = InRange what × Rest
+
+ranges : (what : What) (Rest : Type 0) → Ranges what Rest → InRange what × Rest
+ranges TickClient Rest h = (tt, h)
+ranges TickServer Rest h = (tt, h)
+ranges (Deliver number) Rest h = (tt, h)
+ranges _ Rest h = h
+
+abbrev pub InRanges : List Turn → Type 0
+InRanges [] = Unit {0}
+InRanges (t ∷ past) = Ranges t.event.what (InRanges past)
+
+abbrev pub are_legal : List Turn → Bool
+are_legal [] = true
+are_legal (t ∷ past) = is_legal past t && are_legal past
+
+pub all_legal : (turns : List Turn) → InRanges turns → are_legal turns ≡ true → AllLegal turns
+all_legal [] h e = tt
+all_legal (t ∷ past) h e =
+    let r = ranges t.event.what (InRanges past) h in
+    let k = and_parts _ _ e in
+    (legal past t r.0 k.0, all_legal past r.1 k.1)
+
+-- smooth turns
+
+abbrev is_lower : ℕ → What → Bool
+is_lower n (Deliver m) = nat_lt m n
+is_lower n _ = true
+
+lower : (n : ℕ) (what : What) → is_lower n what ≡ true → IsLower n what
+lower n (Deliver m) e = ltb-true m n e
+lower n _ e = tt
+
+abbrev are_lower : ℕ → List Turn → Bool
+are_lower n [] = true
+are_lower n (t ∷ past) = is_lower n t.event.what && are_lower n past
+
+all_lower : (n : ℕ) (past : List Turn) → are_lower n past ≡ true
+    → Always (λ before (t : Turn). IsLower n t.event.what) past
+all_lower n [] e = tt
+all_lower n (t ∷ past) e = let k = and_parts _ _ e in (lower n t.event.what k.0, all_lower n past k.1)
+
+abbrev is_in_order : List Turn → What → Bool
+is_in_order past (Deliver n) = are_lower n past
+is_in_order past _ = true
+
+in_order : (past : List Turn) (what : What) → is_in_order past what ≡ true → ComesInOrder past what
+in_order past (Deliver n) e = none_higher n past (all_lower n past e)
+in_order past _ e = tt
+
+abbrev is_delivery : ℕ → What → Bool
+is_delivery n (Deliver m) = eqb m n
+is_delivery n _ = false
+
+delivery : (n : ℕ) (what : What) → is_delivery n what ≡ true → what ≡ Deliver n
+delivery n (Deliver m) e = ap Deliver (eqb-true m n e)
+delivery n _ e = absurd (cc e)
+
+abbrev is_delivered : ℕ → List Turn → Bool
+is_delivered n [] = false
+is_delivered n (t ∷ past) = is_delivery n t.event.what || is_delivered n past
+
+delivered : (n : ℕ) (past : List Turn) → is_delivered n past ≡ true → WasDelivered n past
+delivered n [] e = absurd (cc e)
+delivered n (t ∷ past) e = ⊎_elim (λ h. inl (delivery n t.event.what h)) (λ h. inr (delivered n past h))
+    (or_cases _ _ e)
+
+abbrev are_in_time : List Turn → ℕ → List Given → Bool
+are_in_time past at [] = true
+are_in_time past at (g ∷ gs) =
+    (nat_le at (g.at + max_age) || is_delivered (length gs) past) && are_in_time past at gs
+
+in_time : (past : List Turn) (at : ℕ) (gs : List Given) → are_in_time past at gs ≡ true
+    → Always (λ before (g : Given). (at ≤ g.at + max_age) ⊎ WasDelivered (length before) past) gs
+in_time past at [] e = tt
+in_time past at (g ∷ gs) e =
+    let k = and_parts _ _ e in (
+      ⊎_elim (λ h. inl (leb-true at (g.at + max_age) h)) (λ h. inr (delivered (length gs) past h))
+          (or_cases _ _ k.0),
+      in_time past at gs k.1,
+    )
+
+abbrev ticks_client : What → Bool
+ticks_client TickClient = true
+ticks_client _ = false
+
+abbrev ticks_server : What → Bool
+ticks_server TickServer = true
+ticks_server _ = false
+
+is_client : (what : What) → ticks_client what ≡ true → what ≡ TickClient
+is_client TickClient e = refl
+is_client _ e = absurd (cc e)
+
+is_server : (what : What) → ticks_server what ≡ true → what ≡ TickServer
+is_server TickServer e = refl
+is_server _ e = absurd (cc e)
+
+abbrev ticks_by : (What → Bool) → ℕ → List Turn → Bool
+ticks_by is at [] = false
+ticks_by is at (t ∷ past) = (is t.event.what && nat_le at (t.event.at + max_age)) || ticks_by is at past
+
+abbrev are_recent : ℕ → List Turn → Bool
+are_recent at [] = true
+are_recent at (t ∷ past) = nat_le at (t.event.at + max_age) && are_recent at past
+
+module _ (is : What → Bool) (tick : What) (sound : (what : What) → is what ≡ true → what ≡ tick) (at : ℕ) where
+  ticked : (past : List Turn) → ticks_by is at past ≡ true
+      → Ever (λ (t : Turn). (t.event.what ≡ tick) × (at ≤ t.event.at + max_age)) past
+  ticked [] e = absurd (cc e)
+  ticked (t ∷ past) e = ⊎_elim
+      (λ h. let k = and_parts _ _ h in inl (sound t.event.what k.0, leb-true at (t.event.at + max_age) k.1))
+      (λ h. inr (ticked past h)) (or_cases _ _ e)
+
+  recent : (past : List Turn) → are_recent at past ≡ true
+      → Always (λ before (t : Turn). at ≤ t.event.at + max_age) past
+  recent [] e = tt
+  recent (t ∷ past) e = let k = and_parts _ _ e in (leb-true at (t.event.at + max_age) k.0, recent past k.1)
+
+  has_ticked : (past : List Turn) → (ticks_by is at past || are_recent at past) ≡ true → HasTicked tick past at
+  has_ticked past e = ⊎_elim (λ h. inl (ticked past h)) (λ h. inr (recent past h)) (or_cases _ _ e)
+
+abbrev is_of_an_end : What → Bool
+is_of_an_end (StrangerToClient from bytes) = false
+is_of_an_end (StrangerToServer from bytes) = false
+is_of_an_end _ = true
+
+of_an_end : (what : What) → is_of_an_end what ≡ true → IsOfAnEnd what
+of_an_end (StrangerToClient from bytes) e = absurd (cc e)
+of_an_end (StrangerToServer from bytes) e = absurd (cc e)
+of_an_end _ e = tt
+
+abbrev is_smooth : List Turn → Turn → Bool
+is_smooth past t =
+    is_in_order past t.event.what && (are_in_time past t.event.at (all_of given_in past)
+    && ((ticks_by ticks_client t.event.at past || are_recent t.event.at past)
+    && ((ticks_by ticks_server t.event.at past || are_recent t.event.at past)
+    && (is_of_an_end t.event.what && not t.refused))))
+
+goes : (past : List Turn) (t : Turn) → is_smooth past t ≡ true → GoesSmoothly past t
+goes past t e =
+    let order = and_parts _ _ e in
+    let time = and_parts _ _ order.1 in
+    let client = and_parts _ _ time.1 in
+    let server = and_parts _ _ client.1 in
+    let rest = and_parts _ _ server.1 in
+    record {
+      in_order = in_order past t.event.what order.0;
+      in_time = none_late past t.event.at (in_time past t.event.at (all_of given_in past) time.0);
+      client_ticks = has_ticked ticks_client TickClient is_client t.event.at past client.0;
+      server_ticks = has_ticked ticks_server TickServer is_server t.event.at past server.0;
+      of_an_end = of_an_end t.event.what rest.0;
+      all_made = not-true t.refused rest.1;
+    }
+
+abbrev pub are_smooth : List Turn → Bool
+are_smooth [] = true
+are_smooth (t ∷ past) = is_smooth past t && are_smooth past
+
+pub all_smooth : (turns : List Turn) → are_smooth turns ≡ true → Always GoesSmoothly turns
+all_smooth [] e = tt
+all_smooth (t ∷ past) e = let k = and_parts _ _ e in (goes past t k.0, all_smooth past k.1)
+
+-- a run
+
+abbrev pub a_run : {config : Config} {events : List Event} {given : List Given} (turns : List Turn)
+    → map (λ (t : Turn). t.event) turns ≡ events → AllMade turns
+    → ClientLaw server_end config.client_sizes config.client_setup (client_of (entries_of turns))
+    → ServerLaw config.limits config.server_szx config.server_setup (server_trace config (entries_of turns))
+    → IsConfig config → InRanges turns → are_legal turns ≡ true → all_of given_in turns ≡ given
+    → Runs config events given
+a_run turns is made client server range ranges legal gives =
+    record {
+      turns = turns;
+      made = record { events_are = is; made = made; client = client; server = server };
+      legal = record { range = range; events = all_legal turns ranges legal };
+      gives = gives;
+    }
