@@ -1,7 +1,8 @@
 //! The program `coap`: a client and a server of CoAP (RFC 7252) on the command line.
 #![tactic(auto)]
 
-use coap_commands::{command, without_words};
+use coap_commands::{command_on, without_words};
+use std::io::IsTerminal;
 use std::process::ExitCode;
 use std::rt::Env;
 use std::{env, io};
@@ -14,8 +15,9 @@ fn arguments<R: Env + AllocGlobal>(rt: &R) -> io::Result<Vec<String>> {
 fn main(rt: HostRuntime) -> ExitCode {
     let mut out = io::writer(&rt);
     let mut err = rt.stderr();
+    let is_terminal = err.is_terminal();
     let status = match arguments(&rt) {
-        Ok(words) => command(&rt, words.as_slice(), &mut out, &mut err),
+        Ok(words) => command_on(&rt, words.as_slice(), is_terminal, &mut out, &mut err),
         Err(error) => without_words(&error, &mut err),
     };
     ExitCode::from(status)

@@ -1,8 +1,10 @@
 pub mod ObservedCalls
+pub mod PairCalls
 pub mod PathWords
 pub mod RightWords
 pub mod RunEnds
 pub mod ScriptWords
+pub mod ServedCalls
 pub mod SettingUpCalls
 pub mod Statuses
 pub mod TurnCalls

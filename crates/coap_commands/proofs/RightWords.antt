@@ -21,19 +21,19 @@ use Rattle.coap_words.proofs.Facts.SaidTexts.{same_length}
 use Rattle.coap_words.specs.declared.orders.Order.{Order}
 use Rattle.coap_words.specs.declared.orders.Order.TheVariants.{Show, Dump, Answer, Pair, Serve, Ask, Sim}
 use Rattle.coap_words.specs.declared.orders.ServeOptions.{ServeOptions}
-use Rattle.coap_words.specs.declared.orders.SettingRefusal.{SettingRefusal}
-use Rattle.coap_words.specs.declared.orders.SettingRefusal.TheVariants as setting
+use Rattle.coap_words.specs.declared.refusals.SettingRefusal.{SettingRefusal}
+use Rattle.coap_words.specs.declared.refusals.SettingRefusal.TheVariants as setting
 use Rattle.coap_words.specs.declared.orders.StoreKind.{StoreKind}
 use Rattle.std.specs.declared.net.ipv4_addr.Ipv4Addr.{Ipv4Addr}
 use Rattle.std.specs.Net.Grammar.{IsIpv4Text}
-use Rattle.coap_words.specs.declared.orders.AddressRefusal.{AddressRefusal}
-use Rattle.coap_words.specs.declared.orders.AddressRefusal.TheVariants.{Host, Address as Own}
+use Rattle.coap_words.specs.declared.refusals.AddressRefusal.{AddressRefusal}
+use Rattle.coap_words.specs.declared.refusals.AddressRefusal.TheVariants.{Host, Address as Own}
 use Rattle.coap_words.specs.declared.orders.Content.{Content}
 use Rattle.coap_words.specs.declared.orders.Content.TheVariants as contents
-use Rattle.coap_words.specs.declared.orders.NumberRefusal.{NumberRefusal}
-use Rattle.coap_words.specs.declared.orders.NumberRefusal.TheVariants.{Port, Count, Limit, Remember, Format, Accept, Times, Seconds, GiveUp}
-use Rattle.coap_words.specs.declared.orders.TagsRefusal.{TagsRefusal}
-use Rattle.coap_words.specs.declared.orders.TagsRefusal.TheVariants.{Etag, IfMatch}
+use Rattle.coap_words.specs.declared.refusals.NumberRefusal.{NumberRefusal}
+use Rattle.coap_words.specs.declared.refusals.NumberRefusal.TheVariants.{Port, Count, Limit, Remember, Format, Accept, Times, Seconds, GiveUp}
+use Rattle.coap_words.specs.declared.refusals.TagsRefusal.{TagsRefusal}
+use Rattle.coap_words.specs.declared.refusals.TagsRefusal.TheVariants.{Etag, IfMatch}
 use Rattle.coap_words.specs.declared.orders.What.{What}
 use Rattle.coap_words.specs.declared.orders.What.TheVariants.{Get, Put, Post, Delete, Observe}
 use Rattle.coap_words.specs.declared.orders.WordChoice.{WordChoice}
@@ -71,7 +71,7 @@ has_path name v (Pair path body word limit remembered) takes h = (path, h.1, h.2
 has_path name v (Serve port count options) takes h =
     absurd (takes_none (codes "serve") name serve_asks_none refl refl h.0 takes)
 has_path name v (Ask port path what options) takes h = (path, h.2, h.3)
-has_path name v (Sim file store plains remembered) takes h = absurd (takes_none (codes "sim") name sim_asks_none refl refl h.0 takes)
+has_path name v (Sim file store plains remembered chart) takes h = absurd (takes_none (codes "sim") name sim_asks_none refl refl h.0 takes)
 
 -- who takes no plain paths
 pub plain_none : (known name : Text) → bytes_eq known (codes "sim") ≡ false → bytes_eq known (codes "serve") ≡ false
@@ -92,7 +92,7 @@ has_plains name v (Answer path body datagram) takes h = absurd (plain_none (code
 has_plains name v (Pair path body word limit remembered) takes h = absurd (plain_none (codes "pair") name refl refl h.0 takes)
 has_plains name v (Serve port count options) takes h = (options.plains.items, h.3.plains)
 has_plains name v (Ask port path what options) takes h = absurd (asks_no_plain name (what_asks name v what h.0) takes)
-has_plains name v (Sim file store plains remembered) takes h = (plains.items, h.3)
+has_plains name v (Sim file store plains remembered chart) takes h = (plains.items, h.3)
 
 pub not_plains : (order : Order) (name : Text) (v : List Row) → AsksForIn name v order → IsWrongIn name v Plains → ⊥
 not_plains order name v asks (takes, many) =
@@ -169,22 +169,22 @@ has_number name v (Ask port path what options) Accept takes h = of_optional v Ac
 has_number name v (Ask port path what options) Times takes h = of_optional v Times options.times h.4.times
 has_number name v (Ask port path what options) Seconds takes h = of_optional v Seconds options.seconds h.4.seconds
 has_number name v (Ask port path what options) GiveUp takes h = of_optional v GiveUp options.give_up h.4.give_up
-has_number name v (Sim file store plains remembered) Remember takes h = of_remembered v remembered h.4
-has_number name v (Sim file store plains remembered) Port takes h =
+has_number name v (Sim file store plains remembered chart) Remember takes h = of_remembered v remembered h.4
+has_number name v (Sim file store plains remembered chart) Port takes h =
     absurd (counts_none (codes "sim") name Port sim_asks_none refl refl (λ e. cc e) h.0 takes)
-has_number name v (Sim file store plains remembered) Count takes h =
+has_number name v (Sim file store plains remembered chart) Count takes h =
     absurd (counts_none (codes "sim") name Count sim_asks_none refl refl (λ e. cc e) h.0 takes)
-has_number name v (Sim file store plains remembered) Limit takes h =
+has_number name v (Sim file store plains remembered chart) Limit takes h =
     absurd (counts_none (codes "sim") name Limit sim_asks_none refl refl (λ e. cc e) h.0 takes)
-has_number name v (Sim file store plains remembered) Format takes h =
+has_number name v (Sim file store plains remembered chart) Format takes h =
     absurd (counts_none (codes "sim") name Format sim_asks_none refl refl (λ e. cc e) h.0 takes)
-has_number name v (Sim file store plains remembered) Accept takes h =
+has_number name v (Sim file store plains remembered chart) Accept takes h =
     absurd (counts_none (codes "sim") name Accept sim_asks_none refl refl (λ e. cc e) h.0 takes)
-has_number name v (Sim file store plains remembered) Times takes h =
+has_number name v (Sim file store plains remembered chart) Times takes h =
     absurd (counts_none (codes "sim") name Times sim_asks_none refl refl (λ e. cc e) h.0 takes)
-has_number name v (Sim file store plains remembered) Seconds takes h =
+has_number name v (Sim file store plains remembered chart) Seconds takes h =
     absurd (counts_none (codes "sim") name Seconds sim_asks_none refl refl (λ e. cc e) h.0 takes)
-has_number name v (Sim file store plains remembered) GiveUp takes h =
+has_number name v (Sim file store plains remembered chart) GiveUp takes h =
     absurd (counts_none (codes "sim") name GiveUp sim_asks_none refl refl (λ e. cc e) h.0 takes)
 
 pub number_or_not : (v : List Row) (why : NumberRefusal) → MayHave why v → HasNoNumber why v → ⊥
@@ -217,7 +217,7 @@ not_word (Answer path body datagram) name v h (takes, none) =
 not_word (Pair path body word limit remembered) name v h (takes, none) = word_or_not v _ word h.4 none
 not_word (Serve port count options) name v h (takes, none) = word_or_not v _ options.word h.3.word none
 not_word (Ask port path what options) name v h (takes, none) = word_or_not v _ options.word h.4.word none
-not_word (Sim file store plains remembered) name v h (takes, none) =
+not_word (Sim file store plains remembered chart) name v h (takes, none) =
     absurd (makes_none (codes "sim") name sim_asks_none refl refl h.0 takes)
 
 pub address_or_not : (v : List Row) (why : AddressRefusal) (address : Ipv4Addr) → HasAddress why v address
@@ -245,7 +245,7 @@ not_address (Ask port path what options) Host name v h (takes, none) =
     address_or_not v Host options.host h.4.host none
 not_address (Ask port path what options) Own name v h (takes, none) =
     absurd (asks_none (codes "serve") name serve_asks_none takes (what_asks name v what h.0))
-not_address (Sim file store plains remembered) why name v h (takes, none) =
+not_address (Sim file store plains remembered chart) why name v h (takes, none) =
     absurd (addresses_none (codes "sim") name why sim_asks_none refl h.0 takes)
 
 pub size_or_not : (v : List Row) (szx : ℕ) → HasSize v szx → HasNoSize v → ⊥
@@ -262,7 +262,7 @@ not_size (Pair path body word limit remembered) name v h (asks, none) = absurd (
 not_size (Serve port count options) name v h (asks, none) =
     absurd (asks_none (codes "serve") name serve_asks_none h.0 asks)
 not_size (Ask port path what options) name v h (asks, none) = size_or_not v options.size h.4.size none
-not_size (Sim file store plains remembered) name v h (asks, none) = absurd (asks_none (codes "sim") name sim_asks_none h.0 asks)
+not_size (Sim file store plains remembered chart) name v h (asks, none) = absurd (asks_none (codes "sim") name sim_asks_none h.0 asks)
 
 -- each text says something
 module _ {V : Type 0} (Says : Text → V → Type 0) where
@@ -298,7 +298,7 @@ not_tags (Serve port count options) why name v h (takes, none) =
 not_tags (Ask port path what options) Etag name v h (takes, none) = tags_or_not v Etag options.etags h.4.etags none
 not_tags (Ask port path what options) IfMatch name v h (takes, none) =
     tags_or_not v IfMatch options.if_match h.4.if_match none
-not_tags (Sim file store plains remembered) why name v h (takes, none) =
+not_tags (Sim file store plains remembered chart) why name v h (takes, none) =
     absurd (tags_none (codes "sim") name why sim_asks_none h.0 takes)
 
 pub setting_or_not : (v : List Row) (why : SettingRefusal) (options : ServeOptions) → HasServeOptions v options
@@ -322,7 +322,7 @@ has_settings name v (Pair path body word limit remembered) serves h =
 has_settings name v (Serve port count options) serves h = (options, h.3)
 has_settings name v (Ask port path what options) serves h =
     absurd (asks_none (codes "serve") name serve_asks_none serves (what_asks name v what h.0))
-has_settings name v (Sim file store plains remembered) serves h = absurd (differ (codes "sim") (codes "serve") name refl h.0 serves)
+has_settings name v (Sim file store plains remembered chart) serves h = absurd (differ (codes "sim") (codes "serve") name refl h.0 serves)
 
 pub not_setting : (order : Order) (why : SettingRefusal) (name : Text) (v : List Row) → AsksForIn name v order
     → IsWrongIn name v (Setting why) → ⊥
@@ -350,7 +350,7 @@ not_body (Answer path body datagram) name v h (sends, none) = sends_none (codes 
 not_body (Pair path body word limit remembered) name v h (sends, none) = sends_none (codes "pair") name refl refl h.0 sends
 not_body (Serve port count options) name v h (sends, none) = sends_none (codes "serve") name refl refl h.0 sends
 not_body (Ask port path what options) name v h (sends, none) = body_of_what v what name h.0 sends none
-not_body (Sim file store plains remembered) name v h (sends, none) = sends_none (codes "sim") name refl refl h.0 sends
+not_body (Sim file store plains remembered chart) name v h (sends, none) = sends_none (codes "sim") name refl refl h.0 sends
 
 pub store_or_not : (v : List Row) (store : StoreKind) → HasStore v store → HasNoStore v → ⊥
 store_or_not v store (inl none) q = absurd (cc (sym none.0 ∙ q.1))
@@ -365,7 +365,7 @@ has_store name v (Pair path body word limit remembered) sim h = absurd (differ (
 has_store name v (Serve port count options) sim h = absurd (differ (codes "serve") (codes "sim") name refl h.0 sim)
 has_store name v (Ask port path what options) sim h =
     absurd (asks_none (codes "sim") name sim_asks_none sim (what_asks name v what h.0))
-has_store name v (Sim file store plains remembered) sim h = (store, h.2)
+has_store name v (Sim file store plains remembered chart) sim h = (store, h.2)
 
 pub not_store : (order : Order) (name : Text) (v : List Row) → AsksForIn name v order → IsWrongIn name v Store → ⊥
 not_store order name v asks (sim, none) =
@@ -380,7 +380,7 @@ has_bytes name v (Answer path body datagram) h fine = (datagram.items, h.4)
 has_bytes name v (Pair path body word limit remembered) h fine = absurd (hexless (codes "pair") name v refl refl h.0 fine)
 has_bytes name v (Serve port count options) h fine = absurd (hexless (codes "serve") name v refl refl h.0 fine)
 has_bytes name v (Ask port path what options) h fine = absurd (asks_hexless name v (what_asks name v what h.0) fine)
-has_bytes name v (Sim file store plains remembered) h fine = absurd (hexless (codes "sim") name v refl refl h.0 fine)
+has_bytes name v (Sim file store plains remembered chart) h fine = absurd (hexless (codes "sim") name v refl refl h.0 fine)
 
 pub not_hex : (order : Order) (name : Text) (v : List Row) → AsksForIn name v order → IsWrongIn name v Hex → ⊥
 not_hex order name v asks (fine, none) =

@@ -10,6 +10,8 @@ use Rattle.coap_client.specs.declared.client.report.Report.TheVariants as report
 use Rattle.coap_commands.specs.Asked.{IsAsked, IsRequested, asked_method}
 use Rattle.coap_commands.specs.Asks.{changed_report, changed_status, got_report, got_status, status_after}
 use Rattle.coap_commands.specs.Observes.{observed_report, observed_status}
+use Rattle.coap_commands.specs.Pairs.{IsPaired}
+use Rattle.coap_commands.specs.Served.{IsServed}
 use Rattle.coap_commands.specs.declared.calling.Outcome.{Outcome}
 use Rattle.coap_commands.specs.declared.calling.Outcome.TheVariants as outcome
 use Rattle.coap_commands.specs.Statuses.{CarriesOut, Ends, IsAnswered, IsCarriedOut, IsCarriedTo, IsTold, ReadsText}
@@ -22,11 +24,14 @@ use Rattle.coap_commands.specs.declared.status.Stop.TheVariants as stop
 use Rattle.coap_words.specs.declared.orders.Order.{Order}
 use Rattle.coap_words.specs.declared.orders.Order.TheVariants.{Show, Dump, Answer, Pair, Serve, Ask, Sim}
 use Rattle.coap_words.specs.declared.orders.AskOptions.{AskOptions}
+use Rattle.coap_words.specs.declared.orders.ServeOptions.{ServeOptions}
+use Rattle.coap_words.specs.declared.orders.WordChoice.{WordChoice}
 use Rattle.coap_words.specs.declared.orders.What.{What}
 use Rattle.coap_words.specs.declared.orders.What.TheVariants.{Get, Put, Post, Delete, Observe}
 use Rattle.coap_words.specs.declared.orders.Wrong.{Wrong}
 use Rattle.coap_words.specs.declared.orders.Wrong.TheVariants.{Words, Path, Number, Word, Address, Size, Tags, Setting, Body, Store, Plains}
 use Rattle.coap_words.specs.declared.orders.Wrong.TheVariants.{Hex, Memory}
+use Rattle.coap_commands.proofs.PairCalls.{paired_carried}
 use Rattle.coap_commands.proofs.RightWords.{none_wrong, not_plains, not_path, not_number, not_word, not_address}
 use Rattle.coap_commands.proofs.RightWords.{not_size, not_tags, not_setting, not_body, not_store, not_hex}
 use Rattle.coap_commands.proofs.WhoTakes.{enters_one, differ, path_or_not, not_refused, sends_none, show_asks_none}
@@ -266,16 +271,31 @@ asked_carried : (ended : Result Status Stop) (port : ℕ) (path : List (List ℕ
 asked_carried (Ok s) port path what options h = asked_done s port path what options h
 asked_carried (Err stop) port path what options h = tt
 
+paired_done : (ended : Result Status Stop) (path : List (List ℕ)) (body : List ℕ) (word : WordChoice) (limit remembered : ℕ)
+    → IfOk ended (IsPaired path body word limit remembered) → IfOk ended IsCarriedOut
+paired_done (Ok s) path body word limit remembered h = paired_carried h.3
+paired_done (Err stop) path body word limit remembered h = tt
+
+served_ends : (s : Status) (count : ℕ) (options : ServeOptions) → IsServed count options s → IsCarriedOut s
+served_ends s count options (inl is) = inr is
+served_ends s count options (inr h) = inl h.0
+
+served_done : (ended : Result Status Stop) (count : ℕ) (options : ServeOptions) → IfOk ended (IsServed count options)
+    → IfOk ended IsCarriedOut
+served_done (Ok s) count options h = served_ends s count options h
+served_done (Err stop) count options h = tt
+
 -- an order that is carried out comes to 2 only where it reads a text
 text_only : (order : Order) (ended : Result Status Stop) → IfOk ended (CarriesOut order) → number ended ≡ 2
     → ReadsText order
 text_only (Show datagram) ended c h = absurd (carried_out ended c h)
 text_only Dump ended c h = tt
 text_only (Answer path body datagram) ended c h = absurd (carried_out ended c h)
-text_only (Pair path body word limit remembered) ended c h = absurd (carried_out ended c h)
-text_only (Serve port count options) ended c h = absurd (carried_out ended c h)
+text_only (Pair path body word limit remembered) ended c h =
+    absurd (carried_out ended (paired_done ended path body.now word limit remembered c) h)
+text_only (Serve port count options) ended c h = absurd (carried_out ended (served_done ended count options c) h)
 text_only (Ask port path what options) ended c h = absurd (carried_out ended (asked_carried ended port path what options c) h)
-text_only (Sim file store plains remembered) ended c h = tt
+text_only (Sim file store plains remembered chart) ended c h = tt
 
 -- 2 says that something is wrong in the words, or that they have a text read
 pub wrong_words : (words : List Text) (ended : Result Status Stop) → Ends words ended → number ended ≡ 2

@@ -115,3 +115,12 @@ client_turned like nothing waiting sends receives quiet_feed quiet_tick e l now 
     (λ old at word did new k. turned_by like old new (Ticks at word k.0 k.1 k.2 k.3 k.4 did)
     (nothing (Ticks at word k.0 k.1 k.2 k.3 k.4 did) tt) k.5)
     e l now t f m u h
+
+-- what is out is sent
+pub client_sent : {L : Type 0} (like : Call → Type 0) (nothing : (c : Call) → AsksNothing c → like c)
+    (sends : L → Endpoint → List ℕ → L → Type 0) (e : State) (l : L) (ps : List layer.Packet) (f : State) (m : L)
+    → SendsAll client_gives sends e l ps f m → Turned like e f
+client_sent like nothing sends e l [] f m h = turned_here like e f h.0
+client_sent like nothing sends e l (p ∷ ps) f m h =
+    turned_on like e h.0 f (turned_by like e h.0 (NextOut (Some p)) (nothing (NextOut (Some p)) tt) h.2)
+    (client_sent like nothing sends h.0 h.1 ps f m h.4)

@@ -13,12 +13,12 @@ use Rattle.coap_words.specs.Taking.{MakesEnd, TakesAddress, TakesNumber, TakesPa
 use Rattle.coap_words.specs.Values.{Enters, HasBytes, HasNoBytes, HasNoPath}
 use Rattle.coap_words.specs.Values.{HasPath, IsValue}
 use Rattle.coap_words.specs.Words.{IsPathFine, IsRefusedBy}
-use Rattle.coap_words.specs.declared.orders.AddressRefusal.{AddressRefusal}
-use Rattle.coap_words.specs.declared.orders.AddressRefusal.TheVariants.{Host, Address as Own}
-use Rattle.coap_words.specs.declared.orders.NumberRefusal.{NumberRefusal}
-use Rattle.coap_words.specs.declared.orders.NumberRefusal.TheVariants.{Port, Count, Limit, Remember, Format, Accept, Times, Seconds, GiveUp}
-use Rattle.coap_words.specs.declared.orders.TagsRefusal.{TagsRefusal}
-use Rattle.coap_words.specs.declared.orders.TagsRefusal.TheVariants.{Etag, IfMatch}
+use Rattle.coap_words.specs.declared.refusals.AddressRefusal.{AddressRefusal}
+use Rattle.coap_words.specs.declared.refusals.AddressRefusal.TheVariants.{Host, Address as Own}
+use Rattle.coap_words.specs.declared.refusals.NumberRefusal.{NumberRefusal}
+use Rattle.coap_words.specs.declared.refusals.NumberRefusal.TheVariants.{Port, Count, Limit, Remember, Format, Accept, Times, Seconds, GiveUp}
+use Rattle.coap_words.specs.declared.refusals.TagsRefusal.{TagsRefusal}
+use Rattle.coap_words.specs.declared.refusals.TagsRefusal.TheVariants.{Etag, IfMatch}
 use Rattle.coap_words.specs.declared.orders.What.{What}
 use Rattle.coap_words.specs.declared.orders.What.TheVariants.{Get, Put, Post, Delete, Observe}
 use Rattle.coap_types.specs.declared.path.PathRefusal.{PathRefusal}

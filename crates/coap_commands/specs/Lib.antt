@@ -4,9 +4,12 @@ pub mod Bearing
 pub mod Dumps
 pub mod Ends
 pub mod Observes
+pub mod Pairs
+pub mod Progress
 pub mod Script
 pub mod ScriptRefusals
 pub mod ScriptWords
+pub mod Served
 pub mod Serves
 pub mod SettingUp
 pub mod Sims

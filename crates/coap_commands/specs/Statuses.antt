@@ -4,13 +4,15 @@ use Rattle.clap.specs.Words.{Text}
 use Rattle.coap_words.specs.Words.{AsksFor, IsWrong}
 use Rattle.coap_world.specs.Events.{Event}
 use Rattle.coap_commands.specs.Asked.{IsAsked}
+use Rattle.coap_commands.specs.Pairs.{IsPaired}
+use Rattle.coap_commands.specs.Served.{IsServed}
 use Rattle.coap_commands.specs.Sims.{IsSim, sim_config}
 use Rattle.coap_commands.specs.declared.status.Status.{Status}
 use Rattle.coap_commands.specs.declared.status.Status.TheVariants as status
 use Rattle.coap_commands.specs.declared.status.Stop.{Stop}
 use Rattle.coap_commands.specs.declared.status.Stop.TheVariants as stop
 use Rattle.coap_words.specs.declared.orders.Order.{Order}
-use Rattle.coap_words.specs.declared.orders.Order.TheVariants.{Ask, Dump, Sim}
+use Rattle.coap_words.specs.declared.orders.Order.TheVariants.{Ask, Dump, Pair, Serve, Sim}
 use Rattle.coap_words.specs.declared.orders.Wrong.{Wrong}
 use Rattle.coap_words.specs.declared.orders.Wrong.TheVariants.{Words, Path, Number, Word, Address, Size, Tags, Setting, Body, Store, Plains}
 use Rattle.coap_words.specs.declared.orders.Wrong.TheVariants.{Hex, Memory}
@@ -38,15 +40,17 @@ IsOfScript s = (s ≡ status.Done) ⊎ ((s ≡ status.Refused) ⊎ (s ≡ status
 
 -- the order reads a text: a script, or lines of hex
 abbrev pub ReadsText : Order → Type 0
-ReadsText (Sim file store plains remembered) = ⊤
+ReadsText (Sim file store plains remembered chart) = ⊤
 ReadsText Dump = ⊤
 ReadsText _ = ⊥
 
 -- what this order comes to, carried out to its end
 abbrev pub CarriesOut : Order → Status → Type 0
-CarriesOut (Sim file store plains remembered) s =
+CarriesOut (Sim file store plains remembered chart) s =
     (events : List Event) × IsSim (sim_config remembered plains.items) events s
 CarriesOut Dump s = IsOfScript s
+CarriesOut (Pair path body word limit remembered) s = IsPaired path body.now word limit remembered s
+CarriesOut (Serve port count options) s = IsServed count options s
 CarriesOut (Ask port path what options) s = IsAsked port path what options s
 CarriesOut _ s = IsCarriedOut s
 

@@ -17,8 +17,11 @@ use crate::bearing::bear;
 use crate::calling::{Outcome, call, outcome_text};
 use crate::ends::fresh_client;
 use crate::observe::observe;
+use crate::patience::{Patience, PatientLink, patience_on};
+use crate::progress::progress_on;
 use crate::put_away::put_away;
 use crate::request::{body_of, request_of, server_of};
+use crate::screen::{BesideScreen, Screen, erase};
 use crate::status::{Status, Stop};
 use crate::timekeeper::{ProgramTime, Timekeeper};
 use crate::tracing::{SharedWriter, teller_on};
@@ -26,7 +29,7 @@ use crate::waiting::passed;
 use crate::word::word_of;
 use coap_ends::{CallId, Client, Report};
 use coap_layer::Setup;
-use coap_links::{Link, Trace, UdpLink, fresh_tally, get_turn, send_all};
+use coap_links::{Link, Teller, Trace, UdpLink, fresh_tally, get_turn, send_all};
 use coap_types::{BodyLimit, Endpoint, Method, Moment, Path, Request, Szx};
 use coap_words::{AskOptions, What};
 use std::alloc::Global;
@@ -220,10 +223,21 @@ pub fn ask_over<L: Link, T: Timekeeper, H: BuildHasher + Drop, O: Write, E: Writ
     ended
 }
 
-// The same, on a writer of its own.
-fn ask_on<L: Link, T: Timekeeper, H: BuildHasher + Drop, O: Write, E: Write + Drop>(
+// The same, beside a screen, over a link of its own: how far a body is, and a long wait, are told of.
+fn ask_on<
+    L: Link + Drop,
+    T: Timekeeper,
+    H: BuildHasher + Drop,
+    O: Write,
+    W: Write,
+    P: Teller + Drop,
+    U: Timekeeper + Drop,
+    V: Write + Drop,
+>(
     alloc: Global,
-    link: &mut L,
+    link: L,
+    progress: P,
+    patience: Option<Patience<U, V>>,
     server: Endpoint,
     time: &mut T,
     hasher: H,
@@ -233,14 +247,17 @@ fn ask_on<L: Link, T: Timekeeper, H: BuildHasher + Drop, O: Write, E: Write + Dr
     size: Szx,
     limit: BodyLimit,
     out: &mut O,
-    err: E,
+    screen: &RefCell<Screen<W>>,
 ) -> Result<Status, Stop>
     ensures { IfOk result (Asks server (client_sizes size limit) setup give_up (shown_request request)) }
 {
-    let mut err = err;
-    ask_over(
+    let link = Trace::new(link, progress);
+    let mut link = PatientLink::new(link, patience);
+    let mut out = BesideScreen::new(out, screen);
+    let mut err = SharedWriter::new(screen);
+    let ended = ask_over(
         alloc,
-        link,
+        &mut link,
         server,
         time,
         hasher,
@@ -249,17 +266,20 @@ fn ask_on<L: Link, T: Timekeeper, H: BuildHasher + Drop, O: Write, E: Write + Dr
         setup,
         size,
         limit,
-        (out, &mut err),
-    )
+        (&mut out, &mut err),
+    );
+    erase(screen);
+    ended
 }
 
-// Hands the server at this port of the host the request that the words say.
+// Hands the server at this port of the host the request that the words say. Standard error may be a terminal.
 fn request<R: AllocGlobal + Files + Net + Clock + RandomSource, O: Write, E: Write>(
     rt: &R,
     port: u16,
     path: &Path,
     what: What<'_>,
     options: &AskOptions,
+    is_terminal: bool,
     out: &mut O,
     err: &mut E,
 ) -> Result<Status, Stop>
@@ -267,17 +287,27 @@ fn request<R: AllocGlobal + Files + Net + Clock + RandomSource, O: Write, E: Wri
 {
     let word = word_of(rt, options.word)?;
     let body = body_of(rt, what, options.limit)?;
+    let body_len = body.len();
     let request = request_of(path, what, options, body)?;
     let mut time = ProgramTime::begin(rt)?;
     let server = server_of(port, options);
     let link = UdpLink::client(rt, server)?;
     let hasher = RandomState::new(rt)?;
-    let err = RefCell::new(&mut *err);
-    let teller = teller_on(rt.alloc(), time.again(), &err, options.trace);
-    let mut link = Trace::new(link, teller);
+    let screen = RefCell::new(Screen::new(&mut *err));
+    let teller = teller_on(rt.alloc(), time.again(), &screen, options.trace);
+    let link = Trace::new(link, teller);
+    let progress = progress_on(time.again(), &screen, server, body_len as u64, is_terminal);
+    let patience = patience_on(
+        time.again(),
+        SharedWriter::new(&screen),
+        options.give_up,
+        is_terminal || options.trace,
+    );
     ask_on(
         rt.alloc(),
-        &mut link,
+        link,
+        progress,
+        patience,
         server,
         &mut time,
         hasher,
@@ -290,27 +320,47 @@ fn request<R: AllocGlobal + Files + Net + Clock + RandomSource, O: Write, E: Wri
         options.size,
         options.limit,
         out,
-        SharedWriter::new(&err),
+        &screen,
     )
 }
 
-/// Asks the server at this port of the host for what the words say.
+/// Asks the server at this port of the host for what the words say; whether standard error is a terminal counts for what
+/// is said there of a long wait and of a body in blocks.
 pub(crate) fn ask<R: AllocGlobal + Files + Net + Clock + RandomSource, O: Write, E: Write>(
     rt: &R,
     port: u16,
     path: &Path,
     what: What<'_>,
     options: &AskOptions,
+    is_terminal: bool,
     out: &mut O,
     err: &mut E,
 ) -> Result<Status, Stop>
     ensures { IfOk result (IsAsked port path.now what.entry options.now) }
 {
     match what {
-        What::Get => request(rt, port, path, What::Get, options, out, err),
-        What::Put(content) => request(rt, port, path, What::Put(content), options, out, err),
-        What::Post(content) => request(rt, port, path, What::Post(content), options, out, err),
-        What::Delete => request(rt, port, path, What::Delete, options, out, err),
-        What::Observe => observe(rt, port, path, options, out, err),
+        What::Get => request(rt, port, path, What::Get, options, is_terminal, out, err),
+        What::Put(content) => request(
+            rt,
+            port,
+            path,
+            What::Put(content),
+            options,
+            is_terminal,
+            out,
+            err,
+        ),
+        What::Post(content) => request(
+            rt,
+            port,
+            path,
+            What::Post(content),
+            options,
+            is_terminal,
+            out,
+            err,
+        ),
+        What::Delete => request(rt, port, path, What::Delete, options, is_terminal, out, err),
+        What::Observe => observe(rt, port, path, options, is_terminal, out, err),
     }
 }

@@ -11,9 +11,9 @@ ghost use Rattle.coap_client.specs.Trace.{Call, Calls};
 ghost use Rattle.coap_commands.specs.Script.{plain_request};
 
 use crate::status::Stop;
-use crate::text::report_text;
 use bytes::Bytes;
 use coap_ends::{CallId, CallRefusal, Client, Report};
+use coap_text::report_text;
 use coap_types::{Method, Moment, Path, Request, Tags};
 use std::alloc::{AllocError, Allocator, Global};
 use std::hash::BuildHasher;

@@ -5,11 +5,11 @@ ghost use Rattle.coap_server.specs.Object.Shown.{applied_list};
 ghost use Rattle.coap_server.specs.Trace.{Applied as AppliedSpec};
 ghost use Rattle.coap_commands.specs.ToldChanges.{IsToldOnce, IsToldWhere};
 
-use crate::message_words::{code_name, write_segment};
 use crate::tracing::SharedWriter;
 use coap_ends::{Applied, End, Server};
 use coap_layer::Datagram;
 use coap_resource::Store;
+use coap_text::{PathWords, code_name};
 use coap_types::{Endpoint, Method, Moment, Path};
 use std::alloc::{AllocError, Allocator};
 use std::cell::RefCell;
@@ -44,30 +44,10 @@ impl<'a, A: Allocator + Copy> fmt::Display for ChangeWords<'a, A> {
         let at = self.at.0;
         let method = code_name(self.method.code()).unwrap_or("");
         let version = self.version;
-        write!(f, "{at} {method} ")?;
-        write_path(f, self.path)?;
-        write!(f, " v{version}")?;
+        let path = PathWords(self.path);
+        write!(f, "{at} {method} {path} v{version}")?;
         write_body(f, self.body)
     }
-}
-
-// The segments of a path, with a slash between two; a slash where there is none (RFC 7252, section 6.5).
-fn write_path<A: Allocator + Copy, W: fmt::Write>(
-    f: &mut fmt::Formatter<W>,
-    path: &Path<A>,
-) -> fmt::Result {
-    if path.is_empty() {
-        return f.write_str("/");
-    }
-    let mut is_first = true;
-    for segment in path.segments() {
-        if !is_first {
-            f.write_str("/")?;
-        }
-        is_first = false;
-        write_segment(f, segment.as_slice())?;
-    }
-    Ok(())
 }
 
 // The first bytes of a body, a space in front; nothing where there are none.

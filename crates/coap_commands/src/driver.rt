@@ -24,10 +24,11 @@ use std::net::Net;
 use std::random::RandomSource;
 use std::rt::{Clock, Files};
 
-// Carries an order out.
+// Carries an order out. Standard error may be a terminal.
 fn perform<R: AllocGlobal + Files + Net + Clock + RandomSource, O: Write, E: Write>(
     rt: &R,
     order: &Order<'_>,
+    is_terminal: bool,
     out: &mut O,
     err: &mut E,
 ) -> Result<Status, Stop>
@@ -59,13 +60,17 @@ fn perform<R: AllocGlobal + Files + Net + Clock + RandomSource, O: Write, E: Wri
             path,
             what,
             options,
-        } => ask(rt, *port, path, *what, options, out, err),
+        } => ask(rt, *port, path, *what, options, is_terminal, out, err),
         Order::Sim {
             file,
             store,
             plains,
             remembered,
-        } => sim(rt, file, *store, plains.as_slice(), *remembered, out),
+            chart,
+        } => {
+            let plains = plains.as_slice();
+            sim(rt, file, *store, plains, *remembered, *chart, out)
+        }
     }
 }
 
@@ -97,10 +102,11 @@ pub fn refuse<O: Write, E: Write>(wrong: Wrong, out: &mut O, err: &mut E) -> Res
     }
 }
 
-// Runs the words.
+// Runs the words. Standard error may be a terminal.
 fn run<R: AllocGlobal + Files + Net + Clock + RandomSource, O: Write, E: Write>(
     rt: &R,
     words: &[String],
+    is_terminal: bool,
     out: &mut O,
     err: &mut E,
 ) -> Result<Status, Stop>
@@ -108,7 +114,7 @@ fn run<R: AllocGlobal + Files + Net + Clock + RandomSource, O: Write, E: Write>(
 {
     match order(rt.alloc(), words) {
         Ok(order) => {
-            let ended = perform(rt, &order, out, err);
+            let ended = perform(rt, &order, is_terminal, out, err);
             put_away(order);
             ended
         }
@@ -153,7 +159,30 @@ pub fn command<R: AllocGlobal + Files + Net + Clock + RandomSource, O: Write, E:
     ensures done { result ≤ 1 → (order : Order) × AsksFor (map string_bytes words.now) order
         × IsCarriedTo order result }
 {
-    let ended = run(rt, words, out, err);
+    command_on(rt, words, false, out, err)
+}
+
+/// The same where standard error may be a terminal, on which a person reads it at once: there it says, too, where nothing
+/// comes for long. That changes nothing of what is printed, nor the exit status.
+pub fn command_on<R: AllocGlobal + Files + Net + Clock + RandomSource, O: Write, E: Write>(
+    rt: &R,
+    words: &[String],
+    is_terminal: bool,
+    out: &mut O,
+    err: &mut E,
+) -> u8
+    // Where standard error may be a terminal, no status is over 4 either.
+    ensures most { result ≤ 4 }
+    // On a terminal, too, wrong words are answered with 2, unless that can't be told ..
+    ensures wrong { (wrong : Wrong) → IsWrong (map string_bytes words.now) wrong → IsAnswered wrong result }
+    // .. and on one, too, only these are, and a script that can't be read, or a line of standard input that is no hex.
+    ensures words { result ≡ 2 → ((wrong : Wrong) × IsWrong (map string_bytes words.now) wrong
+        × (wrong ≢ wrongs.Memory)) ⊎ ((order : Order) × AsksFor (map string_bytes words.now) order × ReadsText order) }
+    // Whether standard error is a terminal counts for no order: one is carried out only where the words ask for it, and to that end.
+    ensures done { result ≤ 1 → (order : Order) × AsksFor (map string_bytes words.now) order
+        × IsCarriedTo order result }
+{
+    let ended = run(rt, words, is_terminal, out, err);
     close(ended, err).number()
 }
 

@@ -9,7 +9,7 @@ ghost use Rattle.coap_server.specs.Led.{Led};
 ghost use Rattle.coap_layer.specs.declared.setup.Setup.{Setup as SetupSpec};
 ghost use Rattle.coap_server.specs.Trace.{Call, Sets};
 ghost use Rattle.coap_commands.specs.Ends.{client_sizes, server_limits};
-ghost use Rattle.coap_commands.specs.Statuses.{IsCarriedOut};
+ghost use Rattle.coap_commands.specs.declared.status.Status.TheVariants.{Refused};
 
 use crate::status::{Status, Stop};
 use coap_ends::{Client, Server};
@@ -90,7 +90,7 @@ pub fn hold<H: BuildHasher + Drop>(
 
 /// Prints why a server does not hold what it was to hold.
 pub(crate) fn tell_refusal<W: Write>(refusal: StoreRefusal, out: &mut W) -> Result<Status, Stop>
-    ensures { IfOk result IsCarriedOut }
+    ensures { IfOk result (λ status. status ≡ Refused) }
 {
     let number = refusal.number();
     writeln!(out, "refused {number}")?;

@@ -13,11 +13,13 @@ mod changes;
 mod driver;
 mod dump;
 mod ends;
-mod message_words;
 mod observe;
 mod pair;
+mod patience;
+mod progress;
 mod put_away;
 mod request;
+mod screen;
 mod script;
 mod serve;
 mod setting_up;
@@ -25,8 +27,6 @@ mod show;
 mod side;
 mod sim;
 mod status;
-mod telling;
-mod text;
 mod timekeeper;
 mod tracing;
 mod waiting;
@@ -37,13 +37,17 @@ pub use calling::{Outcome, call, get_request, put_request};
 pub use changes::{
     Applies, ChangeLines, ChangeTeller, ChangeWords, MAX_TOLD_LEN, TellingEnd, changes_on,
 };
-pub use driver::{close, command, refuse, without_words};
+pub use driver::{close, command, command_on, refuse, without_words};
 pub use dump::{dump_line, dump_to};
 pub use ends::{fresh_client, fresh_server, hold, largest_szx};
-pub use message_words::{DatagramWords, FaultWords};
 pub use observe::observe_over;
 pub use pair::pair_over;
+pub use patience::{
+    LONG_WAIT, MAX_TRANSMIT_WAIT, Patience, PatientLink, latest_end, patience_on, patient_link_law,
+};
+pub use progress::{Progress, ProgressTeller, SHOWN_MS, progress_of, progress_on};
 pub use request::{body_of, request_of};
+pub use screen::{BesideScreen, Screen, erase};
 pub use script::{ScriptRefusal, events_of};
 pub use serve::serve_over;
 pub use setting_up::{hold_resource, server_by, set_up};

@@ -19,17 +19,20 @@ use crate::ask::next_report_of;
 use crate::bearing::bear;
 use crate::calling::{Outcome, outcome_text};
 use crate::ends::fresh_client;
+use crate::patience::{Patience, PatientLink, patience_on};
+use crate::progress::progress_on;
 use crate::put_away::put_away;
 use crate::request::server_of;
+use crate::screen::{BesideScreen, Screen, erase};
 use crate::status::{Status, Stop};
-use crate::text::hex_or_dash;
 use crate::timekeeper::{ProgramTime, Timekeeper};
 use crate::tracing::{SharedWriter, teller_on};
 use crate::waiting::{MS_PER_SECOND, passed};
 use crate::word::word_of;
 use coap_ends::{CallId, CallRefusal, Client, Report};
 use coap_layer::Setup;
-use coap_links::{Link, Trace, UdpLink, fresh_tally, get_turn, send_all};
+use coap_links::{Link, Teller, Trace, UdpLink, fresh_tally, get_turn, send_all};
+use coap_text::hex_or_dash;
 use coap_types::{Endpoint, Moment, Path};
 use coap_words::AskOptions;
 use std::alloc::Global;
@@ -302,10 +305,21 @@ pub fn observe_over<L: Link, T: Timekeeper, H: BuildHasher + Drop, O: Write, E: 
     ended
 }
 
-// The same, on a writer of its own.
-fn observe_on<L: Link, T: Timekeeper, H: BuildHasher + Drop, O: Write, E: Write + Drop>(
+// The same, beside a screen, over a link of its own: how far a body is, and a long wait, are told of.
+fn observe_on<
+    L: Link + Drop,
+    T: Timekeeper,
+    H: BuildHasher + Drop,
+    O: Write,
+    W: Write,
+    P: Teller + Drop,
+    U: Timekeeper + Drop,
+    V: Write + Drop,
+>(
     alloc: Global,
-    link: &mut L,
+    link: L,
+    progress: P,
+    patience: Option<Patience<U, V>>,
     server: Endpoint,
     time: &mut T,
     hasher: H,
@@ -313,31 +327,38 @@ fn observe_on<L: Link, T: Timekeeper, H: BuildHasher + Drop, O: Write, E: Write 
     options: &AskOptions,
     word: u64,
     out: &mut O,
-    err: E,
+    screen: &RefCell<Screen<W>>,
 ) -> Result<Status, Stop>
     ensures { IfOk result (Observes server (client_sizes options.now.size options.now.limit)
         (asked_setup word options.now) path.now options.now) }
 {
-    let mut err = err;
-    observe_over(
+    let link = Trace::new(link, progress);
+    let mut link = PatientLink::new(link, patience);
+    let mut out = BesideScreen::new(out, screen);
+    let mut err = SharedWriter::new(screen);
+    let ended = observe_over(
         alloc,
-        link,
+        &mut link,
         server,
         time,
         hasher,
         path,
         options,
         word,
-        (out, &mut err),
-    )
+        (&mut out, &mut err),
+    );
+    erase(screen);
+    ended
 }
 
-/// Observes what the server at this port of the host holds at a path.
+/// Observes what the server at this port of the host holds at a path; whether standard error is a terminal counts for
+/// what is said there of a long wait and of a body in blocks.
 pub(crate) fn observe<R: AllocGlobal + Net + Clock + RandomSource, O: Write, E: Write>(
     rt: &R,
     port: u16,
     path: &Path,
     options: &AskOptions,
+    is_terminal: bool,
     out: &mut O,
     err: &mut E,
 ) -> Result<Status, Stop>
@@ -348,12 +369,21 @@ pub(crate) fn observe<R: AllocGlobal + Net + Clock + RandomSource, O: Write, E: 
     let server = server_of(port, options);
     let link = UdpLink::client(rt, server)?;
     let hasher = RandomState::new(rt)?;
-    let err = RefCell::new(&mut *err);
-    let teller = teller_on(rt.alloc(), time.again(), &err, options.trace);
-    let mut link = Trace::new(link, teller);
+    let screen = RefCell::new(Screen::new(&mut *err));
+    let teller = teller_on(rt.alloc(), time.again(), &screen, options.trace);
+    let link = Trace::new(link, teller);
+    let progress = progress_on(time.again(), &screen, server, 0, is_terminal);
+    let patience = patience_on(
+        time.again(),
+        SharedWriter::new(&screen),
+        options.give_up,
+        is_terminal || options.trace,
+    );
     observe_on(
         rt.alloc(),
-        &mut link,
+        link,
+        progress,
+        patience,
         server,
         &mut time,
         hasher,
@@ -361,6 +391,6 @@ pub(crate) fn observe<R: AllocGlobal + Net + Clock + RandomSource, O: Write, E: 
         options,
         word,
         out,
-        SharedWriter::new(&err),
+        &screen,
     )
 }

@@ -1,6 +1,20 @@
-ghost use Rattle.std.specs.Prelude.{◌≡◌, IfOk};
+ghost use Rattle.std.specs.Prelude.{◌≡◌, List, [], true, false, IfOk};
+ghost use Rattle.coap_types.specs.declared.endpoint.Endpoint.{Endpoint as EndpointSpec};
+ghost use Rattle.coap_types.specs.declared.szx.TheConstants.{MAX_SZX as max_szx};
+ghost use Rattle.coap_block.specs.Sizes.{Sizes};
+ghost use Rattle.coap_layer.specs.declared.setup.Setup.{Setup as SetupSpec};
+ghost use Rattle.coap_client.specs.Led.{Led, State, Step};
+ghost use Rattle.coap_client.specs.Object.CallShown.{shown_request};
+ghost use Rattle.coap_client.specs.Object.Shown.{shown_report};
+ghost use Rattle.coap_client.specs.Trace.{Call};
+ghost use Rattle.coap_commands.specs.Asks.{AsksNothing, Turned, changed_status, takes_report};
+ghost use Rattle.coap_commands.specs.Ends.{client_sizes};
+ghost use Rattle.coap_commands.specs.Pairs.{CameBack, IsHanded, IsPaired, Pairs, paired_setup};
 ghost use Rattle.coap_commands.specs.Statuses.{IsCarriedOut};
+ghost use Rattle.coap_commands.specs.declared.status.Status.TheVariants as status;
 
+use crate::ask::next_report_of;
+use crate::bearing::bear;
 use crate::calling::{Outcome, call, get_request, outcome_text, put_request};
 use crate::ends::{fresh_client, fresh_server, largest_szx};
 use crate::put_away::put_away;
@@ -8,10 +22,10 @@ use crate::side::Side;
 use crate::status::{Status, Stop};
 use crate::timekeeper::{ProgramTime, Timekeeper};
 use crate::word::word_of;
-use coap_ends::{Client, End, Report};
+use coap_ends::{CallId, Client, End, Report};
 use coap_layer::Setup;
-use coap_links::{ANY_PORT, LOOPBACK, Link, UdpLink};
-use coap_types::{BodyLimit, Code, Endpoint, Path, Remembered, Request};
+use coap_links::{ANY_PORT, LOOPBACK, Link, Tally, UdpLink, fresh_tally, send_all, turn};
+use coap_types::{BodyLimit, Code, Endpoint, Moment, Path, Remembered, Request};
 use coap_words::WordChoice;
 use std::alloc::Global;
 use std::hash::{BuildHasher, RandomState};
@@ -20,93 +34,100 @@ use std::net::Net;
 use std::random::RandomSource;
 use std::rt::Clock;
 
-// A client and its server, each over a link of its own.
-#[derive(Drop)]
-struct BothEnds<'a, H: BuildHasher, C: Link, E: End<Global>, S: Link> {
-    client: Side<'a, Client<Global, H>, C>,
-    server: Side<'a, E, S>,
+// Turns the client, and sends what is out then.
+fn turn_client<H: BuildHasher, C: Link>(
+    client: &mut Client<Global, H>,
+    link: &mut C,
+    now: Moment,
+    tally: &mut Tally,
+)
+    ensures { Turned AsksNothing client.old client.new }
+{
+    turn(client, link, now, tally);
+    send_all(client, link);
 }
 
-impl<'a, H: BuildHasher, C: Link, E: End<Global>, S: Link> BothEnds<'a, H, C, E, S> {
-    // Turns the client, and then the server, where the client has no report.
-    fn turn<T: Timekeeper>(&mut self, time: &mut T) -> Result<Option<Report>, Stop> {
-        self.client.turn(time.now()?)?;
-        if let Some((_, report)) = self.client.end.next_report() {
-            return Ok(Some(report));
+// Turns the client, and then its server, until the client reports of this call.
+fn reported<H: BuildHasher, C: Link, E: End<Global>, S: Link, T: Timekeeper>(
+    client: &mut Client<Global, H>,
+    link: &mut C,
+    tally: &mut Tally,
+    server: &mut Side<'_, E, S>,
+    time: &mut T,
+    id: CallId,
+) -> Result<Report, Stop>
+    ensures { IfOk result (λ report. (turned : State) × Turned AsksNothing client.old turned
+        × Step turned (takes_report id.0 (shown_report report)) client.new) }
+{
+    // More turns than a program lives.
+    for _turn in 0..u64::MAX {
+        turn_client(client, link, time.now()?, tally);
+        bear(link, tally)?;
+        if let Some(report) = next_report_of(client, id) {
+            return Ok(report);
         }
-        self.server.turn(time.now()?)?;
-        Ok(None)
+        server.turn(time.now()?)?;
     }
+    Err(Stop::Failed)
+}
 
-    // Turns both ends until the client reports.
-    fn reported<T: Timekeeper>(&mut self, time: &mut T) -> Result<Report, Stop> {
-        // More turns than a program lives.
-        for _ in 0..u64::MAX {
-            if let Some(report) = self.turn(time)? {
-                return Ok(report);
-            }
+// What becomes of a request of the client.
+fn ask<H: BuildHasher, C: Link, E: End<Global>, S: Link, T: Timekeeper>(
+    client: &mut Client<Global, H>,
+    link: &mut C,
+    tally: &mut Tally,
+    server: &mut Side<'_, E, S>,
+    time: &mut T,
+    request: Request,
+) -> Result<Outcome, Stop>
+    ensures { IfOk result (λ outcome. (server : EndpointSpec) (sizes : Sizes) (w : SetupSpec) (t : List Call)
+        → Led server sizes w t client.old → (after : List Call) × IsHanded t (shown_request request) outcome after
+        × Led server sizes w after client.new) }
+{
+    let now = time.now()?;
+    match call(client, now, request)? {
+        Ok(id) => {
+            let report = reported(client, link, tally, server, time, id)?;
+            Ok(Outcome::Reported(report))
         }
-        Err(Stop::Failed)
+        Err(refusal) => Ok(Outcome::Refused(refusal)),
     }
+}
 
-    // What becomes of a request of the client.
-    fn ask<T: Timekeeper>(&mut self, request: Request, time: &mut T) -> Result<Outcome, Stop> {
-        match call(self.client.end, time.now()?, request)? {
-            Ok(_) => Ok(Outcome::Reported(self.reported(time)?)),
-            Err(refusal) => Ok(Outcome::Refused(refusal)),
-        }
+// Puts the body at the path, and, where that succeeded, gets what is there; prints what became of both.
+fn put_and_get<H: BuildHasher, C: Link, E: End<Global>, S: Link, T: Timekeeper, W: Write>(
+    alloc: Global,
+    client: &mut Client<Global, H>,
+    link: &mut C,
+    tally: &mut Tally,
+    server: &mut Side<'_, E, S>,
+    time: &mut T,
+    path: &Path,
+    body: &[u8],
+    out: &mut W,
+) -> Result<Status, Stop>
+    ensures { IfOk result (λ status. (server : EndpointSpec) (sizes : Sizes) (w : SetupSpec)
+        → Led server sizes w [] client.old → Pairs server sizes w path.now body.now status) }
+{
+    let request = put_request(alloc, path, body)?;
+    let put = ask(client, link, tally, server, time, request)?;
+    if !tell_put(alloc, &put, out)? {
+        return Ok(Status::Refused);
     }
-
-    // Puts the body at the path, and tells what became of it.
-    fn put<T: Timekeeper, W: Write>(
-        &mut self,
-        alloc: Global,
-        path: &Path,
-        body: &[u8],
-        time: &mut T,
-        out: &mut W,
-    ) -> Result<bool, Stop> {
-        let outcome = self.ask(put_request(alloc, path, body)?, time)?;
-        tell_put(alloc, &outcome, out)
-    }
-
-    // Gets what is at the path, and tells what became of it, and whether it is this body.
-    fn get<T: Timekeeper, W: Write>(
-        &mut self,
-        alloc: Global,
-        path: &Path,
-        body: &[u8],
-        time: &mut T,
-        out: &mut W,
-    ) -> Result<bool, Stop> {
-        let outcome = self.ask(get_request(path)?, time)?;
-        tell_get(alloc, &outcome, body, out)
-    }
-
-    // Both, the second where the first succeeded.
-    fn put_and_get<T: Timekeeper, W: Write>(
-        &mut self,
-        alloc: Global,
-        path: &Path,
-        body: &[u8],
-        time: &mut T,
-        out: &mut W,
-    ) -> Result<Status, Stop>
-        ensures { IfOk result IsCarriedOut }
-    {
-        if !self.put(alloc, path, body, time, out)? {
-            return Ok(Status::Refused);
-        }
-        if self.get(alloc, path, body, time, out)? {
-            Ok(Status::Done)
-        } else {
-            Ok(Status::Refused)
-        }
+    let request = get_request(path)?;
+    let got = ask(client, link, tally, server, time, request)?;
+    if tell_get(alloc, &got, body, out)? {
+        Ok(Status::Done)
+    } else {
+        Ok(Status::Refused)
     }
 }
 
 // Prints what became of the PUT, and whether it succeeded.
-fn tell_put<W: Write>(alloc: Global, outcome: &Outcome, out: &mut W) -> Result<bool, Stop> {
+fn tell_put<W: Write>(alloc: Global, outcome: &Outcome, out: &mut W) -> Result<bool, Stop>
+    ensures yes { IfOk result (λ is. is ≡ true → changed_status outcome.now ≡ status.Done) }
+    ensures no { IfOk result (λ is. is ≡ false → changed_status outcome.now ≡ status.Refused) }
+{
     if let Outcome::Reported(Report::Done(code)) = outcome {
         writeln!(out, "put {code}")?;
         return Ok(true);
@@ -122,7 +143,10 @@ fn tell_get<W: Write>(
     outcome: &Outcome,
     body: &[u8],
     out: &mut W,
-) -> Result<bool, Stop> {
+) -> Result<bool, Stop>
+    ensures yes { IfOk result (λ is. is ≡ true → CameBack body.now outcome.now) }
+    ensures no { IfOk result (λ is. is ≡ false → CameBack body.now outcome.now → ⊥) }
+{
     if let Outcome::Reported(Report::Body(fetched)) = outcome {
         let code = Code::CONTENT;
         let len = fetched.body.len();
@@ -158,23 +182,38 @@ pub fn pair_over<
     out: &mut W,
 ) -> Result<Status, Stop>
     // A `pair` over any links is carried out with status 0 or 1, or stops.
-    ensures { IfOk result IsCarriedOut }
+    ensures ends { IfOk result IsCarriedOut }
+    // A client of the server at that link, with as many remembered messages as were chosen, was handed a PUT of the body at the path, where success was
+    // reported of it a GET of the path, and nothing else; the status is 0 where the body came back, and else 1.
+    ensures pairs { IfOk result (Pairs (S.own_address server_link.old) (client_sizes max_szx limit)
+        (paired_setup word remembered) path.now body.now) }
 {
     let (client_hasher, server_hasher) = hashers;
+    let address = server_link.address();
+    let client_setup = Setup { word, remembered };
+    let server_setup = Setup { word, remembered };
     let mut client = fresh_client(
         alloc,
-        server_link.address(),
-        Setup { word, remembered },
+        address,
+        client_setup,
         largest_szx(),
         limit,
         client_hasher,
     );
-    let mut server = fresh_server(alloc, Setup { word, remembered }, limit, server_hasher);
-    let mut ends = BothEnds {
-        client: Side::new(&mut client, client_link, word),
-        server: Side::new(&mut server, server_link, word),
-    };
-    let ended = ends.put_and_get(alloc, path, body, time, out);
+    let mut server = fresh_server(alloc, server_setup, limit, server_hasher);
+    let mut side = Side::new(&mut server, server_link, word);
+    let mut tally = fresh_tally(word);
+    let ended = put_and_get(
+        alloc,
+        &mut client,
+        client_link,
+        &mut tally,
+        &mut side,
+        time,
+        path,
+        body,
+        out,
+    );
     put_away(client);
     put_away(server);
     ended
@@ -190,7 +229,7 @@ pub fn pair<R: AllocGlobal + Net + Clock + RandomSource, W: Write>(
     remembered: Remembered,
     out: &mut W,
 ) -> Result<Status, Stop>
-    ensures { IfOk result IsCarriedOut }
+    ensures { IfOk result (IsPaired path.now body.now word limit remembered) }
 {
     let word = word_of(rt, word)?;
     let mut time = ProgramTime::begin(rt)?;

@@ -1,12 +1,15 @@
 ghost use Rattle.std.specs.Prelude.{◌≡◌, IfOk};
 ghost use Rattle.coap_links.specs.Pumping.{SendsAll};
 ghost use Rattle.coap_links.specs.Turning.{Turns};
+ghost use Rattle.coap_resource.specs.Entries.{content_of};
+ghost use Rattle.coap_server.specs.Led.{State};
+ghost use Rattle.coap_server.specs.Object.Shown.{state_of};
 ghost use Rattle.coap_commands.specs.Serves.{Feeds, Serves};
-ghost use Rattle.coap_commands.specs.Statuses.{IsCarriedOut};
+ghost use Rattle.coap_commands.specs.Served.{FedFrom, IsServed};
 ghost use Rattle.coap_commands.specs.declared.status.Status.TheVariants.{Done};
 
 use crate::bearing::bear;
-use crate::changes::{TellingEnd, changes_on};
+use crate::changes::{ChangeTeller, TellingEnd, changes_on};
 use crate::ends::tell_refusal;
 use crate::put_away::put_away;
 use crate::setting_up::server_by;
@@ -14,13 +17,14 @@ use crate::status::{Status, Stop};
 use crate::timekeeper::{ProgramTime, Timekeeper};
 use crate::tracing::teller_on;
 use crate::word::word_of;
-use coap_ends::End;
+use coap_ends::{End, Server};
 use coap_links::{Link, Trace, UdpLink, fresh_tally, send_all, serve_turn};
+use coap_resource::MapStore;
 use coap_types::Endpoint;
 use coap_words::ServeOptions;
-use std::alloc::Allocator;
+use std::alloc::{Allocator, Global};
 use std::cell::RefCell;
-use std::hash::RandomState;
+use std::hash::{BuildHasher, RandomState};
 use std::io::Write;
 use std::net::Net;
 use std::random::RandomSource;
@@ -83,6 +87,30 @@ fn warn<E: Write>(options: &ServeOptions, port: u16, err: &mut E) {
     }
 }
 
+// Serves with this server, whose changes are told of where somebody tells, and puts it away.
+fn serve_with<
+    H: BuildHasher + Drop,
+    C: ChangeTeller<Global> + Drop,
+    L: Link,
+    T: Timekeeper,
+    W: Write,
+>(
+    server: Server<MapStore, Global, H>,
+    changes: Option<C>,
+    link: &mut L,
+    time: &mut T,
+    count: u64,
+    word: u64,
+    out: &mut W,
+) -> Result<Status, Stop>
+    ensures { IfOk result (λ status. (status ≡ Done) × (last : State) × FedFrom count (state_of content_of server) last) }
+{
+    let mut server = TellingEnd::new(server, changes);
+    let ended = serve_over(&mut server, link, time, count, word, out);
+    put_away(server);
+    ended
+}
+
 /// Serves at a port, as the words say, until so many datagrams came.
 pub fn serve<R: AllocGlobal + Net + Clock + RandomSource, O: Write, E: Write>(
     rt: &R,
@@ -92,7 +120,7 @@ pub fn serve<R: AllocGlobal + Net + Clock + RandomSource, O: Write, E: Write>(
     out: &mut O,
     err: &mut E,
 ) -> Result<Status, Stop>
-    ensures { IfOk result IsCarriedOut }
+    ensures { IfOk result (IsServed count options.now) }
 {
     let word = word_of(rt, options.word)?;
     let mut time = ProgramTime::begin(rt)?;
@@ -105,14 +133,10 @@ pub fn serve<R: AllocGlobal + Net + Clock + RandomSource, O: Write, E: Write>(
     let err = RefCell::new(&mut *err);
     let teller = teller_on(rt.alloc(), time.again(), &err, options.trace);
     let mut link = Trace::new(link, teller);
-    match server_by(rt.alloc(), word, options, RandomState::new(rt)?)? {
-        Ok(server) => {
-            let changes = changes_on(rt.alloc(), &err, options.changes);
-            let mut server = TellingEnd::new(server, changes);
-            let ended = serve_over(&mut server, &mut link, &mut time, count, word, out);
-            put_away(server);
-            ended
-        }
+    let changes = changes_on(rt.alloc(), &err, options.changes);
+    let made = server_by(rt.alloc(), word, options, RandomState::new(rt)?)?;
+    match made {
+        Ok(server) => serve_with(server, changes, &mut link, &mut time, count, word, out),
         Err(refusal) => tell_refusal(refusal, out),
     }
 }

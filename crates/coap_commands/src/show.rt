@@ -3,10 +3,9 @@ ghost use Rattle.coap_commands.specs.Dumps.{IsShown};
 ghost use Rattle.coap_commands.specs.Statuses.{IsCarriedOut};
 ghost use Rattle.coap_commands.specs.declared.status.Status.TheVariants as statuses;
 
-use crate::message_words::FaultWords;
 use crate::status::{Status, Stop};
-use crate::text::hex_or_dash;
 use coap_codec::{Fault, View, decode};
+use coap_text::{FaultWords, hex_or_dash};
 use std::alloc::Global;
 use std::io::Write;
 

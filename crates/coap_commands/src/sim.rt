@@ -9,12 +9,12 @@ ghost use Rattle.coap_commands.specs.declared.status.Status.TheVariants.{Refused
 use crate::ends::largest_szx;
 use crate::script::{ScriptRefusal, events_of};
 use crate::status::{Status, Stop, stop_of};
-use crate::telling::tell;
 use coap_ends::{MAX_PLAINS, PlainRefusal};
 use coap_resource::{ListStore, MAX_CHANGES_PER_WINDOW, MapStore};
+use coap_text::{draw_run, tell_run};
 use coap_types::{Path, Remembered};
 use coap_words::StoreKind;
-use coap_world::{Event, RunRefusal, WorldConfig, run_with};
+use coap_world::{Event, Record, RunRefusal, WorldConfig, run_with};
 use std::alloc::Allocator;
 use std::fs;
 use std::io::{Read, Write};
@@ -46,19 +46,21 @@ pub fn sim_to<A: Allocator + Copy, R: Read, W: Write>(
         StoreKind::Map,
         &no_path,
         Remembered::default(),
+        false,
         out,
     )
 }
 
 /// Runs a script as [`sim_to`] does, over ends that remember so many messages, and a server with such a store,
 /// which tells the observers of these paths in Non-confirmable messages where it may. With more than `MAX_PLAINS` different ones nothing
-/// is run: these are wrong words.
+/// is run: these are wrong words. What comes of it is printed a line each, or drawn as a chart.
 pub fn sim_with<A: Allocator + Copy, R: Read, W: Write>(
     alloc: A,
     script: &mut R,
     store: StoreKind,
     plains: &[Path<A>],
     remembered: Remembered,
+    chart: bool,
     out: &mut W,
 ) -> Result<Status, Stop>
     // Some list of events, which nothing here ties to the text, runs to its end with status 0, between ends that remember so
@@ -70,7 +72,15 @@ pub fn sim_with<A: Allocator + Copy, R: Read, W: Write>(
         return Err(stop_of(&error));
     }
     match events_of(alloc, text.as_slice()) {
-        Ok(events) => run_events(alloc, events.as_slice(), store, plains, remembered, out),
+        Ok(events) => run_events(
+            alloc,
+            events.as_slice(),
+            store,
+            plains,
+            remembered,
+            chart,
+            out,
+        ),
         Err(ScriptRefusal::Line(number)) => {
             writeln!(out, "bad line {number}")?;
             Ok(Status::Words)
@@ -120,6 +130,22 @@ fn tell_refusal<W: Write>(refusal: RunRefusal, out: &mut W) -> Result<Status, St
     }
 }
 
+// Prints what came of a run: as a chart, or a line each.
+fn print_run<A: Allocator + Copy, W: Write>(
+    alloc: A,
+    events: &[Event<A>],
+    record: &Record<A>,
+    chart: bool,
+    out: &mut W,
+) -> Result<(), Stop> {
+    let printed = if chart {
+        draw_run(alloc, events, record, out)
+    } else {
+        tell_run(alloc, events, record, out)
+    };
+    printed.map_err(|error| stop_of(&error))
+}
+
 // Runs the events, and prints what comes of them, or which one is not legal.
 fn run_events<A: Allocator + Copy, W: Write>(
     alloc: A,
@@ -127,6 +153,7 @@ fn run_events<A: Allocator + Copy, W: Write>(
     store: StoreKind,
     plains: &[Path<A>],
     remembered: Remembered,
+    chart: bool,
     out: &mut W,
 ) -> Result<Status, Stop>
     ensures { IfOk result (IsSim (sim_config remembered plains.now) (map event_of events.now)) }
@@ -142,7 +169,7 @@ fn run_events<A: Allocator + Copy, W: Write>(
     };
     match ran {
         Ok(record) => {
-            tell(alloc, events, &record, out)?;
+            print_run(alloc, events, &record, chart, out)?;
             Ok(Status::Done)
         }
         Err(refusal) => tell_refusal(refusal, out),
@@ -150,19 +177,23 @@ fn run_events<A: Allocator + Copy, W: Write>(
 }
 
 /// Runs the script in a file, over a server with such a store and such plain paths, and ends that remember so
-/// many messages.
+/// many messages, and prints what comes of it a line each, or as a chart.
 pub fn sim<R: AllocGlobal + Files, W: Write>(
     rt: &R,
     file: &str,
     store: StoreKind,
     plains: &[Path],
     remembered: Remembered,
+    chart: bool,
     out: &mut W,
 ) -> Result<Status, Stop>
     ensures { IfOk result (λ status. (events : List EventSpec) × IsSim (sim_config remembered plains.now) events status) }
 {
     match fs::open(rt, file) {
-        Ok(mut script) => sim_with(rt.alloc(), &mut script, store, plains, remembered, out),
+        Ok(mut script) => {
+            let alloc = rt.alloc();
+            sim_with(alloc, &mut script, store, plains, remembered, chart, out)
+        }
         Err(error) => Err(stop_of(&error)),
     }
 }

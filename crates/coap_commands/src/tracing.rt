@@ -1,9 +1,9 @@
 //! What `--trace` prints: a line for each datagram.
 ghost use Rattle.std.specs.Prelude.{◌≡◌, is_some};
 
-use crate::message_words::DatagramWords;
 use crate::timekeeper::Timekeeper;
 use coap_links::{Teller, Way};
+use coap_text::{DatagramWords, EndpointWords};
 use coap_types::{Endpoint, Moment};
 use std::alloc::{AllocError, Allocator};
 use std::cell::RefCell;
@@ -31,10 +31,9 @@ fn line_text<A: Allocator + Copy>(
         Way::Goes => ">",
         Way::Comes => "<",
     };
-    let [a, b, c, d] = peer.ip;
-    let port = peer.port;
+    let peer = EndpointWords(peer);
     let words = DatagramWords(bytes);
-    format!(in alloc; "{at} {way} {a}.{b}.{c}.{d}:{port} {words}\n")
+    format!(in alloc; "{at} {way} {peer} {words}\n")
 }
 
 impl<A: Allocator + Copy, T: Timekeeper, W: Write> LineTeller<A, T, W> {

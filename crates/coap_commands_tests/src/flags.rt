@@ -101,3 +101,45 @@ fn changes_that_are_asked_for(rt: HostRuntime) -> Result<(), Fail> {
     }
     Ok(())
 }
+
+#[test]
+fn words_that_draw(rt: HostRuntime) -> Result<(), Fail> {
+    let not_taken = "error: unexpected argument '--chart' found";
+    let rows: [(&[&str], &str); 9] = [
+        (&["sim", "get.sim", "--chart"], "fine"),
+        (&["sim", "--chart", "get.sim", "--store", "list"], "fine"),
+        (
+            &["sim", "get.sim", "--chart", "--chart"],
+            "error: the argument '--chart' cannot be used multiple times",
+        ),
+        (&["get", "5683", "t", "--chart"], not_taken),
+        (&["put", "5683", "t", "hi", "--chart"], not_taken),
+        (&["observe", "5683", "t", "--chart"], not_taken),
+        (&["serve", "5683", "1", "--chart"], not_taken),
+        (&["pair", "t", "hi", "--chart"], not_taken),
+        (&["dump", "--chart"], not_taken),
+    ];
+    check_said(&rt, &rows)?;
+    Ok(())
+}
+
+// Whether the words have a run drawn.
+fn drawn(alloc: Global, words: &[&str]) -> Result<Option<bool>, AllocError> {
+    let list = words_of(alloc, words)?;
+    match order(alloc, list.as_slice()) {
+        Ok(Order::Sim { chart, .. }) => Ok(Some(chart)),
+        _ => Ok(None),
+    }
+}
+
+#[test]
+fn charts_that_are_asked_for(rt: HostRuntime) -> Result<(), Fail> {
+    let rows: [(&[&str], bool); 2] = [
+        (&["sim", "get.sim"], false),
+        (&["sim", "get.sim", "--chart"], true),
+    ];
+    for (words, is_drawn) in rows {
+        assert_eq!(rt; drawn(rt.alloc(), words)?, Some(is_drawn), "at {words:?}");
+    }
+    Ok(())
+}

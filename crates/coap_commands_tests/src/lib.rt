@@ -22,15 +22,21 @@ mod getting;
 #[cfg(test)]
 mod giving_up;
 #[cfg(test)]
+mod helps;
+#[cfg(test)]
 mod hosts;
 #[cfg(test)]
 mod joined_link;
+#[cfg(test)]
+mod long_waits;
 #[cfg(test)]
 mod observing;
 #[cfg(test)]
 mod pair;
 #[cfg(test)]
 mod programs;
+#[cfg(test)]
+mod progress;
 #[cfg(test)]
 mod refusing_end;
 #[cfg(test)]

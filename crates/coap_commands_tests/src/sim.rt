@@ -4,6 +4,7 @@
 //! with `#` says why, and each other one is a line of the script. `{61*3}` stands for `616161`, `{}`
 //! for nothing, and a `_` in what is printed parts bytes that belong together.
 mod calls;
+mod charts;
 mod examples;
 mod legality;
 mod observations;
@@ -57,6 +58,7 @@ fn check_script_with(
             store,
             plains,
             Remembered::default(),
+            false,
             &mut out,
         );
         assert_eq!(rt; out.as_slice(), printed, "at {name} over {store:?}");

@@ -1,10 +1,9 @@
 use crate::pair::Clock;
 use crate::rows::Broken;
-use coap_commands::{
-    DatagramWords, SharedWriter, ask_over, close, get_request, largest_szx, teller_on,
-};
+use coap_commands::{SharedWriter, ask_over, close, get_request, largest_szx, teller_on};
 use coap_layer::Setup;
 use coap_links::{Link, MemoryLink, Trace};
+use coap_text::DatagramWords;
 use coap_types::{BodyLimit, Endpoint, Path};
 use coap_words::path_of_text;
 use std::alloc::{AllocError, Global};

@@ -5,8 +5,8 @@ use Rattle.std.specs.Net.Grammar.{IsIpv4Text}
 use Rattle.std.specs.declared.net.ipv4_addr.Ipv4Addr.{Ipv4Addr}
 use Rattle.clap.specs.Words.{Row, Text, first_of}
 use Rattle.coap_words.specs.Values.{IsValue}
-use Rattle.coap_words.specs.declared.orders.AddressRefusal.{AddressRefusal}
-use Rattle.coap_words.specs.declared.orders.AddressRefusal.TheVariants.{Host, Address}
+use Rattle.coap_words.specs.declared.refusals.AddressRefusal.{AddressRefusal}
+use Rattle.coap_words.specs.declared.refusals.AddressRefusal.TheVariants.{Host, Address}
 
 -- the argument that is refused so, by its name in clap
 abbrev pub address_argument_of : AddressRefusal → Text

@@ -9,14 +9,14 @@ use Rattle.coap_words.specs.Numbers.{argument_of}
 use Rattle.coap_words.specs.Sizes.{HasSize}
 use Rattle.coap_words.specs.Texts.{AreTexts, SomeSaysNone, texts_of}
 use Rattle.coap_words.specs.Values.{HasLimit, HasNumber, HasRemembered, HasWord, IsValue}
-use Rattle.coap_words.specs.declared.orders.AddressRefusal.TheVariants.{Host}
+use Rattle.coap_words.specs.declared.refusals.AddressRefusal.TheVariants.{Host}
 use Rattle.coap_words.specs.declared.orders.AskOptions.{AskOptions}
 use Rattle.coap_words.specs.declared.orders.Content.{Content}
 use Rattle.coap_words.specs.declared.orders.Content.TheVariants as content
-use Rattle.coap_words.specs.declared.orders.NumberRefusal.{NumberRefusal}
-use Rattle.coap_words.specs.declared.orders.NumberRefusal.TheVariants.{Format, Accept, Times, Seconds, GiveUp}
-use Rattle.coap_words.specs.declared.orders.TagsRefusal.{TagsRefusal}
-use Rattle.coap_words.specs.declared.orders.TagsRefusal.TheVariants.{Etag, IfMatch}
+use Rattle.coap_words.specs.declared.refusals.NumberRefusal.{NumberRefusal}
+use Rattle.coap_words.specs.declared.refusals.NumberRefusal.TheVariants.{Format, Accept, Times, Seconds, GiveUp}
+use Rattle.coap_words.specs.declared.refusals.TagsRefusal.{TagsRefusal}
+use Rattle.coap_words.specs.declared.refusals.TagsRefusal.TheVariants.{Etag, IfMatch}
 use Rattle.coap_words.specs.declared.orders.What.{What}
 use Rattle.coap_words.specs.declared.orders.What.TheVariants.{Get, Put, Post, Delete, Observe}
 use Rattle.coap_words.specs.declared.orders.WordChoice.{WordChoice}

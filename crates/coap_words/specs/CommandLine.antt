@@ -91,15 +91,17 @@ abbrev pub observe_app : App
 observe_app = leaf (codes "observe")
     (asking (option_of (codes "count") ∷ option_of (codes "seconds") ∷ flag_of (codes "hex") ∷ of_a_client))
 
--- `coap sim FILE --store list|map`, `--plain PATH`, again and again, and `--remember N`
+-- `coap sim FILE --store list|map`, `--plain PATH`, again and again, `--remember N` and `--chart`
 abbrev pub sim_app : App
 sim_app = leaf (codes "sim")
     (required_word (codes "FILE") ∷ option_of (codes "store") ∷ repeated_of (codes "plain")
-    ∷ option_of (codes "remember") ∷ [])
+    ∷ option_of (codes "remember") ∷ flag_of (codes "chart") ∷ [])
 
--- the program, without its subcommands
+-- the program, without its subcommands: one has to be there, and where nothing is, help is the answer
 abbrev pub base_app : App
-base_app = record (new_app (codes "coap")) { top = record (new_app (codes "coap")).top { subcommand_required = true } }
+base_app = record (new_app (codes "coap")) {
+  top = record (new_app (codes "coap")).top { subcommand_required = true; arg_required_else_help = true };
+}
 
 -- the program, whose words name one of its subcommands
 abbrev pub coap_app : App

@@ -6,8 +6,8 @@ use Rattle.clap.specs.Words.{Text}
 use Rattle.coap_types.specs.declared.body_limit.TheConstants.{MAX_BODY_LIMIT as max_body_limit}
 use Rattle.coap_types.specs.declared.remembered.TheConstants.{MAX_REMEMBERED as max_remembered}
 use Rattle.coap_words.specs.Formats.{IsFormatName}
-use Rattle.coap_words.specs.declared.orders.NumberRefusal.{NumberRefusal}
-use Rattle.coap_words.specs.declared.orders.NumberRefusal.TheVariants.{Port, Count, Limit, Remember, Format, Accept, Times, Seconds, GiveUp}
+use Rattle.coap_words.specs.declared.refusals.NumberRefusal.{NumberRefusal}
+use Rattle.coap_words.specs.declared.refusals.NumberRefusal.TheVariants.{Port, Count, Limit, Remember, Format, Accept, Times, Seconds, GiveUp}
 
 -- the text says this number
 abbrev pub IsNumber : Text → ℕ → Type 0

@@ -13,12 +13,12 @@ use Rattle.coap_words.specs.PathText.{IsPathText}
 use Rattle.coap_words.specs.Plains.{HasPlains}
 use Rattle.coap_words.specs.Texts.{AreTexts, SomeSaysNone, texts_of}
 use Rattle.coap_words.specs.Values.{HasLimit, HasRemembered, HasWord}
-use Rattle.coap_words.specs.declared.orders.AddressRefusal.TheVariants as address
+use Rattle.coap_words.specs.declared.refusals.AddressRefusal.TheVariants as address
 use Rattle.coap_words.specs.declared.orders.Delay.{Delay}
 use Rattle.coap_words.specs.declared.orders.Hold.{Hold}
 use Rattle.coap_words.specs.declared.orders.ServeOptions.{ServeOptions}
-use Rattle.coap_words.specs.declared.orders.SettingRefusal.{SettingRefusal}
-use Rattle.coap_words.specs.declared.orders.SettingRefusal.TheVariants as setting
+use Rattle.coap_words.specs.declared.refusals.SettingRefusal.{SettingRefusal}
+use Rattle.coap_words.specs.declared.refusals.SettingRefusal.TheVariants as setting
 use Rattle.coap_words.specs.declared.orders.TheConstants.{DEFAULT_WORD as default_word, MAX_DELAYS as max_delays}
 use Rattle.coap_words.specs.declared.orders.WordChoice.TheVariants.{Given}
 

@@ -8,13 +8,13 @@ use Rattle.coap_words.specs.Plains.{IsWrongPlain}
 use Rattle.coap_words.specs.Sizes.{HasNoSize}
 use Rattle.coap_words.specs.Serving.{HasNoSetting, setting_argument_of}
 use Rattle.coap_words.specs.Values.{HasNoNumber, HasNoWord}
-use Rattle.coap_words.specs.declared.orders.AddressRefusal.{AddressRefusal}
-use Rattle.coap_words.specs.declared.orders.AddressRefusal.TheVariants.{Host, Address as Own}
-use Rattle.coap_words.specs.declared.orders.NumberRefusal.{NumberRefusal}
-use Rattle.coap_words.specs.declared.orders.NumberRefusal.TheVariants.{Port, Count, Limit, Remember, Format, Accept, Times, Seconds, GiveUp}
-use Rattle.coap_words.specs.declared.orders.SettingRefusal.{SettingRefusal}
-use Rattle.coap_words.specs.declared.orders.TagsRefusal.{TagsRefusal}
-use Rattle.coap_words.specs.declared.orders.TagsRefusal.TheVariants.{Etag, IfMatch}
+use Rattle.coap_words.specs.declared.refusals.AddressRefusal.{AddressRefusal}
+use Rattle.coap_words.specs.declared.refusals.AddressRefusal.TheVariants.{Host, Address as Own}
+use Rattle.coap_words.specs.declared.refusals.NumberRefusal.{NumberRefusal}
+use Rattle.coap_words.specs.declared.refusals.NumberRefusal.TheVariants.{Port, Count, Limit, Remember, Format, Accept, Times, Seconds, GiveUp}
+use Rattle.coap_words.specs.declared.refusals.SettingRefusal.{SettingRefusal}
+use Rattle.coap_words.specs.declared.refusals.TagsRefusal.{TagsRefusal}
+use Rattle.coap_words.specs.declared.refusals.TagsRefusal.TheVariants.{Etag, IfMatch}
 use Rattle.coap_words.specs.declared.orders.Wrong.{Wrong}
 use Rattle.coap_words.specs.declared.orders.Wrong.TheVariants.{Words, Path, Number, Word, Address, Size, Tags, Setting, Body, Store, Plains}
 use Rattle.coap_words.specs.declared.orders.Wrong.TheVariants.{Hex, Memory}

@@ -8,8 +8,8 @@ use Rattle.hex.specs.Hex.{decode_of}
 use Rattle.coap_words.specs.CommandLine.{coap_app}
 use Rattle.coap_words.specs.Numbers.{IsInRange, IsNumber, IsOutOfRange, argument_of}
 use Rattle.coap_words.specs.PathText.{IsNoPath, IsPathText, IsTrueOf}
-use Rattle.coap_words.specs.declared.orders.NumberRefusal.{NumberRefusal}
-use Rattle.coap_words.specs.declared.orders.NumberRefusal.TheVariants.{Limit, Remember}
+use Rattle.coap_words.specs.declared.refusals.NumberRefusal.{NumberRefusal}
+use Rattle.coap_words.specs.declared.refusals.NumberRefusal.TheVariants.{Limit, Remember}
 use Rattle.coap_words.specs.declared.orders.StoreKind.{StoreKind}
 use Rattle.coap_words.specs.declared.orders.StoreKind.TheVariants as kind
 use Rattle.coap_words.specs.declared.orders.WordChoice.{WordChoice}

@@ -34,6 +34,8 @@ pub(crate) struct Subcommand {
     pub(crate) name: &'static str,
     /// What help says of it.
     pub(crate) about: &'static str,
+    /// What help says at its end: a run of it.
+    pub(crate) example: &'static str,
     /// Its arguments. Words are given in this order.
     pub(crate) arguments: &'static [Argument],
 }

@@ -9,9 +9,8 @@ ghost use Rattle.coap_words.specs.Numbers.{IsWordFor, least_of, most_of};
 ghost use Rattle.coap_words.specs.Taking.{IsWrongOption};
 
 use crate::formats::format_in;
-use crate::orders::{
-    AddressRefusal, AskOptions, Content, NumberRefusal, TagsRefusal, WordChoice, Wrong,
-};
+use crate::orders::{AskOptions, Content, WordChoice, Wrong};
+use crate::refusals::{AddressRefusal, NumberRefusal, TagsRefusal};
 use crate::sizes::size_of;
 use crate::words::{limit, number, optional, remembered, word};
 use clap::ArgMatches;

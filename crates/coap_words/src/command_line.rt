@@ -8,7 +8,7 @@ ghost use Rattle.coap_words.specs.Tables.{app_in, rule_in, with_subcommands};
 
 use crate::arguments::{Argument, Form, Subcommand};
 use crate::put_away::put_away;
-use crate::tables::{ASKING, OTHERS};
+use crate::tables::{ASKING, GROUPS, OTHERS};
 use clap::{Arg, ArgAction, Command};
 use std::alloc::{AllocError, Global};
 
@@ -96,7 +96,9 @@ fn subcommand_of<'a>(alloc: Global, subcommand: &Subcommand) -> Result<Command<'
     ensures app { IfOk result (λ c. app_of c ≡ app_in subcommand.now) }
     ensures own { IfOk result (λ c. (out-Command c).has_globals ≡ false) }
 {
-    let mut command = Command::new(alloc, subcommand.name).about(subcommand.about);
+    let mut command = Command::new(alloc, subcommand.name)
+        .about(subcommand.about)
+        .after_help(subcommand.example);
     let arguments = subcommand.arguments;
     for argument in arguments {
         command = with_argument(command, argument_of(alloc, argument))?;
@@ -141,7 +143,10 @@ pub fn coap_command<'a>(alloc: Global) -> Result<Command<'a>, AllocError>
     // The command line is the one that the definitions have: its subcommands with their words.
     ensures { IfOk result (λ c. app_of c ≡ coap_app) }
 {
-    let program = Command::new(alloc, "coap").subcommand_required(true);
+    let program = Command::new(alloc, "coap")
+        .after_help(GROUPS)
+        .subcommand_required(true)
+        .arg_required_else_help(true);
     let program = with_table(alloc, program, OTHERS.as_slice())?;
     with_table(alloc, program, ASKING.as_slice())
 }

@@ -10,6 +10,7 @@ mod orders;
 mod path_text;
 mod plains;
 mod put_away;
+mod refusals;
 mod serving;
 mod sizes;
 mod tables;
@@ -17,9 +18,9 @@ mod words;
 
 pub use command_line::coap_command;
 pub use orders::{
-    AddressRefusal, AskOptions, Content, DEFAULT_WORD, Delay, Hold, MAX_DELAYS, MAX_PLAINS,
-    NumberRefusal, Order, ServeOptions, SettingRefusal, StoreKind, TagsRefusal, What, WordChoice,
-    Wrong,
+    AskOptions, Content, DEFAULT_WORD, Delay, Hold, MAX_DELAYS, MAX_PLAINS, Order, ServeOptions,
+    StoreKind, What, WordChoice, Wrong,
 };
 pub use path_text::path_of_text;
+pub use refusals::{AddressRefusal, NumberRefusal, SettingRefusal, TagsRefusal};
 pub use words::order;

@@ -12,12 +12,10 @@ ghost use Rattle.coap_words.specs.declared.orders.Delay.{Delay as DelaySpec};
 ghost use Rattle.coap_words.specs.declared.orders.Hold.{Hold as HoldSpec};
 
 use crate::asking::{address_of, is_set};
-use crate::orders::{
-    AddressRefusal, DEFAULT_WORD, Delay, Hold, MAX_DELAYS, NumberRefusal, ServeOptions,
-    SettingRefusal, WordChoice, Wrong,
-};
+use crate::orders::{DEFAULT_WORD, Delay, Hold, MAX_DELAYS, ServeOptions, WordChoice, Wrong};
 use crate::path_text::path_of_text;
 use crate::plains::plains_of;
+use crate::refusals::{AddressRefusal, NumberRefusal, SettingRefusal};
 use crate::words::{limit, number, remembered, word};
 use clap::ArgMatches;
 use coap_types::{Path, PathRefusal};

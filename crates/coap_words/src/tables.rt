@@ -233,37 +233,55 @@ const STORE: Argument = Argument {
     help: "what the server keeps its resources in, a list or a map; the map where it is left out",
 };
 
+const CHART: Argument = Argument {
+    form: Form::Flag,
+    name: "chart",
+    help: "draws the run for reading, in place of its lines: the client on the left, the server on the right, a row for each \
+           thing that happens, as in: coap sim examples/get.sim --chart",
+};
+
 const PLAIN: Argument = Argument {
     form: Form::Repeated { value_name: "PATH" },
     name: "plain",
     help: "tells observers of PATH in Non-confirmable messages where it may, and so of each other path that is given; at most 16",
 };
 
+/// What help of the program says at its end: its subcommands by what they are for.
+pub(crate) const GROUPS: &str = "Ask a server: get, put, post, delete, observe\n\
+    Serve: serve, answer\n\
+    Look: show, dump, pair, sim\n\n\
+    coap COMMAND --help has an example of each.";
+
 /// The subcommands that ask nothing of a server elsewhere, in the order in which help lists them.
 pub(crate) static OTHERS: [Subcommand; 6] = [
     Subcommand {
         name: "show",
         about: "Prints the message in a datagram, or its first fault",
+        example: "Example: coap show 40017d34bb74656d7065726174757265",
         arguments: &[HEX],
     },
     Subcommand {
         name: "dump",
         about: "Prints the messages in the datagrams that standard input has in hex, one a line, behind the line's number",
+        example: "Example: echo 40010001 | coap dump",
         arguments: &[],
     },
     Subcommand {
         name: "answer",
         about: "Prints what a server that holds BODY at PATH replies to a datagram",
+        example: "Example: coap answer temperature 22.3 40017d34bb74656d7065726174757265",
         arguments: &[PATH, HELD_BODY, HEX],
     },
     Subcommand {
         name: "pair",
         about: "Puts BODY at PATH and gets it back, between a client and a server of this program over UDP",
+        example: "Example: coap pair lamp on",
         arguments: &[PATH, PAIR_BODY, WORD, LIMIT, REMEMBER],
     },
     Subcommand {
         name: "serve",
         about: "Serves the resource temperature, and what --hold names, until COUNT datagrams came",
+        example: "Example: coap serve 5683 forever --hold lamp=off",
         arguments: &[
             OWN_PORT, COUNT, ADDRESS, HOLD, DELAY, PLAIN, TRACE, CHANGES, WORD, LIMIT, REMEMBER,
         ],
@@ -271,7 +289,8 @@ pub(crate) static OTHERS: [Subcommand; 6] = [
     Subcommand {
         name: "sim",
         about: "Runs a script over a client and a server, and prints what comes of it",
-        arguments: &[FILE, STORE, PLAIN, REMEMBER],
+        example: "Example: coap sim examples/get.sim --chart",
+        arguments: &[FILE, STORE, PLAIN, REMEMBER, CHART],
     },
 ];
 
@@ -280,6 +299,7 @@ pub(crate) static ASKING: [Subcommand; 5] = [
     Subcommand {
         name: "get",
         about: "Prints what a server holds at PATH",
+        example: "Example: coap get 5683 temperature",
         arguments: &[
             SERVER_PORT,
             PATH,
@@ -297,6 +317,7 @@ pub(crate) static ASKING: [Subcommand; 5] = [
     Subcommand {
         name: "put",
         about: "Puts BODY at PATH at a server, and prints what came of it",
+        example: "Example: coap put 5683 lamp on",
         arguments: &[
             SERVER_PORT,
             PATH,
@@ -317,6 +338,7 @@ pub(crate) static ASKING: [Subcommand; 5] = [
     Subcommand {
         name: "post",
         about: "Has a server process BODY at PATH, and prints what came of it",
+        example: "Example: coap post 5683 temperature !",
         arguments: &[
             SERVER_PORT,
             PATH,
@@ -337,6 +359,7 @@ pub(crate) static ASKING: [Subcommand; 5] = [
     Subcommand {
         name: "delete",
         about: "Deletes what a server holds at PATH, and prints what came of it",
+        example: "Example: coap delete 5683 lamp",
         arguments: &[
             SERVER_PORT,
             PATH,
@@ -354,6 +377,7 @@ pub(crate) static ASKING: [Subcommand; 5] = [
     Subcommand {
         name: "observe",
         about: "Prints what a server holds at PATH, each time that it changes",
+        example: "Example: coap observe 5683 temperature --count 2",
         arguments: &[
             SERVER_PORT,
             PATH,

@@ -8,14 +8,15 @@ ghost use Rattle.coap_words.specs.Taking.{TakesItsOwn};
 ghost use Rattle.coap_words.specs.Values.{HasLimit, HasNoNumber, HasNoStore, HasNoWord, HasNumber, HasRemembered};
 ghost use Rattle.coap_words.specs.Values.{HasStore, HasWord, IsChoice, IsGiven, IsValue};
 ghost use Rattle.coap_words.specs.Words.{AsksFor, AsksForIn, IsWrong, IsWrongIn};
-ghost use Rattle.coap_words.specs.declared.orders.NumberRefusal.TheVariants.{Count, Limit, Port, Remember};
+ghost use Rattle.coap_words.specs.declared.refusals.NumberRefusal.TheVariants.{Count, Limit, Port, Remember};
 ghost use Rattle.coap_words.specs.declared.orders.WordChoice.{WordChoice as WordChoiceSpec};
 
-use crate::asking::{content_of, options_of};
+use crate::asking::{content_of, is_set, options_of};
 use crate::command_line::coap_command;
-use crate::orders::{DEFAULT_WORD, NumberRefusal, Order, StoreKind, What, WordChoice, Wrong};
+use crate::orders::{DEFAULT_WORD, Order, StoreKind, What, WordChoice, Wrong};
 use crate::path_text::path_of_text;
 use crate::plains::plains_of;
+use crate::refusals::NumberRefusal;
 use crate::serving::serve_options_of;
 use clap::ArgMatches;
 use coap_types::{BodyLimit, Remembered};
@@ -199,12 +200,14 @@ fn sim_order<'a>(alloc: Global, given: &ArgMatches<'a>) -> Result<Order<'a>, Wro
         return Err(Wrong::Number(NumberRefusal::Remember));
     };
     let plains = plains_of(alloc, given)?;
+    let chart = is_set(given, "chart");
     let file = value(given, "FILE");
     Ok(Order::Sim {
         file,
         store,
         plains,
         remembered,
+        chart,
     })
 }
 

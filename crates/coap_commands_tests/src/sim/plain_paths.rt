@@ -144,6 +144,7 @@ fn too_many_plain_paths(rt: HostRuntime) -> Result<(), Fail> {
         StoreKind::Map,
         paths.as_slice(),
         Remembered::default(),
+        false,
         &mut out,
     );
     assert!(rt; matches!(ended, Ok(Status::Words)));

@@ -126,6 +126,7 @@ fn ended_over<A: Allocator + Copy>(
             StoreKind::Map,
             paths.as_slice(),
             Remembered::default(),
+            false,
             &mut printed,
         ),
         Err(stop) => Err(stop),

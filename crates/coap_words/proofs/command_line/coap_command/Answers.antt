@@ -7,7 +7,7 @@ use Rattle.coap_words.proofs.command_line.coap_command.Goals as goal
 -- both tables, one behind the other
 pub returns : goal.returns
 returns c =
-    let bare : app_of c.subcommand_required-program.result ≡ base_app = search rules in
+    let bare : app_of c.arg_required_else_help-program.result ≡ base_app = search rules in
     let others = c.in_ok-program.ensures ∙ ap₂ with_subcommands bare c.as_slice.ensures in
     subst (λ app. IfOk c.with_table-2.result (λ p. app_of p ≡ app))
     (ap₂ with_subcommands others c.as_slice-2.ensures ∙ refl)

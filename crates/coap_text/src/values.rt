@@ -5,10 +5,7 @@ use coap_types::Tag;
 use std::alloc::{AllocError, Allocator};
 
 /// Bytes in lower case hex, or `-` where there are none.
-pub(crate) fn hex_or_dash<A: Allocator + Copy>(
-    alloc: A,
-    bytes: &[u8],
-) -> Result<String<A>, AllocError> {
+pub fn hex_or_dash<A: Allocator + Copy>(alloc: A, bytes: &[u8]) -> Result<String<A>, AllocError> {
     if bytes.is_empty() {
         return String::from_str(alloc, "-");
     }
@@ -46,7 +43,7 @@ fn fetched_text<A: Allocator + Copy>(
 }
 
 /// A report: its name, and what it tells.
-pub(crate) fn report_text<A: Allocator + Copy>(
+pub fn report_text<A: Allocator + Copy>(
     alloc: A,
     report: &Report<A>,
 ) -> Result<String<A>, AllocError> {

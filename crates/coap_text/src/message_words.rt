@@ -66,8 +66,8 @@ fn is_request(code: Code) -> bool {
     code.class() == 0 && code != Code::EMPTY
 }
 
-// What a code is called (RFC 7252, sections 4.1, 12.1.1 and 12.1.2, and RFC 7959, section 6).
-pub(crate) fn code_name(code: Code) -> Option<&'static str> {
+/// What a code is called (RFC 7252, sections 4.1, 12.1.1 and 12.1.2, and RFC 7959, section 6).
+pub fn code_name(code: Code) -> Option<&'static str> {
     match (code.class(), code.detail()) {
         (0, 0) => Some("Empty"),
         (0, 1) => Some("GET"),
@@ -119,7 +119,7 @@ fn write_path<W: fmt::Write>(f: &mut fmt::Formatter<W>, message: &View<'_>) -> f
     Ok(())
 }
 
-// A segment, percent-encoded but for the characters that a segment may have (RFC 3986, section 3.3).
+/// A segment, percent-encoded but for the characters that a segment may have (RFC 3986, section 3.3).
 pub(crate) fn write_segment<W: fmt::Write>(
     f: &mut fmt::Formatter<W>,
     segment: &[u8],
@@ -226,7 +226,8 @@ fn write_bytes<W: fmt::Write>(f: &mut fmt::Formatter<W>, bytes: &[u8]) -> fmt::R
     write_hex(f, bytes)
 }
 
-fn write_hex<W: fmt::Write>(f: &mut fmt::Formatter<W>, bytes: &[u8]) -> fmt::Result {
+/// Bytes in hex.
+pub(crate) fn write_hex<W: fmt::Write>(f: &mut fmt::Formatter<W>, bytes: &[u8]) -> fmt::Result {
     for byte in bytes {
         write!(f, "{byte:02x}")?;
     }

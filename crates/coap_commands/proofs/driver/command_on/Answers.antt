@@ -1,7 +1,7 @@
 use Rattle.std.proofs.Common.{◌≡◌, ◌∙◌, ◌≤◌, ap, sym, subst}
 use Rattle.coap_commands.specs.Statuses.{IsAnswered, IsCarriedTo, status_number, status_of}
 use Rattle.coap_commands.proofs.Statuses.{answered, asked, wrong_words}
-use Rattle.coap_commands.proofs.driver.command.Goals as goal
+use Rattle.coap_commands.proofs.driver.command_on.Goals as goal
 
 pub returns-clause-wrong : goal.returns-clause-wrong
 returns-clause-wrong g c = λ wrong is.

@@ -1,19 +1,19 @@
-//! What came of a run, in print.
-use crate::status::Stop;
-use crate::text::{hex_or_dash, report_text};
+//! What came of a run, a line each.
+use crate::values::{hex_or_dash, report_text};
 use coap_types::Moment;
 use coap_world::{CLIENT_END, Event, Given, Kind, Line, Record};
 use std::alloc::Allocator;
+use std::io;
 use std::io::Write;
 
-/// Prints what came of each event: the datagrams that were given out, the requests that were
+/// Prints what came of each event of a run: the datagrams that were given out, the requests that were
 /// applied, the reports, a refusal, and want of memory.
-pub fn tell<A: Allocator + Copy, W: Write>(
+pub fn tell_run<A: Allocator + Copy, W: Write>(
     alloc: A,
     events: &[Event<A>],
     record: &Record<A>,
     out: &mut W,
-) -> Result<(), Stop> {
+) -> io::Result<()> {
     let mut number = 0;
     let turns = record.lines().split(|line| is_begin(line));
     for (event, lines) in events.iter().zip(turns.skip(1)) {
@@ -25,8 +25,8 @@ pub fn tell<A: Allocator + Copy, W: Write>(
     Ok(())
 }
 
-// Whether an event begins.
-fn is_begin<A: Allocator + Copy>(line: &Line<A>) -> bool {
+/// Whether an event begins.
+pub(crate) fn is_begin<A: Allocator + Copy>(line: &Line<A>) -> bool {
     matches!(line.kind, Kind::Begins(_))
 }
 
@@ -38,7 +38,7 @@ fn tell_outs<A: Allocator + Copy, W: Write>(
     record: &Record<A>,
     first: usize,
     out: &mut W,
-) -> Result<usize, Stop> {
+) -> io::Result<usize> {
     let mut number = first;
     for line in lines {
         if let Kind::Out = &line.kind {
@@ -58,7 +58,7 @@ fn tell_out<A: Allocator + Copy, W: Write>(
     number: usize,
     given: &Given<A>,
     out: &mut W,
-) -> Result<(), Stop> {
+) -> io::Result<()> {
     let at = at.0;
     let end = if given.from() == CLIENT_END {
         "client"
@@ -75,7 +75,7 @@ fn tell_applied<A: Allocator + Copy, W: Write>(
     at: Moment,
     lines: &[Line<A>],
     out: &mut W,
-) -> Result<(), Stop> {
+) -> io::Result<()> {
     let at = at.0;
     for line in lines {
         if let Kind::Applies(request) = &line.kind {
@@ -94,7 +94,7 @@ fn tell_reports<A: Allocator + Copy, W: Write>(
     at: Moment,
     lines: &[Line<A>],
     out: &mut W,
-) -> Result<(), Stop> {
+) -> io::Result<()> {
     let at = at.0;
     for line in lines {
         if let Kind::Reports(call, report) = &line.kind {
@@ -111,7 +111,7 @@ fn tell_refusals<A: Allocator + Copy, W: Write>(
     at: Moment,
     lines: &[Line<A>],
     out: &mut W,
-) -> Result<(), Stop> {
+) -> io::Result<()> {
     let at = at.0;
     for line in lines {
         if let Some(number) = refused(&line.kind) {
