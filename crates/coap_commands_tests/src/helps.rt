@@ -31,23 +31,37 @@ fn example_in(help: &str) -> &str {
     }
 }
 
+// Help of this subcommand ends with an example of it, which is an order.
+fn check_example<R: Abort + AllocGlobal + Files + Net + Clock + RandomSource>(
+    rt: &R,
+    name: &str,
+) -> Result<(), AllocError> {
+    let help = said(rt, &[name, "--help"])?;
+    let example = example_in(str::from_utf8(help.as_slice()).unwrap_or(""));
+    assert!(rt; example.starts_with(name));
+    let mut words = Vec::new(rt.alloc());
+    for word in example.split_ascii_whitespace() {
+        words.push(word)?;
+    }
+    let words = words_of(rt.alloc(), words.as_slice())?;
+    let is_order = order(rt.alloc(), words.as_slice()).is_ok();
+    assert!(rt; is_order);
+    Ok(())
+}
+
 #[test]
 fn each_subcommand_has_an_example_that_is_an_order(rt: HostRuntime) -> Result<(), Fail> {
-    let names = [
-        "show", "dump", "answer", "pair", "serve", "sim", "get", "put", "post", "delete", "observe",
-    ];
-    for name in names {
-        let help = said(&rt, &[name, "--help"])?;
-        let example = example_in(str::from_utf8(help.as_slice())?);
-        let mut words = Vec::new(rt.alloc());
-        for word in example.split_ascii_whitespace() {
-            words.push(word)?;
-        }
-        assert_eq!(rt; words.first(), Some(&name));
-        let words = words_of(rt.alloc(), words.as_slice())?;
-        let is_order = order(rt.alloc(), words.as_slice()).is_ok();
-        assert!(rt; is_order, "at {name}");
-    }
+    check_example(&rt, "show")?;
+    check_example(&rt, "dump")?;
+    check_example(&rt, "answer")?;
+    check_example(&rt, "pair")?;
+    check_example(&rt, "serve")?;
+    check_example(&rt, "sim")?;
+    check_example(&rt, "get")?;
+    check_example(&rt, "put")?;
+    check_example(&rt, "post")?;
+    check_example(&rt, "delete")?;
+    check_example(&rt, "observe")?;
     Ok(())
 }
 
@@ -55,12 +69,8 @@ fn each_subcommand_has_an_example_that_is_an_order(rt: HostRuntime) -> Result<()
 fn no_word_prints_the_subcommands_by_what_they_are_for(rt: HostRuntime) -> Result<(), Fail> {
     let help = said(&rt, &[])?;
     let text = str::from_utf8(help.as_slice())?;
-    for line in [
-        "Ask a server: get, put, post, delete, observe\n",
-        "Serve: serve, answer\n",
-        "Look: show, dump, pair, sim\n",
-    ] {
-        assert!(rt; text.contains(line), "no {line}");
-    }
+    assert!(rt; text.contains("Ask a server: get, put, post, delete, observe\n"));
+    assert!(rt; text.contains("Serve: serve, answer\n"));
+    assert!(rt; text.contains("Look: show, dump, pair, sim\n"));
     Ok(())
 }
