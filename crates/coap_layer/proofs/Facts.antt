@@ -6,6 +6,7 @@ pub mod HandedUp
 pub mod Hops
 pub mod IdsApart
 pub mod Laws
+pub mod Paced
 pub mod FirstMoments
 pub mod Sendable
 pub mod Sendings

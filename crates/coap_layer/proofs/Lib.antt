@@ -6,5 +6,6 @@ pub mod Arrivals
 pub mod Copies
 pub mod Out
 pub mod Between
+pub mod Paced
 pub mod Witness
 pub mod Calls

@@ -9,7 +9,9 @@ pub mod EmptyMessages
 pub mod Sendable
 pub mod Sends
 pub mod Channel
+pub mod Clocks
 pub mod Apart
 pub mod Taking
+pub mod Paced
 pub mod Examples
 pub mod Machine

@@ -16,6 +16,8 @@ ghost use Rattle.coap_layer.specs.Apart.{ConsApart};
 ghost use Rattle.coap_layer.specs.Sends.{FiveAtMost, AllAlike, ConsSpelled, OneOpen, LastBegun, EachGoesOut, InOrder};
 ghost use Rattle.coap_layer.specs.Sends.{TakenSent, TakenSince};
 ghost use Rattle.coap_layer.specs.Machine.Steps.{Asked, Steps, entries};
+ghost use Rattle.coap_layer.specs.Clocks.{Clocks};
+ghost use Rattle.coap_layer.specs.Paced as paced;
 ghost use Rattle.coap_layer.specs.Examples.{FiveTimes, IsAcknowledged};
 
 /// What leads to a layer's state stands in the law, and what follows from that.
@@ -138,6 +140,45 @@ pub fn channel_law()
     // A Reset that is taken for a request or a response is the reply that was given to that very message (section 4.2).
     ensures resets { (one other : Setup) (near far : Endpoint) (all : List Hop) → ChannelLaw one other near far all
         → ResetsMeant near far all }
+{}
+
+/// What two layers do together, each with a clock of its own: where no datagram arrives later than MAX_LATENCY after it was
+/// sent by the clock of the layer that sent it, neither clock gains more than 5 s on the other in EXCHANGE_LIFETIME, and
+/// each reply is given at once, with the Message ID of what it replies to.
+pub fn paced_channel_law()
+    // What arrives was sent by one of the rows, at most MAX_LATENCY before by its own clock.
+    ensures sent { (c : Clocks) (one other : Setup) (near far : Endpoint) (all : List Hop)
+        → paced.ChannelLaw c one other near far all → paced.ArrivesAsSent c near far all }
+    // A Confirmable message that arrives was begun at most LAST_ARRIVAL_MS before, by its own clock (RFC 7252, section 4.8.2).
+    ensures begun { (c : Clocks) (one other : Setup) (near far : Endpoint) (all : List Hop)
+        → paced.ChannelLaw c one other near far all → paced.ConsBegun c near far all }
+    // A Non-confirmable message that arrives was sent at most MAX_LATENCY before, by its own clock (section 4.3).
+    ensures plain { (c : Clocks) (one other : Setup) (near far : Endpoint) (all : List Hop)
+        → paced.ChannelLaw c one other near far all → paced.NonsSent c near far all }
+    // What arrives under a Confirmable message's Message ID meanwhile is that very message (section 4.4).
+    ensures only { (c : Clocks) (one other : Setup) (near far : Endpoint) (all : List Hop)
+        → paced.ChannelLaw c one other near far all → paced.OnlyThatCon c near far all }
+    // A Confirmable message that was taken is not handed up again (sections 4.5 and 4.8.2).
+    ensures once { (c : Clocks) (one other : Setup) (near far : Endpoint) (all : List Hop)
+        → paced.ChannelLaw c one other near far all → paced.TakenOnce c near all }
+    // It is handed up at most once.
+    ensures handed { (c : Clocks) (one other : Setup) (near far : Endpoint) (all : List Hop)
+        → paced.ChannelLaw c one other near far all → paced.HandedOnce c near all }
+    // A Confirmable message is replied to once at most (section 4.2).
+    ensures replied_once { (c : Clocks) (one other : Setup) (near far : Endpoint) (all : List Hop)
+        → paced.ChannelLaw c one other near far all → paced.RepliedOnce c near all }
+    // One that is taken, or too old to arrive, where a newer one begins isn't handed up behind that one (section 4.7).
+    ensures apart { (c : Clocks) (one other : Setup) (near far : Endpoint) (all : List Hop)
+        → paced.ChannelLaw c one other near far all → paced.ConsApart c near all }
+    // An acknowledgement that is taken is the reply that was given to that very message, which was taken (section 4.2).
+    ensures replied { (c : Clocks) (one other : Setup) (near far : Endpoint) (all : List Hop)
+        → paced.ChannelLaw c one other near far all → paced.AcksReplied c near far all }
+    // An acknowledgement is taken only of a Confirmable message that the other layer has taken.
+    ensures taken { (c : Clocks) (one other : Setup) (near far : Endpoint) (all : List Hop)
+        → paced.ChannelLaw c one other near far all → paced.AcksTaken c near far all }
+    // A Reset that is taken for a request or a response is the reply that was given to that very message (section 4.2).
+    ensures resets { (c : Clocks) (one other : Setup) (near far : Endpoint) (all : List Hop)
+        → paced.ChannelLaw c one other near far all → paced.ResetsMeant c near far all }
 {}
 
 /// What isn't Empty, and has options that ascend and are short, may be sent where its header, its

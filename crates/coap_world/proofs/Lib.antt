@@ -1,4 +1,5 @@
 pub mod Delivery
+pub mod Paced
 pub mod Requests
 pub mod Reports
 pub mod Witness

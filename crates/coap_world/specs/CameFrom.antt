@@ -3,7 +3,9 @@ use Rattle.std.specs.Prelude.{◌≡◌, ℕ, Some, List}
 use Rattle.coap_types.specs.Past.{Ever, Always}
 use Rattle.coap_types.specs.declared.message.Kind.TheVariants.{Con}
 use Rattle.coap_codec.specs.Message.{Message, Spells}
-use Rattle.coap_layer.specs.Channel.{OnFar, HandsUpAs, ChannelLaw, near_of}
+use Rattle.coap_layer.specs.Channel.{OnFar, near_of}
+use Rattle.coap_layer.specs.Clocks.{Clocks}
+use Rattle.coap_layer.specs.Paced.{ChannelLaw, HandsUpAs}
 use Rattle.coap_layer.specs.Trace.{with_head}
 use Rattle.coap_layer.specs.Words.{Open, begun}
 use Rattle.coap_exchange.specs.declared.answerer.Asked.{Asked}
@@ -21,9 +23,10 @@ use Rattle.coap_world.specs.Record.{Entry, OfClient, OfServer, client_of, server
 abbrev pub request_of : ℕ → Sending → Message
 request_of id x = with_head Con id (content_of x.token x.request)
 
--- no datagram is older than 100,000 ms, and each layer replies at once
-abbrev pub IsChannel : Config → List Entry → Type 0
-IsChannel config all = ChannelLaw config.client_setup config.server_setup client_end server_end (hops_in config all)
+-- no datagram is older than 100,000 ms by the clock of the end that gave it out, the clocks keep pace, and each layer
+-- replies at once
+abbrev pub IsChannel : Clocks → Config → List Entry → Type 0
+IsChannel c config all = ChannelLaw c config.client_setup config.server_setup client_end server_end (hops_in config all)
 
 module _ (config : Config) where
   -- here the server's message layer hands up this request, and it comes to this
@@ -32,8 +35,7 @@ module _ (config : Config) where
   ComesAt a v past (OfServer c) = Comes config.limits config.server_szx config.server_setup
       (server_trace config past) c a v
 
-  -- It is a request that the client sent before, as a CON; it arrives here, at most 147,000 ms after that was sent
-  -- first.
+  -- It is a request that the client sent before, as a CON.
   pub record CameFrom (past : List Entry) (e : Entry) (a : Asked) (v : Verdict) : Type 0 where
     pub sending : Sending
     pub sent : WasSent config.client_sizes sending (client_of past)
@@ -41,7 +43,6 @@ module _ (config : Config) where
     pub begun_before : Ever (λ b. begun b ≡ Some con) (near_of (hops_in config past))
     pub is : IsRequestOf server_end con sending
     pub spells : Spells con.bytes (request_of con.id sending)
-    pub arrives : Ever (OnFar (HandsUpAs client_end con)) (hops_at config past e)
     pub asked : a ≡ asked_of client_end (request_of con.id sending)
     pub verdict : verdict_on config.server_szx (request_of con.id sending) ≡ v
 
@@ -49,3 +50,8 @@ module _ (config : Config) where
   abbrev pub CamesFrom : List Entry → Type 0
   CamesFrom all = Always (λ past e. (a : Asked) (v : Verdict) → ComesAt a v past e → a.from ≡ client_end
       → CameFrom past e a v) all
+
+  -- .. and it arrives here, at most 147,000 ms after it was sent first, by the client's clock.
+  abbrev pub ComesIn : Clocks → List Entry → Type 0
+  ComesIn c all = Always (λ past e. (a : Asked) (v : Verdict) → ComesAt a v past e → a.from ≡ client_end
+      → (k : CameFrom past e a v) × Ever (OnFar (HandsUpAs c client_end k.con)) (hops_at config past e)) all

@@ -1,13 +1,13 @@
 -- No datagram makes either end fault: whatever comes has a turn, and an input that is refused memory is lost.
-use Rattle.std.specs.Prelude.{◌≡◌, ◌⊎◌, ℕ, true, List, [], ◌++◌, map}
+use Rattle.std.specs.Prelude.{◌≡◌, ◌⊎◌, ℕ, true, List, [], ◌∷◌, ◌++◌, map}
 use Rattle.coap_types.specs.Past.{Always}
 use Rattle.coap_client.specs.Trace as C
 use Rattle.coap_server.specs.Trace as S
 use Rattle.coap_world.specs.Events.{client_end, server_end, Config, What, Calls, Observes, Cancels, Forgets, Sets}
 use Rattle.coap_world.specs.Events.{Removes, TickClient, TickServer, Deliver, StrangerToClient, StrangerToServer, Event}
-use Rattle.coap_world.specs.GoesOn.{Follows}
+use Rattle.coap_world.specs.GoesOn.{turn_of, Follows}
 use Rattle.coap_world.specs.LegalEvents.{MayHappen}
-use Rattle.coap_world.specs.Record.{Given, Entry, Turn, IsNumber, OnClient, OnServer, ClientTick, ServerTick}
+use Rattle.coap_world.specs.Record.{Given, Entry, Turn, IsNumber, OnClient, OnServer, ClientTick, ServerTick, RecordOf}
 
 abbrev pub events_of : List Turn → List Event
 events_of turns = map (λ (t : Turn). t.event) turns
@@ -31,6 +31,26 @@ IsLost past at word (Deliver number) entries = (g : Given) × IsNumber number g 
 IsLost past at word (StrangerToClient from bytes) entries = OnClient [] entries
 IsLost past at word (StrangerToServer from bytes) entries = OnServer [] entries
 
+-- Whatever event, at whatever moment. A datagram that comes was given out before, to an end.
+abbrev pub CanCome : List Turn → What → Type 0
+CanCome past (Deliver number) =
+    (g : Given) × IsNumber number g past × ((g.packet.to ≡ client_end) ⊎ (g.packet.to ≡ server_end))
+CanCome past what = Unit {0}
+
+-- the record of one event more, in which nothing is refused
+pub record HasTurn (config : Config) (events : List Event) (turns : List Turn) (event : Event) : Type 0 where
+  pub entries : List Entry
+  pub made : RecordOf config (event ∷ events) (turn_of event entries ∷ turns)
+
+-- .. of any record, whatever its clocks and however late its datagrams
+pub record NeverFaults (config : Config) (turns : List Turn) : Type 0 where
+  -- at each position, each event that can come has a turn in which nothing is refused, and the record goes on
+  pub goes_on : (later past : List Turn) → turns ≡ later ++ past → (event : Event) → CanCome past event.what
+      → HasTurn config (events_of past) past event
+  -- .. and in each turn an input that is refused memory is lost
+  pub refused_is_lost :
+      Always (λ past t. t.refused ≡ true → IsLost past t.event.at t.event.word t.event.what t.entries) turns
+
 pub record NoFault (config : Config) (turns : List Turn) : Type 0 where
   -- at each position, each event that may happen there has a turn in which nothing is refused, and the record goes on
   pub goes_on : (later past : List Turn) → turns ≡ later ++ past → (event : Event) → MayHappen past event
@@ -38,3 +58,8 @@ pub record NoFault (config : Config) (turns : List Turn) : Type 0 where
   -- .. and in each turn an input that is refused memory is lost
   pub refused_is_lost :
       Always (λ past t. t.refused ≡ true → IsLost past t.event.at t.event.word t.event.what t.entries) turns
+
+-- it holds of each record, legal or not
+abbrev pub OfRecords : (Config → List Turn → Type 0) → Type 0
+OfRecords Holds = (config : Config) (events : List Event) (turns : List Turn) → RecordOf config events turns
+    → Holds config turns

@@ -1,6 +1,8 @@
 ghost use Rattle.std.specs.Prelude.{◌≡◌, List};
 ghost use Rattle.coap_types.specs.declared.transmission.TheConstants.{MAX_LATENCY_MS as max_latency};
 ghost use Rattle.coap_layer.specs.Channel.{ChannelLaw, near_of, far_of};
+ghost use Rattle.coap_layer.specs.Clocks as layers;
+ghost use Rattle.coap_layer.specs.Paced as paced;
 ghost use Rattle.coap_client.specs.Law as clients;
 ghost use Rattle.coap_server.specs.Law as servers;
 ghost use Rattle.coap_world.specs.Applied.{AppliedWhole, AtMostOnce, EachBelongs};
@@ -8,6 +10,8 @@ ghost use Rattle.coap_world.specs.Agrees.{Agrees};
 ghost use Rattle.coap_world.specs.Answers.{AllAnswered};
 ghost use Rattle.coap_world.specs.Bounds.{AreBounded, AreShort};
 ghost use Rattle.coap_world.specs.CameFrom.{CamesFrom};
+ghost use Rattle.coap_world.specs.Clocks as by_clocks;
+ghost use Rattle.coap_world.specs.Clocks.{Clocks, of_layers};
 ghost use Rattle.coap_world.specs.Current.{CurrentAlone};
 ghost use Rattle.coap_world.specs.Delivery.{AllFair};
 ghost use Rattle.coap_world.specs.Done.{NeverFailed, OnceDone};
@@ -22,9 +26,11 @@ ghost use Rattle.coap_world.specs.LegalEvents.{EndsMay, SetsMay, RemovesMay, Tic
 ghost use Rattle.coap_world.specs.LegalEvents.{NoneFalls, NoneOver, NoneLonger, NoneBeyond};
 ghost use Rattle.coap_world.specs.LegalRuns.{MayComeTill};
 ghost use Rattle.coap_world.specs.Local.{LocalRight};
-ghost use Rattle.coap_world.specs.NoFault.{NoFault};
+ghost use Rattle.coap_world.specs.NoFault.{OfRecords, NeverFaults, NoFault};
 ghost use Rattle.coap_world.specs.Noticed.{AllNoticed};
-ghost use Rattle.coap_world.specs.Record.{Turn, entries_of, client_of, server_trace};
+ghost use Rattle.coap_world.specs.Events.{Event};
+ghost use Rattle.coap_world.specs.Legal.{Legal};
+ghost use Rattle.coap_world.specs.Record.{Turn, RecordOf, entries_of, client_of, server_trace};
 ghost use Rattle.coap_world.specs.Rising.{HeldAreNamed, ValuesRise};
 ghost use Rattle.coap_world.specs.Serves.{AllServed};
 ghost use Rattle.coap_world.specs.Smooth.{NoneObserved, Smooth};
@@ -37,6 +43,16 @@ use crate::watches::watch_law;
 pub fn delivery_law()
     // What comes from an end's address was given out by that end for this one, at most 100 s before.
     ensures fair { OfLegalRuns (λ config turns. AllFair turns) }
+{}
+
+/// Runs in which each end has a clock of its own.
+pub fn clocks_law()
+    // What is legal by one clock is legal by two that show the same.
+    ensures one { (config : Config) (turns : List Turn) → Legal config turns → (c : Clocks) × by_clocks.Legal c config turns }
+    // The message layers stand in the law of two layers, each with its clock, and the datagrams between them.
+    ensures channel { (c : Clocks) (config : Config) (events : List Event) (turns : List Turn) → RecordOf config events turns
+        → by_clocks.Legal c config turns → paced.ChannelLaw (of_layers c) config.client_setup config.server_setup
+        client_end server_end (hops_of config turns) }
 {}
 
 /// What the message layers of the two ends do in a run, in one order (RFC 7252, section 4).
@@ -168,44 +184,44 @@ pub fn observations_law()
 pub fn held_law()
     // Each body that is reported was held by the server at the call's path, under the version of its ETag, between the
     // call and the report (RFC 7252, sections 5.8.1 and 5.10.6; RFC 7959, section 2.4).
-    ensures bodies { InLegalRuns EachHeld }
+    ensures bodies { by_clocks.InLegalRuns EachHeld }
     // .. so was each representation that is reported as valid, by an ETag of the call (RFC 7252, sections 5.9.1.3 and
     // 5.10.6.2) ..
-    ensures valid { InLegalRuns EachValid }
+    ensures valid { by_clocks.InLegalRuns EachValid }
     // .. and each value of an observation, since that was taken (RFC 7641, sections 3.2 and 4.4; RFC 7959, section
     // 2.6).
-    ensures values { InLegalRuns EachValue }
+    ensures values { by_clocks.InLegalRuns EachValue }
 {}
 
 /// The second: what is asked is applied whole, at most once, exactly once where success is reported and never where
 /// Failed is reported.
 pub fn applied_law()
     // What is applied for the client's address belongs to a call (RFC 7252, section 5.3.1), ..
-    ensures belongs { InLegalRuns EachBelongs }
+    ensures belongs { by_clocks.InLegalRuns EachBelongs }
     // .. and does to the call's path what that asks, with all of its body, where the call's preconditions hold (RFC
     // 7252, sections 5.8 and 5.10.8; RFC 7959, section 2.5).
-    ensures whole { InLegalRuns AppliedWhole }
+    ensures whole { by_clocks.InLegalRuns AppliedWhole }
     // For each call at most one request is applied (RFC 7252, section 4.5), ..
-    ensures once { InLegalRuns AtMostOnce }
+    ensures once { by_clocks.InLegalRuns AtMostOnce }
     // .. one, between call and report, where Done is reported (RFC 7252, section 5.8), ..
-    ensures done { InLegalRuns OnceDone }
+    ensures done { by_clocks.InLegalRuns OnceDone }
     // .. and none, before or after, where Failed is (RFC 7252, section 5.9).
-    ensures failed { InLegalRuns NeverFailed }
+    ensures failed { by_clocks.InLegalRuns NeverFailed }
     // What the server holds are its changes, by their versions (RFC 7252, section 5.10.6), each of which is a local
     // one, or that of the one request to its path that is applied there (section 5.8).
-    ensures holds { InLegalRuns HoldsChanges }
+    ensures holds { by_clocks.InLegalRuns HoldsChanges }
     // Each change in a legal run is a local one, or that of the one request to its path that is applied there.
-    ensures owned { InLegalRuns ChangesOwned }
+    ensures owned { by_clocks.InLegalRuns ChangesOwned }
 {}
 
 /// The third: the values of an observation rise.
 pub fn rising_law()
     // Of two values of one observation the later one has the later version (RFC 7641, sections 1.3 and 3.4); ..
-    ensures rising { InLegalRuns ValuesRise }
+    ensures rising { by_clocks.InLegalRuns ValuesRise }
     // .. a version is named by its ETag (RFC 7252, section 5.10.6), ..
-    ensures named { InLegalRuns HeldAreNamed }
+    ensures named { by_clocks.InLegalRuns HeldAreNamed }
     // .. and each value was held under its version (RFC 7641, section 4.4).
-    ensures values { InLegalRuns EachValue }
+    ensures values { by_clocks.InLegalRuns EachValue }
 {}
 
 /// The fourth: no datagram makes either end fault.
@@ -221,13 +237,14 @@ pub fn agreement()
     // Each body, value and valid representation that is reported was held at its path between call and report; each
     // request body is applied whole, at most once, exactly once where success is reported and never where Failed is
     // reported (RFC 7252, sections 4.2, 4.5, 5.3.2, 5.8 and 5.9; RFC 7641; RFC 7959).
-    ensures agrees { InLegalRuns Agrees }
+    ensures agrees { by_clocks.InLegalRuns Agrees }
     // A GET makes at most as many exchanges as 4 passes over the blocks of the longest body, in blocks of 16 bytes:
     // 16,384 where the ends' limits are as usual; an upload at most one pass, and each other call one (RFC 7959,
     // sections 2.4 and 2.5; profile).
-    ensures bounded { InLegalRuns AreBounded }
-    // Whatever may come has a turn, with which the record goes on; and an input that is refused memory is lost.
-    ensures no_fault { OfLegalRuns NoFault }
+    ensures bounded { by_clocks.InLegalRuns AreBounded }
+    // Whatever can come has a turn, with which the record goes on, however late it is and whatever the clocks show; and an
+    // input that is refused memory is lost.
+    ensures no_fault { OfRecords NeverFaults }
     // In a smooth run, in which nothing is lost and nothing is late, and nothing is observed, calls are answered
     // smoothly: no exchange is open for more than 20,000 ms, each ends by an answer, a GET reports what its path holds, and
     // any other call the code of a response to it, and it is applied where that says so (RFC 7252, sections 4.2, 5.2 and

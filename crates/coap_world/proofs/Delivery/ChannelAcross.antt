@@ -1,5 +1,5 @@
 -- The same hops, with the other layer as the near one, stand in the law as well.
-use Rattle.std.proofs.Common.{◌≡◌, inl, inr, List, [], ◌∷◌, refl, ap, sym, subst}
+use Rattle.std.proofs.Common.{◌≡◌, inl, inr, List, [], ◌∷◌, ◌++◌, refl, ap, sym, subst}
 use Rattle.coap_types.specs.Past.{Ever, Always}
 use Rattle.coap_types.specs.declared.endpoint.Endpoint.{Endpoint}
 use Rattle.coap_layer.specs.Channel.{Hop, Near, Far, near_of, far_of, OnNear, OnFar, GaveOut, IsFair, RepliesSo}
@@ -7,6 +7,7 @@ use Rattle.coap_layer.specs.Channel.{ChannelLaw}
 use Rattle.coap_layer.specs.Rows.{LayerLaw}
 use Rattle.coap_layer.specs.Trace.{Entry}
 use Rattle.coap_layer.specs.declared.setup.Setup.{Setup}
+use Rattle.coap_layer.proofs.Facts.Hops.{earlier}
 use Rattle.coap_world.specs.Hops.{across}
 
 pub near_across : (hs : List Hop) → near_of (across hs) ≡ far_of hs
@@ -19,14 +20,14 @@ far_across [] = refl
 far_across (Near e ∷ hs) = ap (λ t. e ∷ t) (far_across hs)
 far_across (Far e ∷ hs) = far_across hs
 
-near_there : (P : Entry → Type 0) (hs : List Hop) → Ever (OnNear P) hs → Ever (OnFar P) (across hs)
+pub near_there : (P : Entry → Type 0) (hs : List Hop) → Ever (OnNear P) hs → Ever (OnFar P) (across hs)
 near_there P [] h = h
 near_there P (Near e ∷ hs) (inl h) = inl h
 near_there P (Near e ∷ hs) (inr h) = inr (near_there P hs h)
 near_there P (Far e ∷ hs) (inl h) = absurd h
 near_there P (Far e ∷ hs) (inr h) = inr (near_there P hs h)
 
-far_there : (P : Entry → Type 0) (hs : List Hop) → Ever (OnFar P) hs → Ever (OnNear P) (across hs)
+pub far_there : (P : Entry → Type 0) (hs : List Hop) → Ever (OnFar P) hs → Ever (OnNear P) (across hs)
 far_there P [] h = h
 far_there P (Far e ∷ hs) (inl h) = inl h
 far_there P (Far e ∷ hs) (inr h) = inr (far_there P hs h)
@@ -54,3 +55,10 @@ channel_across one other near far hs law =
       far_replies = subst (Always RepliesSo) (sym (far_across hs)) law.near_replies;
       fair = fair_across near far hs law.fair;
     }
+
+-- the law holds of each past
+pub channel_back : (one other : Setup) (near far : Endpoint) (later past : List Hop)
+    → ChannelLaw one other near far (later ++ past) → ChannelLaw one other near far past
+channel_back one other near far [] past law = law
+channel_back one other near far (h ∷ later) past law =
+    channel_back one other near far later past (earlier one other near far (later ++ past) h law)

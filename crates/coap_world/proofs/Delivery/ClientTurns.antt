@@ -41,7 +41,7 @@ all_at t outs reports calls at = (
       (tt, every_front (IsAt t) (λ (p : Packet). NextOut (Some p)) (λ p. tt) outs calls at),
 )
 
-to_entries : (from : Endpoint) (bytes : List ℕ) (cs : List Call) → Ever (λ c. Fed c from bytes) cs
+pub to_entries : (from : Endpoint) (bytes : List ℕ) (cs : List Call) → Ever (λ c. Fed c from bytes) cs
     → Ever (FedToClient from bytes) (map OfClient cs)
 to_entries from bytes [] h = h
 to_entries from bytes (c ∷ cs) (inl h) = inl h
@@ -54,12 +54,12 @@ module _ (config : Config) where
   pub down : (past : List Call) (c : Call) → IsGood (c ∷ past) → IsGood past
   down past c good = end.down (client_side config) past c good
 
-  told_same : (reports : List Reported) (calls past : List Call)
+  pub told_same : (reports : List Reported) (calls past : List Call)
       → client_layer config (told_after reports calls ++ past) ≡ client_layer config (calls ++ past)
   told_same [] calls past = refl
   told_same (r ∷ reports) calls past = told_same reports calls past
 
-  told_good : (reports : List Reported) (calls past : List Call) → IsGood (told_after reports calls ++ past)
+  pub told_good : (reports : List Reported) (calls past : List Call) → IsGood (told_after reports calls ++ past)
       → IsGood (calls ++ past)
   told_good [] calls past good = good
   told_good (r ∷ reports) calls past good = told_good reports calls past

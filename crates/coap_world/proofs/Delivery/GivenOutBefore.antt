@@ -108,7 +108,7 @@ abbrev client_calls : List Packet → List C.Reported → List C.Call → List C
 client_calls outs reports calls = C.NextReport None ∷
     (map (λ r. C.NextReport (Some r)) reports ++ C.NextOut None ∷ outs_of outs calls)
 
-server_call : (from : Endpoint) (bytes : List ℕ) (calls : List S.Call) (entries : List Entry) → OnServer calls entries
+pub server_call : (from : Endpoint) (bytes : List ℕ) (calls : List S.Call) (entries : List Entry) → OnServer calls entries
     → Ever (FedToServer from bytes) entries → Ever (λ c. FedToServer from bytes (OfServer c)) calls
 server_call from bytes calls entries on h = first
     (of_map OfServer (FedToServer from bytes) (server_calls on.outs calls)
@@ -128,7 +128,7 @@ server_call from bytes calls entries on h = first
     first (inl k) = absurd (cc (k.6))
     first (inr k) = behind k
 
-client_call : (from : Endpoint) (bytes : List ℕ) (calls : List C.Call) (entries : List Entry) → OnClient calls entries
+pub client_call : (from : Endpoint) (bytes : List ℕ) (calls : List C.Call) (entries : List Entry) → OnClient calls entries
     → Ever (FedToClient from bytes) entries → Ever (λ c. FedToClient from bytes (OfClient c)) calls
 client_call from bytes calls entries on h = first
     (of_map OfClient (FedToClient from bytes) (client_calls on.outs on.reports calls)
@@ -161,14 +161,14 @@ client_call from bytes calls entries on h = first
     first (inl k) = absurd (cc (k.8))
     first (inr k) = middle k
 
-never_there : (from : Endpoint) (bytes : List ℕ) (calls : List C.Call) (entries : List Entry) → OnClient calls entries
+pub never_there : (from : Endpoint) (bytes : List ℕ) (calls : List C.Call) (entries : List Entry) → OnClient calls entries
     → Ever (FedToServer from bytes) entries → ⊥
 never_there from bytes calls entries on h =
     none_in (λ (c : C.Call). ⊥) (client_calls on.outs on.reports calls) (λ c k. k)
     (of_map OfClient (FedToServer from bytes) (client_calls on.outs on.reports calls)
     (subst (Ever (FedToServer from bytes)) on.is h))
 
-never_here : (from : Endpoint) (bytes : List ℕ) (calls : List S.Call) (entries : List Entry) → OnServer calls entries
+pub never_here : (from : Endpoint) (bytes : List ℕ) (calls : List S.Call) (entries : List Entry) → OnServer calls entries
     → Ever (FedToClient from bytes) entries → ⊥
 never_here from bytes calls entries on h =
     none_in (λ (c : S.Call). ⊥) (server_calls on.outs calls) (λ c k. k)

@@ -74,7 +74,7 @@ sent_later front hs g (inr h) = inr (h.0, Ever_back (OnFar (SendsAt g.at g.packe
 
 module _ (config : Config) where
   -- the hops of later entries stand in front
-  sent_still : (g : Given) (later es : List Entry) → SentIn (hops_in config es) g
+  pub sent_still : (g : Given) (later es : List Entry) → SentIn (hops_in config es) g
       → SentIn (hops_in config (later ++ es)) g
   sent_still g [] es h = h
   sent_still g (OfClient c ∷ later) es h = sent_later (map Near (client_adds config (client_of (later ++ es)) c))
@@ -93,7 +93,7 @@ module _ (config : Config) where
       }
 
   -- a server begins at moment 0
-  begins_by : (t : ℕ) (ss : List Setting) → (server_law.own_of config.limits config.server_szx
+  pub begins_by : (t : ℕ) (ss : List Setting) → (server_law.own_of config.limits config.server_szx
       (map gives_it ss)).clock ≤ t
   begins_by t [] = omega arith
   begins_by t (DelayOf d ∷ ss) = begins_by t ss
@@ -151,14 +151,14 @@ module _ (config : Config) where
       (λ bytes h. let k = found_in _ (all_of given_in past) (fair.server bytes h) in by_client
       (hops_of config past) bytes turn.event.at k.0 k.1 (ran.sent k.0 k.2)) ran.fair
 
-  client_down : (later es : List Entry) → client_turns.IsGood config (client_of (later ++ es))
+  pub client_down : (later es : List Entry) → client_turns.IsGood config (client_of (later ++ es))
       → client_turns.IsGood config (client_of es)
   client_down [] es good = good
   client_down (OfClient c ∷ later) es good = client_down later es
       (client_turns.down config (client_of (later ++ es)) c good)
   client_down (OfServer c ∷ later) es good = client_down later es good
 
-  server_down : (later es : List Entry) → server_turns.IsGood config (server_trace config (later ++ es))
+  pub server_down : (later es : List Entry) → server_turns.IsGood config (server_trace config (later ++ es))
       → server_turns.IsGood config (server_trace config es)
   server_down [] es good = good
   server_down (OfClient c ∷ later) es good = server_down later es good

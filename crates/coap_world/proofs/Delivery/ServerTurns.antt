@@ -32,7 +32,7 @@ pub all_at : (t : ℕ) (outs : List Packet) (calls : List Call) → Every (IsAt 
     → Every (IsAt t) (turn_calls outs calls)
 all_at t outs calls at = (tt, every_front (IsAt t) (λ (p : Packet). NextOut (Some p)) (λ p. tt) outs calls at)
 
-to_entries : (from : Endpoint) (bytes : List ℕ) (cs : List Call) → Ever (λ c. Fed c from bytes) cs
+pub to_entries : (from : Endpoint) (bytes : List ℕ) (cs : List Call) → Ever (λ c. Fed c from bytes) cs
     → Ever (FedToServer from bytes) (map OfServer cs)
 to_entries from bytes [] h = h
 to_entries from bytes (c ∷ cs) (inl h) = inl h

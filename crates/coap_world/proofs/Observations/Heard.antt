@@ -1,18 +1,21 @@
 -- What a client hears of an observation the server told before, in which call, and when.
 use Rattle.std.proofs.Common.{◌≡◌, ◌⊎◌, ◌≤◌, inl, inr, ℕ, ◌+◌, true, Option, Some, None, List, [], ◌∷◌, ◌++◌, map, refl}
-use Rattle.std.proofs.Common.{ap, sym, subst, ◌∙◌, cond}
+use Rattle.std.proofs.Common.{ap, sym, subst, ◌∙◌, cond, arith}
 use Rattle.coap_types.specs.Past.{Ever, Sometime, Always}
 use Rattle.coap_types.specs.declared.transmission.TheConstants.{MAX_LATENCY_MS as max_latency}
 use Rattle.coap_types.proofs.Facts.Traces.{by_law, Ever_map, Ever_of_Sometime}
 use Rattle.coap_types.specs.declared.message.Kind.TheVariants.{Con, Non, Ack}
 use Rattle.coap_codec.specs.Message.{Message, Spells}
-use Rattle.coap_layer.specs.Channel.{Hop, Near, Far, near_of, far_of, OnFar, ChannelLaw, HandedBy, HandsUpAs, PlainSent}
-use Rattle.coap_layer.specs.Channel.{OnFarThen, RepliesTo}
+use Rattle.coap_layer.specs.Channel.{Hop, Near, Far, near_of, far_of, OnFar, HandedBy, PlainSent, OnFarThen}
+use Rattle.coap_layer.specs.Clocks.{Clocks, turned}
+use Rattle.coap_layer.specs.Paced.{Meanwhile, ChannelLaw, HandsUpAs, RepliesTo}
+use Rattle.coap_layer.specs.Rows.{LayerLaw}
 use Rattle.coap_layer.specs.Sends.{PlainOut}
 use Rattle.coap_layer.specs.Trace as T
-use Rattle.coap_layer.specs.Words.{Open, begun, handed, handed_in, Incoming, is_kept}
-use Rattle.coap_layer.proofs.Facts.Hops.{earlier, far_ever}
-use Rattle.coap_layer.proofs.Facts.Laws.{acks_heard, acks_replied, begun_as, handed_spelled, nons_sent}
+use Rattle.coap_layer.specs.Words.{Open, begun, clock, handed, handed_in, Incoming, is_kept}
+use Rattle.coap_layer.proofs.Facts.Hops.{far_ever}
+use Rattle.coap_layer.proofs.Facts.Paced.{earlier, acks_replied, begun_as, begun_by_clock, nons_sent}
+use Rattle.coap_layer.proofs.Facts.Laws.{acks_heard, handed_spelled}
 use Rattle.coap_layer.proofs.Facts.Laws.{responses_spelled}
 use Rattle.coap_layer.specs.declared.setup.Setup.{Setup}
 use Rattle.coap_client.specs.Follows.Hears.{Hears}
@@ -28,35 +31,45 @@ use Rattle.coap_server.proofs.Facts.EachCall.{all_tell_sent}
 use Rattle.coap_world.specs.Events.{client_end, server_end, Config}
 use Rattle.coap_world.specs.Hops.{hops_in, across, client_adds}
 use Rattle.coap_world.specs.Record.{Entry, OfClient, client_of, server_trace}
-use Rattle.coap_world.proofs.Delivery.ChannelAcross.{near_across, channel_across}
+use Rattle.coap_world.proofs.Delivery.ChannelAcross.{near_across}
+use Rattle.coap_world.proofs.Paced.ChannelAcross.{channel_across}
 use Rattle.coap_world.proofs.Delivery.HopsAreEntries.{near_far, far_near, far_is}
 use Rattle.coap_world.proofs.Requests.OfACall.{Lawful}
 use Rattle.coap_world.proofs.Observations.Positions.{across_near, located}
-use Rattle.coap_world.proofs.Observations.ToldThen.{told_in_non}
+use Rattle.coap_world.proofs.Observations.Acknowledged.{before_now}
+use Rattle.coap_world.proofs.Observations.ToldThen.{told_in_non, told_before}
+
+-- What the near layer sent at this moment of its clock comes as the far one shows that: no sooner by the near clock, and the
+-- near layer has come as far.
+pub record Behind (clocks : Clocks) (hs : List Hop) (sent at : ℕ) : Type 0 where
+  pub instant : ℕ
+  pub shown : clocks.far instant ≡ at
+  pub from : sent ≤ clocks.near instant
+  pub before : sent ≤ clock (near_of hs)
 
 -- a CON is in the bytes of an entry of the near layer, and it is handed up here, at this moment
-pub record ConHeard (m : Message) (at : ℕ) (adds : List T.Entry) (hs : List Hop) : Type 0 where
+pub record ConHeard (clocks : Clocks) (m : Message) (at : ℕ) (adds : List T.Entry) (hs : List Hop) : Type 0 where
   pub con : Open
   pub begun_before : Ever (λ b. begun b ≡ Some con) (near_of hs)
   pub to_is : con.to ≡ client_end
   pub spells : Spells con.bytes m
-  pub up : Ever (HandsUpAs server_end con) adds
-  pub from : con.first ≤ at
+  pub up : Ever (HandsUpAs clocks server_end con) adds
+  pub behind : Behind clocks hs con.first at
 
 -- a NON was sent by the near layer, at most MAX_LATENCY before this moment; an acknowledgement given by the far one
 
-pub record NonHeard (m : Message) (at : ℕ) (hs : List Hop) : Type 0 where
+pub record NonHeard (clocks : Clocks) (m : Message) (at : ℕ) (hs : List Hop) : Type 0 where
   pub bytes : List ℕ
   pub spells : Spells bytes m
-  pub sent : Ever (PlainSent client_end bytes at) (near_of hs)
+  pub sent : Meanwhile clocks at (near_of hs) (λ when. Ever (PlainSent client_end bytes when) (near_of hs))
 
 pub record AckHeard (m : Message) (hs : List Hop) : Type 0 where
   pub bytes : List ℕ
   pub spells : Spells bytes m
   pub given : Ever (λ e. e.call ≡ T.Reply client_end m.id bytes) (far_of hs)
 
-module _ (one other : Setup) (m : Message) where
-  module _ (past : List Hop) (x : T.Entry) (law : ChannelLaw one other server_end client_end (Far x ∷ past))
+module _ (clocks : Clocks) (one other : Setup) (m : Message) where
+  module _ (past : List Hop) (x : T.Entry) (law : ChannelLaw clocks one other server_end client_end (Far x ∷ past))
       (h : Hears server_end m x) (kept : is_kept m.kind ≡ true) where
     abbrev incoming : Incoming
     incoming = record { from = server_end; message = m }
@@ -71,27 +84,29 @@ module _ (one other : Setup) (m : Message) where
     handed_by = (handed_spelled other (x ∷ far_of past) law.far_law).0 incoming is_handed
 
   module _ (hs : List Hop) where
-    con_heard : (at : ℕ) (adds : List T.Entry) → ChannelLaw one other server_end client_end (map Far adds ++ hs)
-        → Ever (HeardAt server_end m at) adds → m.kind ≡ Con → ConHeard m at adds hs
+    con_heard : (at : ℕ) (adds : List T.Entry) → ChannelLaw clocks one other server_end client_end (map Far adds ++ hs)
+        → Ever (HeardAt server_end m at) adds → m.kind ≡ Con → ConHeard clocks m at adds hs
     con_heard at [] law h kind = absurd h
     con_heard at (x ∷ adds) law (inr h) kind =
-        let k = con_heard at adds (earlier one other server_end client_end (map Far adds ++ hs) (Far x) law) h kind in
+        let k = con_heard at adds (earlier clocks one other server_end client_end (map Far adds ++ hs) (Far x) law) h kind in
         record {
           con = k.con;
           begun_before = k.begun_before;
           to_is = k.to_is;
           spells = k.spells;
           up = inr k.up;
-          from = k.from;
+          behind = k.behind;
         }
     con_heard at (x ∷ adds) law (inl h) kind =
         let past = map Far adds ++ hs in
         let kept : is_kept m.kind ≡ true = ap is_kept kind in
         let by = handed_by past x law h.hears kept in
-        let b = begun_as one other server_end client_end past x by.bytes m law by.call by.spells kind in
+        let w = begun_as clocks one other server_end client_end past x by.bytes law by.call m by.spells kind in
+        let b = w.so in
+        let there = subst (Ever (λ e. begun e ≡ Some b.con)) (near_far adds hs) b.begun in
         record {
           con = b.con;
-          begun_before = subst (Ever (λ e. begun e ≡ Some b.con)) (near_far adds hs) b.begun;
+          begun_before = there;
           to_is = b.to_is;
           spells = subst (λ z. Spells z m) (sym b.bytes_are) by.spells;
           up = inl (record {
@@ -99,51 +114,57 @@ module _ (one other : Setup) (m : Message) where
             up = is_handed past x law h.hears kept;
             from_is = refl;
             id_is = sym b.id_is;
-            from = b.from;
-            till = b.till;
+            then = record { instant = w.instant; shown = w.shown; from = b.from; till = b.till };
           });
-          from = subst (λ n. b.con.first ≤ n) h.at_is b.from;
+          behind = record {
+            instant = w.instant;
+            shown = w.shown ∙ h.at_is;
+            from = b.from;
+            before = begun_by_clock one b.con (near_of hs) (subst (LayerLaw one) (near_far adds hs) law.near_law) there;
+          };
         }
 
-    non_heard : (at : ℕ) (adds : List T.Entry) → ChannelLaw one other server_end client_end (map Far adds ++ hs)
-        → Ever (HeardAt server_end m at) adds → m.kind ≡ Non → NonHeard m at hs
+    non_heard : (at : ℕ) (adds : List T.Entry) → ChannelLaw clocks one other server_end client_end (map Far adds ++ hs)
+        → Ever (HeardAt server_end m at) adds → m.kind ≡ Non → NonHeard clocks m at hs
     non_heard at [] law h kind = absurd h
     non_heard at (x ∷ adds) law (inr h) kind = non_heard at adds
-        (earlier one other server_end client_end (map Far adds ++ hs) (Far x) law) h kind
+        (earlier clocks one other server_end client_end (map Far adds ++ hs) (Far x) law) h kind
     non_heard at (x ∷ adds) law (inl h) kind =
         let past = map Far adds ++ hs in
         let kept : is_kept m.kind ≡ true = ap is_kept kind in
         let by = handed_by past x law h.hears kept in
-        let sent = (nons_sent one other server_end client_end (Far x ∷ past) law).0 x by.bytes m refl by.call by.spells
+        let sent = (nons_sent clocks one other server_end client_end (Far x ∷ past) law).0 x by.bytes m refl by.call by.spells
         kind in
         record {
           bytes = by.bytes;
           spells = by.spells;
-          sent = subst (λ n. Ever (PlainSent client_end by.bytes n) (near_of hs)) h.at_is
-              (subst (Ever (PlainSent client_end by.bytes x.at)) (near_far adds hs) sent);
+          sent = subst (λ n. Meanwhile clocks n (near_of hs) (λ when. Ever (PlainSent client_end by.bytes when) (near_of hs)))
+              h.at_is
+              (subst (λ l. Meanwhile clocks x.at l (λ when. Ever (PlainSent client_end by.bytes when) l))
+              (near_far adds hs) sent);
         }
 
     replies_there : (con : Open) (bytes : List ℕ) (past : List Hop) (h : Hop)
-        → OnFarThen (RepliesTo client_end con bytes) past h → OnFar (λ b. b.call ≡ T.Reply client_end con.id bytes) h
+        → OnFarThen (RepliesTo clocks client_end con bytes) past h → OnFar (λ b. b.call ≡ T.Reply client_end con.id bytes) h
     replies_there con bytes past (Near e) k = absurd k
     replies_there con bytes past (Far e) k = k.call
 
-    ack_heard : (at : ℕ) (adds : List T.Entry) → ChannelLaw one other client_end server_end (map Near adds ++ hs)
+    ack_heard : (at : ℕ) (adds : List T.Entry) → ChannelLaw clocks one other client_end server_end (map Near adds ++ hs)
         → Ever (HeardAt server_end m at) adds → m.kind ≡ Ack → AckHeard m hs
     ack_heard at [] law h kind = absurd h
     ack_heard at (x ∷ adds) law (inr h) kind = ack_heard at adds
-        (earlier one other client_end server_end (map Near adds ++ hs) (Near x) law) h kind
+        (earlier clocks one other client_end server_end (map Near adds ++ hs) (Near x) law) h kind
     ack_heard at (x ∷ adds) law (inl h) kind =
         let past = map Near adds ++ hs in
         let near = x ∷ near_of past in
         let c = (responses_spelled one near law.near_law).0 m h.hears.answer in
         let a = (acks_heard one near law.near_law).0 server_end h.hears.bytes m.id h.hears.call
         (inr (m, h.hears.answer, kind, refl)) in
-        let r = (acks_replied one other client_end server_end (Near x ∷ past) law).0 x a.0 refl a.1 a.3 in
+        let r = (acks_replied clocks one other client_end server_end (Near x ∷ past) law).0 x a.0 refl a.1 a.3 in
         let calls : T.Receive c.from c.bytes ≡ T.Receive a.0.to a.3.bytes = let p = c.call in let q =
         a.3.call in cc (p, q) in
         let bytes : c.bytes ≡ a.3.bytes = cc calls in
-        let there = Ever_of_Sometime (OnFarThen (RepliesTo client_end a.0 a.3.bytes))
+        let there = Ever_of_Sometime (OnFarThen (RepliesTo clocks client_end a.0 a.3.bytes))
         (OnFar (λ b. b.call ≡ T.Reply client_end a.0.id a.3.bytes))
         (λ p e k. inl (replies_there a.0 a.3.bytes p e k)) past r in
         let given = subst (Ever (λ b. b.call ≡ T.Reply client_end a.0.id a.3.bytes)) (far_near adds hs)
@@ -167,20 +188,21 @@ module _ (config : Config) where
   abbrev pub TellsAck : Message → List S.Call → S.Call → Type 0
   TellsAck m past c = TellsIn config.limits config.server_szx InReply client_end m past c
 
-  -- .. in a NON, at most MAX_LATENCY before this moment
-  pub record TellsNon (m : Message) (at : ℕ) (past : List S.Call) (c : S.Call) : Type 0 where
+  -- .. in a NON, at most MAX_LATENCY before this moment, and by another one
+  pub record TellsNon (m : Message) (when now : ℕ) (past : List S.Call) (c : S.Call) : Type 0 where
     pub tells : TellsIn config.limits config.server_szx InNon client_end m past c
-    pub from : tells.told.at ≤ at
-    pub till : at ≤ tells.told.at + max_latency
+    pub from : tells.told.at ≤ when
+    pub till : when ≤ tells.told.at + max_latency
+    pub before : tells.told.at ≤ now
 
   -- a CON that was begun before this moment, handed up here, and the call of the server that told it
-  pub record ConTold (m : Message) (at : ℕ) (past : List Entry) (adds : List T.Entry) : Type 0 where
+  pub record ConTold (clocks : Clocks) (m : Message) (at : ℕ) (past : List Entry) (adds : List T.Entry) : Type 0 where
     pub con : Open
     pub to_is : con.to ≡ client_end
     pub begun_before : Ever (λ b. begun b ≡ Some con) (near_of (across (hops_in config past)))
-    pub up : Ever (HandsUpAs server_end con) adds
+    pub up : Ever (HandsUpAs clocks server_end con) adds
     pub told : Sometime (TellsCon con m) (trace past)
-    pub from : con.first ≤ at
+    pub behind : Behind clocks (across (hops_in config past)) con.first at
 
   module _ (past : List Entry) (c : C.Call) (law : Lawful config (OfClient c ∷ past)) (m : Message)
       (at : ℕ) (hears : Ever (HeardAt server_end m at) (client_adds config (client_of past) c))
@@ -188,12 +210,20 @@ module _ (config : Config) where
     abbrev adds : List T.Entry
     adds = client_adds config (client_of past) c
 
-    pub law_across : ChannelLaw config.server_setup config.client_setup server_end client_end
+    -- the server's clock is the near one
+    abbrev pub back : Clocks
+    back = turned law.clocks
+
+    -- as far as the server's layer has come
+    abbrev pub now : ℕ
+    now = clock (near_of (across (hops_in config past)))
+
+    pub law_across : ChannelLaw back config.server_setup config.client_setup server_end client_end
         (map Far adds ++ across (hops_in config past))
     law_across =
-        subst (ChannelLaw config.server_setup config.client_setup server_end client_end)
+        subst (ChannelLaw back config.server_setup config.client_setup server_end client_end)
         (across_near adds (hops_in config past))
-        (channel_across config.client_setup config.server_setup client_end server_end
+        (channel_across law.clocks config.client_setup config.server_setup client_end server_end
         (hops_in config (OfClient c ∷ past)) law.channel)
 
     near_there : near_of (across (hops_in config past))
@@ -207,9 +237,9 @@ module _ (config : Config) where
     told = all_tell_sent config.limits config.server_szx config.server_setup (trace past) law.server
 
     -- in a CON
-    pub con_told : m.kind ≡ Con → ConTold m at past adds
+    pub con_told : m.kind ≡ Con → ConTold back m at past adds
     con_told kind =
-        let k = con_heard config.server_setup config.client_setup m
+        let k = con_heard back config.server_setup config.client_setup m
         (across (hops_in config past)) at adds law_across hears kind in
         let P : T.Entry → Type 0 = λ b. begun b ≡ Some k.con in
         let there = located config.limits config.server_szx config.server_setup P (trace past)
@@ -225,13 +255,13 @@ module _ (config : Config) where
                     (l.0.begun_now k.con m h k.spells note),
                 h,
               )) (trace past) told there;
-          from = k.from;
+          behind = k.behind;
         }
 
     -- in an acknowledgement
     pub ack_told : m.kind ≡ Ack → Sometime (TellsAck m) (trace past)
     ack_told kind =
-        let k = ack_heard config.client_setup config.server_setup m (hops_in config past) at adds
+        let k = ack_heard law.clocks config.client_setup config.server_setup m (hops_in config past) at adds
         law.channel hears kind in
         let P : T.Entry → Type 0 = λ b. b.call ≡ T.Reply client_end m.id k.bytes in
         let there = located config.limits config.server_szx config.server_setup P (trace past)
@@ -239,30 +269,59 @@ module _ (config : Config) where
         by_law (TellsSent config.limits config.server_szx config.server_setup) (Added P) (TellsAck m)
         (λ p b l h. l.0.replied client_end k.bytes m h k.spells note) (trace past) told there
 
+    abbrev SentBy : List ℕ → ℕ → T.Entry → Type 0
+    SentBy bytes when e = PlainSent client_end bytes when e × (e.at ≤ now)
+
     -- in a NON, which the server's layer sent in that call, at most MAX_LATENCY before
-    pub non_sent : m.kind ≡ Non → (k : NonHeard m at (across (hops_in config past)))
-        × Sometime (Added (PlainSent client_end k.bytes at)) (trace past)
+    pub non_sent : m.kind ≡ Non → (bytes : List ℕ) × Spells bytes m
+        × Meanwhile back at (near_of (across (hops_in config past)))
+        (λ when. Sometime (Added (SentBy bytes when)) (trace past))
     non_sent kind =
-        let k = non_heard config.server_setup config.client_setup m
+        let k = non_heard back config.server_setup config.client_setup m
         (across (hops_in config past)) at adds law_across hears kind in
-        let P : T.Entry → Type 0 = PlainSent client_end k.bytes at in
-        (k, located config.limits config.server_szx config.server_setup P (trace past) (subst (Ever P) near_there k.sent))
+        let w = k.sent in
+        let near_law = subst (LayerLaw config.server_setup) (near_far adds (across (hops_in config past)))
+        law_across.near_law in
+        let there = before_now config.server_setup (PlainSent client_end k.bytes (back.near w.instant))
+        (near_of (across (hops_in config past))) now near_law (omega arith) w.so in
+        let P : T.Entry → Type 0 = SentBy k.bytes (back.near w.instant) in (
+          k.bytes,
+          k.spells,
+          record {
+            instant = w.instant;
+            shown = w.shown;
+            later = w.later;
+            so = located config.limits config.server_szx config.server_setup P (trace past)
+                (subst (Ever P) near_there there);
+          },
+        )
 
     -- that was the answer to a request in a NON, or it was told so
     pub non_told : m.kind ≡ Non
-        → Sometime (λ p b. ServesNon config.limits config.server_szx client_end p b ⊎ TellsNon m at p b) (trace past)
+        → Meanwhile back at (near_of (across (hops_in config past))) (λ when.
+        Sometime (λ p b. ServesNon config.limits config.server_szx client_end p b ⊎ TellsNon m when now p b) (trace past))
     non_told kind =
         let sent = non_sent kind in
-        let k = sent.0 in
-        let P : T.Entry → Type 0 = PlainSent client_end k.bytes at in
-        by_law (TellsSent config.limits config.server_szx config.server_setup) (Added P)
-        (λ p b. ServesNon config.limits config.server_szx client_end p b ⊎ TellsNon m at p b)
-        (λ p b l h.
-        elim (l.0.plain client_end k.bytes m
-        (Ever_map P (λ e. PlainOut e (record { to = client_end; bytes = k.bytes })) (λ e z. z.goes)
-        (call_adds config.limits config.server_szx config.server_setup p b) h) k.spells note) [
-          | inl z ↦ inl z.1
-          | inr z ↦ (let then = told_in_non config p b z.told client_end k.bytes at z.here h in
-              inr (record { tells = z; from = then.0; till = then.1 }))
-        ])
-        (trace past) told sent.1
+        let bytes : List ℕ = sent.0 in
+        let w = sent.2 in
+        let when : ℕ = back.near w.instant in
+        let P : T.Entry → Type 0 = SentBy bytes when in
+        record {
+          instant = w.instant;
+          shown = w.shown;
+          later = w.later;
+          so = by_law (TellsSent config.limits config.server_szx config.server_setup) (Added P)
+              (λ p b. ServesNon config.limits config.server_szx client_end p b ⊎ TellsNon m when now p b)
+              (λ p b l h.
+              elim (l.0.plain client_end bytes m
+              (Ever_map P (λ e. PlainOut e (record { to = client_end; bytes = bytes })) (λ e z. z.0.goes)
+              (call_adds config.limits config.server_szx config.server_setup p b) h) sent.1 note) [
+                | inl z ↦ inl z.1
+                | inr z ↦ (let then = told_in_non config p b z.told client_end bytes when z.here
+                    (Ever_map P (PlainSent client_end bytes when) (λ e y. y.0)
+                    (call_adds config.limits config.server_szx config.server_setup p b) h) in
+                    let early = told_before config p b z.told client_end bytes when now z.here h in
+                    inr (record { tells = z; from = then.0; till = then.1; before = early }))
+              ])
+              (trace past) told w.so;
+        }

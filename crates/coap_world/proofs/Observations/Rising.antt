@@ -6,8 +6,11 @@ use Rattle.coap_types.proofs.Facts.Traces.{Sometime_map}
 use Rattle.coap_types.specs.declared.transmission.TheConstants.{MAX_LATENCY_MS as max_latency}
 use Rattle.coap_types.specs.declared.message.Kind.TheVariants.{Con, Non}
 use Rattle.coap_codec.specs.Message.{Message}
-use Rattle.coap_layer.specs.Channel.{Hop, Far, ChannelLaw, near_of, OnFar, HandsUpAs}
-use Rattle.coap_layer.specs.Words.{Open, begun}
+use Rattle.coap_layer.specs.Channel.{Hop, Far, near_of, OnFar}
+use Rattle.coap_layer.specs.Clocks.{Clocks, turned}
+use Rattle.coap_layer.specs.Paced.{Meanwhile, ChannelLaw, HandsUpAs}
+use Rattle.coap_layer.specs.Words.{Open, begun, clock}
+use Rattle.coap_layer.proofs.Facts.Paced.{far_gap}
 use Rattle.coap_resource.specs.declared.tally.TheConstants.{MAX_CHANGES_PER_WINDOW as max_changes}
 use Rattle.coap_client.specs.Follows.Ended.{WasCancelled}
 use Rattle.coap_client.specs.Follows.Newer.{Newly, notifies}
@@ -31,14 +34,14 @@ use Rattle.coap_world.specs.Rising.{Names, AreRising, ShowsValue, ValuesRise}
 use Rattle.coap_world.proofs.Observations.Acknowledged.{taken_before, not_after, not_again}
 use Rattle.coap_world.proofs.Observations.Chain.{Rise, RisesNext, newest_taken, chained}
 use Rattle.coap_world.proofs.Observations.Following.{OnceOf, acked_in, follows_in, reply_first}
-use Rattle.coap_world.proofs.Observations.Heard.{TellsCon, TellsAck, TellsNon, con_told, law_across}
-use Rattle.coap_world.proofs.Observations.NonsRise.{Told, FollowsNon, Renews, not_behind, not_at_once}
+use Rattle.coap_world.proofs.Observations.Heard.{Behind, TellsCon, TellsAck, TellsNon, con_told, law_across}
+use Rattle.coap_world.proofs.Observations.NonsRise.{Told, FollowsNon, Meets, Renews, not_behind, not_at_once}
 use Rattle.coap_world.proofs.Observations.OneRegistration.{serves_once}
 use Rattle.coap_world.proofs.Observations.OneVersion.{one_version}
 use Rattle.coap_world.proofs.Observations.Positions.{behind, client_entries}
 use Rattle.coap_world.proofs.Observations.ToldThen.{told_in_con}
 use Rattle.coap_world.proofs.Observations.TagOfAValue.{tag_of_first, shown_of, newest_number, one_registration}
-use Rattle.coap_world.proofs.Observations.Taken.{sizes, HeardTold, in_con, in_ack, in_non, non_here, not_earlier}
+use Rattle.coap_world.proofs.Observations.Taken.{sizes, NonTold, HeardTold, in_con, in_ack, in_non, non_here}
 use Rattle.coap_world.proofs.Observations.Taken.{TakenTold, formats_back, taken_here, taken_told}
 use Rattle.coap_world.proofs.Reports.FormatsSet.{FormatsIn}
 use Rattle.coap_world.proofs.Requests.OfACall.{Lawful, lawful_back}
@@ -73,20 +76,24 @@ module _ (config : Config) (small : config.server_szx ≤ 6) (few : config.limit
     abbrev n : Message
     n = second.message
 
-    before : Lawful config past
+    abbrev before : Lawful config past
     before = lawful_back config past (OfClient c) law
 
     abbrev calls : List S.Call
     calls = server_trace config past
 
+    -- the server's clock is the near one
+    abbrev back : Clocks
+    back = turned law.clocks
+
     taken : IsTaken (sizes config) second (client_of past) c
     taken = (are_taken server_end (sizes config) config.client_setup (client_of (OfClient c ∷ past)) law.client).0 second
         comes
 
-    told_here : TakenTold config second (OfClient c ∷ past)
+    told_here : TakenTold config back second (OfClient c ∷ past)
     told_here = taken_here config small past c law formats second comes
 
-    earlier : TakenTold config prior past
+    earlier : TakenTold config back prior past
     earlier = taken_told config small past before formats prior (client_entries config
         (λ p b. notifies (C.own_of (sizes config) p) b ≡ Some prior) past
         (newest_taken (sizes config) second.number (client_of past) prior later.last))
@@ -129,40 +136,61 @@ module _ (config : Config) (small : config.server_szx ≤ 6) (few : config.limit
     abbrev hops : List Hop
     hops = across (hops_in config past)
 
-    across_here : ChannelLaw config.server_setup config.client_setup server_end client_end
+    across_here : ChannelLaw back config.server_setup config.client_setup server_end client_end
         (map Far (client_adds config (client_of past) c) ++ hops)
     across_here = law_across config past c law n second.mark.at heard taken.notification
 
     -- the mark moves on
     renews : Renews prior.mark second.mark
-    renews = record {
-      order = not_earlier config.server_setup config.client_setup m n prior.mark.at second.mark.at hops
-          (client_adds config (client_of past) c) across_here heard earlier.heard;
-      newer = later.newer;
-    }
+    renews = record { newer = later.newer }
 
-    -- what is told of the prior one, no later than it was taken; and of the second in a NON, at most MAX_LATENCY before
+    -- what is told of the prior one, behind which that was taken
 
     pub record ToldPrior (x : Told) : Type 0 where
       pub names : Names x.version (tag_in m)
-      pub from : x.at ≤ prior.mark.at
+      pub behind : Behind back hops x.at prior.mark.at
 
-    pub record ToldNon (x : Told) : Type 0 where
-      pub names : Names x.version (tag_in n)
-      pub from : x.at ≤ second.mark.at
-      pub till : second.mark.at ≤ x.at + max_latency
+    abbrev now : ℕ
+    now = clock (near_of hops)
 
-    -- the second was not told before the prior one ..
-    pub none_crosses : (x y : Told) → FollowsNon config.limits.changes x y → ToldNon x → ToldPrior y → ⊥
-    none_crosses x y f a b = not_behind config.limits.changes x y second.mark prior.mark few f
-        (record { number = told_here.numbered x.version a.names; from = a.from }) a.till
-        (record { number = earlier.numbered y.version b.names; from = b.from }) renews
+    -- the second one comes in a NON
+    module _ (w : Meanwhile back second.mark.at (near_of hops) (λ when. Sometime (TellsNon config n when now) calls)) where
+      abbrev when : ℕ
+      when = back.near w.instant
 
-    -- .. nor in the same call
-    pub none_at_once : (x : Told) → ToldNon x → ToldPrior x → ⊥
-    none_at_once x a b = not_at_once x second.mark prior.mark
-        (record { number = told_here.numbered x.version a.names; from = a.from }) a.till
-        (record { number = earlier.numbered x.version b.names; from = b.from }) renews
+      -- what is told of it, at most MAX_LATENCY before by the server's clock
+      pub record ToldNon (x : Told) : Type 0 where
+        pub names : Names x.version (tag_in n)
+        pub from : x.at ≤ when
+        pub till : when ≤ x.at + max_latency
+
+      -- the prior one was told while the NON could come: the server's layer had come as far
+      meets : (x y : Told) → x.at ≤ y.at → ToldNon x → ToldPrior y → Meets x y prior.mark second.mark
+      meets x y le a b =
+          let told = b.behind.before in
+          let late = w.later in
+          let till = a.till in
+          let from = b.behind.from in
+          let prior_shown = b.behind.shown in
+          let second_shown = w.shown in
+          let gap = far_gap back across_here.pace b.behind.instant w.instant max_latency (omega arith)
+          (omega (arith, till, le, from)) in
+          record {
+            near = omega (arith, told, late, till);
+            soon = omega (arith, gap, prior_shown, second_shown);
+          }
+
+      -- the second was not told before the prior one ..
+      pub none_crosses : (x y : Told) → FollowsNon config.limits.changes x y → ToldNon x → ToldPrior y → ⊥
+      none_crosses x y f a b = not_behind config.limits.changes x y second.mark prior.mark few f
+          (record { number = told_here.numbered x.version a.names })
+          (record { number = earlier.numbered y.version b.names }) (meets x y f.later a b) renews
+
+      -- .. nor in the same call
+      pub none_at_once : (x : Told) → ToldNon x → ToldPrior x → ⊥
+      none_at_once x a b = not_at_once x second.mark prior.mark
+          (record { number = told_here.numbered x.version a.names })
+          (record { number = earlier.numbered x.version b.names }) (meets x x (omega arith) a b) renews
 
     abbrev Says : Way → Message → List S.Call → S.Call → Type 0
     Says k x p b = TellsIn config.limits config.server_szx k client_end x p b
@@ -193,7 +221,7 @@ module _ (config : Config) (small : config.server_szx ≤ 6) (few : config.limit
         let y = is_second p b h.1 in
         differ (sym x.way_is ∙ (ap (λ (z : Telling). z.way) (same_told k l p b x y) ∙ y.way_is))
 
-    module _ (con : Open) (up : Ever (HandsUpAs server_end con) (client_adds config (client_of past) c))
+    module _ (con : Open) (up : Ever (HandsUpAs back server_end con) (client_adds config (client_of past) c))
         (told : Sometime (TellsCon config con n) calls) (begun_before : Ever (λ b. begun b ≡ Some con) (near_of hops))
         (to : con.to ≡ client_end) where
       -- the prior one was not told behind this CON, which was acknowledged before
@@ -206,7 +234,7 @@ module _ (config : Config) (small : config.server_szx ≤ 6) (few : config.limit
           (Sometime_map (λ p b. A p b × Sometime (TellsCon config con n) p)
           (λ p b. Says k m p b × Sometime (TellsCon config con n) p)
           (λ p b x. (is_prior p b x.0, x.1)) calls h) in
-          not_after config.server_setup config.client_setup con to hops begun_before
+          not_after back config.server_setup config.client_setup con to hops begun_before
           (client_adds config (client_of past) c) across_here up (taken_before config con to past before acked)
 
       decide : (k : Way) (A : List S.Call → S.Call → Type 0)
@@ -227,25 +255,25 @@ module _ (config : Config) (small : config.server_szx ≤ 6) (few : config.limit
       rises_by_con : Rise prior second
       rises_by_con = by earlier.told
         where
-          by : HeardTold config m prior.mark.at past → Rise prior second
+          by : HeardTold config back m prior.mark.at past → Rise prior second
           by (in_ack x) = decide InReply (TellsAck config m) (λ p b h. h)
               (apart InReply (InCon con.id) (TellsAck config m) (TellsCon config con n) (λ p b h. h) (λ p b h. h.0)
               (λ e. cc e) calls) x
-          by (in_non x) = decide InNon (TellsNon config m prior.mark.at) (λ p b h. h.tells)
-              (apart InNon (InCon con.id) (TellsNon config m prior.mark.at) (TellsCon config con n) (λ p b h. h.tells)
-              (λ p b h. h.0) (λ e. cc e) calls) x
+          by (in_non x) = decide InNon (TellsNon config m (back.near x.instant) x.now) (λ p b h. h.tells)
+              (apart InNon (InCon con.id) (TellsNon config m (back.near x.instant) x.now) (TellsCon config con n)
+              (λ p b h. h.tells) (λ p b h. h.0) (λ e. cc e) calls) x.told
           by (in_con other from before_up x) =
               decide (InCon other.id) (TellsCon config other m) (λ p b h. h.0)
               (λ same.
               let e = one_begun other calls (all_tell_sent config.limits config.server_szx config.server_setup calls
               before.server) same in
-              not_again config.server_setup config.client_setup con to hops begun_before
+              not_again back config.server_setup config.client_setup con to hops begun_before
               (client_adds config (client_of past) c) across_here up
-              (subst (λ z. Ever (OnFar (HandsUpAs server_end z)) hops) e before_up)) x
+              (subst (λ z. Ever (OnFar (HandsUpAs back server_end z)) hops) e before_up)) x
 
-    module _ (told : Sometime (TellsNon config n second.mark.at) calls) where
+    module _ (w : Meanwhile back second.mark.at (near_of hops) (λ when. Sometime (TellsNon config n when now) calls)) where
       abbrev ByNon : List S.Call → S.Call → Type 0
-      ByNon = TellsNon config n second.mark.at
+      ByNon = TellsNon config n (back.near w.instant) now
 
       non_says : (p : List S.Call) (b : S.Call) → ByNon p b → Says InNon n p b
       non_says p b x = x.tells
@@ -255,7 +283,7 @@ module _ (config : Config) (small : config.server_szx ≤ 6) (few : config.limit
           → (Sometime (λ p b. A p b × ByNon p b) calls → ⊥)
           → (Sometime (λ p b. A p b × Sometime ByNon p) calls → ⊥) → Sometime A calls → Rise prior second
       by_non k A is_prior apart_so not_sooner h =
-          rises_behind k InNon A ByNon is_prior non_says (behind A ByNon calls h told apart_so not_sooner)
+          rises_behind k InNon A ByNon is_prior non_says (behind A ByNon calls h w.so apart_so not_sooner)
 
       abbrev told_as : Telling → Told
       told_as x = record { version = x.version; at = x.at }
@@ -263,37 +291,42 @@ module _ (config : Config) (small : config.server_szx ≤ 6) (few : config.limit
       -- the prior one, which was taken no earlier than it was told, was not told behind it
       crosses_none : (k : Way) (A : List S.Call → S.Call → Type 0)
           → (is_prior : (p : List S.Call) (b : S.Call) → A p b → Says k m p b)
-          → ((p : List S.Call) (b : S.Call) (x : A p b) → (is_prior p b x).told.at ≤ prior.mark.at)
+          → ((p : List S.Call) (b : S.Call) (x : A p b) → Behind back hops (is_prior p b x).told.at prior.mark.at)
           → Sometime (λ p b. A p b × Sometime ByNon p) calls → ⊥
       crosses_none k A is_prior from h =
           let f = follows_in config.limits config.server_szx config.server_setup client_end n.token InNon k n m refl token
           ByNon A (λ p b z. z.tells) is_prior calls before.server once h in
           let x = f.one.tells in
           let y = is_prior (f.after ++ f.call ∷ f.older) f.next f.other in
-          none_crosses (told_as x.told) (told_as y.told)
+          none_crosses w (told_as x.told) (told_as y.told)
           (record { version = f.follows.version; later = f.follows.later; near = f.follows.near x.way_is })
           (record { names = named x.told n x.conveys; from = f.one.from; till = f.one.till })
-          (record { names = named y.told m y.conveys; from = from (f.after ++ f.call ∷ f.older) f.next f.other })
+          (record { names = named y.told m y.conveys; behind = from (f.after ++ f.call ∷ f.older) f.next f.other })
 
-      at_once_none : (t : List S.Call) → Sometime (λ p b. TellsNon config m prior.mark.at p b × ByNon p b) t → ⊥
-      at_once_none [] h = h
-      at_once_none (b ∷ p) (inr h) = at_once_none p h
-      at_once_none (b ∷ p) (inl h) =
+      behind_non : (k : NonTold config back m prior.mark.at past) (p : List S.Call) (b : S.Call)
+          → (h : TellsNon config m (back.near k.instant) k.now p b) → Behind back hops h.tells.told.at prior.mark.at
+      behind_non k p b h = let early = h.before in let far = k.before in
+          record { instant = k.instant; shown = k.shown; from = h.from; before = omega (arith, early, far) }
+
+      at_once_none : (k : NonTold config back m prior.mark.at past) (t : List S.Call)
+          → Sometime (λ p b. TellsNon config m (back.near k.instant) k.now p b × ByNon p b) t → ⊥
+      at_once_none k [] h = h
+      at_once_none k (b ∷ p) (inr h) = at_once_none k p h
+      at_once_none k (b ∷ p) (inl h) =
           let x = h.1.tells in
           let y = h.0.tells in
           let same = same_told InNon InNon p b y x in
-          let from = h.0.from in
-          none_at_once (told_as x.told)
+          none_at_once w (told_as x.told)
           (record { names = named x.told n x.conveys; from = h.1.from; till = h.1.till })
           (record {
             names = subst (λ (z : Telling). Names z.version (tag_in m)) same (named y.told m y.conveys);
-            from = subst (λ (z : Telling). z.at ≤ prior.mark.at) same from;
+            behind = subst (λ (z : Telling). Behind back hops z.at prior.mark.at) same (behind_non k p b h.0);
           })
 
       rises_by_non : Rise prior second
       rises_by_non = by earlier.told
         where
-          by : HeardTold config m prior.mark.at past → Rise prior second
+          by : HeardTold config back m prior.mark.at past → Rise prior second
           by (in_ack x) = by_non InReply (TellsAck config m) (λ p b h. h)
               (apart InReply InNon (TellsAck config m) ByNon (λ p b h. h) non_says (λ e. cc e) calls)
               (λ h. reply_first config.limits config.server_szx config.server_setup client_end n.token InNon InReply n m
@@ -301,12 +334,14 @@ module _ (config : Config) (small : config.server_szx ≤ 6) (few : config.limit
               (Sometime_map (λ p b. TellsAck config m p b × Sometime ByNon p)
               (λ p b. TellsAck config m p b × Sometime (Says InNon n) p)
               (λ p b k. (k.0, Sometime_map ByNon (Says InNon n) non_says p k.1)) calls h)) x
-          by (in_non x) = by_non InNon (TellsNon config m prior.mark.at) (λ p b h. h.tells) (at_once_none calls)
-              (crosses_none InNon (TellsNon config m prior.mark.at) (λ p b h. h.tells) (λ p b h. h.from)) x
+          by (in_non x) = by_non InNon (TellsNon config m (back.near x.instant) x.now) (λ p b h. h.tells)
+              (at_once_none x calls)
+              (crosses_none InNon (TellsNon config m (back.near x.instant) x.now) (λ p b h. h.tells) (behind_non x)) x.told
           by (in_con other first before_up x) = by_non (InCon other.id) (TellsCon config other m) (λ p b h. h.0)
               (apart (InCon other.id) InNon (TellsCon config other m) ByNon (λ p b h. h.0) non_says (λ e. cc e) calls)
               (crosses_none (InCon other.id) (TellsCon config other m) (λ p b h. h.0)
-              (λ p b h. (let then = told_in_con config p b h.0.told other h.0.here h.1 in omega (arith, then, first)))) x
+              (λ p b h. subst (λ k. Behind back hops k prior.mark.at) (sym (told_in_con config p b h.0.told other h.0.here h.1))
+              first)) x
 
     rises_here : Rise prior second
     rises_here = by ((are_of_types server_end (sizes config) config.client_setup (client_of (OfClient c ∷ past))

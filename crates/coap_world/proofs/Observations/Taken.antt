@@ -5,11 +5,15 @@ use Rattle.coap_types.specs.Past.{Ever, Sometime}
 use Rattle.coap_types.proofs.Facts.Traces.{Ever_back, Ever_front, Ever_map, forget}
 use Rattle.coap_types.specs.declared.message.Kind.TheVariants.{Con, Non, Ack}
 use Rattle.coap_codec.specs.Message.{Message}
-use Rattle.coap_layer.specs.Channel.{Hop, Far, far_of, ChannelLaw, OnFar, HandsUpAs}
+use Rattle.coap_layer.specs.Channel.{Hop, Far, far_of, OnFar, near_of}
+use Rattle.coap_layer.specs.Clocks.{Clocks, turned}
+use Rattle.coap_layer.specs.Paced.{Meanwhile, ChannelLaw, HandsUpAs}
 use Rattle.coap_layer.specs.declared.setup.Setup.{Setup}
 use Rattle.coap_layer.specs.Trace as T
-use Rattle.coap_layer.specs.Words.{Open}
-use Rattle.coap_layer.proofs.Facts.Hops.{earlier, far_ever}
+use Rattle.coap_layer.specs.Words.{Open, clock}
+use Rattle.coap_layer.proofs.Facts.Hops.{far_ever}
+use Rattle.coap_layer.proofs.Facts.Paced.{earlier}
+use Rattle.coap_layer.specs.Rows.{LayerLaw}
 use Rattle.coap_observe.specs.Versions.{sequence_number}
 use Rattle.coap_block.specs.Sizes.{Sizes}
 use Rattle.coap_client.specs.Law as C
@@ -21,12 +25,14 @@ use Rattle.coap_client.specs.Responses.{is_notification, tag_in}
 use Rattle.coap_client.specs.Trace.{Call}
 use Rattle.coap_client.proofs.Facts.EachCall.{are_noted_at, are_of_types, are_taken}
 use Rattle.coap_world.specs.Events.{client_end, server_end, Config}
-use Rattle.coap_world.specs.Hops.{hops_at, hops_in, across, client_adds}
+use Rattle.coap_world.specs.Hops.{hops_at, hops_in, across, client_adds, server_adds}
 use Rattle.coap_world.specs.Record.{Entry, OfClient, OfServer, client_of, server_trace}
 use Rattle.coap_world.specs.Rising.{Names}
 use Rattle.coap_world.proofs.Observations.Acknowledged.{before_now}
 use Rattle.coap_server.specs.Follows.Told.{ServesNon}
-use Rattle.coap_world.proofs.Observations.Heard.{TellsCon, TellsAck, TellsNon, con_told, ack_told, non_told}
+use Rattle.coap_world.proofs.Observations.Heard.{Behind, TellsCon, TellsAck, TellsNon, con_told, ack_told, non_told}
+use Rattle.coap_world.proofs.Delivery.ChannelAcross.{near_across}
+use Rattle.coap_world.proofs.Delivery.HopsAreEntries.{far_far, far_near}
 use Rattle.coap_world.proofs.Observations.OneRegistration.{no_non}
 use Rattle.coap_world.proofs.Observations.OneVersion.{says_number}
 use Rattle.coap_world.proofs.Observations.Positions.{across_append, across_near, AtClient, server_more}
@@ -50,13 +56,13 @@ formats_before [] es h = h
 formats_before (e ∷ later) es h = formats_before later es (formats_back (later ++ es) e h)
 
 -- what is heard here was not heard before what was heard in the past
-pub not_earlier : (one other : Setup) (m n : Message) (before now : ℕ) (hs : List Hop) (adds : List T.Entry)
-    → ChannelLaw one other server_end client_end (map Far adds ++ hs) → Ever (HeardAt server_end n now) adds
+pub not_earlier : (clocks : Clocks) (one other : Setup) (m n : Message) (before now : ℕ) (hs : List Hop) (adds : List T.Entry)
+    → ChannelLaw clocks one other server_end client_end (map Far adds ++ hs) → Ever (HeardAt server_end n now) adds
     → Ever (OnFar (HeardAt server_end m before)) hs → before ≤ now
-not_earlier one other m n before now hs [] law up h = absurd up
-not_earlier one other m n before now hs (x ∷ adds) law (inr up) h = not_earlier one other m n before now hs adds
-    (earlier one other server_end client_end (map Far adds ++ hs) (Far x) law) up h
-not_earlier one other m n before now hs (x ∷ adds) law (inl up) h =
+not_earlier clocks one other m n before now hs [] law up h = absurd up
+not_earlier clocks one other m n before now hs (x ∷ adds) law (inr up) h = not_earlier clocks one other m n before now hs adds
+    (earlier clocks one other server_end client_end (map Far adds ++ hs) (Far x) law) up h
+not_earlier clocks one other m n before now hs (x ∷ adds) law (inl up) h =
     let past = map Far adds ++ hs in
     let P : T.Entry → Type 0 = HeardAt server_end m before in
     let there = far_ever P past (Ever_back (OnFar P) (map Far adds) hs h) in
@@ -77,13 +83,45 @@ module _ (config : Config) where
   abbrev pub sizes : Sizes
   sizes = config.client_sizes
 
+  -- in a NON: at an instant at which the client's clock shows this moment, and the server's one at most MAX_LATENCY after it
+  -- was told; the server's layer has come as far
+  pub record NonTold (clocks : Clocks) (m : Message) (at : ℕ) (t : List Entry) : Type 0 where
+    pub instant : ℕ
+    pub shown : clocks.far instant ≡ at
+    pub now : ℕ
+    pub before : now ≤ clock (near_of (across (hops_in config t)))
+    pub told : Sometime (TellsNon config m (clocks.near instant) now) (server_trace config t)
+
   -- what was heard of an observation, as the server told it: in a CON that began no later and was handed up, in an
   -- acknowledgement, or in a NON
-  pub data HeardTold (m : Message) (at : ℕ) (t : List Entry) : Type 0 where
-    in_con : (con : Open) → con.first ≤ at → Ever (OnFar (HandsUpAs server_end con)) (across (hops_in config t))
-        → Sometime (TellsCon config con m) (server_trace config t) → HeardTold m at t
-    in_ack : Sometime (TellsAck config m) (server_trace config t) → HeardTold m at t
-    in_non : Sometime (TellsNon config m at) (server_trace config t) → HeardTold m at t
+  pub data HeardTold (clocks : Clocks) (m : Message) (at : ℕ) (t : List Entry) : Type 0 where
+    in_con : (con : Open) → Behind clocks (across (hops_in config t)) con.first at
+        → Ever (OnFar (HandsUpAs clocks server_end con)) (across (hops_in config t))
+        → Sometime (TellsCon config con m) (server_trace config t) → HeardTold clocks m at t
+    in_ack : Sometime (TellsAck config m) (server_trace config t) → HeardTold clocks m at t
+    in_non : NonTold clocks m at t → HeardTold clocks m at t
+
+  -- the server's layer comes further
+  grows : (setup : Setup) (xs past : List T.Entry) → LayerLaw setup (xs ++ past) → clock past ≤ clock (xs ++ past)
+  grows setup [] past law = omega arith
+  grows setup (x ∷ xs) past law = let k = grows setup xs past law.1 in let l = law.0.time in omega (arith, k, l)
+
+  on_far : (e : Entry) (t : List Entry) → Lawful config (e ∷ t)
+      → clock (far_of (hops_in config t)) ≤ clock (far_of (hops_in config (e ∷ t)))
+  on_far (OfClient c) t law = subst (λ l. clock (far_of (hops_in config t)) ≤ clock l)
+      (sym (far_near (client_adds config (client_of t) c) (hops_in config t))) (omega arith)
+  on_far (OfServer c) t law =
+      let is = far_far (server_adds config (server_trace config t) c) (hops_in config t) in
+      subst (λ l. clock (far_of (hops_in config t)) ≤ clock l) (sym is)
+      (grows config.server_setup (server_adds config (server_trace config t) c) (far_of (hops_in config t))
+      (subst (LayerLaw config.server_setup) is law.channel.far_law))
+
+  further : (e : Entry) (t : List Entry) → Lawful config (e ∷ t)
+      → clock (near_of (across (hops_in config t))) ≤ clock (near_of (across (hops_in config (e ∷ t))))
+  further e t law =
+      subst (λ l. clock l ≤ clock (near_of (across (hops_in config (e ∷ t))))) (sym (near_across (hops_in config t)))
+      (subst (λ l. clock (far_of (hops_in config t)) ≤ clock l) (sym (near_across (hops_in config (e ∷ t))))
+      (on_far e t law))
 
   hops_more : (P : Hop → Type 0) (e : Entry) (t : List Entry) → Ever P (across (hops_in config t))
       → Ever P (across (hops_in config (e ∷ t)))
@@ -97,11 +135,26 @@ module _ (config : Config) where
       subst (Ever (OnFar P)) (sym (across_near adds (hops_in config past)))
       (Ever_front (OnFar P) (map Far adds) (across (hops_in config past)) (far_there P adds h))
 
-  heard_more : (m : Message) (at : ℕ) (e : Entry) (t : List Entry) → HeardTold m at t → HeardTold m at (e ∷ t)
-  heard_more m at e t (in_con con from up told) = in_con con from (hops_more (OnFar (HandsUpAs server_end con)) e t up)
-      (server_more config (TellsCon config con m) e t told)
-  heard_more m at e t (in_ack told) = in_ack (server_more config (TellsAck config m) e t told)
-  heard_more m at e t (in_non told) = in_non (server_more config (TellsNon config m at) e t told)
+  behind_more : (clocks : Clocks) (sent at : ℕ) (e : Entry) (t : List Entry) → Lawful config (e ∷ t)
+      → Behind clocks (across (hops_in config t)) sent at → Behind clocks (across (hops_in config (e ∷ t))) sent at
+  behind_more clocks sent at e t law b = let f = further e t law in let k = b.before in
+      record { instant = b.instant; shown = b.shown; from = b.from; before = omega (arith, f, k) }
+
+  heard_more : (clocks : Clocks) (m : Message) (at : ℕ) (e : Entry) (t : List Entry) → Lawful config (e ∷ t)
+      → HeardTold clocks m at t → HeardTold clocks m at (e ∷ t)
+  heard_more clocks m at e t law (in_con con from up told) = in_con con (behind_more clocks con.first at e t law from)
+      (hops_more (OnFar (HandsUpAs clocks server_end con)) e t up) (server_more config (TellsCon config con m) e t told)
+  heard_more clocks m at e t law (in_ack told) = in_ack (server_more config (TellsAck config m) e t told)
+  heard_more clocks m at e t law (in_non k) =
+      let f = further e t law in
+      let b = k.before in
+      in_non (record {
+        instant = k.instant;
+        shown = k.shown;
+        now = k.now;
+        before = omega (arith, f, b);
+        told = server_more config (TellsNon config m (clocks.near k.instant) k.now) e t k.told;
+      })
 
   registered_more : (number : ℕ) (token : List ℕ) (e : Entry) (t : List Entry)
       → WasRegistered sizes number token (client_of t) → WasRegistered sizes number token (client_of (e ∷ t))
@@ -117,23 +170,42 @@ module _ (config : Config) where
   module _ (past : List Entry) (c : Call) (law : Lawful config (OfClient c ∷ past)) (m : Message) (at : ℕ)
       (hears_it : Ever (HeardAt server_end m at) (client_adds config (client_of past) c))
       (note : is_notification m ≡ true) where
-    -- in a NON that is no answer, since the client sends no NON
-    pub non_here : m.kind ≡ Non → Sometime (TellsNon config m at) (server_trace config past)
-    non_here kind = other_one (ServesNon config.limits config.server_szx client_end) (TellsNon config m at)
-        (server_trace config past) (no_non config past (lawful_back config past (OfClient c) law))
-        (non_told config past c law m at hears_it note kind)
+    -- the server's clock is the near one
+    abbrev back : Clocks
+    back = turned law.clocks
 
-    heard_here : (m.kind ≡ Con) ⊎ ((m.kind ≡ Non) ⊎ (m.kind ≡ Ack)) → HeardTold m at (OfClient c ∷ past)
-    heard_here (inr (inl kind)) = in_non (non_here kind)
+    abbrev now : ℕ
+    now = clock (near_of (across (hops_in config past)))
+
+    -- in a NON that is no answer, since the client sends no NON
+    pub non_here : m.kind ≡ Non → Meanwhile back at (near_of (across (hops_in config past)))
+        (λ when. Sometime (TellsNon config m when now) (server_trace config past))
+    non_here kind =
+        let w = non_told config past c law m at hears_it note kind in
+        record {
+          instant = w.instant;
+          shown = w.shown;
+          later = w.later;
+          so = other_one (ServesNon config.limits config.server_szx client_end)
+              (TellsNon config m (back.near w.instant) now)
+              (server_trace config past) (no_non config past (lawful_back config past (OfClient c) law)) w.so;
+        }
+
+    heard_here : (m.kind ≡ Con) ⊎ ((m.kind ≡ Non) ⊎ (m.kind ≡ Ack)) → HeardTold back m at (OfClient c ∷ past)
+    heard_here (inr (inl kind)) =
+        let w = non_here kind in
+        let f : now ≤ clock (near_of (across (hops_in config (OfClient c ∷ past)))) = further (OfClient c) past law in
+        in_non (record { instant = w.instant; shown = w.shown; now = now; before = f; told = w.so })
     heard_here (inr (inr kind)) = in_ack (ack_told config past c law m at hears_it note kind)
     heard_here (inl kind) =
         let k = con_told config past c law m at hears_it note kind in
-        in_con k.con k.from (hops_here (HandsUpAs server_end k.con) past c k.up) k.told
+        in_con k.con (behind_more back k.con.first at (OfClient c) past law k.behind)
+        (hops_here (HandsUpAs back server_end k.con) past c k.up) k.told
 
   -- what is taken of an observation was heard so, at the moment that its mark has, under the token of its registration;
   -- and its mark has the number of the version that it shows
-  pub record TakenTold (n : Newly) (t : List Entry) : Type 0 where
-    pub told : HeardTold n.message n.mark.at t
+  pub record TakenTold (clocks : Clocks) (n : Newly) (t : List Entry) : Type 0 where
+    pub told : HeardTold clocks n.message n.mark.at t
     pub heard : Ever (OnFar (HeardAt server_end n.message n.mark.at)) (across (hops_in config t))
     pub registered : WasRegistered sizes n.number n.message.token (client_of t)
     pub numbered : (v : ℕ) → Names v (tag_in n.message) → n.mark.number ≡ sequence_number v
@@ -148,8 +220,9 @@ module _ (config : Config) where
         in
         k.sequence ∙ says_number config past before n.message shown k.notification v names
 
-    pub taken_here : (past : List Entry) (c : Call) → Lawful config (OfClient c ∷ past) → FormatsIn past → (n : Newly)
-        → notifies (C.own_of sizes (client_of past)) c ≡ Some n → TakenTold n (OfClient c ∷ past)
+    pub taken_here : (past : List Entry) (c : Call) → (law : Lawful config (OfClient c ∷ past)) → FormatsIn past
+        → (n : Newly) → notifies (C.own_of sizes (client_of past)) c ≡ Some n
+        → TakenTold (turned law.clocks) n (OfClient c ∷ past)
     taken_here past c law formats n is =
         let t : List Call = client_of (OfClient c ∷ past) in
         let k = (are_taken server_end sizes config.client_setup t law.client).0 n is in
@@ -167,15 +240,16 @@ module _ (config : Config) where
         by types (inl f) = types.heard n.message f.heard
         by types (inr l) = elim (types.noted n.message l.noted) [ inl z ↦ inl z | inr z ↦ inr (inl z) ]
 
-    pub taken_told : (t : List Entry) → Lawful config t → FormatsIn t → (n : Newly)
-        → Sometime (AtClient config (λ p b. notifies (C.own_of sizes p) b ≡ Some n)) t → TakenTold n t
+    pub taken_told : (t : List Entry) → (law : Lawful config t) → FormatsIn t → (n : Newly)
+        → Sometime (AtClient config (λ p b. notifies (C.own_of sizes p) b ≡ Some n)) t
+        → TakenTold (turned law.clocks) n t
     taken_told [] law formats n h = absurd h
     taken_told (OfServer c ∷ past) law formats n (inl h) = absurd h
     taken_told (OfClient c ∷ past) law formats n (inl h) = taken_here past c law formats n h
     taken_told (e ∷ past) law formats n (inr h) =
         let k = taken_told past (lawful_back config past e law) (formats_back past e formats) n h in
         record {
-          told = heard_more n.message n.mark.at e past k.told;
+          told = heard_more (turned law.clocks) n.message n.mark.at e past law k.told;
           heard = hops_more (OnFar (HeardAt server_end n.message n.mark.at)) e past k.heard;
           registered = registered_more n.number n.message.token e past k.registered;
           numbered = k.numbered;

@@ -89,6 +89,15 @@ non_in t F to bytes at (e ∷ es) all (inl h) =
     ⊎_elim (λ take. (let clash = sym take ∙ h.goes.call in absurd (cc clash)))
     (λ since. (omega (arith, since, from), omega (arith, late, till))) all.0.since
 
+non_by : (t : ℕ) (F : Endpoint → List ℕ → Type 0) (to : Endpoint) (bytes : List ℕ) (at now : ℕ) (es : List L.Entry)
+    → Every (Timely t F) es → Ever (λ e. PlainSent to bytes at e × (e.at ≤ now)) es → t ≤ now
+non_by t F to bytes at now [] all h = absurd h
+non_by t F to bytes at now (e ∷ es) all (inr h) = non_by t F to bytes at now es all.1 h
+non_by t F to bytes at now (e ∷ es) all (inl h) =
+    let by = h.1 in
+    ⊎_elim (λ take. (let clash = sym take ∙ h.0.goes.call in absurd (cc clash))) (λ since. omega (arith, since, by))
+    all.0.since
+
 module _ (config : Config) where
   abbrev own : List Call → Own
   own t = own_of config.limits config.server_szx t
@@ -124,3 +133,11 @@ module _ (config : Config) where
       let till = k.1 in
       let then = told_then (own t) c x is in
       (omega (arith, from, then), omega (arith, till, then))
+
+  -- .. and the layer has come as far
+  pub told_before : (t : List Call) (c : Call) (x : Telling) (to : Endpoint) (bytes : List ℕ) (at now : ℕ)
+      → telling (own t) c ≡ Some x → Ever (λ e. PlainSent to bytes at e × (e.at ≤ now)) (server_adds config t c)
+      → x.at ≤ now
+  told_before t c x to bytes at now is h =
+      let k = non_by (own (c ∷ t)).clock (Fed c) to bytes at now (server_adds config t c) (timely t c) h in
+      let then = told_then (own t) c x is in omega (arith, k, then)

@@ -20,9 +20,9 @@ use Rattle.coap_client.proofs.Facts.EachCall as client_calls
 use Rattle.coap_world.specs.Events.{server_end, Config, What, Calls, Observes, Cancels, Forgets, Sets, Removes}
 use Rattle.coap_world.specs.Events.{TickClient, TickServer, Deliver}
 use Rattle.coap_world.specs.Events.{StrangerToClient, StrangerToServer, Event}
-use Rattle.coap_world.specs.GoesOn.{turn_of, Follows, GoesOn, MayRun, HasRecord}
-use Rattle.coap_world.specs.Legal.{IsConfig, AllLegal}
-use Rattle.coap_world.specs.LegalEvents.{MayHappen}
+use Rattle.coap_world.specs.GoesOn.{turn_of, GoesOn, MayRun, HasRecord}
+use Rattle.coap_world.specs.Legal.{IsConfig, MayCome}
+use Rattle.coap_world.specs.NoFault.{CanCome, HasTurn}
 use Rattle.coap_world.specs.Record.{Entry, OfClient, OfServer, Turn, entries_of, client_of, server_of, begun_with}
 use Rattle.coap_world.specs.Record.{server_trace, OnClient, OnServer, DelayOf, PlainOf, gives_it}
 use Rattle.coap_world.specs.Record.{IsOne, AreTicks, FeedsClient, FeedsServer, Makes, ClientTick, ServerTick, RecordOf}
@@ -36,7 +36,7 @@ are_ticks IsTick [] h = h
 are_ticks IsTick (c ∷ calls) h = h
 
 module _ (config : Config) (events : List Event) (turns : List Turn) (run : RecordOf config events turns)
-    (range : IsConfig config) (legal : AllLegal turns) (at word : ℕ) where
+    (at word : ℕ) where
   abbrev event : What → Event
   event what = record { at = at; word = word; what = what }
 
@@ -56,11 +56,11 @@ module _ (config : Config) (events : List Event) (turns : List Turn) (run : Reco
   server_goes_on = server_facts.goes config.limits config.server_szx config.server_setup servers run.server
 
   -- a turn that makes these entries
-  follows : (what : What) → MayHappen turns (event what) → (entries : List Entry)
+  follows : (what : What) → CanCome turns what → (entries : List Entry)
       → Makes turns at word what false entries
       → ClientLaw server_end config.client_sizes config.client_setup (client_of (entries ++ all))
       → ServerLaw config.limits config.server_szx config.server_setup (server_trace config (entries ++ all))
-      → Follows config events turns (event what)
+      → HasTurn config events turns (event what)
   follows what may entries makes on_client on_server = record {
     entries = entries;
     made = record {
@@ -69,21 +69,13 @@ module _ (config : Config) (events : List Event) (turns : List Turn) (run : Reco
       client = on_client;
       server = on_server;
     };
-    legal = record {
-      range = range;
-      events = (
-        record
-            { at = may.at; word = may.word; range = may.range; later = may.later; comes = may.comes },
-        legal,
-      );
-    };
   }
 
   -- a turn of the client: its calls, all that it has out, and its reports
-  of_client : (what : What) → MayHappen turns (event what) → (calls : List C.Call)
+  of_client : (what : What) → CanCome turns what → (calls : List C.Call)
       → ClientLaw server_end config.client_sizes config.client_setup (calls ++ clients)
       → ((entries : List Entry) → OnClient calls entries → Makes turns at word what false entries)
-      → Follows config events turns (event what)
+      → HasTurn config events turns (event what)
   of_client what may calls law makes =
       let outs = (client_calls.comes_to_rest server_end config.client_sizes config.client_setup
       (calls ++ clients) law).outs in
@@ -105,10 +97,10 @@ module _ (config : Config) (events : List Event) (turns : List Turn) (run : Reco
       (sym (server_client list all)) run.server)
 
   -- a turn of the server: its calls, and all that it has out
-  of_server : (what : What) → MayHappen turns (event what) → (calls : List S.Call)
+  of_server : (what : What) → CanCome turns what → (calls : List S.Call)
       → ServerLaw config.limits config.server_szx config.server_setup (calls ++ servers)
       → ((entries : List Entry) → OnServer calls entries → Makes turns at word what false entries)
-      → Follows config events turns (event what)
+      → HasTurn config events turns (event what)
   of_server what may calls law makes =
       let outs = (server_facts.rests config.limits config.server_szx config.server_setup (calls ++ servers) law).outs in
       let given : List S.Call = map (λ p. S.NextOut (Some p)) outs.0 in
@@ -122,25 +114,25 @@ module _ (config : Config) (events : List Event) (turns : List Turn) (run : Reco
       (sym (ap (λ xs. xs ++ begun_with config) (server_server list all) ∙ same)) outs.1)
 
   -- a datagram
-  to_client : (what : What) → MayHappen turns (event what) → (from : Endpoint) (bytes : List ℕ)
+  to_client : (what : What) → CanCome turns what → (from : Endpoint) (bytes : List ℕ)
       → ((calls : List C.Call) (entries : List Entry) → IsOne (FeedsClient at word from bytes) false calls
-      → OnClient calls entries → Makes turns at word what false entries) → Follows config events turns (event what)
+      → OnClient calls entries → Makes turns at word what false entries) → HasTurn config events turns (event what)
   to_client what may from bytes makes =
       let k = client_goes_on.feeds at from bytes word in
       let call : C.Call = C.Feeds at from bytes word k.0 k.1 k.2 k.3 k.4 k.5 in
       of_client what may (call ∷ []) k.6 (λ entries on. makes (call ∷ []) entries
       (call, (k.0, k.1, k.2, k.3, k.4, k.5, refl), refl) on)
 
-  to_server : (what : What) → MayHappen turns (event what) → (from : Endpoint) (bytes : List ℕ)
+  to_server : (what : What) → CanCome turns what → (from : Endpoint) (bytes : List ℕ)
       → ((calls : List S.Call) (entries : List Entry) → IsOne (FeedsServer at word from bytes) false calls
-      → OnServer calls entries → Makes turns at word what false entries) → Follows config events turns (event what)
+      → OnServer calls entries → Makes turns at word what false entries) → HasTurn config events turns (event what)
   to_server what may from bytes makes =
       let k = server_goes_on.feeds at from bytes word in
       let call : S.Call = S.Feeds at from bytes word k.0 k.1 k.2 k.3 in
       of_server what may (call ∷ []) k.4 (λ entries on. makes (call ∷ []) entries
       (call, (k.0, k.1, k.2, k.3, refl), refl) on)
 
-  by_what : (what : What) → MayHappen turns (event what) → Follows config events turns (event what)
+  by_what : (what : What) → CanCome turns what → HasTurn config events turns (event what)
   by_what (Calls r) may =
       let k = client_goes_on.calls at r in
       let call : C.Call = C.Calls at r k.0 in
@@ -180,18 +172,37 @@ module _ (config : Config) (events : List Event) (turns : List Turn) (run : Reco
   by_what (StrangerToServer from bytes) may = to_server (StrangerToServer from bytes) may from bytes
       (λ calls entries one on. (calls, one, on))
   by_what (Deliver number) may =
-      let g = may.comes.0 in
-      let is = may.comes.1 in
-      elim may.comes.2 as (λ u. Follows config events turns (event (Deliver number))) [
+      let g = may.0 in
+      let is = may.1 in
+      elim may.2 as (λ u. HasTurn config events turns (event (Deliver number))) [
         | inl to ↦ to_client (Deliver number) may g.from g.packet.bytes
             (λ calls entries one on. (g, is, inr (to, calls, one, on)))
         | inr to ↦ to_server (Deliver number) may g.from g.packet.bytes
             (λ calls entries one on. (g, is, inl (to, calls, one, on)))
       ]
 
+pub has_turn : (config : Config) (events : List Event) (turns : List Turn) (event : Event) → RecordOf config events turns
+    → CanCome turns event.what → HasTurn config events turns event
+has_turn config events turns event run may = by_what config events turns run event.at event.word event.what may
+
+can_come : (past : List Turn) (at : ℕ) (what : What) → MayCome past at what → CanCome past what
+can_come past at (Deliver number) m = (m.0, m.1, m.2)
+can_come past at _ m = tt
+
 pub goes_on : (config : Config) → GoesOn config
 goes_on config events turns event run legal may =
-    by_what config events turns run legal.range legal.events event.at event.word event.what may
+    let k = has_turn config events turns event run (can_come turns event.at event.what may.comes) in
+    record {
+      entries = k.entries;
+      made = k.made;
+      legal = record {
+        range = legal.range;
+        events = (
+          record { at = may.at; word = may.word; range = may.range; later = may.later; comes = may.comes },
+          legal.events,
+        );
+      };
+    }
 
 -- the beginning
 

@@ -9,10 +9,10 @@ use Rattle.coap_server.proofs.Facts.Laws as server_facts
 use Rattle.coap_world.specs.Events.{server_end, Config, Event, What, Cancels, Forgets, Sets, Removes}
 use Rattle.coap_world.specs.Events.{TickClient, TickServer, Deliver, StrangerToServer}
 use Rattle.coap_world.specs.Legal.{Legal}
-use Rattle.coap_world.specs.NoFault.{events_of, IsLost, NoFault}
+use Rattle.coap_world.specs.NoFault.{events_of, IsLost, NeverFaults, NoFault}
 use Rattle.coap_world.specs.Record.{Entry, OfClient, OfServer, Turn, RecordOf, entries_of, client_of, server_trace}
 use Rattle.coap_world.specs.Record.{OnClient, OnServer, Makes}
-use Rattle.coap_world.proofs.Progress.EachEventHasATurn.{goes_on}
+use Rattle.coap_world.proofs.Progress.EachEventHasATurn.{has_turn, goes_on}
 
 -- what was before stands in the laws of both ends
 module _ (config : Config) where
@@ -95,5 +95,15 @@ no_fault config events turns run legal = record {
       goes_on config (events_of past) past event
       (record_before config events later past (subst (RecordOf config events) is run))
       (legal_before config later past (subst (Legal config) is legal)) may;
+  refused_is_lost = each_lost turns run.made;
+}
+
+-- of any record
+pub never_faults : (config : Config) (events : List Event) (turns : List Turn) → RecordOf config events turns
+    → NeverFaults config turns
+never_faults config events turns run = record {
+  goes_on = λ later past is event may.
+      has_turn config (events_of past) past event
+      (record_before config events later past (subst (RecordOf config events) is run)) may;
   refused_is_lost = each_lost turns run.made;
 }

@@ -7,6 +7,7 @@ use Rattle.coap_client.specs.Trace as C
 use Rattle.coap_server.specs.Trace as S
 use Rattle.coap_world.specs.Events.{What, Sets, Removes, TickServer, Deliver, StrangerToServer}
 use Rattle.coap_world.specs.Legal.{InRange, AllLegal}
+use Rattle.coap_world.proofs.Requests.CallsInRange.{AreInRange, ranges}
 use Rattle.coap_world.specs.Record.{Entry, OfClient, OfServer, Turn, OnClient, OnServer, IsOne, AreTicks, Makes}
 use Rattle.coap_world.specs.Record.{ServerTick, entries_of}
 
@@ -86,10 +87,15 @@ behind [] more h k = k
 behind (OfClient c ∷ t) more h k = behind t more h k
 behind (OfServer c ∷ t) more h k = (h.0, behind t more h.1 k)
 
+pub formats_in_of : (turns : List Turn) → Always
+    (λ past t. Makes past t.event.at t.event.word t.event.what t.refused t.entries) turns → AreInRange turns
+    → FormatsIn (entries_of turns)
+formats_in_of [] made range = tt
+formats_in_of (t ∷ past) made range =
+    behind t.entries (entries_of past) (in_turn past t.event.at t.event.word t.refused t.entries t.event.what made.0
+    range.0) (formats_in_of past made.1 range.1)
+
 pub formats_in : (turns : List Turn) → Always
     (λ past t. Makes past t.event.at t.event.word t.event.what t.refused t.entries) turns → AllLegal turns
     → FormatsIn (entries_of turns)
-formats_in [] made legal = tt
-formats_in (t ∷ past) made legal =
-    behind t.entries (entries_of past) (in_turn past t.event.at t.event.word t.refused t.entries t.event.what made.0
-    legal.0.range) (formats_in past made.1 legal.1)
+formats_in turns made legal = formats_in_of turns made (ranges turns legal)

@@ -3,15 +3,17 @@ use Rattle.std.proofs.Common.{List}
 use Rattle.coap_client.proofs.Facts.Laws as client_facts
 use Rattle.coap_server.proofs.Facts.Laws as server_facts
 use Rattle.coap_world.specs.Events.{server_end, Config, Event}
-use Rattle.coap_world.specs.Legal.{Legal}
+use Rattle.coap_world.specs.Clocks.{Clocks, Legal}
+use Rattle.coap_world.specs.Legal as one
+use Rattle.coap_world.proofs.Paced.OneClock.{by_two}
 use Rattle.coap_world.specs.Record.{Turn, RecordOf, entries_of, client_of, server_trace}
 use Rattle.coap_world.proofs.Delivery.ReportsAreTaken.{all_given}
 use Rattle.coap_world.proofs.Reports.Answered.{all_answered}
-use Rattle.coap_world.proofs.Requests.CallsInRange.{in_range}
+use Rattle.coap_world.proofs.Requests.CallsInRange.{in_range_of, ranges_by}
 use Rattle.coap_world.proofs.Requests.ChangesOwned as O
 use Rattle.coap_world.proofs.Requests.HoldsChanges.{changes_held}
 use Rattle.coap_world.proofs.Requests.LocalChanges.{local_right}
-use Rattle.coap_world.proofs.Requests.Promised.{lawful, belongs, once, served}
+use Rattle.coap_world.proofs.Requests.Promised.{lawful_by, belongs_by, once_by, served_by}
 use Rattle.coap_world.proofs.Requests.OfACall.{Lawful}
 use Rattle.coap_client.proofs.Facts.EachCall.{reports_codes, all_ends, all_taken}
 use Rattle.coap_world.specs.Agrees.{Agrees}
@@ -27,33 +29,33 @@ use Rattle.coap_world.proofs.Observations.Rising.{all_rise}
 use Rattle.coap_world.proofs.Reports.Noticed.{all_noticed}
 use Rattle.coap_world.proofs.Reports.BodiesHeld.{each_held}
 use Rattle.coap_world.proofs.Reports.NoneBeyond.{bounded}
-use Rattle.coap_world.proofs.Reports.FormatsSet.{formats_in}
+use Rattle.coap_world.proofs.Reports.FormatsSet.{formats_in_of}
 use Rattle.coap_world.proofs.Reports.ValidHeld.{each_valid}
 use Rattle.coap_world.proofs.Reports.ValuesHeld.{each_value}
 use Rattle.coap_world.proofs.Reports.NeverFailed.{never_failed}
 use Rattle.coap_world.proofs.Reports.OnceDone.{once_done}
 
-module _ (config : Config) (events : List Event) (turns : List Turn) (run : RecordOf config events turns)
-    (legal : Legal config turns) where
+module _ (k : Clocks) (config : Config) (events : List Event) (turns : List Turn) (run : RecordOf config events turns)
+    (legal : Legal k config turns) where
   law : Lawful config (entries_of turns)
-  law = lawful config events turns run legal
+  law = lawful_by k config events turns run legal
 
   -- what is reported was held
 
   pub bodies : EachHeld config (entries_of turns)
-  bodies = each_held config legal.range.server_szx (entries_of turns) law (formats_in turns run.made legal.events)
+  bodies = each_held config legal.range.server_szx (entries_of turns) law (formats_in_of turns run.made (ranges_by k turns legal.events))
 
   pub valid : EachValid config (entries_of turns)
   valid = each_valid config (entries_of turns) law
 
   pub values : EachValue config (entries_of turns)
-  values = each_value config legal.range.server_szx (entries_of turns) law (formats_in turns run.made legal.events)
+  values = each_value config legal.range.server_szx (entries_of turns) law (formats_in_of turns run.made (ranges_by k turns legal.events))
 
   -- the values of an observation rise
 
   pub rising : ValuesRise config (entries_of turns)
   rising = all_rise config legal.range.server_szx legal.range.limit (entries_of turns) law
-      (formats_in turns run.made legal.events)
+      (formats_in_of turns run.made (ranges_by k turns legal.events))
 
   pub named : HeldAreNamed config (entries_of turns)
   named = all_named config (entries_of turns) law
@@ -61,22 +63,22 @@ module _ (config : Config) (events : List Event) (turns : List Turn) (run : Reco
   -- what is asked is applied whole, at most once, once where success is reported, and never where Failed is
 
   pub belonging : EachBelongs config (entries_of turns)
-  belonging = belongs config events turns run legal
+  belonging = belongs_by k config events turns run legal
 
   pub whole : AppliedWhole config (entries_of turns)
   whole = applied_whole config (entries_of turns) legal.range.client_szx law
-      (λ x h. in_range x turns run.made legal.events h)
+      (λ x h. in_range_of x turns run.made (ranges_by k turns legal.events) h)
 
   pub at_most_once : AtMostOnce config (entries_of turns)
-  at_most_once = once config events turns run legal
+  at_most_once = once_by k config events turns run legal
 
   pub done : OnceDone config (entries_of turns)
   done = once_done config (entries_of turns) legal.range.client_szx law
-      (λ x h. in_range x turns run.made legal.events h)
+      (λ x h. in_range_of x turns run.made (ranges_by k turns legal.events) h)
 
   pub failed : NeverFailed config (entries_of turns)
   failed = never_failed config (entries_of turns) legal.range.client_szx law
-      (λ x h. in_range x turns run.made legal.events h)
+      (λ x h. in_range_of x turns run.made (ranges_by k turns legal.events) h)
 
   pub holds : HoldsChanges config (entries_of turns)
   holds = changes_held config (entries_of turns) run.server
@@ -84,8 +86,8 @@ module _ (config : Config) (events : List Event) (turns : List Turn) (run : Reco
   pub owned : ChangesOwned config (entries_of turns)
   owned = O.owned config (entries_of turns) run.server.rows
 
-  pub agrees : Agrees config (entries_of turns)
-  agrees =
+  pub agrees_by : Agrees config (entries_of turns)
+  agrees_by =
       let c = client_of (entries_of turns) in
       let s = server_trace config (entries_of turns) in
       record {
@@ -102,7 +104,7 @@ module _ (config : Config) (events : List Event) (turns : List Turn) (run : Reco
         holds_changes = holds;
         changes_owned = owned;
         local_right = local_right config (entries_of turns) run.server.rows;
-        served_right = served config events turns run legal;
+        served_right = served_by k config events turns run legal;
         served_once = server_facts.served config.limits config.server_szx config.server_setup s run.server;
         attended = server_facts.attended config.limits config.server_szx config.server_setup s run.server;
         ready_served = server_facts.ready config.limits config.server_szx config.server_setup s run.server;
@@ -119,6 +121,15 @@ module _ (config : Config) (events : List Event) (turns : List Turn) (run : Reco
         all_given = all_given config turns run.made run.client.rows;
       }
 
+  pub exchanges_bounded_by : AreBounded config (entries_of turns)
+  exchanges_bounded_by = bounded config legal.range.server_szx legal.range.client_limit.0 (entries_of turns) law
+      (formats_in_of turns run.made (ranges_by k turns legal.events))
+
+-- by one clock
+module _ (config : Config) (events : List Event) (turns : List Turn) (run : RecordOf config events turns)
+    (legal : one.Legal config turns) where
+  pub agrees : Agrees config (entries_of turns)
+  agrees = let two = by_two config turns legal in agrees_by two.0 config events turns run two.1
+
   pub exchanges_bounded : AreBounded config (entries_of turns)
-  exchanges_bounded = bounded config legal.range.server_szx legal.range.client_limit.0 (entries_of turns) law
-      (formats_in turns run.made legal.events)
+  exchanges_bounded = let two = by_two config turns legal in exchanges_bounded_by two.0 config events turns run two.1

@@ -11,6 +11,7 @@ use Rattle.coap_client.specs.Follows.Words.{Taken, takes, WasTaken}
 use Rattle.coap_server.specs.Trace as S
 use Rattle.coap_world.specs.Events.{What, Calls, Observes, Cancels, Forgets, TickClient, Deliver, StrangerToClient}
 use Rattle.coap_world.specs.Legal.{IsRequest, InRange, AllLegal}
+use Rattle.coap_world.specs.Clocks.{Clocks, IsLegal}
 use Rattle.coap_world.specs.Record.{Entry, OfClient, OfServer, Turn, OnClient, OnServer, Makes, ClientTick, client_of}
 use Rattle.coap_world.specs.Record.{entries_of}
 use Rattle.coap_world.proofs.Delivery.GivenOutBefore.{of_map, none_in, one_call, tick_of}
@@ -99,16 +100,34 @@ module _ (past : List Turn) (at word : ℕ) (refused : Bool) (entries : List Ent
   ]
   in_turn _ m range h = absurd (never_there op m.0 entries m.2 h)
 
+-- each number is in range
+abbrev pub AreInRange : List Turn → Type 0
+AreInRange turns = Always (λ past (t : Turn). InRange t.event.what) turns
+
 taken_in : (op : Taken) (turns : List Turn) → Always
-    (λ past t. Makes past t.event.at t.event.word t.event.what t.refused t.entries) turns → AllLegal turns
+    (λ past t. Makes past t.event.at t.event.word t.event.what t.refused t.entries) turns → AreInRange turns
     → Ever (Takes op) (entries_of turns) → IsRequest op.request
-taken_in op [] made legal h = absurd h
-taken_in op (t ∷ past) made legal h = elim (Ever_append (Takes op) t.entries (entries_of past) h) [
-  | inl k ↦ in_turn past t.event.at t.event.word t.refused t.entries op t.event.what made.0 legal.0.range k
-  | inr k ↦ taken_in op past made.1 legal.1 k
+taken_in op [] made range h = absurd h
+taken_in op (t ∷ past) made range h = elim (Ever_append (Takes op) t.entries (entries_of past) h) [
+  | inl k ↦ in_turn past t.event.at t.event.word t.refused t.entries op t.event.what made.0 range.0 k
+  | inr k ↦ taken_in op past made.1 range.1 k
 ]
+
+pub in_range_of : (op : Taken) (turns : List Turn)
+    → Always (λ past t. Makes past t.event.at t.event.word t.event.what t.refused t.entries) turns → AreInRange turns
+    → WasTaken op (client_of (entries_of turns)) → IsRequest op.request
+in_range_of op turns made range h = taken_in op turns made range (in_entries op (entries_of turns) h)
+
+-- by one clock, and by two
+pub ranges : (turns : List Turn) → AllLegal turns → AreInRange turns
+ranges [] legal = tt
+ranges (t ∷ past) legal = (legal.0.range, ranges past legal.1)
+
+pub ranges_by : (c : Clocks) (turns : List Turn) → Always (IsLegal c) turns → AreInRange turns
+ranges_by c [] legal = tt
+ranges_by c (t ∷ past) legal = (legal.0.range, ranges_by c past legal.1)
 
 pub in_range : (op : Taken) (turns : List Turn)
     → Always (λ past t. Makes past t.event.at t.event.word t.event.what t.refused t.entries) turns → AllLegal turns
     → WasTaken op (client_of (entries_of turns)) → IsRequest op.request
-in_range op turns made legal h = taken_in op turns made legal (in_entries op (entries_of turns) h)
+in_range op turns made legal h = in_range_of op turns made (ranges turns legal) h

@@ -4,11 +4,12 @@ use Rattle.std.proofs.Common.{ap, sym, subst, ◌∙◌, cond, arith}
 use Rattle.coap_types.specs.Past.{Ever, Always}
 use Rattle.coap_types.specs.declared.endpoint.Endpoint.{Endpoint}
 use Rattle.coap_codec.specs.Message.{Message, Spells}
-use Rattle.coap_layer.specs.Channel.{Hop, Near, Far, near_of, far_of, OnFar, ChannelLaw, HandsUpAs}
+use Rattle.coap_layer.specs.Channel.{Hop, Near, Far, near_of, far_of, OnFar}
+use Rattle.coap_layer.specs.Clocks.{Clocks}
+use Rattle.coap_layer.specs.Paced.{ChannelLaw, HandsUpAs}
 use Rattle.coap_layer.specs.Trace as T
 use Rattle.coap_layer.specs.Words.{Open, begun}
-use Rattle.coap_layer.proofs.Facts.Hops.{earlier}
-use Rattle.coap_layer.proofs.Facts.Laws.{handed_once}
+use Rattle.coap_layer.proofs.Facts.Paced.{earlier, handed_once}
 use Rattle.coap_layer.specs.declared.setup.Setup.{Setup}
 use Rattle.coap_exchange.specs.declared.answerer.Asked.{Asked}
 use Rattle.coap_exchange.specs.AnswererFollows.{hits, same_asked}
@@ -91,26 +92,26 @@ module _ (one other : Setup) (near far : Endpoint) (a : Asked) (from : a.from �
   one_more (Near e) past f = λ x y k l. f x y (inr k) (inr l)
   one_more (Far e) past f = f
 
-  pub up_once : (hs : List Hop) → ChannelLaw one other near far hs → NoNons (near_of hs) → OneConBy a.token (near_of hs)
+  pub up_once : {clocks : Clocks} (hs : List Hop) → ChannelLaw clocks one other near far hs → NoNons (near_of hs) → OneConBy a.token (near_of hs)
       → UpOnce a hs
-  up_once [] law nons cons = tt
-  up_once (Near e ∷ past) law nons cons = (
+  up_once {clocks} [] law nons cons = tt
+  up_once {clocks} (Near e ∷ past) law nons cons = (
     λ u k. u,
-    up_once past (earlier one other near far past (Near e) law)
-        (no_more one other near far Any a from (Near e) past nons) (one_more (Near e) past cons),
+    up_once past (earlier clocks one other near far past (Near e) law)
+        (no_more clocks one other near far Any a from (Near e) past nons) (one_more (Near e) past cons),
   )
-  up_once (Far e ∷ past) law nons cons = (
+  up_once {clocks} (Far e ∷ past) law nons cons = (
     λ u k. twice u k,
-    up_once past (earlier one other near far past (Far e) law) nons cons,
+    up_once past (earlier clocks one other near far past (Far e) law) nons cons,
   )
     where
       twice : UpOf Any a e → Ever (OnFar (UpOf Any a)) past → ⊥
       twice u k =
-          let f = here one other near far Any a from past e law nons u in
-          let g = find one other near far Any a from past (earlier one other near far past (Far e) law) nons k in
+          let f = here clocks one other near far Any a from past e law nons u in
+          let g = find clocks one other near far Any a from past (earlier clocks one other near far past (Far e) law) nons k in
           let same : f.0.con ≡ g.con =
           cons f.0.con g.con f.0.begun_before g.begun_before f.0.message g.message f.0.spells
           g.spells f.0.id g.id (sym (ap (λ (x : Asked). x.token) f.0.asked))
           (sym (ap (λ (x : Asked). x.token) g.asked)) in
-          (handed_once one other near far (Far e ∷ past) law f.0.con f.0.begun_before).0 f.1
-          (subst (λ c. Ever (OnFar (HandsUpAs near c)) past) (sym same) g.arrived)
+          (handed_once clocks one other near far (Far e ∷ past) law f.0.con f.0.begun_before).0 f.1
+          (subst (λ c. Ever (OnFar (HandsUpAs clocks near c)) past) (sym same) g.arrived)

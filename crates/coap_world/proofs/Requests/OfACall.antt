@@ -31,7 +31,8 @@ use Rattle.coap_server.specs.Law.{ServerLaw}
 use Rattle.coap_server.specs.Trace as S
 use Rattle.coap_client.proofs.Facts.Laws as client_facts
 use Rattle.coap_server.proofs.Facts.Laws as server_facts
-use Rattle.coap_world.specs.CameFrom.{request_of, IsChannel, CamesFrom}
+use Rattle.coap_world.specs.CameFrom.{request_of, IsChannel, CamesFrom, ComesIn}
+use Rattle.coap_layer.specs.Clocks.{Clocks}
 use Rattle.coap_world.specs.Events.{client_end, server_end, Config}
 use Rattle.coap_world.specs.Hops.{hops_at, hops_in}
 use Rattle.coap_world.specs.Legal.{IsRequest}
@@ -86,29 +87,37 @@ pub taken_later : (x : Taken) (past : List Entry) (e : Entry) → WasTaken x (cl
 taken_later x past (OfClient c) h = inr h
 taken_later x past (OfServer c) h = h
 
--- the laws of a record
+-- the laws of a record, and the clocks by which they hold
 pub record Lawful (config : Config) (t : List Entry) : Type 0 where
-  pub channel : IsChannel config t
+  pub clocks : Clocks
+  pub channel : IsChannel clocks config t
   pub client : ClientLaw server_end config.client_sizes config.client_setup (client_of t)
   pub server : ServerLaw config.limits config.server_szx config.server_setup (server_trace config t)
+  pub comes : ComesIn config clocks t
   pub came : CamesFrom config t
 
-pub lawful_back : (config : Config) (past : List Entry) (e : Entry) → Lawful config (e ∷ past) → Lawful config past
-lawful_back config past (OfClient c) law =
+pub client_back : (config : Config) (past : List Entry) (e : Entry) → Lawful config (e ∷ past)
+    → ClientLaw server_end config.client_sizes config.client_setup (client_of past)
+client_back config past (OfClient c) law =
+    client_facts.back server_end config.client_sizes config.client_setup (c ∷ []) (client_of past) law.client
+client_back config past (OfServer c) law = law.client
+
+pub server_back : (config : Config) (past : List Entry) (e : Entry) → Lawful config (e ∷ past)
+    → ServerLaw config.limits config.server_szx config.server_setup (server_trace config past)
+server_back config past (OfClient c) law = law.server
+server_back config past (OfServer c) law = server_facts.back config.limits config.server_szx config.server_setup (c ∷ [])
+    (server_trace config past) law.server
+
+-- .. of each past, by the same clocks
+abbrev pub lawful_back : (config : Config) (past : List Entry) (e : Entry) → Lawful config (e ∷ past) → Lawful config past
+lawful_back config past e law =
     record {
-      channel = channel_back config.client_setup config.server_setup client_end server_end
-          (hops_at config past (OfClient c)) (hops_in config past) law.channel;
-      client = client_facts.back server_end config.client_sizes config.client_setup (c ∷ []) (client_of past) law.client;
-      server = law.server;
-      came = law.came.1;
-    }
-lawful_back config past (OfServer c) law =
-    record {
-      channel = channel_back config.client_setup config.server_setup client_end server_end
-          (hops_at config past (OfServer c)) (hops_in config past) law.channel;
-      client = law.client;
-      server = server_facts.back config.limits config.server_szx config.server_setup (c ∷ [])
-          (server_trace config past) law.server;
+      clocks = law.clocks;
+      channel = channel_back law.clocks config.client_setup config.server_setup client_end server_end
+          (hops_at config past e) (hops_in config past) law.channel;
+      client = client_back config past e law;
+      server = server_back config past e law;
+      comes = law.comes.1;
       came = law.came.1;
     }
 

@@ -40,6 +40,7 @@ use Rattle.coap_world.specs.Words.{AppliesFor, holds_at, changes_in}
 use Rattle.coap_world.proofs.Requests.Alone.{body_alone}
 use Rattle.coap_world.proofs.Requests.Conditions.{conditions_back}
 use Rattle.coap_world.proofs.Requests.ServedLeaves.{leaves}
+use Rattle.coap_layer.specs.Clocks.{Clocks}
 use Rattle.coap_world.proofs.Requests.OfACall.{Lawful, lawful_back, Later, later_back, Known, known}
 use Rattle.coap_world.proofs.Requests.ReadBack.{Changes, format_back, format_sent}
 use Rattle.coap_world.proofs.Requests.Traced.{brought_in}
@@ -77,11 +78,15 @@ module _ (config : Config) (number : ℕ) (all : List Entry) (small : config.cli
   abbrev LaterAll : List Entry → Type 0
   LaterAll t = Later config number all small whole in_range t
 
-  abbrev PartOf : List Entry → Type 0
-  PartOf t = Part config all small whole in_range t
-
-  part_of : (t : List Entry) → LaterAll t → Lawful config t → PartOf t
-  part_of t later law = record { law = law; sent = later.0; begun_there = later.1; taken = later.2 }
+  part_of : (t : List Entry) → LaterAll t → (law : Lawful config t) → Part config law.clocks all small whole in_range t
+  part_of t later law = record {
+    law = law;
+    channel = law.channel;
+    comes = law.comes;
+    sent = later.0;
+    begun_there = later.1;
+    taken = later.2;
+  }
 
   -- a call has one request
   one_called : (r s : C.Request) → WasTaken (record { number = number; request = r }) (client_of all)
@@ -91,6 +96,12 @@ module _ (config : Config) (number : ℕ) (all : List Entry) (small : config.cli
 
   module _ (w : List Entry) (later : LaterAll w) (law : Lawful config w) (x : Serving)
       (from : (x.asked).from ≡ client_end) (k : Known config number all small whole in_range w x) where
+    abbrev clocks : Clocks
+    clocks = law.clocks
+
+    abbrev PartOf : List Entry → Type 0
+    PartOf t = Part config clocks all small whole in_range t
+
     -- it came whole, with this payload, or its last block brings the body of the call
     record ByBlocks : Type 0 where
       block : Carried
@@ -103,7 +114,7 @@ module _ (config : Config) (number : ℕ) (all : List Entry) (small : config.cli
     -- a request with that token is the one that is asked
     same_sending : (s : Sending) (con : Open) → Sent config s all → x.asked ≡ asked_of client_end (request_of con.id s)
         → s ≡ k.sending
-    same_sending s con sent is = one_sending config all small whole in_range s k.sending number sent k.sent k.of_call
+    same_sending s con sent is = one_sending config clocks all small whole in_range s k.sending number sent k.sent k.of_call
         (sym (ap (λ (a : Asked). a.token) is) ∙ ap (λ (a : Asked). a.token) k.asked)
 
     by_blocks : (past : List Entry) (c : S.Call) → PartOf (OfServer c ∷ past) → (p : Question) (b : Block)
@@ -111,9 +122,9 @@ module _ (config : Config) (number : ℕ) (all : List Entry) (small : config.cli
         → ByBlocks
     by_blocks past c part p b h =
         let z = took x.asked p b in
-        let o = upload config all small whole in_range past c part z h.takes from in
-        let body = whole_body config all small whole in_range past c part z h.takes from _ (x.question).body h.whole in
-        let earlier = part_back config all small whole in_range past (OfServer c) part in
+        let o = upload config clocks all small whole in_range past c part z h.takes from in
+        let body = whole_body config clocks all small whole in_range past c part z h.takes from _ (x.question).body h.whole in
+        let earlier = part_back config clocks all small whole in_range past (OfServer c) part in
         let s : Sending = o.block.came.sending in
         let same : s ≡ k.sending = same_sending s o.block.came.con
         (earlier.sent s o.block.came.sent) o.block.came.asked in
@@ -135,7 +146,7 @@ module _ (config : Config) (number : ℕ) (all : List Entry) (small : config.cli
         → (x.question).body ≡ payload_of k.transfer
     as_it_came past c part comes =
         let f = part.law.came.0 x.asked (Asks x.question) comes from in
-        let earlier = part_back config all small whole in_range past (OfServer c) part in
+        let earlier = part_back config clocks all small whole in_range past (OfServer c) part in
         let same : f.sending ≡ k.sending = same_sending f.sending f.con (earlier.sent f.sending f.sent) f.asked in
         let read = subst (ReadsOf config.server_szx (request_of f.con.id f.sending)) f.verdict
         (server_facts.reads config.server_szx (request_of f.con.id f.sending)) in
@@ -156,7 +167,7 @@ module _ (config : Config) (number : ℕ) (all : List Entry) (small : config.cli
     came [] part h = absurd h
     came (OfClient c ∷ past) part (inl h) = absurd h
     came (OfServer c ∷ past) part (inl h) = by_verdict past c part h.verdict h.comes h.asks
-    came (e ∷ past) part (inr h) = elim (came past (part_back config all small whole in_range past e part) h)
+    came (e ∷ past) part (inr h) = elim (came past (part_back config clocks all small whole in_range past e part) h)
         [ inl z ↦ inl (inr z.0, z.1) | inr z ↦ inr z ]
 
     with_body : (m : Method) → (k.request).method ≡ m → (m ≡ Delete → ⊥)

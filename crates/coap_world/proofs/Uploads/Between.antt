@@ -3,10 +3,12 @@ use Rattle.std.proofs.Common.{◌≡◌, ◌≢◌, ◌≤◌, ◌⊎◌, inl, i
 use Rattle.std.proofs.Common.{arith}
 use Rattle.coap_types.specs.Past.{Ever, Sometime}
 use Rattle.coap_types.proofs.Facts.Traces.{Ever_front, Ever_back, Sometime_map, Sometime_back, which_first}
-use Rattle.coap_layer.specs.Channel.{near_of, OnFar, HandsUpAs}
+use Rattle.coap_layer.specs.Channel.{near_of, OnFar}
+use Rattle.coap_layer.specs.Clocks.{Clocks}
+use Rattle.coap_layer.specs.Paced.{HandsUpAs}
 use Rattle.coap_layer.specs.Trace as T
 use Rattle.coap_layer.specs.Words.{Open, begun}
-use Rattle.coap_layer.proofs.Facts.Laws.{cons_apart}
+use Rattle.coap_layer.proofs.Facts.Paced.{cons_apart}
 use Rattle.coap_client.specs.Follows.Begins.{IsRequestOf}
 use Rattle.coap_client.specs.Follows.Order.{call_of}
 use Rattle.coap_client.specs.Follows.Words.{Taken, WasTaken, Sending}
@@ -45,23 +47,23 @@ order_first B old new (e ∷ t) (inr a) (inr b) =
     ⊎_elim (λ x. inl (inr x)) (λ y. ⊎_elim (λ x. inr (inl (inr x))) (λ x. inr (inr (inr x))) y)
     (order_first B old new t a b)
 
-module _ (config : Config) (all : List Entry) (small : config.client_sizes.szx ≤ 6) (whole : Lawful config all)
+module _ (config : Config) (clocks : Clocks) (all : List Entry) (small : config.client_sizes.szx ≤ 6) (whole : Lawful config all)
     (in_range : (x : Taken) → WasTaken x (client_of all) → IsRequest x.request) where
   abbrev PartOf : List Entry → Type 0
-  PartOf w = Part config all small whole in_range w
+  PartOf w = Part config clocks all small whole in_range w
 
   abbrev Upload : Took → List Entry → S.Call → Type 0
-  Upload z past c = OfUpload config all small whole in_range z past c
+  Upload z past c = OfUpload config clocks all small whole in_range z past c
 
   abbrev KnownTo : Open → Sending → ℕ → Type 0
-  KnownTo con x k = Known config all small whole in_range con x k
+  KnownTo con x k = Known config clocks all small whole in_range con x k
 
   -- a block that was taken, and came: freed from its place
   pub record Up (con : Open) (x : Sending) (k : ℕ) (w : List Entry) : Type 0 where
     pub known : KnownTo con x k
     pub to : con.to ≡ server_end
     pub begun_before : Begun config con w
-    pub up : Ever (OnFar (HandsUpAs client_end con)) (hops_in config w)
+    pub up : Ever (OnFar (HandsUpAs clocks client_end con)) (hops_in config w)
 
   pub up_next : (con : Open) (x : Sending) (k : ℕ) (past : List Entry) (e : Entry) → Up con x k past
       → Up con x k (e ∷ past)
@@ -70,7 +72,7 @@ module _ (config : Config) (all : List Entry) (small : config.client_sizes.szx �
         known = u.known;
         to = u.to;
         begun_before = begun_later config past e (Begins con) u.begun_before;
-        up = Ever_back (OnFar (HandsUpAs client_end con)) (hops_at config past e) (hops_in config past) u.up;
+        up = Ever_back (OnFar (HandsUpAs clocks client_end con)) (hops_at config past e) (hops_in config past) u.up;
       }
 
   up_later : (con : Open) (x : Sending) (k : ℕ) (later w : List Entry) → Up con x k w → Up con x k (later ++ w)
@@ -94,7 +96,7 @@ module _ (config : Config) (all : List Entry) (small : config.client_sizes.szx �
   pub known_of : (z : Took) (past : List Entry) (c : S.Call) → PartOf (OfServer c ∷ past) → (o : Upload z past c)
       → KnownTo o.block.came.con o.block.came.sending o.number
   known_of z past c p o =
-      let earlier = part_back config all small whole in_range past (OfServer c) p in
+      let earlier = part_back config clocks all small whole in_range past (OfServer c) p in
       let k = o.block.came in
       record {
         sent = earlier.sent k.sending k.sent;
@@ -111,14 +113,14 @@ module _ (config : Config) (all : List Entry) (small : config.client_sizes.szx �
         known = known_of z past c p o;
         to = (k.is).to;
         begun_before = begun_later config past (OfServer c) (Begins k.con) k.begun_before;
-        up = Ever_front (OnFar (HandsUpAs client_end k.con)) (hops_at config past (OfServer c))
-            (hops_in config past) k.arrives;
+        up = Ever_front (OnFar (HandsUpAs clocks client_end k.con)) (hops_at config past (OfServer c))
+            (hops_in config past) (o.block).arrives;
       }
 
   -- the requests of one CON are of one call
   same_call : (a b : Open) (x y : Sending) (i j : ℕ) → KnownTo a x i → KnownTo b y j → a ≡ b → i ≡ j
   same_call a b x y i j k l same =
-      let e : x ≡ y = is_that config all small whole in_range b y x j l k.sent
+      let e : x ≡ y = is_that config clocks all small whole in_range b y x j l k.sent
       (subst (λ z. IsRequestOf server_end z x) same (k.carries).is) in
       let numbers : Some i ≡ Some j = sym (call_is x i k.block)
       ∙ (ap (λ (s : Sending). call_of s.operation) e ∙ call_is y j l.block) in
@@ -129,22 +131,22 @@ module _ (config : Config) (all : List Entry) (small : config.client_sizes.szx �
       → (z : Took) (o : Upload z past c) (con : Open) (y : Sending) (j : ℕ) → Up con y j past → o.number ≢ j
       → Sometime (Order o.block.came.con con) (near_of (hops_in config past)) → ⊥
   not_behind past c p z o con y j u differ order =
-      let earlier = part_back config all small whole in_range past (OfServer c) p in
+      let earlier = part_back config clocks all small whole in_range past (OfServer c) p in
       let k = o.block.came in
       let knows = known_of z past c p o in
-      let found = finds config all small whole in_range k.con con k.sending y o.number j knows u.known differ past
+      let found = finds config clocks all small whole in_range k.con con k.sending y o.number j knows u.known differ past
       earlier order in
-      let f = follows config all small whole in_range k.con con k.sending y o.number j knows u.known differ
+      let f = follows config clocks all small whole in_range k.con con k.sending y o.number j knows u.known differ
       ((k.is).to ∙ sym u.to) past earlier found in
-      apart_at client_end k.con con (server_adds config (server_trace config past) c) (hops_in config past)
-      (cons_apart config.client_setup config.server_setup client_end server_end
-      (hops_in config (OfServer c ∷ past)) p.law.channel) f u.up k.arrives
+      apart_at clocks client_end k.con con (server_adds config (server_trace config past) c) (hops_in config past)
+      (cons_apart clocks config.client_setup config.server_setup client_end server_end
+      (hops_in config (OfServer c ∷ past)) p.channel) f (o.block).arrives
 
   turn_of : (w : List Entry) → PartOf w → (a b : Open) (x y : Sending) (i j : ℕ) → KnownTo a x i → KnownTo b y j → i ≢ j
       → Sometime (Order a b) (near_of (hops_in config w)) → i ≤ j
   turn_of w p a b x y i j k l differ order =
-      in_turn config all small whole in_range a b x y i j k l differ w p
-      (finds config all small whole in_range a b x y i j k l differ w p order)
+      in_turn config clocks all small whole in_range a b x y i j k l differ w p
+      (finds config clocks all small whole in_range a b x y i j k l differ w p order)
 
   -- a block of a call came, freed from its place
   pub record First (n : ℕ) (w : List Entry) : Type 0 where
@@ -176,7 +178,7 @@ module _ (config : Config) (all : List Entry) (small : config.client_sizes.szx �
       from_last e = differ (e ∙ of_call)
 
       since : PartOf past
-      since = part_back config all small whole in_range past (OfServer c) p
+      since = part_back config clocks all small whole in_range past (OfServer c) p
 
       up : Up con middle l.number past
       up = subst (Up con middle l.number) (sym is)
@@ -197,7 +199,7 @@ module _ (config : Config) (all : List Entry) (small : config.client_sizes.szx �
           behind_middle : Sometime (λ t e. Begins last e × Sometime (Order f.con con) t) (near_of (hops_in config past))
               → ⊥
           behind_middle r =
-              let a = turn_of w (part_back config all small whole in_range w (OfServer d) q) f.con con f.sending middle
+              let a = turn_of w (part_back config clocks all small whole in_range w (OfServer d) q) f.con con f.sending middle
               n l.number f.up.known known (λ e. differ (sym e)) here in
               let b = turn_of past since con last middle k.block.came.sending l.number k.number known known_last
               from_last

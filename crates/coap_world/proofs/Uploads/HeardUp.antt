@@ -4,10 +4,12 @@ use Rattle.coap_types.specs.Past.{Ever, Sometime}
 use Rattle.coap_types.specs.declared.endpoint.Endpoint.{Endpoint}
 use Rattle.coap_types.proofs.Facts.Traces.{Ever_front, Ever_back, Ever_by_law, Sometime_map}
 use Rattle.coap_codec.specs.Message.{Message, Spells}
-use Rattle.coap_layer.specs.Channel.{Hop, Near, OnFar, HandsUpAs, Takes}
+use Rattle.coap_layer.specs.Channel.{Hop, Near, OnFar}
+use Rattle.coap_layer.specs.Clocks.{Clocks}
+use Rattle.coap_layer.specs.Paced.{HandsUpAs, Takes}
 use Rattle.coap_layer.specs.Trace as T
 use Rattle.coap_layer.specs.Words.{Open}
-use Rattle.coap_layer.proofs.Facts.Laws.{only_that_con}
+use Rattle.coap_layer.proofs.Facts.Paced.{only_that_con}
 use Rattle.coap_resource.specs.Serves.{Question}
 use Rattle.coap_exchange.specs.declared.answerer.Asked.{Asked}
 use Rattle.coap_client.specs.Follows.Order.{call_of, HearsBy}
@@ -39,33 +41,34 @@ off_near P [] hs h = h
 off_near P (e ∷ adds) hs (inl h) = absurd h
 off_near P (e ∷ adds) hs (inr h) = off_near P adds hs h
 
-module _ (config : Config) (all : List Entry) (small : config.client_sizes.szx ≤ 6) (whole : Lawful config all)
+module _ (config : Config) (clocks : Clocks) (all : List Entry) (small : config.client_sizes.szx ≤ 6) (whole : Lawful config all)
     (in_range : (x : Taken) → WasTaken x (client_of all) → IsRequest x.request) where
   abbrev PartOf : List Entry → Type 0
-  PartOf w = Part config all small whole in_range w
+  PartOf w = Part config clocks all small whole in_range w
 
   module _ (old : Open) (x : Sending) (k : ℕ) (of : call_of x.operation ≡ Some k) (sent : Sent config x all)
       (begun_all : Begun config old all) (carries : Carries config old x) where
     abbrev UpIn : List Hop → Type 0
-    UpIn hs = Ever (OnFar (HandsUpAs client_end old)) hs
+    UpIn hs = Ever (OnFar (HandsUpAs clocks client_end old)) hs
 
     same_con : (con : Open) (n : Message) → Begun config con all → Spells con.bytes n
         → con.id ≡ n.id → n.token ≡ x.token → con ≡ old
-    same_con con n b s id token = one_con config all small whole in_range x k sent of con old b begun_all n
+    same_con con n b s id token = one_con config clocks all small whole in_range x k sent of con old b begun_all n
         (request_of old.id x) s carries.spells id refl token refl
 
     comes_up : (past : List Entry) (e : Entry) (a : Asked) (v : Verdict) → PartOf (e ∷ past) → ComesAt config a v past e
         → a.from ≡ client_end → a.token ≡ x.token → UpIn (hops_in config (e ∷ past))
     comes_up past e a v p comes from token =
-        let f = p.law.came.0 a v comes from in
-        let there = (part_back config all small whole in_range past e p).begun_there f.con f.begun_before in
+        let came = p.comes.0 a v comes from in
+        let f = came.0 in
+        let there = (part_back config clocks all small whole in_range past e p).begun_there f.con f.begun_before in
         let same = same_con f.con (request_of f.con.id f.sending) there f.spells refl
         (sym (ap (λ (z : Asked). z.token) f.asked) ∙ token) in
-        Ever_front (OnFar (HandsUpAs client_end old)) (hops_at config past e) (hops_in config past)
-        (subst (λ z. Ever (OnFar (HandsUpAs client_end z)) (hops_at config past e)) same f.arrives)
+        Ever_front (OnFar (HandsUpAs clocks client_end old)) (hops_at config past e) (hops_in config past)
+        (subst (λ z. Ever (OnFar (HandsUpAs clocks client_end z)) (hops_at config past e)) same came.1)
 
     later_up : (past : List Entry) (e : Entry) → UpIn (hops_in config past) → UpIn (hops_in config (e ∷ past))
-    later_up past e h = Ever_back (OnFar (HandsUpAs client_end old)) (hops_at config past e) (hops_in config past) h
+    later_up past e h = Ever_back (OnFar (HandsUpAs clocks client_end old)) (hops_at config past e) (hops_in config past) h
 
     brought_up : (a : Asked) (q : Question) (w : List Entry) → PartOf w → Sometime (BroughtAt config a q) w
         → a.from ≡ client_end → a.token ≡ x.token → UpIn (hops_in config w)
@@ -73,7 +76,7 @@ module _ (config : Config) (all : List Entry) (small : config.client_sizes.szx �
     brought_up a q (OfClient c ∷ w) p (inl h) from token = absurd h
     brought_up a q (OfServer c ∷ w) p (inl h) from token = comes_up w (OfServer c) a h.verdict p h.comes from token
     brought_up a q (e ∷ w) p (inr h) from token =
-        later_up w e (brought_up a q w (part_back config all small whole in_range w e p) h from token)
+        later_up w e (brought_up a q w (part_back config clocks all small whole in_range w e p) h from token)
 
     served_up : (past : List Entry) (c : S.Call) → PartOf (OfServer c ∷ past) → (s : Serving)
         → serving (own_of config.limits config.server_szx (server_trace config past)) c ≡ Some s
@@ -105,12 +108,12 @@ module _ (config : Config) (all : List Entry) (small : config.client_sizes.szx �
     made_up to token path [] p h from is = absurd (none_made to token path (settings config) h)
     made_up to token path (OfClient c ∷ w) p h from is =
         later_up w (OfClient c) (made_up to token path w
-        (part_back config all small whole in_range w (OfClient c) p) h from is)
+        (part_back config clocks all small whole in_range w (OfClient c) p) h from is)
     made_up to token path (OfServer c ∷ w) p (inl h) from is =
         served_up w c p h.request h.here (h.from ∙ from) (h.token_is ∙ is)
     made_up to token path (OfServer c ∷ w) p (inr h) from is =
         later_up w (OfServer c) (made_up to token path w
-        (part_back config all small whole in_range w (OfServer c) p) h from is)
+        (part_back config clocks all small whole in_range w (OfServer c) p) h from is)
 
     answer_by : (m : Message) (past : List Entry) (c : S.Call) → PartOf (OfServer c ∷ past)
         → IsAnswer config m (server_trace config past) c → m.token ≡ x.token → UpIn (hops_in config (OfServer c ∷ past))
@@ -123,7 +126,7 @@ module _ (config : Config) (all : List Entry) (small : config.client_sizes.szx �
         comes_up past (OfServer c) a v p comes is.to_client (is.token_is ∙ token)
     answer_by m past c p (notifies o reply here made shows is) token =
         later_up past (OfServer c) (made_up o.to o.token o.path past
-        (part_back config all small whole in_range past (OfServer c) p)
+        (part_back config clocks all small whole in_range past (OfServer c) p)
         (made_in o (server_trace config past) made) is.to_client (is.token_is ∙ token))
 
     answers_up : (m : Message) (w : List Entry) → PartOf w → Sometime (AnswersAt config m) w → m.token ≡ x.token
@@ -132,26 +135,26 @@ module _ (config : Config) (all : List Entry) (small : config.client_sizes.szx �
     answers_up m (OfClient c ∷ w) p (inl h) token = absurd h
     answers_up m (OfServer c ∷ w) p (inl h) token = answer_by m w c p h token
     answers_up m (e ∷ w) p (inr h) token = later_up w e
-        (answers_up m w (part_back config all small whole in_range w e p) h token)
+        (answers_up m w (part_back config clocks all small whole in_range w e p) h token)
 
     heard_up : (w : List Entry) → PartOf w → Ever (HearsBy x.token) (client_of w) → UpIn (hops_in config w)
     heard_up [] p h = absurd h
     heard_up (OfServer c ∷ w) p h = later_up w (OfServer c)
-        (heard_up w (part_back config all small whole in_range w (OfServer c) p) h)
+        (heard_up w (part_back config clocks all small whole in_range w (OfServer c) p) h)
     heard_up (OfClient c ∷ w) p (inr h) = later_up w (OfClient c)
-        (heard_up w (part_back config all small whole in_range w (OfClient c) p) h)
+        (heard_up w (part_back config clocks all small whole in_range w (OfClient c) p) h)
     heard_up (OfClient c ∷ w) p (inl h) =
-        later_up w (OfClient c) (answers_up h.0 w (part_back config all small whole in_range w (OfClient c) p)
+        later_up w (OfClient c) (answers_up h.0 w (part_back config clocks all small whole in_range w (OfClient c) p)
         ((all_answered config (OfClient c ∷ w) p.law).0 h.0 h.1) h.2)
 
     -- .. and taken
     pub heard_taken : (past : List Entry) (c : C.Call) → PartOf (OfClient c ∷ past) → Begun config old past
-        → Ever (HearsBy x.token) (c ∷ client_of past) → Ever (OnFar (Takes client_end old)) (hops_in config past)
+        → Ever (HearsBy x.token) (c ∷ client_of past) → Ever (OnFar (Takes clocks client_end old)) (hops_in config past)
     heard_taken past c p there h =
-        let earlier = part_back config all small whole in_range past (OfClient c) p in
-        let up = off_near (HandsUpAs client_end old) (client_adds config (client_of past) c) (hops_in config past)
+        let earlier = part_back config clocks all small whole in_range past (OfClient c) p in
+        let up = off_near (HandsUpAs clocks client_end old) (client_adds config (client_of past) c) (hops_in config past)
         (heard_up (OfClient c ∷ past) p h) in
-        Ever_by_law (λ q e. OnFar (HandsUpAs client_end old) e → OnFar (Takes client_end old) e)
-        (OnFar (HandsUpAs client_end old)) (OnFar (Takes client_end old)) (λ q e l k. l.0 k) (hops_in config past)
-        (only_that_con config.client_setup config.server_setup client_end server_end
-        (hops_in config past) earlier.law.channel old there) up
+        Ever_by_law (λ q e. OnFar (HandsUpAs clocks client_end old) e → OnFar (Takes clocks client_end old) e)
+        (OnFar (HandsUpAs clocks client_end old)) (OnFar (Takes clocks client_end old)) (λ q e l k. l.0 k) (hops_in config past)
+        (only_that_con clocks config.client_setup config.server_setup client_end server_end
+        (hops_in config past) earlier.channel old there) up

@@ -5,8 +5,9 @@ use Rattle.coap_types.specs.Past.{Ever, Sometime, Always}
 use Rattle.coap_types.specs.declared.endpoint.Endpoint.{Endpoint}
 use Rattle.coap_types.specs.declared.transmission.TheConstants.{MAX_LATENCY_MS as max_latency}
 use Rattle.coap_types.proofs.Facts.Traces.{Ever_append, Ever_back, Sometime_back}
-use Rattle.coap_layer.specs.Apart.{Follows, OnNearAfter, ConsApart}
-use Rattle.coap_layer.specs.Channel.{Hop, Near, Far, near_of, OnFar, HandsUpAs, Takes}
+use Rattle.coap_layer.specs.Channel.{Hop, Near, Far, near_of, OnFar}
+use Rattle.coap_layer.specs.Clocks.{Clocks}
+use Rattle.coap_layer.specs.Paced.{HandsUpAs, Takes, Follows, OnNearAfter, ConsApart}
 use Rattle.coap_layer.specs.Sends.{SendsIt}
 use Rattle.coap_layer.specs.Trace as T
 use Rattle.coap_layer.specs.Words.{Open, begun}
@@ -61,13 +62,13 @@ call_is x k b = (of_carried x.operation b.block b.carries).0 ∙ ap (λ n. Some 
 turn_is : (x : Sending) (k : ℕ) → IsBlockOf x k → turn_of x.operation ≡ Some k
 turn_is x k b = (of_carried x.operation b.block b.carries).1 ∙ ap (λ n. Some n) b.number_is
 
-module _ (config : Config) (all : List Entry) (small : config.client_sizes.szx ≤ 6) (whole : Lawful config all)
+module _ (config : Config) (clocks : Clocks) (all : List Entry) (small : config.client_sizes.szx ≤ 6) (whole : Lawful config all)
     (in_range : (x : Taken) → WasTaken x (client_of all) → IsRequest x.request) where
   abbrev PartOf : List Entry → Type 0
-  PartOf w = Part config all small whole in_range w
+  PartOf w = Part config clocks all small whole in_range w
 
   abbrev back : (past : List Entry) (e : Entry) → PartOf (e ∷ past) → PartOf past
-  back past e p = part_back config all small whole in_range past e p
+  back past e p = part_back config clocks all small whole in_range past e p
 
   -- a CON that was begun, and the block that it carries
   pub record Known (con : Open) (x : Sending) (k : ℕ) : Type 0 where
@@ -84,7 +85,7 @@ module _ (config : Config) (all : List Entry) (small : config.client_sizes.szx �
 
   pub is_that : (con : Open) (x z : Sending) (k : ℕ) → Known con x k → Sent config z all → IsRequestOf server_end con z
       → z ≡ x
-  is_that con x z k known sent is = one_sending config all small whole in_range z x k sent known.sent
+  is_that con x z k known sent is = one_sending config clocks all small whole in_range z x k sent known.sent
       (call_is x k known.block) (sym (same_token config con x z known.carries is))
 
   module _ (old new : Open) (x y : Sending) (i j : ℕ) (knows : Known old x i) (known : Known new y j)
@@ -169,9 +170,9 @@ module _ (config : Config) (all : List Entry) (small : config.client_sizes.szx �
 
     module _ (to : old.to ≡ new.to) where
       put : (adds : List T.Entry) (hs : List Hop) → Ever (λ b. begun b ≡ Some old) (near_of hs)
-          → Ever (OnFar (Takes client_end old)) hs ⊎ Always (λ t e. SendsIt old t e → e.at + max_latency < new.first)
+          → Ever (OnFar (Takes clocks client_end old)) hs ⊎ Always (λ t e. SendsIt old t e → e.at + max_latency < new.first)
           (adds ++ near_of hs)
-          → Ever (λ b. begun b ≡ Some new) adds → Sometime (OnNearAfter (Follows client_end old new))
+          → Ever (λ b. begun b ≡ Some new) adds → Sometime (OnNearAfter (Follows clocks client_end old new))
           (map Near adds ++ hs)
       put [] hs before gone h = absurd h
       put (e ∷ adds) hs before gone (inr h) = inr (put adds hs before (⊎_elim (λ k. inl k) (λ k. inr k.1) gone) h)
@@ -182,7 +183,7 @@ module _ (config : Config) (all : List Entry) (small : config.client_sizes.szx �
             to_is = to;
             begun_before = subst (Ever (λ b. begun b ≡ Some old)) (sym (near_near adds hs))
                 (Ever_back (λ b. begun b ≡ Some old) adds (near_of hs) before);
-            gone = ⊎_elim (λ k. inl (Ever_back (OnFar (Takes client_end old)) (map Near adds) hs k))
+            gone = ⊎_elim (λ k. inl (Ever_back (OnFar (Takes clocks client_end old)) (map Near adds) hs k))
                 (λ k. inr (subst (λ n. Always (λ t z. SendsIt old t z → z.at + max_latency < n)
                 (near_of (map Near adds ++ hs))) first
                 (subst (Always (λ t z. SendsIt old t z → z.at + max_latency < new.first))
@@ -191,14 +192,14 @@ module _ (config : Config) (all : List Entry) (small : config.client_sizes.szx �
 
       -- the earlier one is gone there
       pub follows : (w : List Entry) → PartOf w → Sometime FindsAt w
-          → Sometime (OnNearAfter (Follows client_end old new)) (hops_in config w)
+          → Sometime (OnNearAfter (Follows clocks client_end old new)) (hops_in config w)
       follows [] p h = absurd h
       follows (OfServer c ∷ past) p (inl h) = absurd h
-      follows (e ∷ past) p (inr h) = Sometime_back (OnNearAfter (Follows client_end old new)) (hops_at config past e)
+      follows (e ∷ past) p (inr h) = Sometime_back (OnNearAfter (Follows clocks client_end old new)) (hops_at config past e)
           (hops_in config past) (follows past (back past e p) h)
       follows (OfClient c ∷ past) p (inl h) =
           put (client_adds config (client_of past) c) (hops_in config past) h.old_begun
-          (⊎_elim (λ k. inl (heard_taken config all small whole in_range old x i
+          (⊎_elim (λ k. inl (heard_taken config clocks all small whole in_range old x i
           (call_is x i knows.block) knows.sent knows.begun_there knows.carries past c p h.old_begun k))
           (λ k. inr (quiet k))
           ((blocks_apart server_end config.client_sizes config.client_setup (client_of (OfClient c ∷ past)) p.law.client).0
@@ -215,13 +216,12 @@ module _ (config : Config) (all : List Entry) (small : config.client_sizes.szx �
               (k old new (subst (Ever (λ b. begun b ≡ Some old)) (near_is config past) h.old_begun)
               (knows.carries).is h.new_begun)
 
--- where the later one was handed up, the earlier one isn't
-pub apart_at : (near : Endpoint) (old new : Open) (adds : List T.Entry) (hs : List Hop)
-    → ConsApart near (map Far adds ++ hs) → Sometime (OnNearAfter (Follows near old new)) hs
-    → Ever (OnFar (HandsUpAs near new)) hs
-    → Ever (OnFar (HandsUpAs near old)) (map Far adds) → ⊥
-apart_at near old new [] hs law gone up h = h
-apart_at near old new (e ∷ adds) hs law gone up (inl h) =
-    (law old new).0 (Sometime_back (OnNearAfter (Follows near old new)) (map Far adds) hs gone)
-    (Ever_back (OnFar (HandsUpAs near new)) (map Far adds) hs up) h
-apart_at near old new (e ∷ adds) hs law gone up (inr h) = apart_at near old new adds hs (λ a b. (law a b).1) gone up h
+-- where the later one followed, the earlier one isn't handed up any more
+pub apart_at : (clocks : Clocks) (near : Endpoint) (old new : Open) (adds : List T.Entry) (hs : List Hop)
+    → ConsApart clocks near (map Far adds ++ hs) → Sometime (OnNearAfter (Follows clocks near old new)) hs
+    → Ever (OnFar (HandsUpAs clocks near old)) (map Far adds) → ⊥
+apart_at clocks near old new [] hs law gone h = h
+apart_at clocks near old new (e ∷ adds) hs law gone (inl h) =
+    (law old new).0 (Sometime_back (OnNearAfter (Follows clocks near old new)) (map Far adds) hs gone) h
+apart_at clocks near old new (e ∷ adds) hs law gone (inr h) =
+    apart_at clocks near old new adds hs (λ a b. (law a b).1) gone h

@@ -5,7 +5,8 @@ use Rattle.coap_types.specs.Past.{Ever}
 use Rattle.coap_types.specs.declared.block.Block.{Block}
 use Rattle.coap_types.specs.declared.request.Method.TheVariants.{Get}
 use Rattle.coap_codec.specs.Message.{Message, Spells}
-use Rattle.coap_layer.specs.Channel.{near_of}
+use Rattle.coap_layer.specs.Channel.{OnFar, near_of}
+use Rattle.coap_layer.specs.Paced.{HandsUpAs}
 use Rattle.coap_layer.specs.Trace as T
 use Rattle.coap_layer.specs.Words.{Open, begun}
 use Rattle.coap_resource.specs.Serves.{Question}
@@ -20,14 +21,15 @@ use Rattle.coap_server.specs.Law.{own_of}
 use Rattle.coap_server.specs.Trace as S
 use Rattle.coap_client.proofs.Facts.Laws as client_facts
 use Rattle.coap_server.proofs.Facts.Laws as server_facts
-use Rattle.coap_world.specs.CameFrom.{request_of, CameFrom}
+use Rattle.coap_world.specs.CameFrom.{request_of, CameFrom, IsChannel, ComesIn}
 use Rattle.coap_world.specs.Events.{client_end, server_end, Config}
 use Rattle.coap_world.specs.Hops.{hops_in, hops_at}
 use Rattle.coap_world.specs.Legal.{IsRequest}
 use Rattle.coap_world.specs.Record.{Entry, OfServer, client_of, server_trace}
 use Rattle.coap_world.proofs.Delivery.HopsAreEntries.{near_is}
-use Rattle.coap_world.proofs.Requests.CameFrom.{same_request}
+use Rattle.coap_world.proofs.Requests.CameFrom.{same_request, channel_back}
 use Rattle.coap_world.proofs.Requests.LastRequests.{of_call_at, method_is}
+use Rattle.coap_layer.specs.Clocks.{Clocks}
 use Rattle.coap_world.proofs.Requests.OfACall.{Lawful, lawful_back, no_call, no_call_behind, taken_later}
 use Rattle.coap_world.proofs.Requests.ReadBack.{Changes}
 use Rattle.coap_world.proofs.Requests.Traced.{near_later, sent_later}
@@ -58,30 +60,36 @@ module _ (config : Config) where
       (same_request con (request_of con.id x) y r k.spells refl)
 
   -- the block that is taken here, and the request of the client in which it came
-  pub record CameBlock (z : Took) (past : List Entry) (c : S.Call) : Type 0 where
+  pub record CameBlock (clocks : Clocks) (z : Took) (past : List Entry) (c : S.Call) : Type 0 where
     pub question : Question
     pub block : Block
     pub is : z ≡ took z.asked question block
     pub came : CameFrom config past (OfServer c) z.asked (Uploads question block)
+    pub arrives : Ever (OnFar (HandsUpAs clocks client_end came.con)) (hops_at config past (OfServer c))
 
-  pub came_block : (z : Took) (past : List Entry) (c : S.Call) → Lawful config (OfServer c ∷ past)
+  pub came_block : (clocks : Clocks) (z : Took) (past : List Entry) (c : S.Call) → Lawful config (OfServer c ∷ past)
+      → ComesIn config clocks (OfServer c ∷ past)
       → takes_block (own_of config.limits config.server_szx (server_trace config past)) c ≡ Some z
-      → z.asked.from ≡ client_end → CameBlock z past c
-  came_block z past c law here from =
+      → z.asked.from ≡ client_end → CameBlock clocks z past c
+  came_block clocks z past c law comes here from =
       let k = (server_facts.blocks config.limits config.server_szx config.server_setup
       (server_trace config (OfServer c ∷ past)) law.server).0 z here in
+      let came = comes.0 z.asked (Uploads k.question k.block) k.comes from in
       record {
         question = k.question;
         block = k.block;
         is = k.is;
-        came = law.came.0 z.asked (Uploads k.question k.block) k.comes from;
+        came = came.0;
+        arrives = came.1;
       }
 
-  module _ (all : List Entry) (small : config.client_sizes.szx ≤ 6) (whole : Lawful config all)
+  module _ (clocks : Clocks) (all : List Entry) (small : config.client_sizes.szx ≤ 6) (whole : Lawful config all)
       (in_range : (x : Taken) → WasTaken x (client_of all) → IsRequest x.request) where
     -- the laws of a part of the record; what was sent then, was sent in the whole of it
     pub record Part (w : List Entry) : Type 0 where
       pub law : Lawful config w
+      pub channel : IsChannel clocks config w
+      pub comes : ComesIn config clocks w
       pub sent : (x : Sending) → Sent x w → Sent x all
       pub begun_there : (con : Open) → Begun con w → Begun con all
       pub taken : (x : Taken) → WasTaken x (client_of w) → WasTaken x (client_of all)
@@ -89,6 +97,9 @@ module _ (config : Config) where
     pub part_back : (past : List Entry) (e : Entry) → Part (e ∷ past) → Part past
     part_back past e p = record {
       law = lawful_back config past e p.law;
+      channel = channel_back clocks config.client_setup config.server_setup client_end server_end
+          (hops_at config past e) (hops_in config past) p.channel;
+      comes = p.comes.1;
       sent = λ x k. p.sent x (sent_later config x past e k);
       begun_there = λ con k. p.begun_there con (begun_later past e (λ b. begun b ≡ Some con) k);
       taken = λ x k. p.taken x (taken_later x past e k);
@@ -133,7 +144,7 @@ module _ (config : Config) where
 
     -- of which upload the block is that is taken here
     pub record OfUpload (z : Took) (past : List Entry) (c : S.Call) : Type 0 where
-      pub block : CameBlock z past c
+      pub block : CameBlock clocks z past c
       pub number : ℕ
       pub of : call_of block.came.sending.operation ≡ Some number
       pub reads : ReadsBlock block.came.sending number block.question block.block (client_of past)
@@ -144,8 +155,8 @@ module _ (config : Config) where
         → z.asked.from ≡ client_end → OfUpload z past c
     of_upload z past c p here from = by (call_of k.came.sending.operation) refl
       where
-        k : CameBlock z past c
-        k = came_block z past c p.law here from
+        k : CameBlock clocks z past c
+        k = came_block clocks z past c p.law p.comes here from
 
         m : Message
         m = request_of k.came.con.id k.came.sending

@@ -29,6 +29,7 @@ use Rattle.coap_world.specs.Events.{client_end, server_end, Config}
 use Rattle.coap_world.specs.Legal.{IsRequest}
 use Rattle.coap_world.specs.Record.{Entry, OfClient, OfServer, client_of, server_trace}
 use Rattle.coap_world.proofs.Reports.Answered.{all_answered}
+use Rattle.coap_layer.specs.Clocks.{Clocks}
 use Rattle.coap_world.proofs.Requests.OfACall.{Lawful}
 use Rattle.coap_world.proofs.Uploads.Between as B
 use Rattle.coap_world.proofs.Uploads.Between.{First, up_next, up_of, none_between}
@@ -48,13 +49,13 @@ each_map : {X Y : Type 0} (P : Y → Type 0) (f : X → Y) (xs : List X) → Eac
 each_map P f [] h = tt
 each_map P f (x ∷ xs) h = (h.0, each_map P f xs h.1)
 
-module _ (config : Config) (all : List Entry) (small : config.client_sizes.szx ≤ 6) (whole : Lawful config all)
+module _ (config : Config) (clocks : Clocks) (all : List Entry) (small : config.client_sizes.szx ≤ 6) (whole : Lawful config all)
     (in_range : (x : Taken) → WasTaken x (client_of all) → IsRequest x.request) where
   abbrev PartOf : List Entry → Type 0
-  PartOf w = PartOf_ config all small whole in_range w
+  PartOf w = PartOf_ config clocks all small whole in_range w
 
   abbrev Upload : Took → List Entry → S.Call → Type 0
-  Upload z past c = OfUpload config all small whole in_range z past c
+  Upload z past c = OfUpload config clocks all small whole in_range z past c
 
   abbrev taken_at : List S.Call → S.Call → Option Took
   taken_at t c = takes_block (own_of config.limits config.server_szx t) c
@@ -80,7 +81,7 @@ module _ (config : Config) (all : List Entry) (small : config.client_sizes.szx �
     same_request : (z : Took) (past : List Entry) (c : S.Call) → PartOf (OfServer c ∷ past) → (o : Upload z past c)
         → o.number ≡ n → (o.reads).request ≡ r
     same_request z past c p o same =
-        let earlier = part_back config all small whole in_range past (OfServer c) p in
+        let earlier = part_back config clocks all small whole in_range past (OfServer c) p in
         one_request n (o.reads).request r (client_of all)
         (client_facts.numbers server_end config.client_sizes config.client_setup (client_of all) whole.client)
         (subst (λ i. WasTaken (record { number = i; request = (o.reads).request }) (client_of all)) same
@@ -90,7 +91,7 @@ module _ (config : Config) (all : List Entry) (small : config.client_sizes.szx �
     piece_of : (z : Took) (past : List Entry) (c : S.Call) → PartOf (OfServer c ∷ past) → (o : Upload z past c)
         → o.number ≡ n → Good z
     piece_of z past c p o same =
-        let earlier = part_back config all small whole in_range past (OfServer c) p in
+        let earlier = part_back config clocks all small whole in_range past (OfServer c) p in
         let k = o.block in
         let g = sent_piece config.client_sizes (client_of all)
         (client_facts.pieces server_end config.client_sizes config.client_setup (client_of all) whole.client)
@@ -115,18 +116,18 @@ module _ (config : Config) (all : List Entry) (small : config.client_sizes.szx �
     ZeroAt past (OfClient c) = ⊥
     ZeroAt past (OfServer c) = Zero past c
 
-    first_of : (w : List Entry) → Sometime ZeroAt w → First config all small whole in_range n w
+    first_of : (w : List Entry) → Sometime ZeroAt w → First config clocks all small whole in_range n w
     first_of [] h = absurd h
     first_of (OfClient c ∷ past) (inl h) = absurd h
     first_of (OfServer c ∷ past) (inl h) =
         record {
           con = h.upload.block.came.con;
           sending = h.upload.block.came.sending;
-          up = subst (λ i. B.Up config all small whole in_range h.upload.block.came.con h.upload.block.came.sending i
-              (OfServer c ∷ past)) h.number (up_of config all small whole in_range h.took past c h.law h.upload);
+          up = subst (λ i. B.Up config clocks all small whole in_range h.upload.block.came.con h.upload.block.came.sending i
+              (OfServer c ∷ past)) h.number (up_of config clocks all small whole in_range h.took past c h.law h.upload);
         }
     first_of (e ∷ past) (inr h) = let f = first_of past h in record
-        { con = f.con; sending = f.sending; up = up_next config all small whole in_range f.con f.sending n past e f.up }
+        { con = f.con; sending = f.sending; up = up_next config clocks all small whole in_range f.con f.sending n past e f.up }
 
     -- the last block, of the call
     module _ (past : List Entry) (c : S.Call) (p : PartOf (OfServer c ∷ past)) (x : Took) (k : Upload x past c)
@@ -138,13 +139,13 @@ module _ (config : Config) (all : List Entry) (small : config.client_sizes.szx �
       good_at later w d is q z here from h = by h
         where
           l : Upload z w d
-          l = of_upload config all small whole in_range z w d q here from
+          l = of_upload config clocks all small whole in_range z w d q here from
 
           by : Sometime ZeroAt (OfServer d ∷ w) → Good z
           by (inl y) = let both : Some y.took ≡ Some z = sym y.here
               ∙ here in let same : y.took ≡ z = cc both in subst Good same (piece_of y.took w d y.law y.upload y.number)
           by (inr y) = ⊎_elim (λ e. piece_of z w d q l e)
-              (λ e. absurd (none_between config all small whole in_range n past c p x k of_this later w d is q z l
+              (λ e. absurd (none_between config clocks all small whole in_range n past c p x k of_this later w d is q z l
               (first_of w y) e)) (same_or l.number n)
 
       each_good : (w later : List Entry) → past ≡ later ++ w → PartOf w → Sometime ZeroAt w
@@ -153,11 +154,11 @@ module _ (config : Config) (all : List Entry) (small : config.client_sizes.szx �
       each_good (OfClient d ∷ w) later is q (inl h) = absurd h
       each_good (OfClient d ∷ w) later is q (inr h) =
           each_good w (later ++ OfClient d ∷ []) (is ∙ sym (append_assoc later (OfClient d ∷ []) w))
-          (part_back config all small whole in_range w (OfClient d) q) h
+          (part_back config clocks all small whole in_range w (OfClient d) q) h
       each_good (OfServer d ∷ w) later is q h =
           by (taken_at (server_trace config w) d) refl
           (λ k. each_good w (later ++ OfServer d ∷ []) (is ∙ sym (append_assoc later (OfServer d ∷ []) w))
-          (part_back config all small whole in_range w (OfServer d) q) k)
+          (part_back config clocks all small whole in_range w (OfServer d) q) k)
         where
           -- where it is not block 0 that is taken here
           before : (Zero w d → ⊥) → Sometime ZeroAt w
@@ -207,10 +208,10 @@ module _ (config : Config) (all : List Entry) (small : config.client_sizes.szx �
           → taken_at (server_trace config past) c ≡ Some z → (z.asked).from ≡ client_end → (z.asked).token ≡ first.token
           → Zero past c
       zero_here past c p z here from token =
-          let o = of_upload config all small whole in_range z past c p here from in
-          let earlier = part_back config all small whole in_range past (OfServer c) p in
+          let o = of_upload config clocks all small whole in_range z past c p here from in
+          let earlier = part_back config clocks all small whole in_range past (OfServer c) p in
           let k = o.block in
-          let same : k.came.sending ≡ first = one_sending config all small whole in_range k.came.sending first n
+          let same : k.came.sending ≡ first = one_sending config clocks all small whole in_range k.came.sending first n
           (earlier.sent k.came.sending k.came.sent) sent of_first
           (sym (ap (λ (y : Asked). y.token) k.came.asked) ∙ token) in
           let numbers : Some o.number ≡ Some n = sym o.of
@@ -258,16 +259,16 @@ module _ (config : Config) (all : List Entry) (small : config.client_sizes.szx �
       zeros m token code (OfClient c ∷ past) p (inl h) = absurd h
       zeros m token code (OfServer c ∷ past) p (inl h) = inl (zero_by m token code past c p h)
       zeros m token code (e ∷ past) p (inr h) = inr
-          (zeros m token code past (part_back config all small whole in_range past e p) h)
+          (zeros m token code past (part_back config clocks all small whole in_range past e p) h)
 
       zero_heard : (w : List Entry) → PartOf w → Ever (HearsContinue first.token) (client_of w) → Sometime ZeroAt w
       zero_heard [] p h = absurd h
       zero_heard (OfServer c ∷ past) p h = inr (zero_heard past
-          (part_back config all small whole in_range past (OfServer c) p) h)
+          (part_back config clocks all small whole in_range past (OfServer c) p) h)
       zero_heard (OfClient c ∷ past) p (inr h) = inr
-          (zero_heard past (part_back config all small whole in_range past (OfClient c) p) h)
+          (zero_heard past (part_back config clocks all small whole in_range past (OfClient c) p) h)
       zero_heard (OfClient c ∷ past) p (inl h) = inr
-          (zeros h.0 h.2 h.3 past (part_back config all small whole in_range past (OfClient c) p)
+          (zeros h.0 h.2 h.3 past (part_back config clocks all small whole in_range past (OfClient c) p)
           ((all_answered config (OfClient c ∷ past) p.law).0 h.0 h.1))
 
     -- so before a further block is sent, block 0 was taken
@@ -276,10 +277,10 @@ module _ (config : Config) (all : List Entry) (small : config.client_sizes.szx �
     zero_before y b is number some path method [] p h = absurd h
     zero_before y b is number some path method (OfServer c ∷ w) p h =
         inr (zero_before y b is number some path method w
-        (part_back config all small whole in_range w (OfServer c) p) h)
+        (part_back config clocks all small whole in_range w (OfServer c) p) h)
     zero_before y b is number some path method (OfClient c ∷ w) p (inr h) =
         inr (zero_before y b is number some path method w
-        (part_back config all small whole in_range w (OfClient c) p) h)
+        (part_back config clocks all small whole in_range w (OfClient c) p) h)
     zero_before y b is number some path method (OfClient c ∷ w) p (inl h) =
         let k = (client_facts.continued server_end config.client_sizes config.client_setup
         (client_of (OfClient c ∷ w)) p.law.client).0 y b h is some in
@@ -291,7 +292,7 @@ module _ (config : Config) (all : List Entry) (small : config.client_sizes.szx �
   module _ (past : List Entry) (c : S.Call) (p : PartOf (OfServer c ∷ past)) (x : Took)
       (here : taken_at (server_trace config past) c ≡ Some x) (from : (x.asked).from ≡ client_end) where
     pub upload : Upload x past c
-    upload = of_upload config all small whole in_range x past c p here from
+    upload = of_upload config clocks all small whole in_range x past c p here from
 
     abbrev number : ℕ
     number = upload.number
@@ -300,7 +301,7 @@ module _ (config : Config) (all : List Entry) (small : config.client_sizes.szx �
     request = (upload.reads).request
 
     earlier : PartOf past
-    earlier = part_back config all small whole in_range past (OfServer c) p
+    earlier = part_back config clocks all small whole in_range past (OfServer c) p
 
     called : WasTaken (record { number = number; request = request }) (client_of all)
     called = earlier.taken (record { number = number; request = request }) (upload.reads).taken

@@ -28,6 +28,7 @@ use Rattle.coap_world.specs.Events.{client_end, server_end, Config}
 use Rattle.coap_world.specs.Record.{Entry, OfClient, OfServer, client_of, server_trace}
 use Rattle.coap_world.specs.Record.{Setting, DelayOf, PlainOf, gives_it}
 use Rattle.coap_world.specs.Words.{holds_at}
+use Rattle.coap_layer.specs.Clocks.{Clocks, turned}
 use Rattle.coap_world.proofs.Observations.Heard.{TellsCon, TellsAck, TellsNon}
 use Rattle.coap_world.proofs.Observations.Positions.{AtServer, server_entries}
 use Rattle.coap_world.proofs.Observations.Taken.{HeardTold, in_con, in_ack, in_non, taken_here}
@@ -55,14 +56,15 @@ module _ (config : Config) where
   not_first m past (DelayOf d) k = let here = k.1.here in cc here
   not_first m past (PlainOf p) k = let here = k.1.here in cc here
 
-  tells_it : (m : Message) (at : ℕ) (t : List Entry) → HeardTold config m at t
+  tells_it : (clocks : Clocks) (m : Message) (at : ℕ) (t : List Entry) → HeardTold config clocks m at t
       → Sometime (Tells m) (server_trace config t)
-  tells_it m at t (in_con con from up told) =
+  tells_it clocks m at t (in_con con from up told) =
       Sometime_map (TellsCon config con m) (Tells m) (λ past c k. (InCon con.id, k.0)) (server_trace config t) told
-  tells_it m at t (in_ack told) =
+  tells_it clocks m at t (in_ack told) =
       Sometime_map (TellsAck config m) (Tells m) (λ past c k. (InReply, k)) (server_trace config t) told
-  tells_it m at t (in_non told) =
-      Sometime_map (TellsNon config m at) (Tells m) (λ past c k. (InNon, k.tells)) (server_trace config t) told
+  tells_it clocks m at t (in_non told) =
+      Sometime_map (TellsNon config m (clocks.near told.instant) told.now) (Tells m) (λ past c k. (InNon, k.tells))
+      (server_trace config t) told.told
 
   -- where it does
   record ToldThere (m : Message) (t : List Entry) : Type 0 where
@@ -143,7 +145,7 @@ module _ (config : Config) (small : config.server_szx ≤ 6) (x : Observed)
       let taken = taken_here config small past c s.law before.formats n is in
       let k = told_there config m past before.law
       (server_entries config (Tells config m) (not_first config m) past
-      (tells_it config m n.mark.at (OfClient c ∷ past) taken.told)) in
+      (tells_it config (turned s.law.clocks) m n.mark.at (OfClient c ∷ past) taken.told)) in
       let shown = shown_whole config small past before.law x before.alone m first.registered
       (notification_code m first.notification) (understood past c s.law n is) past (within_self config past) before.law
       before.formats before.fits first.shown in

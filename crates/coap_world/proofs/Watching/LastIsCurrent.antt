@@ -26,6 +26,7 @@ use Rattle.coap_world.specs.Words.{holds_at}
 use Rattle.coap_world.proofs.Observations.Chain.{newest_taken}
 use Rattle.coap_world.proofs.Observations.Following.{told_since}
 use Rattle.coap_world.proofs.Observations.Positions.{client_entries}
+use Rattle.coap_layer.specs.Clocks.{turned}
 use Rattle.coap_world.proofs.Observations.Taken.{HeardTold, in_con, in_ack, in_non, TakenTold, taken_told}
 use Rattle.coap_world.proofs.Reports.FormatsSet.{formats_in}
 use Rattle.coap_world.proofs.Smoothly.ConsOfOpen.{calls_before}
@@ -72,7 +73,7 @@ module _ (config : Config) (x : Observed) (parts : Parts config x) (limits : con
       calls : List S.Call
       calls = server_trace config es
 
-      told : TakenTold config n es
+      told : TakenTold config (turned (lawful_of config turns r).clocks) n es
       told = taken_told config r.legal.range.server_szx es (lawful_of config turns r)
           (formats_in turns r.run.made r.legal.events) n
           (client_entries config (λ p b. notifies (C.own_of config.client_sizes p) b ≡ Some n) es
@@ -96,12 +97,12 @@ module _ (config : Config) (x : Observed) (parts : Parts config x) (limits : con
               subst (λ p. Sometime (ServesPair config.limits config.server_szx p) (c ∷ t)) same
               (told_since config.limits config.server_szx config.server_setup t c h.told under.0 h.here)
 
-      by : HeardTold config n.message n.mark.at es → Sometime Pairs calls
+      by : HeardTold config (turned (lawful_of config turns r).clocks) n.message n.mark.at es → Sometime Pairs calls
       by (in_con con from up s) = made _ (Sometime_map _ (TellsIn config.limits config.server_szx _ client_end n.message)
           (λ p b h. h.0) calls s)
       by (in_ack s) = made _ s
       by (in_non s) = made _ (Sometime_map _ (TellsIn config.limits config.server_szx _ client_end n.message)
-          (λ p b h. h.tells) calls s)
+          (λ p b h. h.tells) calls s.told)
 
   known : (turn : Turn) (past : List Turn) → SmoothRun config (turn ∷ past)
       → Alone x (client_of (entries_of (turn ∷ past))) → FitsABlock config x.path (entries_of (turn ∷ past))

@@ -10,6 +10,8 @@ use Rattle.coap_types.specs.Recognised.{lacks_critical}
 use Rattle.coap_types.specs.declared.direction.Direction.TheVariants.{Response}
 use Rattle.coap_types.specs.declared.option_number.TheConstants.{OBSERVE as observe}
 use Rattle.coap_types.proofs.Facts.Traces.{Always_back, Sometime_map}
+use Rattle.coap_layer.specs.Channel.{ChannelLaw}
+use Rattle.coap_layer.specs.Clocks.{turned}
 use Rattle.coap_layer.specs.declared.setup.Setup.{Setup}
 use Rattle.coap_codec.specs.Message.{Message}
 use Rattle.coap_common.specs.SuccessCodes.{content}
@@ -30,9 +32,12 @@ use Rattle.coap_world.specs.Current as current
 use Rattle.coap_world.specs.Current.{Watches, Alone}
 use Rattle.coap_world.specs.Events.{client_end, server_end, Config}
 use Rattle.coap_world.specs.Legal.{IsConfig}
+use Rattle.coap_world.specs.Hops.{hops_of}
+use Rattle.coap_world.proofs.Delivery.HopsAreAChannel as joined
+use Rattle.coap_world.proofs.Smoothly.Standing.{record_of}
 use Rattle.coap_world.specs.Record.{Entry, OfClient, OfServer, Turn, entries_of, client_of, server_trace}
 use Rattle.coap_world.specs.Smooth.{max_age}
-use Rattle.coap_world.proofs.Observations.Heard.{TellsCon, TellsAck, TellsNon}
+use Rattle.coap_world.proofs.Observations.Heard.{TellsCon, TellsAck}
 use Rattle.coap_world.proofs.Observations.Positions.{AtClient}
 use Rattle.coap_world.proofs.Observations.Taken.{HeardTold, TakenTold, formats_before, in_con, in_ack, in_non, taken_told}
 use Rattle.coap_world.proofs.Reports.FormatsSet.{FormatsIn}
@@ -109,7 +114,10 @@ module _ (laws : ThereLaws) (config : Config) (range : IsConfig config) (x : Obs
     registered = newest_registered server_end config.client_sizes config.client_setup x.number n (client_of all) o.law.client
         newest_is
 
-    taken : TakenTold config n all
+    channels : ChannelLaw config.client_setup config.server_setup client_end server_end (hops_of config past)
+    channels = joined.channel config _ past (record_of config past o.goes.stands) o.goes.stands.legal
+
+    taken : TakenTold config (turned o.law.clocks) n all
     taken = taken_told config range.server_szx all o.law o.formats n
         (Sometime_map (TakesAt config range.server_szx x.number n)
         (AtClient config (λ p b. notifies (clients.own_of config.client_sizes p) b ≡ Some n)) as_taken all
@@ -128,20 +136,20 @@ module _ (laws : ThereLaws) (config : Config) (range : IsConfig config) (x : Obs
     told : Sometime (TellsOf config.limits config.server_szx pair) trace
     told = by taken.told
       where
-        by : HeardTold config n.message n.mark.at all → Sometime (TellsOf config.limits config.server_szx pair) trace
+        by : HeardTold config (turned o.law.clocks) n.message n.mark.at all → Sometime (TellsOf config.limits config.server_szx pair) trace
         by (in_con con from up k) = Sometime_map (TellsCon config con n.message)
             (TellsOf config.limits config.server_szx pair) (λ p c h. tells_of _ p c h.0) trace k
         by (in_ack k) = Sometime_map (TellsAck config n.message) (TellsOf config.limits config.server_szx pair)
             (λ p c h. tells_of _ p c h) trace k
-        by (in_non k) = Sometime_map (TellsNon config n.message n.mark.at) (TellsOf config.limits config.server_szx pair)
-            (λ p c h. tells_of _ p c h.tells) trace k
+        by (in_non k) = Sometime_map _ (TellsOf config.limits config.server_szx pair)
+            (λ p c h. tells_of _ p c h.tells) trace k.told
 
     moments : Always (AtMoment config) all
     moments = all_moments config laws.beneath past o.goes
 
-    stays_there : Stays laws.reset laws.stays laws.observers config range x all o.law moments o.served o.of_it is_heard token
+    stays_there : Stays laws.reset laws.stays laws.observers config range x all o.law channels moments o.served o.of_it is_heard token
         registered all
-    stays_there = stays laws.reset laws.stays laws.observers config range x all o.law moments o.served o.of_it is_heard token
+    stays_there = stays laws.reset laws.stays laws.observers config range x all o.law channels moments o.served o.of_it is_heard token
         registered [] all refl
         (told_under config.limits config.server_szx pair trace
         (are_under config.limits config.server_szx config.server_setup trace o.law.server) told)
@@ -184,12 +192,12 @@ module _ (laws : ThereLaws) (config : Config) (range : IsConfig config) (x : Obs
     still_there : StillThere config x token turn.event.at all
     still_there = by stays_there
       where
-        by : Stays laws.reset laws.stays laws.observers config range x all o.law moments o.served o.of_it is_heard token
+        by : Stays laws.reset laws.stays laws.observers config range x all o.law channels moments o.served o.of_it is_heard token
             registered all → StillThere config x token turn.event.at all
         by (inl k) = inl (
           k.0,
           k.1,
-          found_path laws.reset laws.stays laws.observers config range x all o.law moments o.served o.of_it is_heard token
+          found_path laws.reset laws.stays laws.observers config range x all o.law channels moments o.served o.of_it is_heard token
               registered k.0 k.1,
         )
         by (inr e) =

@@ -29,12 +29,12 @@ use Rattle.coap_world.specs.Events.{client_end, server_end, Config}
 use Rattle.coap_world.specs.Hops.{across, hops_in, server_adds}
 use Rattle.coap_world.specs.Legal.{IsConfig}
 use Rattle.coap_world.specs.Record.{Entry, OfServer, client_of, server_trace}
-use Rattle.coap_world.proofs.Delivery.ChannelAcross.{near_across, far_across, channel_across}
+use Rattle.coap_world.proofs.Delivery.ChannelAcross.{near_across, far_across, channel_across, channel_back}
+use Rattle.coap_world.proofs.Delivery.End.{front, front_is}
 use Rattle.coap_world.proofs.Delivery.EntriesInTime.{Every, Timely}
 use Rattle.coap_world.proofs.Delivery.HopsAreEntries.{client_layer, server_layer, near_is, far_is}
 use Rattle.coap_world.proofs.Observations.Acknowledged.{before_now}
 use Rattle.coap_world.proofs.Observations.Positions.{across_far}
-use Rattle.coap_world.proofs.Requests.CameFrom.{channel_back}
 use Rattle.coap_world.proofs.Requests.OfACall.{Lawful, lawful_back}
 use Rattle.coap_world.specs.NoticesCome.{NoticesAreOfIt}
 use Rattle.coap_world.proofs.Watching.StillThere.Premises.{AreServedFor, IsHeard}
@@ -60,7 +60,9 @@ unmatched_is from (L.Becomes (L.Unmatched id)) s h =
 unmatched_is from _ s h = absurd (cc h)
 
 module _ (laws : ResetLaws) (config : Config) (range : IsConfig config) (x : Observed) (all : List Entry)
-    (law : Lawful config all) (served : AreServedFor config x all) (of_it : NoticesAreOfIt config x all)
+    (law : Lawful config all)
+    (channels : ChannelLaw config.client_setup config.server_setup client_end server_end (hops_in config all))
+    (served : AreServedFor config x all) (of_it : NoticesAreOfIt config x all)
     (is_heard : IsHeard config x all) (token : List ℕ)
     (registered : WasRegistered config.client_sizes x.number token (client_of all)) where
   module _ (later past : List Entry) (now : ℕ) (from : Endpoint) (bytes : List ℕ) (w id : ℕ) (what : L.Answer) (came : _)
@@ -105,7 +107,11 @@ module _ (laws : ResetLaws) (config : Config) (range : IsConfig config) (x : Obs
     channel : ChannelLaw config.server_setup config.client_setup server_end client_end
         (across (hops_in config (OfServer c ∷ past)))
     channel = channel_across config.client_setup config.server_setup client_end server_end
-        (hops_in config (OfServer c ∷ past)) law_here.channel
+        (hops_in config (OfServer c ∷ past))
+        (channel_back config.client_setup config.server_setup client_end server_end
+        (front config later (OfServer c ∷ past)) (hops_in config (OfServer c ∷ past))
+        (subst (ChannelLaw config.client_setup config.server_setup client_end server_end)
+        (ap (hops_in config) is ∙ front_is config later (OfServer c ∷ past)) channels))
 
   -- a Reset of a CON
   con_reset : (later past : List Entry) (now : ℕ) (from : Endpoint) (bytes : List ℕ) (w id : ℕ) (came : _)

@@ -20,7 +20,9 @@ use Rattle.coap_server.specs.Follows.Tells.{Pair}
 use Rattle.coap_server.specs.Follows.Told.{ServesPair}
 use Rattle.coap_server.specs.Law.{ServerLaw, own_of}
 use Rattle.coap_server.specs.Trace as S
-use Rattle.coap_world.specs.Events.{client_end, Config}
+use Rattle.coap_layer.specs.Channel.{ChannelLaw}
+use Rattle.coap_world.specs.Hops.{hops_in}
+use Rattle.coap_world.specs.Events.{client_end, server_end, Config}
 use Rattle.coap_world.specs.Legal.{IsConfig}
 use Rattle.coap_world.specs.Record.{Entry, OfClient, OfServer, client_of, server_trace, settings, Setting, DelayOf, PlainOf, gives_it}
 use Rattle.coap_world.proofs.Requests.OfACall.{Lawful}
@@ -74,6 +76,7 @@ module _ (laws : ResetLaws)
     (ends_so : (limits : Limits) (szx : ℕ) (setup : Setup) (t : List S.Call) → ServerLaw limits szx setup t → EndsSo limits szx t)
     (observers : (limits : Limits) (szx : ℕ) (t : List S.Call) → AreObservers limits szx t) (config : Config)
     (range : IsConfig config) (x : Observed) (all : List Entry) (law : Lawful config all)
+    (channels : ChannelLaw config.client_setup config.server_setup client_end server_end (hops_in config all))
     (moments : Always (AtMoment config) all) (served : AreServedFor config x all) (of_it : NoticesAreOfIt config x all)
     (is_heard : IsHeard config x all) (token : List ℕ)
     (registered : WasRegistered config.client_sizes x.number token (client_of all)) where
@@ -100,7 +103,7 @@ module _ (laws : ResetLaws)
     -- what it tells to have ended is not this
     told_not : (d : S.Call) → c ≡ d → (y : Ended) → ends_in (own past) d ≡ Some y → y.to ≡ client_end → y.token ≡ token → ⊥
     told_not (S.Feeds now from bytes w up came h below) same y ends to key =
-        not_told laws config range x all law served of_it is_heard token registered later past now from bytes w up came h below
+        not_told laws config range x all law channels served of_it is_heard token registered later past now from bytes w up came h below
         (is ∙ ap (λ z. later ++ OfServer z ∷ past) same) (subst (IsTimely config past) same timely) y ends to key
     told_not (S.Ticks now w below room d passed h number answer) same y ends to key =
         never_fails config past now w below room d passed h number answer y
@@ -112,7 +115,7 @@ module _ (laws : ResetLaws)
         → rejected (own_of config.limits config.server_szx (d ∷ t)).clock s.to s.id (own past).observers ≡ Some o
         → o.to ≡ client_end → o.token ≡ token → ⊥
     rejected_not (S.Feeds now from bytes w up came h below) same s o rejects found to key =
-        not_rejected laws config range x all law served of_it is_heard token registered later past now from bytes w up came h
+        not_rejected laws config range x all law channels served of_it is_heard token registered later past now from bytes w up came h
         below (is ∙ ap (λ z. later ++ OfServer z ∷ past) same) (subst (IsTimely config past) same timely) s o rejects found to
         key
     rejected_not _ same s o rejects found to key = cc rejects

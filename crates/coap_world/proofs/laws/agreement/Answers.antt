@@ -1,17 +1,17 @@
-use Rattle.coap_world.proofs.Progress.EachPosition.{no_fault}
-use Rattle.coap_world.proofs.Reports.Promised.{agrees, exchanges_bounded}
+use Rattle.coap_world.proofs.Progress.EachPosition.{never_faults}
+use Rattle.coap_world.proofs.Reports.Promised.{agrees_by, exchanges_bounded_by}
 use Rattle.coap_world.specs.Record.{entries_of}
 use Rattle.coap_world.specs.SmoothAnswers.{AllAnswer, AreYoung, EndByAnswers}
 use Rattle.coap_world.proofs.laws.agreement.Goals as goal
 
 pub returns-clause-agrees : goal.returns-clause-agrees
-returns-clause-agrees c = agrees
+returns-clause-agrees c = agrees_by
 
 pub returns-clause-bounded : goal.returns-clause-bounded
-returns-clause-bounded c = exchanges_bounded
+returns-clause-bounded c = exchanges_bounded_by
 
 pub returns-clause-no_fault : goal.returns-clause-no_fault
-returns-clause-no_fault c = no_fault
+returns-clause-no_fault c = never_faults
 
 -- each exchange is young, so each ends by an answer, so each request is sent, so calls come to what they should
 pub returns-clause-smooth : goal.returns-clause-smooth

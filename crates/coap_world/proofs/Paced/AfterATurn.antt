@@ -1,0 +1,78 @@
+-- What a turn leaves, by two clocks: no clock of an end is past its own, nothing waits, what was given out is in the hops, and
+-- the hops are fair.
+use Rattle.std.proofs.Common.{◌≡◌, ◌≤◌, ℕ, List, [], ◌∷◌, ◌++◌, map, sym, subst, arith}
+use Rattle.coap_types.specs.Past.{Ever, Always, all_of}
+use Rattle.coap_types.proofs.Facts.Traces.{Ever_back}
+use Rattle.coap_types.specs.declared.endpoint.Endpoint.{Endpoint}
+use Rattle.coap_layer.specs.Channel.{Hop, Near, Far, near_of, far_of, OnNear, OnFar, GaveOut}
+use Rattle.coap_layer.specs.Paced.{IsFair}
+use Rattle.coap_layer.specs.Trace.{Receive, Entry}
+use Rattle.coap_layer.specs.Words.{clock, waiting}
+use Rattle.coap_world.specs.Clocks.{Clocks, of_layers}
+use Rattle.coap_world.specs.Events.{client_end, server_end, Config}
+use Rattle.coap_world.specs.Hops.{hops_in, SentIn}
+use Rattle.coap_world.specs.Record as W
+use Rattle.coap_world.specs.Record.{client_of, server_trace, Given, given_by}
+use Rattle.coap_world.proofs.Delivery.ClientInTime as client
+use Rattle.coap_world.proofs.Delivery.EntriesInTime.{Every, Timely}
+use Rattle.coap_world.proofs.Delivery.HopsAreEntries.{client_layer, server_layer, near_far, far_near}
+use Rattle.coap_world.proofs.Delivery.ServerInTime as server
+
+same_moment : (t : ℕ) (G : Endpoint → List ℕ → Type 0) (e : Entry) → Timely t G e → (from : Endpoint) (bytes : List ℕ)
+    → e.call ≡ Receive from bytes → t ≡ e.at
+same_moment t G e k from bytes is = let a = (k.fed from bytes is).1 in let b = k.till in omega (arith, a, b)
+
+-- the clock is not past this moment behind these entries
+pub clock_by : (t : ℕ) (G : Endpoint → List ℕ → Type 0) (xs past : List Entry) → Every (Timely t G) xs → clock past ≤ t
+    → clock (xs ++ past) ≤ t
+clock_by t G [] past h by = by
+clock_by t G (x ∷ xs) past h by = h.0.till
+
+module _ (c : Clocks) (n : ℕ) (G : Endpoint → List ℕ → Type 0) (hs : List Hop)
+    (old : Always (IsFair (of_layers c) client_end server_end) hs) where
+  pub near_fair : clock (far_of hs) ≤ c.server n
+      → ((bytes : List ℕ) → G server_end bytes → Ever (OnFar (GaveOut client_end bytes (c.server n))) hs)
+      → (xs : List Entry) → Every (Timely (c.client n) G) xs
+      → Always (IsFair (of_layers c) client_end server_end) (map Near xs ++ hs)
+  near_fair by f [] h = old
+  near_fair by f (x ∷ xs) h = (
+    (λ bytes is. record {
+      instant = n;
+      shown = same_moment (c.client n) G x h.0 server_end bytes is;
+      later = subst (λ l. clock l ≤ c.server n) (sym (far_near xs hs)) by;
+      so = Ever_back (OnFar (GaveOut client_end bytes (c.server n))) (map Near xs) hs
+          (f bytes (h.0.fed server_end bytes is).0);
+    }),
+    near_fair by f xs h.1,
+  )
+
+  pub far_fair : clock (near_of hs) ≤ c.client n
+      → ((bytes : List ℕ) → G client_end bytes → Ever (OnNear (GaveOut server_end bytes (c.client n))) hs)
+      → (xs : List Entry) → Every (Timely (c.server n) G) xs
+      → Always (IsFair (of_layers c) client_end server_end) (map Far xs ++ hs)
+  far_fair by f [] h = old
+  far_fair by f (x ∷ xs) h = (
+    (λ bytes is. record {
+      instant = n;
+      shown = same_moment (c.server n) G x h.0 client_end bytes is;
+      later = subst (λ l. clock l ≤ c.client n) (sym (near_far xs hs)) by;
+      so = Ever_back (OnNear (GaveOut server_end bytes (c.client n))) (map Far xs) hs
+          (f bytes (h.0.fed client_end bytes is).0);
+    }),
+    far_fair by f xs h.1,
+  )
+
+module _ (c : Clocks) (config : Config) (n : ℕ) where
+  -- by the event of this number
+  pub record Still (es : List W.Entry) : Type 0 where
+    pub client : client.IsBy config (c.client n) (client_of es)
+    pub server : server.IsBy config (c.server n) (server_trace config es)
+    pub client_none : waiting (client_layer config (client_of es)) ≡ []
+    pub server_none : waiting (server_layer config (server_trace config es)) ≡ []
+    pub near_by : clock (near_of (hops_in config es)) ≤ c.client n
+    pub far_by : clock (far_of (hops_in config es)) ≤ c.server n
+
+  pub record Goes (at : ℕ) (entries es : List W.Entry) : Type 0 where
+    pub still : Still (entries ++ es)
+    pub sent : (g : Given) → Ever (λ h. h ≡ g) (all_of (given_by at) entries) → SentIn (hops_in config (entries ++ es)) g
+    pub fair : Always (IsFair (of_layers c) client_end server_end) (hops_in config (entries ++ es))
