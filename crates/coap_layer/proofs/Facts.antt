@@ -7,6 +7,7 @@ pub mod Hops
 pub mod IdsApart
 pub mod Laws
 pub mod Paced
+pub mod AtAnyTime
 pub mod FirstMoments
 pub mod Sendable
 pub mod Sendings

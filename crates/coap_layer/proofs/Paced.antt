@@ -7,3 +7,4 @@ pub mod GoneIsNotBehind
 pub mod AcksAreReplies
 pub mod RepliedOnce
 pub mod ResetsAreReplies
+pub mod AtAnyTime

@@ -13,5 +13,6 @@ pub mod Clocks
 pub mod Apart
 pub mod Taking
 pub mod Paced
+pub mod AtAnyTime
 pub mod Examples
 pub mod Machine

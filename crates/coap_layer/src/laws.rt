@@ -18,6 +18,7 @@ ghost use Rattle.coap_layer.specs.Sends.{TakenSent, TakenSince};
 ghost use Rattle.coap_layer.specs.Machine.Steps.{Asked, Steps, entries};
 ghost use Rattle.coap_layer.specs.Clocks.{Clocks};
 ghost use Rattle.coap_layer.specs.Paced as paced;
+ghost use Rattle.coap_layer.specs.AtAnyTime as any_time;
 ghost use Rattle.coap_layer.specs.Examples.{FiveTimes, IsAcknowledged};
 
 /// What leads to a layer's state stands in the law, and what follows from that.
@@ -179,6 +180,19 @@ pub fn paced_channel_law()
     // A Reset that is taken for a request or a response is the reply that was given to that very message (section 4.2).
     ensures resets { (c : Clocks) (one other : Setup) (near far : Endpoint) (all : List Hop)
         → paced.ChannelLaw c one other near far all → paced.ResetsMeant c near far all }
+{}
+
+/// What two layers do together where datagrams come at any time, or never.
+pub fn any_time_law()
+    // What comes in time, by two clocks, comes.
+    ensures paced { (c : Clocks) (one other : Setup) (near far : Endpoint) (all : List Hop)
+        → paced.ChannelLaw c one other near far all → any_time.FairLaw one other near far all }
+    // A Confirmable message that arrives was begun before (RFC 7252, section 4.2).
+    ensures begun { (one other : Setup) (near far : Endpoint) (all : List Hop)
+        → any_time.FairLaw one other near far all → any_time.ConsBegun near far all }
+    // A Non-confirmable message that arrives was sent before (section 4.3).
+    ensures plain { (one other : Setup) (near far : Endpoint) (all : List Hop)
+        → any_time.FairLaw one other near far all → any_time.NonsSent near far all }
 {}
 
 /// What isn't Empty, and has options that ascend and are short, may be sent where its header, its

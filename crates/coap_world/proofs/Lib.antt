@@ -9,3 +9,4 @@ pub mod Uploads
 pub mod Recording
 pub mod Smoothly
 pub mod Watching
+pub mod Any

@@ -6,3 +6,5 @@ pub mod ClientTurns
 pub mod ServerTurns
 pub mod HopsAreAChannel
 pub mod ChannelAcross
+pub mod AtAnyTime
+pub mod CameAtAnyTime

@@ -2,6 +2,7 @@ pub mod Events
 pub mod Record
 pub mod Legal
 pub mod Clocks
+pub mod AtAnyTime
 pub mod Delivery
 pub mod Hops
 pub mod Words

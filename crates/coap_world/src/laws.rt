@@ -8,6 +8,7 @@ ghost use Rattle.coap_server.specs.Law as servers;
 ghost use Rattle.coap_world.specs.Applied.{AppliedWhole, AtMostOnce, EachBelongs};
 ghost use Rattle.coap_world.specs.Agrees.{Agrees};
 ghost use Rattle.coap_world.specs.Answers.{AllAnswered};
+ghost use Rattle.coap_world.specs.AtAnyTime as at_any_time;
 ghost use Rattle.coap_world.specs.Bounds.{AreBounded, AreShort};
 ghost use Rattle.coap_world.specs.CameFrom.{CamesFrom};
 ghost use Rattle.coap_world.specs.Clocks as by_clocks;
@@ -53,6 +54,33 @@ pub fn clocks_law()
     ensures channel { (c : Clocks) (config : Config) (events : List Event) (turns : List Turn) → RecordOf config events turns
         → by_clocks.Legal c config turns → paced.ChannelLaw (of_layers c) config.client_setup config.server_setup
         client_end server_end (hops_of config turns) }
+{}
+
+/// What holds however late datagrams are, and however the ends' clocks run.
+pub fn any_time_law()
+    // What comes from the client's address is a request that the client sent (RFC 7252, sections 4.2 and 5.2).
+    ensures came { at_any_time.InRuns CamesFrom }
+    // Each body that is reported was held by the server at the call's path, under the version of its ETag, between the call
+    // and the report (RFC 7252, sections 5.8.1 and 5.10.6; RFC 7959, section 2.4).
+    ensures held { at_any_time.InRuns EachHeld }
+    // .. so was each representation that is reported as valid (sections 5.9.1.3 and 5.10.6.2) ..
+    ensures valid { at_any_time.InRuns EachValid }
+    // .. and each value of an observation, since that was taken (RFC 7641, sections 3.2 and 4.4).
+    ensures value { at_any_time.InRuns EachValue }
+    // A version is named by its ETag (RFC 7252, section 5.10.6).
+    ensures named { at_any_time.InRuns HeldAreNamed }
+    // What is applied for the client's address belongs to a call (section 5.3.1).
+    ensures belongs { at_any_time.InRuns EachBelongs }
+    // What is served is what its datagram asks, by the table of the methods (section 5.8).
+    ensures served { at_any_time.InRuns AllServed }
+    // Where Done is reported, a request of the call was applied between call and report (section 5.8).
+    ensures done { at_any_time.InRuns OnceDone }
+    // Each answer was made by the server before, for the client, under that token (section 5.3.2).
+    ensures answered { at_any_time.InRuns AllAnswered }
+    // .. and so was each notification (RFC 7641, section 3.2).
+    ensures noticed { at_any_time.InRuns AllNoticed }
+    // A GET makes at most as many exchanges as 4 passes over the blocks of the longest body (RFC 7959, section 2.4).
+    ensures bounded { at_any_time.InRuns AreBounded }
 {}
 
 /// What the message layers of the two ends do in a run, in one order (RFC 7252, section 4).

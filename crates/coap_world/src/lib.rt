@@ -9,8 +9,9 @@ mod smooth;
 mod watches;
 
 pub use laws::{
-    agreement, answers_law, applied_law, changes_law, clocks_law, delivery_law, held_law, hops_law,
-    legal_law, no_fault_law, observations_law, reports_law, requests_law, rising_law,
+    agreement, answers_law, any_time_law, applied_law, changes_law, clocks_law, delivery_law,
+    held_law, hops_law, legal_law, no_fault_law, observations_law, reports_law, requests_law,
+    rising_law,
 };
 pub use running::{
     AppliedRequest, CLIENT_END, Change, Event, Given, Kind, Line, Record, RunRefusal, SERVER_END,

@@ -5,6 +5,8 @@ use Rattle.coap_types.specs.Past.{Ever, Always, all_of}
 use Rattle.coap_types.proofs.Facts.Traces.{Ever_back}
 use Rattle.coap_types.specs.declared.endpoint.Endpoint.{Endpoint}
 use Rattle.coap_layer.specs.Channel.{Hop, Near, Far, near_of, far_of, OnNear, OnFar, GaveOut}
+use Rattle.coap_layer.specs.AtAnyTime as any_time
+use Rattle.coap_layer.specs.AtAnyTime.{WasOut}
 use Rattle.coap_layer.specs.Paced.{IsFair}
 use Rattle.coap_layer.specs.Trace.{Receive, Entry}
 use Rattle.coap_layer.specs.Words.{clock, waiting}
@@ -72,7 +74,29 @@ module _ (c : Clocks) (config : Config) (n : ℕ) where
     pub near_by : clock (near_of (hops_in config es)) ≤ c.client n
     pub far_by : clock (far_of (hops_in config es)) ≤ c.server n
 
-  pub record Goes (at : ℕ) (entries es : List W.Entry) : Type 0 where
+  pub record Leaves (at : ℕ) (entries es : List W.Entry) : Type 0 where
     pub still : Still (entries ++ es)
     pub sent : (g : Given) → Ever (λ h. h ≡ g) (all_of (given_by at) entries) → SentIn (hops_in config (entries ++ es)) g
+
+  pub record Goes (at : ℕ) (entries es : List W.Entry) : Type 0 where
+    pub leaves : Leaves at entries es
     pub fair : Always (IsFair (of_layers c) client_end server_end) (hops_in config (entries ++ es))
+
+-- at any time
+module _ (t : ℕ) (G : Endpoint → List ℕ → Type 0) (hs : List Hop)
+    (old : Always (any_time.IsFair client_end server_end) hs) where
+  pub near_any : ((bytes : List ℕ) → G server_end bytes → Ever (OnFar (WasOut client_end bytes)) hs)
+      → (xs : List Entry) → Every (Timely t G) xs → Always (any_time.IsFair client_end server_end) (map Near xs ++ hs)
+  near_any f [] h = old
+  near_any f (x ∷ xs) h = (
+    (λ bytes is. Ever_back (OnFar (WasOut client_end bytes)) (map Near xs) hs (f bytes (h.0.fed server_end bytes is).0)),
+    near_any f xs h.1,
+  )
+
+  pub far_any : ((bytes : List ℕ) → G client_end bytes → Ever (OnNear (WasOut server_end bytes)) hs)
+      → (xs : List Entry) → Every (Timely t G) xs → Always (any_time.IsFair client_end server_end) (map Far xs ++ hs)
+  far_any f [] h = old
+  far_any f (x ∷ xs) h = (
+    (λ bytes is. Ever_back (OnNear (WasOut server_end bytes)) (map Far xs) hs (f bytes (h.0.fed client_end bytes is).0)),
+    far_any f xs h.1,
+  )

@@ -3,6 +3,8 @@ use Rattle.std.proofs.Common.{◌≡◌, inl, ℕ, Some, None, List, [], ◌++�
 use Rattle.coap_types.specs.Past.{Ever, Always, all_of}
 use Rattle.coap_types.specs.declared.endpoint.Endpoint.{Endpoint}
 use Rattle.coap_layer.specs.Channel.{Near, OnNear, OnFar, near_of, far_of, GaveOut}
+use Rattle.coap_layer.specs.AtAnyTime as any_time
+use Rattle.coap_layer.specs.AtAnyTime.{WasOut}
 use Rattle.coap_layer.specs.Paced.{IsFair}
 use Rattle.coap_layer.specs.Trace as L
 use Rattle.coap_layer.specs.Trace.{Packet}
@@ -24,7 +26,7 @@ use Rattle.coap_world.proofs.Delivery.EntriesInTime.{Every, every_map, Timely}
 use Rattle.coap_world.proofs.Delivery.HopsAreEntries.{client_layer, server_layer, near_near, far_near}
 use Rattle.coap_world.proofs.Delivery.OneEndATurn.{ClientTurn, client_client, server_client}
 use Rattle.coap_world.proofs.Delivery.ServerInTime as server
-use Rattle.coap_world.proofs.Paced.AfterATurn.{clock_by, near_fair, Still, Goes}
+use Rattle.coap_world.proofs.Paced.AfterATurn.{clock_by, near_fair, near_any, Still, Leaves, Goes}
 
 module _ (c : Clocks) (config : Config) (n : ℕ) where
   module _ (es : List Entry) (outs : List Packet) (reports : List Reported) (calls : List Call)
@@ -64,12 +66,8 @@ module _ (c : Clocks) (config : Config) (n : ℕ) where
               (every_map (Timely t G) (InTime t) (λ e w. in_time t G e w) adds timely) k.taken)),
         )
 
-    pub goes : IsGood config (client_of (map OfClient all ++ es))
-        → ((bytes : List ℕ) → Ever (FedToClient server_end bytes) (map OfClient all)
-        → Ever (OnFar (GaveOut client_end bytes (c.server n))) (hops_in config es))
-        → Always (IsFair (of_layers c) client_end server_end) (hops_in config es)
-        → Goes c config n t (map OfClient all) es
-    goes good feeds fair =
+    pub leaves : IsGood config (client_of (map OfClient all ++ es)) → Leaves c config n t (map OfClient all) es
+    leaves good =
         let is = client_client all es in
         let hops = hops_are (client_side config) all es in
         let alike : server_trace config (map OfClient all ++ es)
@@ -88,9 +86,30 @@ module _ (c : Clocks) (config : Config) (n : ℕ) where
                 still.far_by;
           };
           sent = λ g h. subst (λ hs. SentIn hs g) (sym hops) (sent_now here g h);
-          fair = subst (Always (IsFair (of_layers c) client_end server_end)) (sym hops)
+        }
+
+    pub goes : IsGood config (client_of (map OfClient all ++ es))
+        → ((bytes : List ℕ) → Ever (FedToClient server_end bytes) (map OfClient all)
+        → Ever (OnFar (GaveOut client_end bytes (c.server n))) (hops_in config es))
+        → Always (IsFair (of_layers c) client_end server_end) (hops_in config es)
+        → Goes c config n t (map OfClient all) es
+    goes good feeds fair =
+        record {
+          leaves = leaves good;
+          fair = subst (Always (IsFair (of_layers c) client_end server_end)) (sym (hops_are (client_side config) all es))
               (near_fair c n G (hops_in config es) fair still.far_by feeds adds timely);
         }
+
+    pub goes_any : IsGood config (client_of (map OfClient all ++ es))
+        → ((bytes : List ℕ) → Ever (FedToClient server_end bytes) (map OfClient all)
+        → Ever (OnFar (WasOut client_end bytes)) (hops_in config es))
+        → Always (any_time.IsFair client_end server_end) (hops_in config es)
+        → Leaves c config n t (map OfClient all) es × Always (any_time.IsFair client_end server_end) (hops_in config (map OfClient all ++ es))
+    goes_any good feeds fair = (
+      leaves good,
+      subst (Always (any_time.IsFair client_end server_end)) (sym (hops_are (client_side config) all es))
+          (near_any t G (hops_in config es) fair feeds adds timely),
+    )
 
   pub client_turn : (at : ℕ) (entries es : List Entry) → ClientTurn at entries → c.client n ≡ at → Still c config n es
       → IsGood config (client_of (entries ++ es))
@@ -101,5 +120,21 @@ module _ (c : Clocks) (config : Config) (n : ℕ) where
       let is = turn.on.is in
       subst (λ t. Goes c config n t entries es) shown (subst (λ x. Goes c config n (c.client n) x es) (sym is)
       (goes es turn.on.outs turn.on.reports turn.calls (subst (λ t. Every (IsAt t) turn.calls) (sym shown) turn.at) still
+      (subst (λ x. IsGood config (client_of (x ++ es))) is good)
+      (λ bytes h. feeds bytes (subst (Ever (FedToClient server_end bytes)) (sym is) h)) fair))
+
+  -- at any time
+  abbrev pub GoesAny : ℕ → List Entry → List Entry → Type 0
+  GoesAny at entries es = Leaves c config n at entries es
+      × Always (any_time.IsFair client_end server_end) (hops_in config (entries ++ es))
+
+  pub any_turn : (at : ℕ) (entries es : List Entry) → ClientTurn at entries → c.client n ≡ at → Still c config n es
+      → IsGood config (client_of (entries ++ es))
+      → ((bytes : List ℕ) → Ever (FedToClient server_end bytes) entries → Ever (OnFar (WasOut client_end bytes)) (hops_in config es))
+      → Always (any_time.IsFair client_end server_end) (hops_in config es) → GoesAny at entries es
+  any_turn at entries es turn shown still good feeds fair =
+      let is = turn.on.is in
+      subst (λ t. GoesAny t entries es) shown (subst (λ x. GoesAny (c.client n) x es) (sym is)
+      (goes_any es turn.on.outs turn.on.reports turn.calls (subst (λ t. Every (IsAt t) turn.calls) (sym shown) turn.at) still
       (subst (λ x. IsGood config (client_of (x ++ es))) is good)
       (λ bytes h. feeds bytes (subst (Ever (FedToClient server_end bytes)) (sym is) h)) fair))

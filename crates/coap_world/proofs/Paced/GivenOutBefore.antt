@@ -7,6 +7,7 @@ use Rattle.coap_types.proofs.Facts.Traces.{Ever_map, Ever_append, Ever_of_Someti
 use Rattle.coap_types.specs.declared.endpoint.Endpoint.{Endpoint}
 use Rattle.coap_client.specs.Trace as C
 use Rattle.coap_server.specs.Trace as S
+use Rattle.coap_world.specs.AtAnyTime as any_time
 use Rattle.coap_world.specs.Clocks.{Clocks, AreClocks, Shows, MayCome, IsLegal}
 use Rattle.coap_world.specs.Delivery.{GaveOut, FedToServer, FedToClient}
 use Rattle.coap_world.specs.Events.{client_end, server_end, Config, What, Calls, Observes, Cancels, Forgets, Sets, Removes}
@@ -47,7 +48,8 @@ module _ (c : Clocks) (past : List Turn) (t word : ℕ) (refused : Bool) (entrie
   at_client to is (inl h) = h.1
   at_client to is (inr h) = absurd (apart (sym is ∙ h.0))
 
-  pub side : (what : What) → Makes past t word what refused entries → MayCome c past t what
+  -- it may come at any time
+  pub side : (what : What) → Makes past t word what refused entries → any_time.MayCome c past t what
       → OfAnEnd c (length past) t entries
   side (Calls r) m h =
       inl (client_one _ (λ c k. subst (client.IsAt t) (sym k.1) refl) refused m.0 m.1 m.2, h)
@@ -100,6 +102,21 @@ module _ (c : Clocks) (past : List Turn) (t word : ℕ) (refused : Bool) (entrie
         )
       ]
 
+-- what comes in time may come
+pub comes_any : (c : Clocks) (past : List Turn) (at : ℕ) (what : What) → MayCome c past at what
+    → any_time.MayCome c past at what
+comes_any c past at (Deliver number) m = (m.0, m.1, m.2)
+comes_any c past at (StrangerToClient from bytes) m = m
+comes_any c past at (StrangerToServer from bytes) m = m
+comes_any c past at (Calls r) m = m
+comes_any c past at (Observes path) m = m
+comes_any c past at (Cancels number) m = m
+comes_any c past at (Forgets number) m = m
+comes_any c past at (Sets path format body) m = m
+comes_any c past at (Removes path) m = m
+comes_any c past at TickClient m = m
+comes_any c past at TickServer m = m
+
 abbrev pub Made : List Turn → Type 0
 Made turns = Always (λ past t. Makes past t.event.at t.event.word t.event.what t.refused t.entries) turns
 
@@ -130,7 +147,7 @@ module _ (config : Config) (c : Clocks) (clocks : AreClocks c) where
   given_before [] made legal n le g h = absurd h
   given_before (t ∷ past) made legal n le g h = ⊎_elim
       (in_turn t past n (omega (arith, le)) (side c past t.event.at t.event.word t.refused t.entries t.event.what made.0
-      legal.0.comes) g)
+      (comes_any c past t.event.at t.event.what legal.0.comes)) g)
       (given_before past made.1 legal.1 n (omega (arith, le)) g)
       (Ever_append (λ x. x ≡ g) (given_in t) (all_of given_in past) h)
 

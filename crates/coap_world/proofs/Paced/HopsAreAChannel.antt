@@ -28,7 +28,7 @@ use Rattle.coap_world.proofs.Delivery.ServerInTime as server
 use Rattle.coap_world.proofs.Delivery.ServerTurns as server_turns
 use Rattle.coap_world.proofs.Paced.AfterATurn.{Still, Goes}
 use Rattle.coap_world.proofs.Paced.ClientTurns.{client_turn}
-use Rattle.coap_world.proofs.Paced.GivenOutBefore.{OfAnEnd, Made, side, to_server, to_client}
+use Rattle.coap_world.proofs.Paced.GivenOutBefore.{OfAnEnd, Made, comes_any, side, to_server, to_client}
 use Rattle.coap_world.proofs.Paced.ServerTurns.{server_turn}
 
 module _ (c : Clocks) (config : Config) (clocks : AreClocks c) where
@@ -77,9 +77,9 @@ module _ (c : Clocks) (config : Config) (clocks : AreClocks c) where
       → Goes c config (length past) turn.event.at turn.entries (entries_of past) → Ran (turn ∷ past)
   ran_next turn past ran goes =
       record {
-        still = λ n le. still_later (length past) n (turn.entries ++ entries_of past) (omega (arith, le)) goes.still;
+        still = λ n le. still_later (length past) n (turn.entries ++ entries_of past) (omega (arith, le)) goes.leaves.still;
         sent = λ g h. elim (Ever_append (λ x. x ≡ g) (given_in turn) (all_of given_in past) h) [
-          | inl now ↦ goes.sent g now
+          | inl now ↦ goes.leaves.sent g now
           | inr before ↦ sent_still config g turn.entries (entries_of past) (ran.sent g before)
         ];
         fair = goes.fair;
@@ -119,7 +119,8 @@ module _ (c : Clocks) (config : Config) (clocks : AreClocks c) where
       (λ bytes h. to_client config c clocks past made.1 legal.1 turn.event.at turn.event.word turn.refused turn.entries
       bytes turn.event.what made.0 legal.0.comes h)
       good_client good_server
-      (side c past turn.event.at turn.event.word turn.refused turn.entries turn.event.what made.0 legal.0.comes))
+      (side c past turn.event.at turn.event.word turn.refused turn.entries turn.event.what made.0
+      (comes_any c past turn.event.at turn.event.what legal.0.comes)))
 
 pub channel : (c : Clocks) (config : Config) (events : List Event) (turns : List Turn) → RecordOf config events turns
     → Legal c config turns

@@ -3,6 +3,8 @@ use Rattle.std.proofs.Common.{◌≡◌, inr, ℕ, List, [], ◌++◌, map, ap, 
 use Rattle.coap_types.specs.Past.{Ever, Always, all_of}
 use Rattle.coap_types.specs.declared.endpoint.Endpoint.{Endpoint}
 use Rattle.coap_layer.specs.Channel.{Far, OnNear, OnFar, near_of, far_of, GaveOut}
+use Rattle.coap_layer.specs.AtAnyTime as any_time
+use Rattle.coap_layer.specs.AtAnyTime.{WasOut}
 use Rattle.coap_layer.specs.Paced.{IsFair}
 use Rattle.coap_layer.specs.Trace as L
 use Rattle.coap_layer.specs.Trace.{Packet}
@@ -23,7 +25,7 @@ use Rattle.coap_world.proofs.Delivery.HopsAreEntries.{client_layer, server_layer
 use Rattle.coap_world.proofs.Delivery.OneEndATurn.{ServerTurn, client_server}
 use Rattle.coap_world.proofs.Delivery.ServerInTime.{IsAt, IsBy}
 use Rattle.coap_world.proofs.Delivery.ServerTurns.{outs_after, turn_calls, all_at, to_entries, IsGood}
-use Rattle.coap_world.proofs.Paced.AfterATurn.{clock_by, far_fair, Still, Goes}
+use Rattle.coap_world.proofs.Paced.AfterATurn.{clock_by, far_fair, far_any, Still, Leaves, Goes}
 
 module _ (c : Clocks) (config : Config) (n : ℕ) where
   module _ (es : List Entry) (outs : List Packet) (calls : List Call) (at : Every (IsAt (c.server n)) calls)
@@ -59,12 +61,8 @@ module _ (c : Clocks) (config : Config) (n : ℕ) where
               (every_map (Timely t G) (InTime t) (λ e w. in_time t G e w) adds timely) k.taken)),
         )
 
-    pub goes : IsGood config (server_trace config (map OfServer all ++ es))
-        → ((bytes : List ℕ) → Ever (FedToServer client_end bytes) (map OfServer all)
-        → Ever (OnNear (GaveOut server_end bytes (c.client n))) (hops_in config es))
-        → Always (IsFair (of_layers c) client_end server_end) (hops_in config es)
-        → Goes c config n t (map OfServer all) es
-    goes good feeds fair =
+    pub leaves : IsGood config (server_trace config (map OfServer all ++ es)) → Leaves c config n t (map OfServer all) es
+    leaves good =
         let is = trace_is config all es in
         let hops = hops_are (server_side config) all es in
         let alike = client_server all es in
@@ -83,9 +81,30 @@ module _ (c : Clocks) (config : Config) (n : ℕ) where
                 (clock_by t G adds (far_of (hops_in config es)) timely still.far_by);
           };
           sent = λ g h. subst (λ hs. SentIn hs g) (sym hops) (sent_now here g h);
-          fair = subst (Always (IsFair (of_layers c) client_end server_end)) (sym hops)
+        }
+
+    pub goes : IsGood config (server_trace config (map OfServer all ++ es))
+        → ((bytes : List ℕ) → Ever (FedToServer client_end bytes) (map OfServer all)
+        → Ever (OnNear (GaveOut server_end bytes (c.client n))) (hops_in config es))
+        → Always (IsFair (of_layers c) client_end server_end) (hops_in config es)
+        → Goes c config n t (map OfServer all) es
+    goes good feeds fair =
+        record {
+          leaves = leaves good;
+          fair = subst (Always (IsFair (of_layers c) client_end server_end)) (sym (hops_are (server_side config) all es))
               (far_fair c n G (hops_in config es) fair still.near_by feeds adds timely);
         }
+
+    pub goes_any : IsGood config (server_trace config (map OfServer all ++ es))
+        → ((bytes : List ℕ) → Ever (FedToServer client_end bytes) (map OfServer all)
+        → Ever (OnNear (WasOut server_end bytes)) (hops_in config es))
+        → Always (any_time.IsFair client_end server_end) (hops_in config es)
+        → Leaves c config n t (map OfServer all) es × Always (any_time.IsFair client_end server_end) (hops_in config (map OfServer all ++ es))
+    goes_any good feeds fair = (
+      leaves good,
+      subst (Always (any_time.IsFair client_end server_end)) (sym (hops_are (server_side config) all es))
+          (far_any t G (hops_in config es) fair feeds adds timely),
+    )
 
   pub server_turn : (at : ℕ) (entries es : List Entry) → ServerTurn at entries → c.server n ≡ at → Still c config n es
       → IsGood config (server_trace config (entries ++ es))
@@ -96,5 +115,21 @@ module _ (c : Clocks) (config : Config) (n : ℕ) where
       let is = turn.on.is in
       subst (λ t. Goes c config n t entries es) shown (subst (λ x. Goes c config n (c.server n) x es) (sym is)
       (goes es turn.on.outs turn.calls (subst (λ t. Every (IsAt t) turn.calls) (sym shown) turn.at) still
+      (subst (λ x. IsGood config (server_trace config (x ++ es))) is good)
+      (λ bytes h. feeds bytes (subst (Ever (FedToServer client_end bytes)) (sym is) h)) fair))
+
+  -- at any time
+  abbrev pub GoesAny : ℕ → List Entry → List Entry → Type 0
+  GoesAny at entries es = Leaves c config n at entries es
+      × Always (any_time.IsFair client_end server_end) (hops_in config (entries ++ es))
+
+  pub any_turn : (at : ℕ) (entries es : List Entry) → ServerTurn at entries → c.server n ≡ at → Still c config n es
+      → IsGood config (server_trace config (entries ++ es))
+      → ((bytes : List ℕ) → Ever (FedToServer client_end bytes) entries → Ever (OnNear (WasOut server_end bytes)) (hops_in config es))
+      → Always (any_time.IsFair client_end server_end) (hops_in config es) → GoesAny at entries es
+  any_turn at entries es turn shown still good feeds fair =
+      let is = turn.on.is in
+      subst (λ t. GoesAny t entries es) shown (subst (λ x. GoesAny (c.server n) x es) (sym is)
+      (goes_any es turn.on.outs turn.calls (subst (λ t. Every (IsAt t) turn.calls) (sym shown) turn.at) still
       (subst (λ x. IsGood config (server_trace config (x ++ es))) is good)
       (λ bytes h. feeds bytes (subst (Ever (FedToServer client_end bytes)) (sym is) h)) fair))

@@ -1,0 +1,4 @@
+-- At any time.
+pub mod Observations
+pub mod Reports
+pub mod Requests

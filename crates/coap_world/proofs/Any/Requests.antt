@@ -1,0 +1,4 @@
+-- At any time.
+pub mod Belongs
+pub mod OfACall
+pub mod ServedRight
