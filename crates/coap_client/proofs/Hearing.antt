@@ -7,3 +7,4 @@ pub mod Noted
 pub mod NotedAt
 pub mod NoticesHeard
 pub mod Types
+pub mod RestsHere

@@ -5,4 +5,5 @@ pub mod DueMoments
 pub mod BackOffIsShort
 pub mod FiveAtMost
 pub mod OverStays
+pub mod RestedSince
 pub mod FirstMoments

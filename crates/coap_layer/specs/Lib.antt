@@ -13,6 +13,7 @@ pub mod Clocks
 pub mod Apart
 pub mod Taking
 pub mod Paced
+pub mod Rested
 pub mod AtAnyTime
 pub mod Examples
 pub mod Machine

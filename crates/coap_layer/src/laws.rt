@@ -4,6 +4,7 @@ ghost use Rattle.coap_layer.specs.Rows.{LayerLaw};
 ghost use Rattle.coap_layer.specs.Sendable.{IsSendableWhenShort};
 ghost use Rattle.coap_layer.specs.Machine.State.{State, Step, made, start};
 ghost use Rattle.coap_layer.specs.Machine.LayerLed.{LayerLed};
+ghost use Rattle.coap_layer.specs.Rested.{RestedSince};
 ghost use Rattle.coap_layer.specs.Follows.{HandedUpOnce, CopiesInTime, IdsApart, OneOutstanding, EndsOutstanding};
 ghost use Rattle.coap_layer.specs.Follows.{IsExact, RemembersFew, IdsSmall, ResponsesSpelled};
 ghost use Rattle.coap_types.specs.declared.endpoint.Endpoint.{Endpoint};
@@ -39,6 +40,9 @@ pub fn layer_law()
     ensures once { (setup : Setup) (t : List Entry) → LayerLaw setup t → HandedUpOnce t }
     // A retransmission is in time, and equal to the first sending (section 4.2).
     ensures copies { (setup : Setup) (t : List Entry) → LayerLaw setup t → CopiesInTime t }
+    // What is outstanding behind a tick at which nothing was due, began less than MAX_TRANSMIT_WAIT before that, or behind it
+    // (sections 4.2 and 4.8.2).
+    ensures rested { (setup : Setup) (t : List Entry) → LayerLaw setup t → RestedSince t }
     // No Message ID is used again too early (section 4.4).
     ensures ids { (setup : Setup) (t : List Entry) → LayerLaw setup t → IdsApart t }
     // At most one Confirmable message to an endpoint is outstanding (section 4.7).
@@ -174,6 +178,13 @@ pub fn paced_channel_law()
     // An acknowledgement that is taken is the reply that was given to that very message, which was taken (section 4.2).
     ensures replied { (c : Clocks) (one other : Setup) (near far : Endpoint) (all : List Hop)
         → paced.ChannelLaw c one other near far all → paced.AcksReplied c near far all }
+    // It is taken lately: at most MAX_LATENCY, by the far clock, after a copy of that message came, which is at most
+    // LAST_ARRIVAL_MS after that was begun, by the near clock (section 4.8.2).
+    ensures lately { (c : Clocks) (one other : Setup) (near far : Endpoint) (all : List Hop)
+        → paced.ChannelLaw c one other near far all → paced.AcksLately c near far all }
+    // .. and was given as the reply behind the beginning of that message.
+    ensures behind { (c : Clocks) (one other : Setup) (near far : Endpoint) (all : List Hop)
+        → paced.ChannelLaw c one other near far all → paced.AcksBehind c near far all }
     // An acknowledgement is taken only of a Confirmable message that the other layer has taken.
     ensures taken { (c : Clocks) (one other : Setup) (near far : Endpoint) (all : List Hop)
         → paced.ChannelLaw c one other near far all → paced.AcksTaken c near far all }

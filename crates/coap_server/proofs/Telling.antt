@@ -1,4 +1,5 @@
 pub mod LayerCalls
+pub mod MadeInCall
 pub mod NotAfter
 pub mod NotedOptions
 pub mod OneConACall

@@ -2,3 +2,4 @@
 pub mod Observations
 pub mod Reports
 pub mod Requests
+pub mod Age

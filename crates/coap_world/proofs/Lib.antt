@@ -10,3 +10,4 @@ pub mod Recording
 pub mod Smoothly
 pub mod Watching
 pub mod Any
+pub mod Age

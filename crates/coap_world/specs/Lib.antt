@@ -15,6 +15,7 @@ pub mod Applied
 pub mod Answers
 pub mod LegalEvents
 pub mod Held
+pub mod Fresh
 pub mod Noticed
 pub mod Done
 pub mod Agrees

@@ -1,5 +1,10 @@
-ghost use Rattle.std.specs.Prelude.{◌≡◌, List};
+ghost use Rattle.std.specs.Prelude.{◌≡◌, ◌≤◌, ℕ, ◌+◌, length, List};
+ghost use Rattle.coap_types.specs.declared.transmission.TheConstants.{EXCHANGE_LIFETIME_MS as exchange_lifetime};
+ghost use Rattle.coap_types.specs.declared.transmission.TheConstants.{LAST_ARRIVAL_MS as last_arrival};
 ghost use Rattle.coap_types.specs.declared.transmission.TheConstants.{MAX_LATENCY_MS as max_latency};
+ghost use Rattle.coap_types.specs.declared.message.Kind.{Kind};
+ghost use Rattle.coap_types.specs.declared.message.Kind.TheVariants.{Ack};
+ghost use Rattle.coap_types.specs.declared.transmission.TheConstants.{MAX_TRANSMIT_WAIT_MS as max_transmit_wait};
 ghost use Rattle.coap_layer.specs.Channel.{ChannelLaw, near_of, far_of};
 ghost use Rattle.coap_layer.specs.Clocks as layers;
 ghost use Rattle.coap_layer.specs.Paced as paced;
@@ -17,6 +22,7 @@ ghost use Rattle.coap_world.specs.Current.{CurrentAlone};
 ghost use Rattle.coap_world.specs.Delivery.{AllFair};
 ghost use Rattle.coap_world.specs.Done.{NeverFailed, OnceDone};
 ghost use Rattle.coap_world.specs.Events.{client_end, server_end, Config};
+ghost use Rattle.coap_world.specs.Fresh.{AreBehind, AreFresh, AreFreshIf, ComesIn, GainsAtMost, TickedWithin, age_in};
 ghost use Rattle.coap_world.specs.Given.{AllGiven};
 ghost use Rattle.coap_world.specs.Held.{EachHeld, EachValid, EachValue};
 ghost use Rattle.coap_world.specs.Holds.{HoldsChanges, ChangesOwned};
@@ -65,6 +71,8 @@ pub fn any_time_law()
     ensures held { at_any_time.InRuns EachHeld }
     // .. so was each representation that is reported as valid (sections 5.9.1.3 and 5.10.6.2) ..
     ensures valid { at_any_time.InRuns EachValid }
+    // .. and what a call reports is no older than the request that it answers: it was held behind the sending of that ..
+    ensures behind { at_any_time.InRuns AreBehind }
     // .. and each value of an observation, since that was taken (RFC 7641, sections 3.2 and 4.4).
     ensures value { at_any_time.InRuns EachValue }
     // A version is named by its ETag (RFC 7252, section 5.10.6).
@@ -221,6 +229,39 @@ pub fn held_law()
     ensures values { by_clocks.InLegalRuns EachValue }
 {}
 
+/// .. and is not old: it was held at most EXCHANGE_LIFETIME before the report, and what the client's clock gains meanwhile.
+pub fn fresh_law()
+    // Each body, valid representation and value that is reported was held at an event at which the client's clock showed at
+    // most 252,000 ms less (RFC 7252, section 4.8.2): 147,000 till the last copy of the request comes, 100,000 till the
+    // answer comes, and 5,000 that the client's clock gains on the server's.
+    ensures fresh { (c : Clocks) (config : Config) (events : List Event) (turns : List Turn) → RecordOf config events turns
+        → by_clocks.Legal c config turns
+        → AreFresh config (λ past t. c.client (length past)) (exchange_lifetime + layers.max_gain) turns }
+    // .. or, where that gains at most so much in LAST_ARRIVAL_MS, at most so much more than EXCHANGE_LIFETIME less.
+    ensures gains { (c : Clocks) (config : Config) (events : List Event) (turns : List Turn) → RecordOf config events turns
+        → by_clocks.Legal c config turns → (gain : ℕ) → GainsAtMost c gain
+        → AreFresh config (λ past t. c.client (length past)) (exchange_lifetime + gain) turns }
+    // .. and less where what is taken comes in a Confirmable message of the server (147,000 ms) or in a Non-confirmable one
+    // (100,000 ms).
+    ensures by_type { (c : Clocks) (config : Config) (events : List Event) (turns : List Turn) → RecordOf config events turns
+        → by_clocks.Legal c config turns → (gain : ℕ) → GainsAtMost c gain → (kind : Kind)
+        → AreFreshIf config (λ past t. c.client (length past)) (age_in kind + gain) (λ past e. ComesIn kind e) turns }
+    // What comes in an acknowledgement is no older than the client's clock itself shows: where nothing of its message layer was
+    // due at a tick so long before, MAX_TRANSMIT_WAIT and so long (RFC 7252, section 4.8.2).
+    ensures ticking { (c : Clocks) (config : Config) (events : List Event) (turns : List Turn) → RecordOf config events turns
+        → by_clocks.Legal c config turns → (time : ℕ)
+        → AreFreshIf config (λ past t. c.client (length past)) (max_transmit_wait + time)
+        (λ past e. ComesIn Ack e × TickedWithin config time past e) turns }
+    // So where that tick was at most 54,000 ms before, all that is reported is at most 152,000 ms old.
+    ensures ticks { (c : Clocks) (config : Config) (events : List Event) (turns : List Turn) → RecordOf config events turns
+        → by_clocks.Legal c config turns → (time : ℕ) → max_transmit_wait + time ≤ last_arrival
+        → AreFreshIf config (λ past t. c.client (length past)) (last_arrival + layers.max_gain) (TickedWithin config time) turns }
+    // By one clock: at most EXCHANGE_LIFETIME before.
+    ensures by_one { OfLegalRuns (λ config turns. AreFresh config (λ past t. t.event.at) exchange_lifetime turns) }
+    // What a call reports is no older than the request that it answers: it was held behind the sending of that.
+    ensures behind { by_clocks.InLegalRuns AreBehind }
+{}
+
 /// The second: what is asked is applied whole, at most once, exactly once where success is reported and never where
 /// Failed is reported.
 pub fn applied_law()
@@ -266,6 +307,11 @@ pub fn agreement()
     // request body is applied whole, at most once, exactly once where success is reported and never where Failed is
     // reported (RFC 7252, sections 4.2, 4.5, 5.3.2, 5.8 and 5.9; RFC 7641; RFC 7959).
     ensures agrees { by_clocks.InLegalRuns Agrees }
+    // .. and not long before: at an event at which the client's clock showed at most 252,000 ms less than at the report (RFC
+    // 7252, section 4.8.2).
+    ensures fresh { (c : Clocks) (config : Config) (events : List Event) (turns : List Turn) → RecordOf config events turns
+        → by_clocks.Legal c config turns
+        → AreFresh config (λ past t. c.client (length past)) (exchange_lifetime + layers.max_gain) turns }
     // A GET makes at most as many exchanges as 4 passes over the blocks of the longest body, in blocks of 16 bytes:
     // 16,384 where the ends' limits are as usual; an upload at most one pass, and each other call one (RFC 7959,
     // sections 2.4 and 2.5; profile).

@@ -14,6 +14,28 @@ pub(crate) const RUNS: &str = "
 9 deliver 1
 > reports 0 body 0000000000000001 0 6869
 
+== a_body_that_is_247_s_old
+# The last copy of the request comes at the last moment, and so does the reply that was given at the first; the client
+# looks at the time once between.
+0 set /t 0 old
+> puts 1
+> changes /t 1 0 6f6c64
+0 call get /t
+> takes 0
+0 tick client
+> out 0 0 C S 4801_0000_0000000000000000_b174
+0 deliver 0
+> out 1 0 S C 6845_0000_0000000000000000_480000000000000001_80_ff6f6c64
+1 set /t 0 new
+> puts 2
+> changes /t 2 0 6e6577
+47000 tick client
+> out 2 47000 C S 4801_0000_0000000000000000_b174
+147000 deliver 2
+> out 3 147000 S C 6845_0000_0000000000000000_480000000000000001_80_ff6f6c64
+247000 deliver 3
+> reports 0 body 0000000000000001 0 6f6c64
+
 == a_post_that_comes_twice
 0 set /log 0 x
 > puts 1

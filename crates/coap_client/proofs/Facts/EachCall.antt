@@ -13,7 +13,7 @@ pub use Rattle.coap_client.proofs.Exact.Exactly.{stripped}
 pub use Rattle.coap_client.proofs.Places.GivesAll.{all_wait}
 pub use Rattle.coap_client.proofs.Progress.GoesOn.{goes_on}
 pub use Rattle.coap_client.proofs.Hearing.Noted.{are_noted}
-pub use Rattle.coap_client.proofs.Hearing.NotedAt.{are_noted_at}
+pub use Rattle.coap_client.proofs.Hearing.NotedAt.{are_noted_at, heard_then}
 pub use Rattle.coap_client.proofs.Observing.Notified.{are_taken}
 pub use Rattle.coap_client.proofs.Observing.OfObservations.{are_of_observations}
 pub use Rattle.coap_client.proofs.Queueing.OneByOne.{asks_runs}
@@ -21,6 +21,7 @@ pub use Rattle.coap_client.proofs.Rest.ComesToRest.{comes_to_rest}
 pub use Rattle.coap_client.proofs.Observing.Rising.{values_rise}
 pub use Rattle.coap_client.proofs.Queueing.Taken.{all_taken}
 pub use Rattle.coap_client.proofs.Turning.Turns.{closing}
+pub use Rattle.coap_client.proofs.Hearing.RestsHere.{rests_here}
 pub use Rattle.coap_client.proofs.Hearing.Types.{are_of_types}
 pub use Rattle.coap_client.proofs.Observing.Values.{values_are_whole}
 pub use Rattle.coap_client.proofs.Places.PlaceLemmas.{same_number}

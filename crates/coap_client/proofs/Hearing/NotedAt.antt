@@ -34,7 +34,7 @@ heard_there server m at (e ∷ es) till from (inl h) =
     inl (record { hears = h; at_is = omega (arith, a, b) })
 
 module _ (server : Endpoint) (sizes : Sizes) (setup : Setup) where
-  heard_then : (t : List Call) (c : Call) (m : Message) → Ever (Hears server m) (call_adds server sizes setup t c)
+  pub heard_then : (t : List Call) (c : Call) (m : Message) → Ever (Hears server m) (call_adds server sizes setup t c)
       → Ever (HeardAt server m (moment (own_of sizes t) c)) (call_adds server sizes setup t c)
   heard_then t c m = heard_there server m (moment (own_of sizes t) c) (call_adds server sizes setup t c)
       (adds_by server sizes setup t c) (arrives_from server sizes setup t c)

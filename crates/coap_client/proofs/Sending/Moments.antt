@@ -47,11 +47,13 @@ not_after s now _ t h k = omega (arith, h, k)
 abbrev IsTimed : L.Call → Type 0
 IsTimed (L.Receive from bytes) = Unit {0}
 IsTimed (L.Confirm to content word) = Unit {0}
+IsTimed L.Ticks = Unit {0}
 IsTimed _ = ⊥
 
 timed : (s : State) (now : ℕ) (call : L.Call) → IsTimed call → now ≤ moment_at s now call
 timed s now (L.Receive from bytes) h = omega arith
 timed s now (L.Confirm to content word) h = omega arith
+timed s now L.Ticks h = omega arith
 timed s now _ h = absurd h
 
 module _ (m : ℕ) where
@@ -96,7 +98,7 @@ module _ (m : ℕ) where
       (every_join AskedAt (R.settling (R.settles v) s.server s.running settled) _
       (settles (R.settles v) s.server s.running settled) (replies from (R.id_in up) (R.reply_by v (R.id_in up))))
       (record { by = omega (arith, h); from = λ k. omega (arith, h) }, tt)
-  lower_at s (E.Ticks now below answer) h = (record { by = omega (arith, h); from = λ k. absurd k }, tt)
+  lower_at s (E.Ticks now below answer) h = (record { by = omega (arith, h); from = λ k. omega (arith, h) }, tt)
   lower_at s (E.Take answer) h = (record { by = omega arith; from = λ k. absurd k }, tt)
   lower_at s _ h = tt
 
@@ -158,6 +160,18 @@ module _ (m : ℕ) where
         let at = timed (left_after old earlier) a.now a.call is in
         omega (arith, from, at)),
     arrived_from old earlier w.1,
+  )
+
+  ticked_from : (old : State) (calls : List Asked) → Every AskedAt calls
+      → Every (λ (e : L.Entry). e.call ≡ L.Ticks → m ≤ e.at) (entries old calls)
+  ticked_from old [] w = tt
+  ticked_from old (a ∷ earlier) w = (
+    λ call_is. (
+        let is = subst IsTimed (sym call_is) tt in
+        let from = (w.0).from is in
+        let at = timed (left_after old earlier) a.now a.call is in
+        omega (arith, from, at)),
+    ticked_from old earlier w.1,
   )
 
 lower_timed : (s : Own) (c : Call) → Every (Timed (moment s c)) (lower s c)
@@ -234,4 +248,9 @@ module _ (server : Endpoint) (sizes : Sizes) (setup : Setup) where
       → Every (λ (e : L.Entry). (from : Endpoint) (bytes : List ℕ) → e.call ≡ L.Receive from bytes
       → moment (own_of sizes t) c ≤ e.at) (call_adds server sizes setup t c)
   arrives_from t c = arrived_from (moment (own_of sizes t) c)
+      (left_after (start setup) (all_asked server sizes setup t)) (call_asks server sizes setup t c) (asks_at t c)
+
+  pub ticks_from : (t : List Call) (c : Call)
+      → Every (λ (e : L.Entry). e.call ≡ L.Ticks → moment (own_of sizes t) c ≤ e.at) (call_adds server sizes setup t c)
+  ticks_from t c = ticked_from (moment (own_of sizes t) c)
       (left_after (start setup) (all_asked server sizes setup t)) (call_asks server sizes setup t c) (asks_at t c)

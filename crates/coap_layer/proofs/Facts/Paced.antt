@@ -8,10 +8,12 @@ use Rattle.coap_codec.specs.Message.{Message, Spells}
 use Rattle.coap_layer.specs.Channel.{Hop, Far, near_of, BegunAs}
 use Rattle.coap_layer.specs.Clocks.{Clocks, turned, max_gain, KeepPace}
 use Rattle.coap_layer.specs.Paced.{Meanwhile, CanArrive, ChannelLaw, ArrivesAsSent, NonsSent, HandedOnce, OnlyThatCon, ConsApart}
-use Rattle.coap_layer.specs.Paced.{AcksReplied, AcksTaken}
+use Rattle.coap_layer.specs.Paced.{AcksReplied, AcksTaken, AcksLately, AcksBehind}
+use Rattle.coap_layer.specs.Rested.{RestedSince}
 use Rattle.coap_layer.specs.Rows.{LayerLaw}
 use Rattle.coap_layer.specs.Trace.{Setup, Receive, Entry}
 use Rattle.coap_layer.specs.Words.{clock, Open, begun}
+use Rattle.coap_layer.proofs.Copies.RestedSince as rested
 use Rattle.coap_layer.proofs.Paced.AcksAreReplies as acks
 use Rattle.coap_layer.proofs.Paced.Facts as facts
 use Rattle.coap_layer.proofs.Paced.Gaps as gaps
@@ -35,6 +37,9 @@ arrives_before = takings.arrives_before
 pub begun_by_clock : (setup : Setup) (con : Open) (t : List Entry) → LayerLaw setup t → Ever (λ b. begun b ≡ Some con) t
     → con.first ≤ clock t
 begun_by_clock = gone.begun_by_clock
+
+pub rested_since : (setup : Setup) (t : List Entry) → LayerLaw setup t → RestedSince t
+rested_since = rested.rested_since
 
 pub pace_turned : (c : Clocks) → KeepPace c → KeepPace (turned c)
 pace_turned = gaps.pace_turned
@@ -66,6 +71,12 @@ module _ (c : Clocks) (one other : Setup) (near far : Endpoint) where
 
   pub acks_replied : (all : List Hop) → ChannelLaw c one other near far all → AcksReplied c near far all
   acks_replied = acks.acks_replied c one other near far
+
+  pub acks_lately : (all : List Hop) → ChannelLaw c one other near far all → AcksLately c near far all
+  acks_lately = acks.acks_lately c one other near far
+
+  pub acks_behind : (all : List Hop) → ChannelLaw c one other near far all → AcksBehind c near far all
+  acks_behind = acks.acks_behind c one other near far
 
   pub acks_taken : (all : List Hop) → ChannelLaw c one other near far all → AcksTaken c near far all
   acks_taken = acks.acks_taken c one other near far

@@ -21,6 +21,7 @@ use Rattle.coap_exchange.specs.AnswererSteps as P
 use Rattle.coap_exchange.specs.AnswererLaw as W
 use Rattle.coap_exchange.specs.AskerRequests.{asked}
 use Rattle.coap_exchange.specs.AskerArrivals.{id_in, replying}
+use Rattle.coap_common.specs.Adds.{asked_by_server}
 use Rattle.coap_server.specs.Follows.Gives.{Carries, IsEmpty}
 use Rattle.coap_common.proofs.Facts.AskerReplies.{empty_of, ack_spells, reset_spells}
 use Rattle.coap_server.specs.Follows.Sources.{GivesMessage, Source}
@@ -192,6 +193,17 @@ module _ (p : L.Packet) where
   makes s (E.NotifiesPlain at to token r id) right (inr h) = absurd h
   makes s (E.Take answer) right (inl h) = absurd (of_take h)
   makes s (E.Take answer) right (inr h) = absurd h
+
+  -- .. of some calls, behind others
+  pub made_in : (past later : List E.Call) → W.AnswererLaw (later ++ past) → From (asked_by_server past later)
+      → IsEmpty p ⊎ Ever CarriesIn later
+  made_in past [] law h = absurd h
+  made_in past (c ∷ later) law h =
+      elim (Ever_append (λ (b : G.Asked). Source p b.call) (P.lower (W.own_of (later ++ past)) c)
+      (asked_by_server past later) h) [
+        | inl k ↦ elim (makes (W.own_of (later ++ past)) c law.0 k) [ inl x ↦ inl x | inr x ↦ inr (inl x) ]
+        | inr k ↦ elim (made_in past later law.1 k) [ inl x ↦ inl x | inr x ↦ inr (inr x) ]
+      ]
 
   pub made : (t : List E.Call) → W.AnswererLaw t → From (W.lower_of t) → IsEmpty p ⊎ Ever CarriesIn t
   made [] law h = absurd h

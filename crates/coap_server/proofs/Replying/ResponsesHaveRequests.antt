@@ -246,7 +246,7 @@ module _ (limits : Limits) (szx : ℕ) (setup : Setup) (p : L.Packet) where
     ticked now w below room d passed h id answer expired k = absurd (tick_none now below room due.Expired k)
     ticked now w below room d passed h id answer (lost a none) k = absurd (tick_none now below room (due.Ready a) k)
 
-    here : (c : Call) → ServerLaw limits szx setup (c ∷ t) → In (lower (own t) c) → CarriesResponse limits szx setup p t c
+    pub here : (c : Call) → ServerLaw limits szx setup (c ∷ t) → In (lower (own t) c) → CarriesResponse limits szx setup p t c
     here (Feeds now from bytes w up came h below) law k = fed now from bytes w up came h below law k
     here (Ticks now w below room d passed h id answer) law k =
         ticked now w below room d passed h id answer

@@ -79,7 +79,7 @@ module _ (setup : Setup) where
   awaited_small (e ∷ past) law w h = small_in past e w law e.call refl (awaited_small past law.1 w) h
 
   -- a CON that begins
-  begun_source : (c : Open) (past : List Entry) (e : Entry) → LayerLaw setup (e ∷ past) → begun e ≡ Some c
+  pub begun_source : (c : Open) (past : List Entry) (e : Entry) → LayerLaw setup (e ∷ past) → begun e ≡ Some c
       → Source (packet_of c) e.call
   begun_source c past e law h =
       let b = begins_of e c h in

@@ -120,6 +120,11 @@ module _ (config : Config) where
       → con.first ≡ (own (c ∷ t)).clock
   begun_then t c con h = con_in (own (c ∷ t)).clock (Fed c) con (server_adds config t c) (timely t c) h
 
+  -- a NON is sent at most MAX_LATENCY before it comes
+  pub sent_then : (t : List Call) (c : Call) (to : Endpoint) (bytes : List ℕ) (at : ℕ)
+      → Ever (PlainSent to bytes at) (server_adds config t c) → at ≤ (own (c ∷ t)).clock + max_latency
+  sent_then t c to bytes at h = (non_in (own (c ∷ t)).clock (Fed c) to bytes at (server_adds config t c) (timely t c) h).1
+
   pub told_in_con : (t : List Call) (c : Call) (x : Telling) (con : Open) → telling (own t) c ≡ Some x
       → Ever (λ b. begun b ≡ Some con) (server_adds config t c) → x.at ≡ con.first
   told_in_con t c x con is h = told_then (own t) c x is ∙ sym (begun_then t c con h)

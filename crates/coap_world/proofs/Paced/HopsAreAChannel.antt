@@ -1,6 +1,6 @@
 -- The hops of a run that is legal by two clocks stand in the law of two layers, each with its clock, and the datagrams
 -- between them.
-use Rattle.std.proofs.Common.{◌≡◌, inl, inr, ◌≤◌, ℕ, List, [], ◌∷◌, ◌++◌, refl, ap, sym, subst, arith}
+use Rattle.std.proofs.Common.{◌≡◌, inl, inr, ◌≤◌, ℕ, suc, List, [], ◌∷◌, ◌++◌, refl, ap, sym, subst, arith}
 use Rattle.std.proofs.Common.{length}
 use Rattle.coap_types.specs.Past.{Ever, Always, all_of}
 use Rattle.coap_types.proofs.Facts.Traces.{Ever_append}
@@ -65,7 +65,7 @@ module _ (c : Clocks) (config : Config) (clocks : AreClocks c) where
       }
 
   pub record Ran (turns : List Turn) : Type 0 where
-    pub still : (n : ℕ) → length turns ≤ n → Still c config n (entries_of turns)
+    pub still : (n : ℕ) → length turns ≤ suc n → Still c config n (entries_of turns)
     pub sent : (g : Given) → Ever (λ h. h ≡ g) (all_of given_in turns) → SentIn (hops_of config turns) g
     pub fair : Always (IsFair (of_layers c) client_end server_end) (hops_of config turns)
 
@@ -121,6 +121,27 @@ module _ (c : Clocks) (config : Config) (clocks : AreClocks c) where
       good_client good_server
       (side c past turn.event.at turn.event.word turn.refused turn.entries turn.event.what made.0
       (comes_any c past turn.event.at turn.event.what legal.0.comes)))
+
+  -- by the event of each turn
+  abbrev pub Stills : List Turn → Type 0
+  Stills turns = Always (λ past turn. Still c config (length past) (turn.entries ++ entries_of past)) turns
+
+  pub stills : (turns : List Turn) → Made turns → Always (IsLegal c) turns
+      → client_turns.IsGood config (client_of (entries_of turns))
+      → server_turns.IsGood config (server_trace config (entries_of turns)) → Stills turns
+  stills [] made legal good_client good_server = tt
+  stills (turn ∷ past) made legal good_client good_server = (
+    (ran (turn ∷ past) made legal good_client good_server).still (length past) (omega arith),
+    stills past made.1 legal.1 (client_down config turn.entries (entries_of past) good_client)
+        (server_down config turn.entries (entries_of past) good_server),
+  )
+
+pub stills_by : (c : Clocks) (config : Config) (events : List Event) (turns : List Turn) → RecordOf config events turns
+    → (legal : Legal c config turns) → Stills c config legal.clocks turns
+stills_by c config events turns made legal =
+    let below = made.client.exchanges in
+    let under = made.server.exchanges in
+    stills c config legal.clocks turns made.made legal.events (below.left, below.layer) (under.left, under.layer)
 
 pub channel : (c : Clocks) (config : Config) (events : List Event) (turns : List Turn) → RecordOf config events turns
     → Legal c config turns

@@ -132,6 +132,18 @@ module _ (whole : List Turn) where
     each past (λ n less. same n (omega (arith, less)) ∙ before t past n less) legal.1,
   )
 
+-- .. by one clock, read twice
+pub by_one : (config : Config) (turns : List Turn) → Legal config turns
+    → (f : ℕ → ℕ) × clocks.Legal (record { client = f; server = f }) config turns
+by_one config turns legal = (
+  at_event turns,
+  record {
+    clocks = record { near = paced turns legal.events; far = paced turns legal.events };
+    range = legal.range;
+    events = each turns turns (λ n less. refl) legal.events;
+  },
+)
+
 pub by_two : (config : Config) (turns : List Turn) → Legal config turns → (c : clocks.Clocks) × clocks.Legal c config turns
 by_two config turns legal = (
   both turns,

@@ -30,7 +30,7 @@ use Rattle.coap_world.proofs.Reports.BegunWith.{none_made}
 
 module _ (config : Config) where
   -- the response that a datagram carries was made here
-  abbrev CarriesAt : T.Packet → List Entry → Entry → Type 0
+  abbrev pub CarriesAt : T.Packet → List Entry → Entry → Type 0
   CarriesAt p past (OfClient c) = ⊥
   CarriesAt p past (OfServer c) = CarriesResponse config.limits config.server_szx config.server_setup p
       (server_trace config past) c
@@ -72,7 +72,7 @@ module _ (config : Config) where
           payload = ap (λ (x : Message). x.payload) is;
         }
 
-    answers_at : (past : List Entry) (e : Entry) → CarriesAt p past e → AnswersAt config m past e
+    pub answers_at : (past : List Entry) (e : Entry) → CarriesAt p past e → AnswersAt config m past e
     answers_at past (OfClient c) k = absurd k
     answers_at past (OfServer c) (inl k) = replies k.request k.here
         (response k.request.asked.from k.request.asked.token _ k.carries)
@@ -89,7 +89,7 @@ module _ (config : Config) where
     answers_in (e ∷ past) (inl h) = inl (answers_at past e h)
     answers_in (e ∷ past) (inr h) = inr (answers_in past h)
 
-    not_empty : IsEmpty p → ⊥
+    pub not_empty : IsEmpty p → ⊥
     not_empty k =
         let is : m ≡ k.0 = one_message p.bytes m k.0 reads.spells k.1 in
         let none : role_of m.code ≡ role.Empty = ap role_of (ap (λ (y : Message). y.code) is ∙ k.2) in

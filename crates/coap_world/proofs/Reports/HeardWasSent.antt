@@ -53,7 +53,7 @@ module _ (setup : Setup) (past : List T.Entry) (e : T.Entry) (from : Endpoint) (
   arrived (Faulted Con i) s r = absurd (cc (r.0, up))
   arrived _ s r = absurd (cc (r.0, up))
 
-reads : (setup : Setup) (past : List T.Entry) (e : T.Entry) (from : Endpoint) (bytes : List ℕ) (m : Message)
+pub reads : (setup : Setup) (past : List T.Entry) (e : T.Entry) (from : Endpoint) (bytes : List ℕ) (m : Message)
     → Stands setup past e → e.call ≡ T.Receive from bytes → e.answer ≡ T.Becomes (T.Response m) → Reads bytes m
 reads setup past e from bytes m here call up =
     let row : Row setup past e (T.Receive from bytes) =

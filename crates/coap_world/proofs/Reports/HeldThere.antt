@@ -17,7 +17,7 @@ use Rattle.coap_world.specs.Events.{server_end, Config}
 use Rattle.coap_world.specs.Record.{Entry, OfClient, OfServer, client_of, server_trace}
 use Rattle.coap_world.specs.Words.{WasCalled}
 use Rattle.coap_world.proofs.Requests.LastRequests.{of_call_at}
-use Rattle.coap_world.proofs.Requests.OfACall.{Lawful, no_call, no_call_behind}
+use Rattle.coap_world.proofs.Requests.OfACall.{Lawful, lawful_back, no_call, no_call_behind}
 use Rattle.coap_world.proofs.Requests.ReadBack.{bare_options}
 use Rattle.coap_world.proofs.Requests.Traced.{sent_later}
 use Rattle.coap_world.proofs.Reports.ContentRead.{IsShown}
@@ -46,6 +46,15 @@ module _ (config : Config) where
 
   pub within_self : (all : List Entry) → Within all all
   within_self all = record { sent = λ x h. h; held = λ path held h. h }
+
+  -- at each entry, by the laws as they stood there
+  pub each_within : (P R : List Entry → Entry → Type 0) (all : List Entry)
+      → ((past : List Entry) (e : Entry) → Lawful config (e ∷ past) → Within (e ∷ past) all → P past e → R past e)
+      → (w : List Entry) → Lawful config w → Within w all → Sometime P w → Sometime R w
+  each_within P R all f [] law in_all h = h
+  each_within P R all f (e ∷ past) law in_all (inl h) = inl (f past e law in_all h)
+  each_within P R all f (e ∷ past) law in_all (inr h) = inr (each_within P R all f past (lawful_back config past e law)
+      (within_back all past e in_all) h)
 
   -- what is shown, somewhere
   pub record ShownIn (m : Message) (w : List Entry) : Type 0 where

@@ -101,7 +101,7 @@ module _ (config : Config) where
     told_not o reply None notice r = no_code codes.NOT_FOUND.0 (r.code ∙ ap (λ (z : E.Response). z.code) notice) refl
     told_not o reply (Some held) notice r = no_code content (r.code ∙ ap (λ (z : E.Response). z.code) notice) refl
 
-    named_here : IsAnswer config m t c → NamedAt m past (OfServer c)
+    pub named_here : IsAnswer config m t c → NamedAt m past (OfServer c)
     named_here (replies x here r) = by_reply x here r
     named_here (continues x size taken more asks r) = absurd (no_code codes.CONTINUE.0 r.code refl)
     named_here (refuses a v n comes handed unserved refusal r) =

@@ -11,6 +11,7 @@ use Rattle.coap_layer.proofs.Machine.WhatIsIssued.{numbers_law}
 use Rattle.coap_layer.proofs.Numbers.HeldIsMany.{held_is_many}
 use Rattle.coap_layer.specs.Words.{numbers}
 use Rattle.coap_layer.proofs.Copies.OverStays.{over}
+use Rattle.coap_layer.proofs.Copies.RestedSince.{rested_since}
 use Rattle.coap_layer.proofs.laws.layer_law.Goals as goal
 
 pub returns-clause-step : goal.returns-clause-step
@@ -24,6 +25,9 @@ returns-clause-once c = handed_up_once
 
 pub returns-clause-copies : goal.returns-clause-copies
 returns-clause-copies c = copies_in_time
+
+pub returns-clause-rested : goal.returns-clause-rested
+returns-clause-rested c = rested_since
 
 pub returns-clause-ids : goal.returns-clause-ids
 returns-clause-ids c = ids_apart

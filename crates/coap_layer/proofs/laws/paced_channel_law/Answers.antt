@@ -1,4 +1,4 @@
-use Rattle.coap_layer.proofs.Paced.AcksAreReplies.{acks_replied, acks_taken}
+use Rattle.coap_layer.proofs.Paced.AcksAreReplies.{acks_replied, acks_taken, acks_lately, acks_behind}
 use Rattle.coap_layer.proofs.Paced.GoneIsNotBehind.{cons_apart}
 use Rattle.coap_layer.proofs.Paced.RepliedOnce.{replied_once}
 use Rattle.coap_layer.proofs.Paced.ResetsAreReplies.{resets_meant}
@@ -32,6 +32,12 @@ returns-clause-apart c = cons_apart
 
 pub returns-clause-replied : goal.returns-clause-replied
 returns-clause-replied c = acks_replied
+
+pub returns-clause-lately : goal.returns-clause-lately
+returns-clause-lately c = acks_lately
+
+pub returns-clause-behind : goal.returns-clause-behind
+returns-clause-behind c = acks_behind
 
 pub returns-clause-taken : goal.returns-clause-taken
 returns-clause-taken c = acks_taken

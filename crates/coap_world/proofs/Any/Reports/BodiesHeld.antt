@@ -19,7 +19,7 @@ use Rattle.coap_world.proofs.Any.Requests.OfACall.{Lawful, lawful_back}
 use Rattle.coap_world.specs.Held.{HeldSince, EachHeld}
 use Rattle.coap_world.proofs.Reports.FormatsSet.{FormatsIn}
 use Rattle.coap_world.proofs.Any.Reports.HeldThere.{held_later, Within, within_back, within_self, shown_there, some_shown}
-use Rattle.coap_world.proofs.Any.Reports.HeldThere.{of_call, one_of_call}
+use Rattle.coap_world.proofs.Any.Reports.HeldThere.{of_call, one_of_call, each_within}
 use Rattle.coap_world.proofs.Reports.PartsOfOne.{IsPartHeld, part_held, body_held}
 use Rattle.coap_world.proofs.Any.Reports.Shown.{ShownAt, shown_in}
 use Rattle.coap_world.proofs.Reports.Understood.{heard_understood}
@@ -62,11 +62,9 @@ module _ (config : Config) (small : config.server_szx ≤ 6) where
       (law : Lawful config all) (c : C.Call) (f : IsFetched config.client_sizes number tag format body (client_of all) c)
       (parts : Each (PartHeld all) f.parts) where
     -- the last part shows it
-    since : (w : List Entry) → Within config w all → Sometime (ShownAt config f.message) w
-        → Sometime (HeldSince config number tag format body) w
-    since [] in_all h = h
-    since (e ∷ past) in_all (inr h) = inr (since past (within_back config all past e in_all) h)
-    since (e ∷ past) in_all (inl k) =
+    pub held_here : (past : List Entry) (e : Entry) → Lawful config (e ∷ past) → Within config (e ∷ past) all
+        → ShownAt config f.message past e → HeldSince config number tag format body past e
+    held_here past e here in_all k =
         let path = path_of k.sending.request.options in
         let was = in_all.held path k.held (shown_there config f.message past e k) in
         let before = within_back config all past e in_all in
@@ -85,7 +83,7 @@ module _ (config : Config) (small : config.server_szx ≤ 6) where
         (sym body_is) ∙ ap (λ o. Some (record { version = k.held.version; format = o; body = body }))
         (sym format_is))
         in
-        inl (record {
+        record {
           request = g.request;
           called = g.called;
           version = k.held.version;
@@ -94,9 +92,9 @@ module _ (config : Config) (small : config.server_szx ≤ 6) where
             there = subst (λ p. last_at config p (e ∷ past)
                 ≡ Some (record { version = k.held.version; format = format; body = body })) g.path there;
           };
-        })
+        }
 
-  each_took : (number : ℕ) (w : List Entry) → Lawful config w → FormatsIn w → (ps : List Part)
+  pub each_took : (number : ℕ) (w : List Entry) → Lawful config w → FormatsIn w → (ps : List Part)
       → Each (λ p. TookPart config.client_sizes number p (client_of w)) ps → Each (PartHeld w) ps
   each_took number w law formats [] h = tt
   each_took number w law formats (p ∷ ps) h = (
@@ -120,7 +118,8 @@ module _ (config : Config) (small : config.server_szx ≤ 6) where
             let before = lawful_back config past (OfClient c) law in
             let f = (client_facts.bodies server_end config.client_sizes config.client_setup
             (c ∷ client_of past) law.client).0 number tag format body made in
-            since number tag format body past before c f (each_took number past before formats f.parts f.took) past
-            (within_self config past) (heard_shown past c law formats f.message f.heard.heard f.code)),
+            each_within config (ShownAt config f.message) (HeldSince config number tag format body) past
+            (held_here number tag format body past before c f (each_took number past before formats f.parts f.took)) past
+            before (within_self config past) (heard_shown past c law formats f.message f.heard.heard f.code)),
         go past (lawful_back config past (OfClient c) law) formats,
       )

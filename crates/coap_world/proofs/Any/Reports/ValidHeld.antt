@@ -1,6 +1,6 @@
 -- Where a client reports that a representation is valid, the server held the version that the ETag names at the path of
 -- the call, between the call and the report, and the ETag is one of the call's.
-use Rattle.std.proofs.Common.{◌≡◌, inl, inr, ℕ, Option, Some, List, [], ◌∷◌, ap, sym, subst, ◌∙◌}
+use Rattle.std.proofs.Common.{◌≡◌, ℕ, Option, Some, List, [], ◌∷◌, ap, sym, subst, ◌∙◌}
 use Rattle.coap_types.specs.Past.{Sometime, Always}
 use Rattle.coap_types.proofs.Facts.Traces.{Ever_map}
 use Rattle.coap_resource.specs.RequestOptions.{tag_of, etag_names}
@@ -14,7 +14,7 @@ use Rattle.coap_world.specs.Words.{ReportsAt, last_at}
 use Rattle.coap_world.proofs.Any.Reports.Answered.{all_answered}
 use Rattle.coap_world.proofs.Any.Requests.OfACall.{Lawful, lawful_back}
 use Rattle.coap_world.specs.Held.{ValidSince, EachValid}
-use Rattle.coap_world.proofs.Any.Reports.HeldThere.{Within, within_back, within_self, of_call, one_of_call}
+use Rattle.coap_world.proofs.Any.Reports.HeldThere.{Within, within_back, within_self, of_call, one_of_call, each_within}
 use Rattle.coap_world.proofs.Reports.TagsOwn.{own_tag}
 use Rattle.coap_world.proofs.Reports.Understood.{heard_understood}
 use Rattle.coap_world.proofs.Any.Reports.ValidShown.{NamedAt, named_in}
@@ -22,11 +22,9 @@ use Rattle.coap_world.proofs.Any.Reports.ValidShown.{NamedAt, named_in}
 module _ (config : Config) where
   module _ (number : ℕ) (tag : Option (List ℕ)) (all : List Entry) (law : Lawful config all) (c : C.Call)
       (f : IsValidated config.client_sizes number tag (client_of all) c) where
-    since : (w : List Entry) → Within config w all → Sometime (NamedAt config f.message) w
-        → Sometime (ValidSince config number tag) w
-    since [] in_all h = h
-    since (e ∷ past) in_all (inr h) = inr (since past (within_back config all past e in_all) h)
-    since (e ∷ past) in_all (inl k) =
+    pub valid_here : (past : List Entry) (e : Entry) → Lawful config (e ∷ past) → Within config (e ∷ past) all
+        → NamedAt config f.message past e → ValidSince config number tag past e
+    valid_here past e here in_all k =
         let before = within_back config all past e in_all in
         let of = one_of_call config all law k.sending f.heard.sending number
         (before.sent k.sending k.sent) f.heard.sent f.heard.of_call (k.token ∙ sym f.heard.token) in
@@ -34,7 +32,7 @@ module _ (config : Config) where
         let tag_is : tag ≡ Some (tag_of k.held.version) = f.tag_is ∙ k.tag in
         let own = own_tag k.held.version g.request g.transfer
         (ap (etag_names k.held.version) (sym g.options) ∙ k.named) in
-        inl (record {
+        record {
           request = g.request;
           called = g.called;
           own = Ever_map (λ t. t ≡ tag_of k.held.version) (λ t. tag ≡ Some t)
@@ -45,7 +43,7 @@ module _ (config : Config) where
             there = subst
                 (λ p. last_at config p (e ∷ past) ≡ Some k.held) g.path k.is_held;
           };
-        })
+        }
 
   pub each_valid : (all : List Entry) → Lawful config all → EachValid config all
   each_valid all law number tag = go all law
@@ -60,7 +58,8 @@ module _ (config : Config) where
             let before = lawful_back config past (OfClient c) law in
             let f = (client_facts.valid server_end config.client_sizes config.client_setup
             (c ∷ client_of past) law.client).0 number tag made in
-            since number tag past before c f past (within_self config past)
+            each_within config (NamedAt config f.message) (ValidSince config number tag) past
+            (valid_here number tag past before c f) past before (within_self config past)
             (named_in config f.message f.code (heard_understood server_end config.client_sizes config.client_setup
             (client_of past) c law.client f.message f.heard.heard) past before
             ((all_answered config (OfClient c ∷ past) law).0 f.message f.heard.heard))),

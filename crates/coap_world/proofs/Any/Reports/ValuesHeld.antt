@@ -27,7 +27,7 @@ use Rattle.coap_world.proofs.Any.Reports.BodiesHeld.{heard_shown, PartHeld, part
 use Rattle.coap_world.proofs.Reports.ContentRead.{IsShown}
 use Rattle.coap_world.proofs.Reports.FormatsSet.{FormatsIn}
 use Rattle.coap_world.proofs.Any.Reports.HeldThere.{HeldIn, held_later, Within, within_back, within_self, ShownIn}
-use Rattle.coap_world.proofs.Any.Reports.HeldThere.{shown_there, some_shown}
+use Rattle.coap_world.proofs.Any.Reports.HeldThere.{shown_there, some_shown, each_within}
 use Rattle.coap_world.proofs.Any.Reports.OfObservations.{of_observation, one_of_observation}
 use Rattle.coap_world.proofs.Reports.PartsOfOne.{part_held, body_held, tags_of, same_held}
 use Rattle.coap_world.proofs.Any.Reports.Shown.{ShownAt}
@@ -87,12 +87,9 @@ module _ (config : Config) (small : config.server_szx ≤ 6) where
       (numbered : (path : List (List ℕ)) (held : Held) → HeldIn config path held all → IsShown held f.last
       → sequence ≡ sequence_number held.version) where
     -- the last part shows it
-    since : (w : List Entry) → Lawful config w → Within config w all → Sometime (ShownAt config f.last) w
-        → Sometime (ValueSince config number sequence tag format body) w
-    since [] here in_all h = h
-    since (e ∷ past) here in_all (inr h) = inr (since past (lawful_back config past e here)
-        (within_back config all past e in_all) h)
-    since (e ∷ past) here in_all (inl k) =
+    value_here : (past : List Entry) (e : Entry) → Lawful config (e ∷ past) → Within config (e ∷ past) all
+        → ShownAt config f.last past e → ValueSince config number sequence tag format body past e
+    value_here past e here in_all k =
         let path = path_of k.sending.request.options in
         let was = in_all.held path k.held (shown_there config f.last past e k) in
         let before = within_back config all past e in_all in
@@ -111,7 +108,7 @@ module _ (config : Config) (small : config.server_szx ≤ 6) where
         (sym body_is) ∙ ap (λ o. Some (record { version = k.held.version; format = o; body = body }))
         (sym format_is))
         in
-        inl (record {
+        record {
           path = g.path;
           observed = g.observed;
           version = k.held.version;
@@ -121,9 +118,9 @@ module _ (config : Config) (small : config.server_szx ≤ 6) where
             there = subst (λ p. last_at config p (e ∷ past)
                 ≡ Some (record { version = k.held.version; format = format; body = body })) g.asks there;
           };
-        })
+        }
 
-  first_number : (number : ℕ) (n : Newly) (w : List Entry) → Sometime (TakesAt config small number n) w
+  pub first_number : (number : ℕ) (n : Newly) (w : List Entry) → Sometime (TakesAt config small number n) w
       → n.number ≡ number
   first_number number n [] h = absurd h
   first_number number n (OfServer c ∷ past) (inl h) = absurd h
@@ -139,22 +136,23 @@ module _ (config : Config) (small : config.server_szx ≤ 6) where
     taken : Sometime (TakesAt config small number f.first) (OfClient c ∷ past)
     taken = newest_shown config small number f.first (OfClient c ∷ past) law formats f.is_newest
 
-    by_one : IsAlone config.client_sizes f.first f.parts f.last (client_of past) c
-        → Sometime (ValueSince config number sequence tag format body) past
-    by_one a =
+    -- what shows the last part, shows the value
+    abbrev AtEach : Type 0
+    AtEach = (p : List Entry) (e : Entry) → Lawful config (e ∷ p) → Within config (e ∷ p) past
+        → ShownAt config f.last p e → ValueSince config number sequence tag format body p e
+
+    at_one : IsAlone config.client_sizes f.first f.parts f.last (client_of past) c → AtEach
+    at_one a =
         let k = taken_shown config small number f.first past c law formats a.now
         (first_number number f.first (OfClient c ∷ past) taken) in
         let r = k.registered in
-        since number sequence tag format body past before c f r.sending r.sent (ap observation_for r.registers)
+        value_here number sequence tag format body past before c f r.sending r.sent (ap observation_for r.registers)
         (r.token_is ∙ ap (λ (m : Message). m.token) (sym a.is))
         (subst (Each (PartHeld config small past)) (sym a.none) tt)
-        (λ path held was shown. f.sequence_is ∙ (subst (IsShown held) a.is shown).sequence k.notification) past before
-        (within_self config past)
-        (subst (λ m. Sometime (ShownAt config m) past) (sym a.is) k.shown)
+        (λ path held was shown. f.sequence_is ∙ (subst (IsShown held) a.is shown).sequence k.notification)
 
-    by_more : IsFetchedFor config.client_sizes number f.first f.parts f.last (client_of past) c
-        → Sometime (ValueSince config number sequence tag format body) past
-    by_more b =
+    at_more : IsFetchedFor config.client_sizes number f.first f.parts f.last (client_of past) c → AtEach
+    at_more b =
         let t = server_trace config past in
         let tags = server_facts.tags config.limits config.server_szx config.server_setup t before.server in
         let k = first_shown number f.first (OfClient c ∷ past) taken in
@@ -173,12 +171,23 @@ module _ (config : Config) (small : config.server_szx ≤ 6) where
         f.sequence_is ∙ (k.shown.sequence (first_notifies number f.first (OfClient c ∷ past) taken)
         ∙ ap (λ (h : Held). sequence_number h.version) same))
         in
-        since number sequence tag format body past before c f b.heard.sending b.heard.sent
-        (ap observation_for b.heard.fetches) b.heard.token parts numbered past before (within_self config past)
-        (heard_shown config small past c law formats f.last b.heard.heard f.code)
+        value_here number sequence tag format body past before c f b.heard.sending b.heard.sent
+        (ap observation_for b.heard.fetches) b.heard.token parts numbered
+
+    pub value_at : AtEach
+    value_at = elim f.comes [ inl a ↦ at_one a | inr b ↦ at_more b ]
+
+    last_shown : Sometime (ShownAt config f.last) past
+    last_shown = elim f.comes [
+      | inl a ↦ subst (λ m. Sometime (ShownAt config m) past) (sym a.is)
+          (taken_shown config small number f.first past c law formats a.now
+          (first_number number f.first (OfClient c ∷ past) taken)).shown
+      | inr b ↦ heard_shown config small past c law formats f.last b.heard.heard f.code
+    ]
 
     value_held : Sometime (ValueSince config number sequence tag format body) past
-    value_held = elim f.comes [ inl a ↦ by_one a | inr b ↦ by_more b ]
+    value_held = each_within config (ShownAt config f.last) (ValueSince config number sequence tag format body) past value_at
+        past before (within_self config past) last_shown
 
   pub each_value : (all : List Entry) → Lawful config all → FormatsIn all → EachValue config all
   each_value all law formats number sequence tag format body = go all law formats

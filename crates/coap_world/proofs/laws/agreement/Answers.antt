@@ -1,3 +1,4 @@
+use Rattle.coap_world.proofs.Age.Promised.{fresh_in_pace}
 use Rattle.coap_world.proofs.Progress.EachPosition.{never_faults}
 use Rattle.coap_world.proofs.Reports.Promised.{agrees_by, exchanges_bounded_by}
 use Rattle.coap_world.specs.Record.{entries_of}
@@ -6,6 +7,9 @@ use Rattle.coap_world.proofs.laws.agreement.Goals as goal
 
 pub returns-clause-agrees : goal.returns-clause-agrees
 returns-clause-agrees c = agrees_by
+
+pub returns-clause-fresh : goal.returns-clause-fresh
+returns-clause-fresh c k config events turns run legal = fresh_in_pace k config events turns run legal
 
 pub returns-clause-bounded : goal.returns-clause-bounded
 returns-clause-bounded c = exchanges_bounded_by

@@ -4,6 +4,7 @@ use Rattle.coap_world.specs.AtAnyTime.{IsLegal, Legal}
 use Rattle.coap_world.specs.Clocks.{Clocks}
 use Rattle.coap_world.specs.Events.{Config, Event}
 use Rattle.coap_world.specs.Record.{Turn, RecordOf, entries_of}
+use Rattle.coap_world.proofs.Any.Age.Behind.{are_behind}
 use Rattle.coap_world.proofs.Any.Observations.HeldAreNamed.{all_named}
 use Rattle.coap_world.proofs.Any.Reports.Answered.{all_answered}
 use Rattle.coap_world.proofs.Any.Reports.BodiesHeld.{each_held}
@@ -84,3 +85,8 @@ returns-clause-noticed c k config events turns run legal =
 pub returns-clause-bounded : goal.returns-clause-bounded
 returns-clause-bounded c k config events turns run legal =
     beyond.bounded config legal.range.server_szx legal.range.client_limit.0 (entries_of turns) (lawful k config events turns run legal) (formats k config events turns run legal)
+
+pub returns-clause-behind : goal.returns-clause-behind
+returns-clause-behind c k config events turns run legal =
+    are_behind config legal.range.server_szx (entries_of turns) (lawful k config events turns run legal)
+    (formats k config events turns run legal)

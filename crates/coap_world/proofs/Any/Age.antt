@@ -1,0 +1,2 @@
+-- At any time.
+pub mod Behind
