@@ -8,6 +8,7 @@ pub mod Observations
 pub mod Uploads
 pub mod Recording
 pub mod Smoothly
+pub mod Reported
 pub mod Watching
 pub mod Any
 pub mod Age

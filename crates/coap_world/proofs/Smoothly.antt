@@ -22,6 +22,7 @@ pub mod AnswerEnds
 pub mod AskedBefore
 pub mod AckTaken
 pub mod OnTime
+pub mod EmptyAck
 pub mod RequestTaken
 pub mod PlainRequests
 pub mod AnswerTaken
@@ -29,6 +30,7 @@ pub mod OneReply
 pub mod DelaysAreShort
 pub mod WaitsNow
 pub mod AtOnce
+pub mod NoTimeout
 pub mod SeparateEnds
 pub mod TicksAnswer
 pub mod TicksLeave

@@ -16,6 +16,7 @@ pub mod HoldsBack
 pub mod SmoothTurns
 pub mod DefersLate
 pub mod DefersLongest
+pub mod PutsLate
 pub mod ObservedAlone
 pub mod ShowsLate
 pub mod StaysOld

@@ -1,7 +1,7 @@
 -- What a smooth run says of an exchange that is open for more than 2,000 ms: its request had to wait at the server (RFC 7252,
 -- sections 4.2, 5.2.1 and 5.2.2).
 use Rattle.std.specs.Prelude.{◌≡◌, ◌⊎◌, ◌≤◌, ◌<◌, ℕ, ◌+◌, Bool, Some, List, ◌∷◌}
-use Rattle.coap_types.specs.Past.{Sometime, Always}
+use Rattle.coap_types.specs.Past.{Ever, Sometime, Always}
 use Rattle.coap_codec.specs.Message.{Message}
 use Rattle.coap_exchange.specs.declared.answerer.Asked.{Asked}
 use Rattle.coap_client.specs.Follows.Open.{IsOpenSince}
@@ -11,10 +11,10 @@ use Rattle.coap_server.specs.Follows.Rests.{IsTick}
 use Rattle.coap_server.specs.Follows.Waits.{WaitsStill}
 use Rattle.coap_server.specs.Law.{own_of}
 use Rattle.coap_server.specs.Trace as S
-use Rattle.coap_server.specs.Trace.{Waiting}
+use Rattle.coap_server.specs.Trace.{Delay, Waiting}
 use Rattle.coap_world.specs.Events.{client_end, Config}
 use Rattle.coap_world.specs.Record.{Entry, OfClient, OfServer, Turn, entries_of, client_of, server_trace}
-use Rattle.coap_world.specs.Smooth.{max_age, max_delay}
+use Rattle.coap_world.specs.Smooth.{max_age}
 
 module _ (config : Config) where
   -- the server hands up the client's request with this token, by then, and that has to wait
@@ -42,7 +42,7 @@ module _ (config : Config) where
   WaitedIn w past (OfServer c) = TickAnswers w past c
 
   -- The request of an exchange that is open for more than 2,000 ms had to wait, from at most 1,000 ms behind its sending on,
-  -- by at most 10,000 ms, and waits still, or a tick answered it.
+  -- by a path's delay, and waits still, or a tick answered it.
   pub record LastWaits (at : ℕ) (past : List Turn) : Type 0 where
     pub sending : Sending
     pub last : last_sent config.client_sizes (client_of (entries_of past)) ≡ Some sending
@@ -50,7 +50,7 @@ module _ (config : Config) where
     pub from : waiting.asked.from ≡ client_end
     pub token : waiting.asked.token ≡ sending.token
     pub since : waiting.at ≤ at + max_age
-    pub delay : waiting.delay ≤ max_delay
+    pub delay : Ever (λ (d : Delay). d.ms ≡ waiting.delay) config.delays
     pub waits : WaitsStill config.limits config.server_szx waiting (server_trace config (entries_of past))
         ⊎ Sometime (WaitedIn waiting) (entries_of past)
 

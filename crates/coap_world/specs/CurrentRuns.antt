@@ -2,16 +2,17 @@
 -- 7641, sections 1.3 and 4.5). Each has the newest event, or datagram, first.
 use Rattle.std.specs.Prelude.{◌≡◌, ℕ, Some, List, [], ◌∷◌, ◌++◌, codes}
 use Rattle.coap_types.specs.Past.{Sometime}
+use Rattle.coap_resource.specs.Content.{Held}
 use Rattle.coap_client.specs.Follows.OfObservations.{Observed}
 use Rattle.coap_client.specs.Trace.{Report, Value}
-use Rattle.coap_world.specs.Current.{last_shown, CurrentAlone, ObservesAlone}
+use Rattle.coap_world.specs.Current.{last_shown, CurrentAlone, FitsABlock, HoldsFor, ObservesAlone, WasShown, Watches}
 use Rattle.coap_world.specs.Events.{client_end, Observes, TickClient, TickServer, Deliver, Event}
 use Rattle.coap_world.specs.LegalEvents.{event, at_with}
 use Rattle.coap_world.specs.LegalRuns.{config, from_client, from_server, Runs, reported, Reports, Holds, token, tag}
 use Rattle.coap_world.specs.LegalRuns.{plain, t, puts, empty_ack}
 use Rattle.coap_world.specs.ObservationRuns.{observe_bytes, first_bytes, second_bytes}
 use Rattle.coap_world.specs.Record.{Turn, entries_of, client_of}
-use Rattle.coap_world.specs.Smooth.{Smooth}
+use Rattle.coap_world.specs.Smooth.{SmoothAlone}
 use Rattle.coap_world.specs.Words.{holds_at}
 
 -- the observation of all of these runs
@@ -45,9 +46,12 @@ observed =
 
 -- The value that comes latest. At 3 the server tells a change in a CON, and the path changes again. The CON comes after
 -- 1,000 ms, and its acknowledgement 1,000 ms later, just behind the server's tick; the next tick is at 3,003, and what it
--- tells comes at 4,003.
+-- tells comes at 4,003. At 5,003 the path has held this for 5,000 ms.
 abbrev pub shows_late : List Event
 shows_late =
+    event 5003 TickServer ∷
+    event 5003 (Deliver 5) ∷
+    event 5000 TickClient ∷
     event 4003 (Deliver 4) ∷
     event 4003 TickServer ∷
     event 4002 TickClient ∷
@@ -65,22 +69,37 @@ shows_late =
     event 3 (puts (codes "b")) ∷
     observed
 
--- at this moment the path holds its third version, and this is the last value
+-- what the path holds in its third version
+abbrev pub third : Held
+third = record { version = 3; format = Some plain; body = codes "c" }
+
+-- at this moment the path holds that, and this is the last value
 pub record ShowsThen (at : ℕ) (last : Report) (past : List Turn) (turn : Turn) : Type 0 where
   pub moment : turn.event.at ≡ at
-  pub held : holds_at config t (entries_of (turn ∷ past))
-      ≡ Some (record { version = 3; format = Some plain; body = codes "c" })
+  pub held : holds_at config t (entries_of (turn ∷ past)) ≡ Some third
   pub shown : last_shown config 0 (turn ∷ past) ≡ Some last
+
+-- At this moment each premise of the promise holds: the path held that for 5,000 ms, a first value was reported 5,000 ms
+-- before, and the observation goes on.
+pub record SpeaksThen (at : ℕ) (past : List Turn) (turn : Turn) : Type 0 where
+  pub moment : turn.event.at ≡ at
+  pub holds : HoldsFor config t third turn.event.at (turn ∷ past)
+  pub was_shown : WasShown config 0 turn.event.at (turn ∷ past)
+  pub watches : Watches config 0 (entries_of (turn ∷ past))
 
 pub record ShowsLate : Type 0 where
   pub run : Runs config shows_late (from_client 4003 second_ack ∷ from_server 3003 client_end third_bytes ∷ from_client
       1003 empty_ack ∷ from_server 3 client_end second_bytes ∷ from_server 1 client_end first_bytes ∷ from_client 0
       observe_bytes ∷ [])
-  pub smooth : Smooth config run.turns
+  pub smooth : SmoothAlone config run.turns
   pub alone : ObservesAlone watched (client_of (entries_of run.turns))
   -- 3,999 ms after the last change the value before is the last one, and 1 ms later the new one is
   pub old : Sometime (ShowsThen 4002 (value 2 (codes "b"))) run.turns
   pub new : Sometime (ShowsThen 4003 (value 3 (codes "c"))) run.turns
+  -- .. at 5,003 it is promised, and is so
+  pub short : FitsABlock config t (entries_of run.turns)
+  pub speaks : Sometime (SpeaksThen 5003) run.turns
+  pub then : Sometime (ShowsThen 5003 (value 3 (codes "c"))) run.turns
 
 -- A notification is lost: 5,000 ms after the change the value before it is the last one still.
 

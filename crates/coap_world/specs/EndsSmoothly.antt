@@ -3,7 +3,8 @@
 use Rattle.std.specs.Prelude.{List}
 use Rattle.coap_world.specs.Events.{Config}
 use Rattle.coap_world.specs.Record.{Turn, entries_of}
-use Rattle.coap_world.specs.SmoothAnswers.{AllAreSent, AreYoung, EndByAnswers}
+use Rattle.coap_world.specs.SmoothAnswers.{AllAreSent, EndByAnswers}
+use Rattle.coap_world.specs.Young.{AreYoung}
 
 abbrev pub YoungEndByAnswers : Config → List Turn → Type 0
 YoungEndByAnswers config turns = AreYoung config turns → EndByAnswers config (entries_of turns)

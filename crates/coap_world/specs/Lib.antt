@@ -28,6 +28,8 @@ pub mod ObservationRuns
 pub mod LateRuns
 pub mod Run
 pub mod Smooth
+pub mod Young
+pub mod Reported
 pub mod SmoothAnswers
 pub mod SmoothRuns
 pub mod Prompt
@@ -42,6 +44,7 @@ pub mod TicksLeave
 pub mod HasIds
 pub mod Current
 pub mod CurrentRuns
+pub mod WhenDue
 pub mod NoticesCome
 pub mod NoticesTaken
 pub mod ShowsHeld

@@ -40,10 +40,10 @@ ghost use Rattle.coap_world.specs.Legal.{Legal};
 ghost use Rattle.coap_world.specs.Record.{Turn, RecordOf, entries_of, client_of, server_trace};
 ghost use Rattle.coap_world.specs.Rising.{HeldAreNamed, ValuesRise};
 ghost use Rattle.coap_world.specs.Serves.{AllServed};
-ghost use Rattle.coap_world.specs.Smooth.{NoneObserved, Smooth};
+ghost use Rattle.coap_world.specs.Smooth.{FewTold, NoneObserved, Smooth, SmoothAlone};
 ghost use Rattle.coap_world.specs.SmoothAnswers.{AnsweredSmoothly};
 
-use crate::smooth::{answered_law, open_law, sent_law};
+use crate::smooth::{answered_law, open_law, reported_law, sent_law};
 use crate::watches::watch_law;
 
 /// What comes from an end's address was given out by that end, for the one that it comes to, at most 100,000 ms before.
@@ -320,18 +320,20 @@ pub fn agreement()
     // input that is refused memory is lost.
     ensures no_fault { OfRecords NeverFaults }
     // In a smooth run, in which nothing is lost and nothing is late, and nothing is observed, calls are answered
-    // smoothly: no exchange is open for more than 20,000 ms, each ends by an answer, a GET reports what its path holds, and
-    // any other call the code of a response to it, and it is applied where that says so (RFC 7252, sections 4.2, 5.2 and
-    // 5.8; RFC 7959, section 2).
-    ensures smooth { OfLegalRuns (λ config turns. Smooth config turns → NoneObserved turns
+    // smoothly: no exchange is open for more than 2,000 ms where no path has a delay, and else for longer than the longest
+    // delay and 2,999 ms; each ends by an answer, each call is reported, a GET reports what its path holds, where it has no
+    // ETag and no Accept and that stays the same, and any other call the code of a response to it, and it is applied where
+    // that says so (RFC 7252, sections 4.2, 5.2 and 5.8; RFC 7959, section 2).
+    ensures smooth { OfLegalRuns (λ config turns. Smooth config turns → FewTold config turns → NoneObserved turns
         → AnsweredSmoothly config turns) }
     // In a smooth run in which the client takes on one observation and nothing else, of a path whose representations fit
     // one block, the last value is what the path holds, once that has stood for 5,000 ms and a first value was reported
     // 5,000 ms before, while the observation goes on (RFC 7641, sections 1.3, 3.4 and 4.5).
-    ensures current { OfLegalRuns (λ config turns. Smooth config turns → CurrentAlone config turns) }
+    ensures current { OfLegalRuns (λ config turns. SmoothAlone config turns → CurrentAlone config turns) }
 {
     open_law();
     sent_law();
     answered_law();
+    reported_law();
     watch_law();
 }

@@ -18,5 +18,5 @@ pub use running::{
     Side, What, WorldConfig, run, run_with,
 };
 pub use runs::{runs_law, witness_law};
-pub use smooth::{answered_law, open_law, received_law, sent_law, smooth_witness};
+pub use smooth::{answered_law, open_law, received_law, reported_law, sent_law, smooth_witness};
 pub use watches::watch_law;

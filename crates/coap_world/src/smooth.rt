@@ -8,15 +8,17 @@ ghost use Rattle.coap_world.specs.Legal.{OfLegalRuns};
 ghost use Rattle.coap_world.specs.Prompt.{AllPrompt};
 ghost use Rattle.coap_world.specs.Received.{AreReceived};
 ghost use Rattle.coap_world.specs.Record.{Turn, entries_of};
+ghost use Rattle.coap_world.specs.Reported.{AreReported};
 ghost use Rattle.coap_world.specs.Separate.{SeparateEnds, TicksAnswer};
-ghost use Rattle.coap_world.specs.Smooth.{NoneObserved, Smooth};
-ghost use Rattle.coap_world.specs.SmoothAnswers.{AllAnswer, AreYoung, ChangesAnswered, GetsHeld};
+ghost use Rattle.coap_world.specs.Smooth.{FewTold, NoneObserved, Smooth};
+ghost use Rattle.coap_world.specs.SmoothAnswers.{AllAnswer, ChangesAnswered, GetsHeld};
+ghost use Rattle.coap_world.specs.Young.{AreYoung};
 ghost use Rattle.coap_world.specs.SmoothGaps.{AreClose, TimesOutRoughly};
-ghost use Rattle.coap_world.specs.SmoothRuns.{DefersLate, DefersLongest, Unanswered};
+ghost use Rattle.coap_world.specs.SmoothRuns.{DefersLate, DefersLongest, PutsLate, Unanswered};
 ghost use Rattle.coap_world.specs.TakenInTime.{AllTakenInTime};
 ghost use Rattle.coap_world.specs.TicksLeave.{TicksInTime, TicksLeaveNone};
 
-use coap_client::{client_exchanges_law, client_follows_law, client_values_law};
+use coap_client::{client_exchanges_law, client_follows_law, client_law, client_values_law};
 use coap_exchange::answerer_law;
 use coap_layer::{channel_law, layer_law};
 use coap_server::server_law;
@@ -28,11 +30,14 @@ pub fn smooth_witness()
     ensures late { DefersLate }
     // .. and where its exchange is open for 12,999 ms.
     ensures longest { DefersLongest }
+    // A PUT to such a path is applied, once, and its success is reported (RFC 7252, sections 5.2.2 and 5.8.3).
+    ensures put { PutsLate }
     // A run in which a POST times out is not smooth ..
     ensures rough { TimesOutRoughly }
     // .. and its call is not answered smoothly.
     ensures unanswered { Unanswered }
-    // A run in which a value comes 4,000 ms after the change that it shows, and no earlier (RFC 7641, section 4.5).
+    // A run in which a value comes 4,000 ms after the change that it shows, and no earlier, and is the last one, as is
+    // promised, 5,000 ms after it (RFC 7641, section 4.5).
     ensures shown { ShowsLate }
     // A run in which a notification is lost: the last value stays an old one.
     ensures old { StaysOld }
@@ -57,9 +62,10 @@ pub fn open_law()
     // Each Confirmable message is taken within 1,000 ms, and each of the server's is over within 2,000 (RFC 7252, section
     // 4.2).
     ensures taken { OfLegalRuns (λ config turns. Smooth config turns → AllTakenInTime config turns) }
-    // Where each exchange is young, it ends by an answer: by no Reset, no Timeout and no NoResponse (sections 4.2 and
-    // 5.2.2).
-    ensures by_answers { OfLegalRuns (λ config turns. Smooth config turns → YoungEndByAnswers config turns) }
+    // Where nothing is observed and each exchange is young, it ends by an answer: by no Reset, no Timeout (a request is
+    // acknowledged within 2,000 ms) and no NoResponse (sections 4.2 and 5.2.2).
+    ensures by_answers { OfLegalRuns (λ config turns. Smooth config turns → NoneObserved turns
+        → YoungEndByAnswers config turns) }
     // Where nothing is observed, the request of an exchange that is open for more than 2,000 ms had to wait at the server,
     // and waits still, or was answered since: any other is answered in its acknowledgement, and that comes (sections
     // 4.2, 5.2.1 and 5.2.2).
@@ -74,10 +80,14 @@ pub fn open_law()
     ensures leaves { OfLegalRuns TicksLeaveNone }
     // In a smooth run it ticks in each 1,000 ms.
     ensures often { OfLegalRuns (λ config turns. Smooth config turns → TicksInTime turns) }
-    // Where nothing is observed, a Message ID is free at each tick of the server (section 4.4) ..
-    ensures ids { OfLegalRuns (λ config turns. Smooth config turns → NoneObserved turns → HasIds config turns) }
-    // .. so no exchange is open for more than 20,000 ms (sections 4.2 and 5.2.2).
-    ensures young { OfLegalRuns (λ config turns. Smooth config turns → NoneObserved turns → AreYoung config turns) }
+    // Where nothing is observed, and no stranger sends anything or the server sends few notifications, a Message ID is free
+    // at each tick of the server (section 4.4) ..
+    ensures ids { OfLegalRuns (λ config turns. Smooth config turns → FewTold config turns → NoneObserved turns
+        → HasIds config turns) }
+    // .. so no exchange is open for longer than the longest delay and 2,999 ms, and for more than 2,000 ms where no path has
+    // a delay (sections 4.2 and 5.2.2).
+    ensures young { OfLegalRuns (λ config turns. Smooth config turns → FewTold config turns → NoneObserved turns
+        → AreYoung config turns) }
 {
     channel_law();
     layer_law();
@@ -96,6 +106,17 @@ pub fn sent_law()
 {
     client_exchanges_law();
     client_follows_law();
+}
+
+/// When the calls of a smooth run are reported.
+pub fn reported_law()
+    // Where nothing is observed, each exchange is young and ends by an answer, and each request is sent, a call is reported
+    // that was taken: behind each event so long after it that each request which is sent for it, or for a call before it,
+    // can have waited for a tick and been answered (RFC 7252, sections 4.7 and 5.2).
+    ensures reported { OfLegalRuns (λ config turns. Smooth config turns → AreYoung config turns → AllAnswer config turns
+        → AreReported config turns) }
+{
+    client_law();
 }
 
 /// What the calls of a run come to in which each exchange ends by an answer, each request is sent and nothing is observed.

@@ -1,4 +1,4 @@
--- In a smooth run each datagram is fed in time.
+-- In a smooth run each datagram is fed in time: the first time that it comes.
 use Rattle.std.proofs.Common.{◌≡◌, ◌⊎◌, inl, inr, ⊎_elim, ◌≤◌, ◌<◌, ℕ, ◌+◌, nat_le, Bool, true, false, List, [], ◌∷◌}
 use Rattle.std.proofs.Common.{◌++◌, map, length, refl, ap, sym, subst, ◌∙◌, arith, Some}
 use Rattle.std.proofs.lemmas.Bool.{leb-true}
@@ -15,7 +15,7 @@ use Rattle.coap_world.specs.Legal.{AllLegal}
 use Rattle.coap_world.specs.Prompt.{FedWithin, AllPrompt}
 use Rattle.coap_world.specs.Record.{Given, Entry, OfClient, OfServer, Turn, IsNumber, IsOne, OnClient, OnServer}
 use Rattle.coap_world.specs.Record.{given_in, FeedsClient, FeedsServer, Makes}
-use Rattle.coap_world.specs.Smooth.{max_age, WasDelivered, ComesInOrder, GoesSmoothly}
+use Rattle.coap_world.specs.Smooth.{max_age, WasDelivered, GoesSmoothly}
 use Rattle.coap_world.proofs.Delivery.GivenOutBefore.{number_unique, not_later}
 
 -- its number
@@ -77,55 +77,53 @@ module _ (number : ℕ) (turn : Turn) (past : List Turn)
   makes = subst (λ r. Makes past turn.event.at turn.event.word (Deliver number) r turn.entries) goes.all_made
       (subst (λ w. Makes past turn.event.at turn.event.word w turn.refused turn.entries) is made)
 
-  -- its moment
-  pub times : (Fed : Entry → Type 0) → (makes.0.packet.to ≡ client_end) ⊎ (makes.0.packet.to ≡ server_end)
-      → Ever Fed turn.entries
+  -- its moment, where it comes in time
+  pub times : (Fed : Entry → Type 0) → turn.event.at ≤ makes.0.at + max_age → Ever Fed turn.entries
       → FedWithin Fed makes.0 past turn
-  times Fed to fed =
+  times Fed soon fed =
       let before = not_later past turn.event.at makes.0 legal.1 legal.0.later
       (Ever_of_Sometime _ (λ h. h ≡ makes.0) (λ b h k. inl k.0) (all_of given_in past) makes.1) in
-      record {
-        fed = fed;
-        from = before;
-        till = ⊎_elim (λ le. le) (λ late. absurd (never late))
-            (in_or_late turn.event.at (makes.0.at + max_age));
-      }
-    where
-      never : makes.0.at + max_age < turn.event.at → ⊥
-      never late =
-          let old : WasDelivered number past = goes.in_time number makes.0 makes.1 to late in
-          let order : ComesInOrder past (Deliver number) = subst (ComesInOrder past) is goes.in_order in
-          let less = order number old in
-          omega (arith, less)
+      record { fed = fed; from = before; till = soon }
 
   -- where it is for the server, and for the client
-  pub to_server : (g : Given) → makes.0 ≡ g → g.packet.to ≡ server_end
+  pub to_server : (g : Given) → turn.event.at ≤ makes.0.at + max_age → makes.0 ≡ g → g.packet.to ≡ server_end
       → FedWithin (FedToServer g.from g.packet.bytes) g past turn
-  to_server g same to = subst (λ (x : Given). FedWithin (FedToServer x.from x.packet.bytes) x past turn) same
-      (⊎_elim (λ d. times (FedToServer makes.0.from makes.0.packet.bytes) (inr d.0)
+  to_server g soon same to = subst (λ (x : Given). FedWithin (FedToServer x.from x.packet.bytes) x past turn) same
+      (⊎_elim (λ d. times (FedToServer makes.0.from makes.0.packet.bytes) soon
       (fed_server makes.0.from makes.0.packet.bytes turn.event.at turn.event.word d.1 turn.entries d.2 d.3))
       (λ d. absurd (apart (sym d.0 ∙ (ap (λ (x : Given). x.packet.to) same ∙ to)))) makes.2)
 
-  pub to_client : (g : Given) → makes.0 ≡ g → g.packet.to ≡ client_end
+  pub to_client : (g : Given) → turn.event.at ≤ makes.0.at + max_age → makes.0 ≡ g → g.packet.to ≡ client_end
       → FedWithin (FedToClient g.from g.packet.bytes) g past turn
-  to_client g same to = subst (λ (x : Given). FedWithin (FedToClient x.from x.packet.bytes) x past turn) same
+  to_client g soon same to = subst (λ (x : Given). FedWithin (FedToClient x.from x.packet.bytes) x past turn) same
       (⊎_elim (λ d. absurd (apart (sym (ap (λ (x : Given). x.packet.to) same ∙ to) ∙ d.0)))
-      (λ d. times (FedToClient makes.0.from makes.0.packet.bytes) (inl d.0)
+      (λ d. times (FedToClient makes.0.from makes.0.packet.bytes) soon
       (fed_client makes.0.from makes.0.packet.bytes turn.event.at turn.event.word d.1 turn.entries d.2 d.3)) makes.2)
 
+  -- where it comes late, it came before
+  pub came_before : makes.0.at + max_age < turn.event.at → WasDelivered number past
+  came_before late =
+      goes.in_time number makes.0 makes.1 (⊎_elim (λ d. inr d.0) (λ d. inl d.0) makes.2) late
+
+-- of the turns in which it is delivered, one that is in time
 module _ (whole : List Turn) (number : ℕ) (g : Given) (is : IsNumber number g whole) where
   delivered : (P : List Turn → Turn → Type 0)
       → ((turn : Turn) (past : List Turn)
       (made : Makes past turn.event.at turn.event.word turn.event.what turn.refused turn.entries)
       (legal : AllLegal (turn ∷ past)) (goes : GoesSmoothly past turn) (w : turn.event.what ≡ Deliver number)
+      → turn.event.at ≤ (makes number turn past made legal goes w).0.at + max_age
       → (makes number turn past made legal goes w).0 ≡ g → P past turn)
       → (r : List Turn) → ((x : Given) → IsNumber number x r → IsNumber number x whole) → AllMade r → AllLegal r
       → Always GoesSmoothly r → WasDelivered number r → Sometime P r
   delivered P f [] lift made legal goes h = absurd h
   delivered P f (turn ∷ past) lift made legal goes (inl w) =
       let m = makes number turn past made.0 legal goes.0 w in
-      inl (f turn past made.0 legal goes.0 w (number_unique number m.0 g (all_of given_in whole)
-      (lift m.0 (Sometime_back _ (given_in turn) (all_of given_in past) m.1)) is))
+      ⊎_elim
+      (λ soon. inl (f turn past made.0 legal goes.0 w soon (number_unique number m.0 g (all_of given_in whole)
+      (lift m.0 (Sometime_back _ (given_in turn) (all_of given_in past) m.1)) is)))
+      (λ late. inr (delivered P f past (λ x k. lift x (Sometime_back _ (given_in turn) (all_of given_in past) k))
+      made.1 legal.1 goes.1 (came_before number turn past made.0 legal goes.0 w late)))
+      (in_or_late turn.event.at (m.0.at + max_age))
   delivered P f (turn ∷ past) lift made legal goes (inr h) =
       inr (delivered P f past (λ x k. lift x (Sometime_back _ (given_in turn) (all_of given_in past) k)) made.1 legal.1
       goes.1 h)
@@ -137,12 +135,12 @@ all_prompt (turn ∷ past) made legal goes = (
     server = λ g h to late.
         (let k = numbered g (all_of given_in past) h in
         delivered past k.0 g k.1 (FedWithin (FedToServer g.from g.packet.bytes) g)
-        (λ t p m l s w same. to_server k.0 t p m l s w g same to) past (λ x y. y) made.1 legal.1 goes.1
+        (λ t p m l s w soon same. to_server k.0 t p m l s w g soon same to) past (λ x y. y) made.1 legal.1 goes.1
         (goes.0.in_time k.0 g k.1 (inr to) late));
     client = λ g h to late.
         (let k = numbered g (all_of given_in past) h in
         delivered past k.0 g k.1 (FedWithin (FedToClient g.from g.packet.bytes) g)
-        (λ t p m l s w same. to_client k.0 t p m l s w g same to) past (λ x y. y) made.1 legal.1 goes.1
+        (λ t p m l s w soon same. to_client k.0 t p m l s w g soon same to) past (λ x y. y) made.1 legal.1 goes.1
         (goes.0.in_time k.0 g k.1 (inl to) late));
   },
   all_prompt past made.1 legal.1 goes.1,

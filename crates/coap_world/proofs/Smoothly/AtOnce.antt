@@ -1,15 +1,14 @@
 -- In a smooth run the request of an exchange that is open for more than 2,000 ms has to wait at the server.
-use Rattle.std.proofs.Common.{◌≡◌, ◌⊎◌, inl, inr, ⊎_elim, ◌≤◌, ◌<◌, ℕ, ◌+◌, Some, List, [], ◌∷◌, ◌++◌, map, refl}
+use Rattle.std.proofs.Common.{◌≡◌, ◌⊎◌, inl, inr, ⊎_elim, ◌<◌, ℕ, ◌+◌, Some, List, [], ◌∷◌, ◌++◌, map, refl}
 use Rattle.std.proofs.Common.{ap, sym, subst, ◌∙◌, arith, append_assoc}
-use Rattle.std.specs.List.{All}
 use Rattle.std.proofs.lemmas.List.{map-append}
 use Rattle.coap_types.specs.Past.{Ever, Sometime, Always}
 use Rattle.coap_types.proofs.Facts.Traces.{Ever_append, Sometime_back}
 use Rattle.coap_types.specs.declared.endpoint.Endpoint.{Endpoint}
 use Rattle.coap_layer.specs.Channel.{Hop, Far, near_of, OnNear, OnFarThen, RepliesTo, ChannelLaw, AcksReplied}
 use Rattle.coap_layer.specs.Rows.{LayerLaw}
-use Rattle.coap_layer.specs.Sends.{IsIn}
-use Rattle.coap_layer.specs.Taking.{AllTakeAcks, ArrivesWithin, RepliedOnce}
+use Rattle.coap_layer.specs.Sends.{IsIn, IsOpen}
+use Rattle.coap_layer.specs.Taking.{AllTakeAcks, ArrivesWithin, EndsWithin, RepliedOnce}
 use Rattle.coap_layer.specs.Trace as L
 use Rattle.coap_layer.specs.Words.{Open, begun}
 use Rattle.coap_layer.specs.declared.setup.Setup.{Setup}
@@ -26,19 +25,18 @@ use Rattle.coap_resource.specs.Limits.{Limits}
 use Rattle.coap_server.specs.Follows.Attended.{AllHandedOn}
 use Rattle.coap_server.specs.Law.{ServerLaw}
 use Rattle.coap_server.specs.Trace as S
-use Rattle.coap_server.specs.Trace.{Delay}
 use Rattle.coap_world.specs.AtOnce.{WaitsIn, LastWaits, OldWait}
 use Rattle.coap_world.specs.Events.{client_end, server_end, Config}
 use Rattle.coap_world.specs.Hops.{server_adds, hops_at, hops_in, hops_of}
 use Rattle.coap_world.specs.Record.{Entry, OfClient, OfServer, Turn, entries_of, client_of, server_trace}
-use Rattle.coap_world.specs.Smooth.{max_age, max_delay, TakesNoObservation}
+use Rattle.coap_world.specs.Smooth.{max_age, TakesNoObservation}
 use Rattle.coap_world.proofs.Delivery.HopsAreAChannel as joined
 use Rattle.coap_world.proofs.Delivery.HopsAreEntries.{far_far, near_is, far_is}
 use Rattle.coap_world.proofs.Requests.Promised.{lawful}
 use Rattle.coap_world.proofs.Requests.Traced.{sent_later}
 use Rattle.coap_world.proofs.Smoothly.AllTaken.{Beneath, Goes, goes_before, taken_here}
 use Rattle.coap_world.proofs.Smoothly.AnswerTaken.{IsAckWith, acked_before, to_calls, ArrivesBehind}
-use Rattle.coap_world.proofs.Smoothly.ArrivesInTime.{to_client}
+use Rattle.coap_world.proofs.Smoothly.ArrivesInTime.{arrive_in_time, to_client}
 use Rattle.coap_world.proofs.Smoothly.ConsCarry.{request_spelled, is_request, was_message}
 use Rattle.coap_world.proofs.Smoothly.DelaysAreShort.{none_set}
 use Rattle.coap_world.proofs.Smoothly.ExchangeOpen.{OpenOf, open_of, last_of}
@@ -47,7 +45,7 @@ use Rattle.coap_world.proofs.Smoothly.OneReply.{one_reply}
 use Rattle.coap_world.proofs.Smoothly.OnTime.{on_time}
 use Rattle.coap_world.proofs.Smoothly.PlainRequests.{was_plain}
 use Rattle.coap_world.proofs.Smoothly.RequestOpen.{HasCon, has_con}
-use Rattle.coap_world.proofs.Smoothly.RequestTaken.{RepliedAt, ComesTo, request_taken}
+use Rattle.coap_world.proofs.Smoothly.RequestTaken.{RepliedAt, IsReplied, ComesTo, request_taken, request_acknowledged}
 use Rattle.coap_world.proofs.Delivery.End.{front, front_is}
 use Rattle.coap_world.proofs.Smoothly.Standing.{record_of}
 use Rattle.coap_world.proofs.Smoothly.WaitsNow.{WaitsNow, waits_now}
@@ -112,7 +110,7 @@ module _ (config : Config) where
       sent_in [] = sent
       sent_in (e ∷ later) = sent_later config y (later ++ es) e (sent_in later)
 
-  module _ (laws : Laws) (delays : All (λ (d : Delay). d.ms ≤ max_delay) config.delays) (turn : Turn) (past : List Turn) (g : Goes config (turn ∷ past))
+  module _ (laws : Laws) (turn : Turn) (past : List Turn) (g : Goes config (turn ∷ past))
       (none : Always (λ p c. TakesNoObservation c) (client_of (entries_of past))) (at : ℕ)
       (is_open : IsOpenSince config.client_sizes at (client_of (entries_of past)))
       (late : at + max_age + max_age < turn.event.at) where
@@ -214,6 +212,43 @@ module _ (config : Config) where
           r.spells r.class given
           (subst (Sometime _) (sym (near_is config es)) acked.taken)
 
+      -- its CON is over
+      over : IsOpen (near_of (hops_of config past)) h.con → ⊥
+      over stays =
+          let first = h.first in
+          let taken = (taken_here config laws.beneath turn past g).by_server con begun_there (omega (arith, first, late)) in
+          let spells = request_spelled config.client_setup (near_of (hops_of config past)) con x channel.near_law
+          begun_there h.is in
+          by (request_acknowledged config old.stands.range
+          (λ t law. laws.handed_on config.limits config.server_szx config.server_setup t law) con x spells
+          (is_request x (was_message config.client_sizes x (client_of (entries_of past)) sent)) (entries_of past)
+          (lawful config _ past (record_of config past old.stands)
+          (record { range = old.stands.range; events = old.stands.legal })) taken)
+        where
+          replied_in : (es : List Entry) → Sometime (IsReplied config con x) es → Answered config con x es
+          replied_in [] k = absurd k
+          replied_in (OfServer c ∷ es) (inl r) =
+              record { newer = []; call = c; past = es; is = refl; replied = r }
+          replied_in (OfClient c ∷ es) (inl r) = absurd r
+          replied_in (e ∷ es) (inr k) =
+              let a = replied_in es k in
+              record {
+                newer = e ∷ a.newer;
+                call = a.call;
+                past = a.past;
+                is = ap (λ l. e ∷ l) a.is;
+                replied = a.replied;
+              }
+
+          by : Sometime (IsReplied config con x) (entries_of past)
+              ⊎ Sometime (OnFarThen (EndsWithin max_age client_end con)) (hops_of config past) → ⊥
+          by (inl k) = never (replied_in (entries_of past) k)
+          by (inr k) =
+              let first = h.first in
+              laws.beneath.ended config.client_setup config.server_setup client_end server_end (hops_of config past) channel
+              max_age turn.event.at con (arrive_in_time config past turn g.stands).back_to_client begun_there h.is.to k
+              (omega (arith, first, late)) stays
+
       waits : LastWaits config at past
       waits = record {
         sending = x;
@@ -226,9 +261,15 @@ module _ (config : Config) where
         waits = now.waits;
       }
         where
-          now : WaitsNow config delays (h.con.first + max_age) x (entries_of past)
-          now = waits_now config delays (h.con.first + max_age) x (entries_of past) old.stands.server (none_set past old.stands.made)
+          now : WaitsNow config (h.con.first + max_age) x (entries_of past)
+          now = waits_now config (h.con.first + max_age) x (entries_of past) old.stands.server (none_set past old.stands.made)
               (⊎_elim (λ w. w) (λ k. absurd (never k)) (either config con x (entries_of past) comes))
+
+    pub con_is_over : (x : Sending)
+        (o : OpenOf server_end config.client_sizes config.client_setup at x (client_of (entries_of past)))
+        (h : HasCon server_end config.client_sizes config.client_setup at x (client_of (entries_of past)) o)
+        → IsOpen (near_of (hops_of config past)) h.con → ⊥
+    con_is_over x o h = over x o h
 
     pub last_waits : LastWaits config at past
     last_waits =
@@ -244,12 +285,11 @@ none_before [] older h = h
 none_before (OfClient c ∷ later) older h = none_before later older h.1
 none_before (OfServer c ∷ later) older h = none_before later older h
 
-pub old_wait : (config : Config) (laws : Laws) → All (λ (d : Delay). d.ms ≤ max_delay) config.delays
-    → (turns : List Turn) → Goes config turns
+pub old_wait : (config : Config) (laws : Laws) (turns : List Turn) → Goes config turns
     → Always (λ p c. TakesNoObservation c) (client_of (entries_of turns)) → OldWait config turns
-old_wait config laws delays [] g none = tt
-old_wait config laws delays (turn ∷ past) g none =
+old_wait config laws [] g none = tt
+old_wait config laws (turn ∷ past) g none =
     let before_it = none_before turn.entries (entries_of past) none in (
-      λ at is_open late. last_waits config laws delays turn past g before_it at is_open late,
-      old_wait config laws delays past (goes_before config turn past g) before_it,
+      λ at is_open late. last_waits config laws turn past g before_it at is_open late,
+      old_wait config laws past (goes_before config turn past g) before_it,
     )

@@ -1,5 +1,5 @@
 -- Where each exchange is young, each ends by an answer.
-use Rattle.std.proofs.Common.{◌≡◌, ◌≢◌, Some, None, List, [], ◌∷◌, refl}
+use Rattle.std.proofs.Common.{◌≡◌, ◌≢◌, ◌<◌, Some, None, List, [], ◌∷◌, refl}
 use Rattle.coap_types.specs.Past.{Always}
 use Rattle.coap_layer.specs.Taking.{ResetsMeant}
 use Rattle.coap_exchange.specs.declared.asker.Event.TheVariants as event_is
@@ -11,7 +11,8 @@ use Rattle.coap_client.specs.Trace.{Timeout, Reset, NoResponse}
 use Rattle.coap_world.specs.Events.{client_end, server_end, Config}
 use Rattle.coap_world.specs.Hops.{hops_of}
 use Rattle.coap_world.specs.Record.{Turn, entries_of, client_of}
-use Rattle.coap_world.specs.SmoothAnswers.{AreYoung, EndByAnswers}
+use Rattle.coap_world.specs.SmoothAnswers.{EndByAnswers}
+use Rattle.coap_world.specs.Young.{max_open, AreYoung}
 use Rattle.coap_world.proofs.Smoothly.EndsByTime.{NotLate, never_late}
 use Rattle.coap_world.proofs.Smoothly.NoReset.{never_reset}
 use Rattle.coap_world.proofs.Smoothly.Standing.{Stands}
@@ -25,15 +26,16 @@ none_left (C.Ticks now w below (turn_is.End event_is.NoResponse) sent token kept
 none_left _ t n r = refl
 
 module _ (config : Config) where
-  each : (t : List C.Call) → Always (NotLate config) t → Always (λ past c. ends_as c ≢ Some Reset) t
+  each : (t : List C.Call) → Always (λ past c. ends_as c ≢ Some Timeout) t → Always (NotLate config) t → Always (λ past c. ends_as c ≢ Some Reset) t
       → Always (λ past c. ends_as c ≡ None) t
-  each [] late reset = tt
-  each (c ∷ t) late reset = (none_left c late.0.0 late.0.1 reset.0, each t late.1 reset.1)
+  each [] timeout late reset = tt
+  each (c ∷ t) timeout late reset = (none_left c timeout.0 late.0 reset.0, each t timeout.1 late.1 reset.1)
 
-  pub by_answers : (turns : List Turn) → Stands config turns → AreYoung config turns
+  pub by_answers : max_open config < 247000 → (turns : List Turn) → Stands config turns → AreYoung config turns
+      → Always (λ past c. ends_as c ≢ Some Timeout) (client_of (entries_of turns))
       → AllEndInTime config.client_sizes (client_of (entries_of turns))
       → ResetsMeant client_end server_end (hops_of config turns) → EndByAnswers config (entries_of turns)
-  by_answers turns s young in_time meant =
+  by_answers short turns s young timeout in_time meant =
       let calls = young_calls config turns s young in
-      each (client_of (entries_of turns)) (never_late config (client_of (entries_of turns)) s.client in_time calls)
-      (never_reset config (entries_of turns) s.client s.server calls meant)
+      each (client_of (entries_of turns)) timeout (never_late config short (client_of (entries_of turns)) s.client in_time calls)
+      (never_reset config short (entries_of turns) s.client s.server calls meant)

@@ -1,6 +1,6 @@
 -- In a run the delays are those with which the server began.
-use Rattle.std.proofs.Common.{◌≡◌, inl, inr, ◌≤◌, ℕ, Bool, true, false, Some, List, [], ◌∷◌, ◌++◌, map, refl, ap, sym}
-use Rattle.std.proofs.Common.{subst, ◌∙◌}
+use Rattle.std.proofs.Common.{◌≡◌, inl, inr, ◌≤◌, ◌<◌, ℕ, ◌+◌, Bool, true, false, Some, List, [], ◌∷◌, ◌++◌, map, refl, ap, sym}
+use Rattle.std.proofs.Common.{subst, ◌∙◌, arith}
 use Rattle.std.specs.List.{All}
 use Rattle.std.proofs.lemmas.List.Elements.{All-head, All-tail}
 use Rattle.coap_types.specs.Past.{Ever}
@@ -12,7 +12,8 @@ use Rattle.coap_server.specs.Trace.{Delay}
 use Rattle.coap_world.specs.Events.{Config, What, Sets, Removes, TickServer, Deliver, StrangerToServer}
 use Rattle.coap_world.specs.Record.{Entry, OfClient, OfServer, Turn, OnClient, OnServer, ServerTick, Makes, entries_of}
 use Rattle.coap_world.specs.Record.{DelayOf, PlainOf, gives_it, server_trace}
-use Rattle.coap_world.specs.Smooth.{max_delay}
+use Rattle.coap_world.specs.Smooth.{max_age, max_delay}
+use Rattle.coap_world.specs.Young.{longest, open_by}
 use Rattle.coap_world.proofs.Delivery.EntriesInTime.{Every, every_join}
 use Rattle.coap_world.proofs.Delivery.OneEndATurn.{each_one, each_tick}
 use Rattle.coap_world.proofs.Smoothly.Standing.{AllMade}
@@ -76,29 +77,57 @@ none_set (turn ∷ past) made =
     (made_none past turn.event.at turn.event.word turn.refused turn.entries turn.event.what made.0)
     (none_set past made.1)
 
--- so each was among those, and is as short
-short_among : (ds : List Delay) (path : List (List ℕ)) (ms : ℕ) → All (λ (d : Delay). d.ms ≤ max_delay) ds
-    → Ever (λ c. c ≡ S.Delays path ms true) (map gives_it (map (λ d. DelayOf d) ds)) → ms ≤ max_delay
-short_among [] path ms all h = absurd h
-short_among (d ∷ ds) path ms all (inl h) =
-    let same : d.ms ≡ ms = cc h in
-    subst (λ (n : ℕ). n ≤ max_delay) same (All-head (λ (x : Delay). x.ms ≤ max_delay) d ds all)
-short_among (d ∷ ds) path ms all (inr h) =
-    short_among ds path ms (All-tail (λ (x : Delay). x.ms ≤ max_delay) d ds all) h
+-- so each was among those
+abbrev pub IsAmong : ℕ → List Delay → Type 0
+IsAmong ms ds = Ever (λ (d : Delay). d.ms ≡ ms) ds
 
-short_first : (ps : List (List (List ℕ))) (ds : List Delay) (path : List (List ℕ)) (ms : ℕ)
-    → All (λ (d : Delay). d.ms ≤ max_delay) ds
+among : (ds : List Delay) (path : List (List ℕ)) (ms : ℕ)
+    → Ever (λ c. c ≡ S.Delays path ms true) (map gives_it (map (λ d. DelayOf d) ds)) → IsAmong ms ds
+among [] path ms h = absurd h
+among (d ∷ ds) path ms (inl h) = inl (cc h)
+among (d ∷ ds) path ms (inr h) = inr (among ds path ms h)
+
+among_first : (ps : List (List (List ℕ))) (ds : List Delay) (path : List (List ℕ)) (ms : ℕ)
     → Ever (λ c. c ≡ S.Delays path ms true) (map gives_it (map (λ p. PlainOf p) ps ++ map (λ d. DelayOf d) ds))
-    → ms ≤ max_delay
-short_first [] ds path ms all h = short_among ds path ms all h
-short_first (p ∷ ps) ds path ms all (inl h) = absurd (cc h)
-short_first (p ∷ ps) ds path ms all (inr h) = short_first ps ds path ms all h
+    → IsAmong ms ds
+among_first [] ds path ms h = among ds path ms h
+among_first (p ∷ ps) ds path ms (inl h) = absurd (cc h)
+among_first (p ∷ ps) ds path ms (inr h) = among_first ps ds path ms h
 
-pub short : (config : Config) → All (λ (d : Delay). d.ms ≤ max_delay) config.delays → (es : List Entry)
-    → Every SetsNone es → (path : List (List ℕ)) (ms : ℕ)
-    → Ever (λ c. c ≡ S.Delays path ms true) (server_trace config es) → ms ≤ max_delay
-short config all [] none path ms h = short_first config.plains config.delays path ms all h
-short config all (OfClient c ∷ es) none path ms h = short config all es none.1 path ms h
-short config all (OfServer c ∷ es) none path ms (inl h) =
+pub among_delays : (config : Config) (es : List Entry) → Every SetsNone es → (path : List (List ℕ)) (ms : ℕ)
+    → Ever (λ c. c ≡ S.Delays path ms true) (server_trace config es) → IsAmong ms config.delays
+among_delays config [] none path ms h = among_first config.plains config.delays path ms h
+among_delays config (OfClient c ∷ es) none path ms h = among_delays config es none.1 path ms h
+among_delays config (OfServer c ∷ es) none path ms (inl h) =
     let k = sym none.0 ∙ ap sets_delay h in absurd (cc k)
-short config all (OfServer c ∷ es) none path ms (inr h) = short config all es none.1 path ms h
+among_delays config (OfServer c ∷ es) none path ms (inr h) = among_delays config es none.1 path ms h
+
+-- .. and is no longer than the longest, with which an exchange may be open longer
+pub no_longer : (ms : ℕ) (ds : List Delay) → IsAmong ms ds → ms ≤ longest ds
+no_longer ms [] h = absurd h
+no_longer ms (d ∷ ds) (inl h) = omega (arith, h)
+no_longer ms (d ∷ ds) (inr h) = let k = no_longer ms ds h in omega (arith, k)
+
+pub over_a_second : (ds : List Delay) → 1001 ≤ longest ds
+over_a_second [] = omega arith
+over_a_second (d ∷ ds) = let k = over_a_second ds in omega (arith, k)
+
+pub with_longest : (ms : ℕ) (ds : List Delay) → IsAmong ms ds → open_by ds ≡ longest ds + 2999
+with_longest ms [] h = absurd h
+with_longest ms (d ∷ ds) h = refl
+
+pub two_at_least : (ds : List Delay) → max_age + max_age ≤ open_by ds
+two_at_least [] = omega arith
+two_at_least (d ∷ ds) = omega arith
+
+-- where each is short, no exchange is open for so long that NoResponse could end it
+longest_within : (ds : List Delay) → All (λ (d : Delay). d.ms ≤ max_delay) ds → longest ds ≤ max_delay
+longest_within [] all = omega arith
+longest_within (d ∷ ds) all =
+    let first = All-head (λ (x : Delay). x.ms ≤ max_delay) d ds all in
+    let k = longest_within ds (All-tail (λ (x : Delay). x.ms ≤ max_delay) d ds all) in
+    omega (arith, first, k)
+
+pub open_within : (ds : List Delay) → All (λ (d : Delay). d.ms ≤ max_delay) ds → open_by ds < 247000
+open_within [] all = omega arith
+open_within (d ∷ ds) all = let k = longest_within (d ∷ ds) all in omega (arith, k)

@@ -1,5 +1,5 @@
--- Where each exchange is young, none ends by a Timeout or by NoResponse.
-use Rattle.std.proofs.Common.{◌≡◌, ◌≢◌, ◌⊎◌, inl, inr, ℕ, max, Bool, true, Option, Some, None}
+-- Where each exchange is young, none ends by NoResponse.
+use Rattle.std.proofs.Common.{◌≡◌, ◌≢◌, ◌⊎◌, inl, inr, ◌<◌, ℕ, max, Bool, true, Option, Some, None}
 use Rattle.std.proofs.Common.{List, [], ◌∷◌, ◌++◌, refl, ap, subst, ◌∙◌, arith, append_assoc, Result}
 use Rattle.coap_types.specs.Past.{Always}
 use Rattle.coap_types.proofs.Facts.Traces.{Always_back}
@@ -27,6 +27,7 @@ use Rattle.coap_client.specs.Trace.{Report, Timeout, NoResponse}
 use Rattle.coap_client.proofs.Facts.Exchanges.{open_runs}
 use Rattle.coap_client.proofs.Facts.Laws.{back}
 use Rattle.coap_world.specs.Events.{server_end, Config}
+use Rattle.coap_world.specs.Young.{max_open}
 use Rattle.coap_world.proofs.Smoothly.YoungCalls.{YoungAt}
 
 some_in : (o : Option Exchange) (token : List ℕ) → token_in o ≡ Some token → (x : Exchange) × (o ≡ Some x)
@@ -82,26 +83,20 @@ module _ (server : Endpoint) (sizes : Sizes) (setup : Setup) where
 
 -- By calls at which each exchange that is open is young, none ends so.
 module _ (config : Config) where
-  -- for want of an acknowledgement, or of a response
+  -- for want of a response
   abbrev pub NotLate : List C.Call → C.Call → Type 0
-  NotLate past c = (ends_as c ≢ Some Timeout) × (ends_as c ≢ Some NoResponse)
+  NotLate past c = ends_as c ≢ Some NoResponse
 
   abbrev Law : List C.Call → Type 0
   Law t = ClientLaw server_end config.client_sizes config.client_setup t
 
-  pub never_late : (t : List C.Call) → Law t → AllEndInTime config.client_sizes t → Always (YoungAt config) t
+  pub never_late : max_open config < 247000 → (t : List C.Call) → Law t → AllEndInTime config.client_sizes t → Always (YoungAt config) t
       → Always NotLate t
-  never_late [] law in_time young = tt
-  never_late (c ∷ t) law in_time young = (
-    (
-      λ is. (let k = open_at_end server_end config.client_sizes config.client_setup t c law Timeout is (inl refl) in
-          let late = (in_time.0 k.0 k.1).timeout is in
-          let old = young.0.moment k.0 k.1 in
-          absurd (omega (arith, late, old))),
-      λ is. (let k = open_at_end server_end config.client_sizes config.client_setup t c law NoResponse is (inr refl) in
-          let late = (in_time.0 k.0 k.1).no_response is in
-          let old = young.0.moment k.0 k.1 in
-          absurd (omega (arith, late, old))),
-    ),
-    never_late t (back server_end config.client_sizes config.client_setup (c ∷ []) t law) in_time.1 young.1,
+  never_late short [] law in_time young = tt
+  never_late short (c ∷ t) law in_time young = (
+    λ is. (let k = open_at_end server_end config.client_sizes config.client_setup t c law NoResponse is (inr refl) in
+        let late = (in_time.0 k.0 k.1).no_response is in
+        let old = young.0.moment k.0 k.1 in
+        absurd (omega (arith, late, old, short))),
+    never_late short t (back server_end config.client_sizes config.client_setup (c ∷ []) t law) in_time.1 young.1,
   )

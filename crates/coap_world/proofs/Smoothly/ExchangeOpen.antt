@@ -31,7 +31,7 @@ use Rattle.coap_client.proofs.Facts.Exchanges.{open_runs, sends_begin, BeginsTo,
 use Rattle.coap_client.proofs.Facts.Laws.{back, layer, layer_next, begins_now}
 
 -- what the layer's calls leave outstanding is what their entries say
-open_kept : (setup : Setup) (calls : List Asked) → (left_after (start setup) calls).open_cons
+pub open_kept : (setup : Setup) (calls : List Asked) → (left_after (start setup) calls).open_cons
     ≡ outstanding (entries (start setup) calls)
 open_kept setup [] = refl
 open_kept setup (a ∷ earlier) =

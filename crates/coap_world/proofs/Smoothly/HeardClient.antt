@@ -14,7 +14,7 @@ use Rattle.coap_world.specs.Hops.{server_adds, SendsAt, SentIn, hops_of}
 use Rattle.coap_client.specs.Trace as C
 use Rattle.coap_world.specs.Record.{Given, Entry, Turn, IsNumber, OnClient, OnServer, ServerTick, Makes, begun_with}
 use Rattle.coap_world.specs.Record.{given_in, entries_of, server_of, server_trace}
-use Rattle.coap_world.specs.Smooth.{IsOfAnEnd}
+use Rattle.coap_world.specs.Smooth.{IsOfAnEnd, NoStranger}
 use Rattle.coap_world.proofs.Delivery.EntriesInTime.{Every, every_join, every_map, Timely}
 use Rattle.coap_world.proofs.Delivery.HopsAreEntries.{server_layer, server_next, far_is}
 use Rattle.coap_world.proofs.Delivery.HopsAreFair.{apart}
@@ -130,10 +130,11 @@ module _ (config : Config) (observers : (t : List S.Call) → AreObservers confi
       taken [] = h
       taken (p ∷ ps) = (λ from bytes f. absurd (cc f.6), taken ps)
 
-  one_more : (turn : Turn) (past : List Turn) → Stands config (turn ∷ past) → Heard past → Heard (turn ∷ past)
-  one_more turn past s older =
+  one_more : (turn : Turn) (past : List Turn) → Stands config (turn ∷ past) → IsOfAnEnd turn.event.what → Heard past
+      → Heard (turn ∷ past)
+  one_more turn past s mine older =
       by (of_one past turn.event.at turn.event.word turn.refused turn.entries
-      (given_by_client past (before config turn past s) older) turn.event.what s.made.0 s.goes.0.of_an_end)
+      (given_by_client past (before config turn past s) older) turn.event.what s.made.0 mine)
     where
       by : ((calls : List C.Call) × OnClient calls turn.entries) ⊎ HearsTurn turn.event.at turn.entries
           → Heard (turn ∷ past)
@@ -151,6 +152,6 @@ module _ (config : Config) (observers : (t : List S.Call) → AreObservers confi
           (server_at turn.event.at on.on.outs on.calls on.at) (outs_from on.on.outs on.calls on.from)
           (turned config turn past s).still.server older)
 
-  pub heard_client : (turns : List Turn) → Stands config turns → Heard turns
-  heard_client [] s = subst (Every IsFromClient) (far_is config []) tt
-  heard_client (turn ∷ past) s = one_more turn past s (heard_client past (before config turn past s))
+  pub heard_client : (turns : List Turn) → Stands config turns → NoStranger turns → Heard turns
+  heard_client [] s none = subst (Every IsFromClient) (far_is config []) tt
+  heard_client (turn ∷ past) s none = one_more turn past s none.0 (heard_client past (before config turn past s) none.1)

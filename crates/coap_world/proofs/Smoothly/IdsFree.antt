@@ -1,8 +1,7 @@
 -- In a smooth run in which nothing is observed a Message ID is free at each tick of the server.
-use Rattle.std.proofs.Common.{◌≡◌, ◌≤◌, ◌<◌, ℕ, zero, suc, ◌+◌, max, Bool, true, false, cond, ◌&&◌, Option, Some, None}
+use Rattle.std.proofs.Common.{◌≡◌, inl, inr, ◌≤◌, ◌<◌, ℕ, zero, suc, ◌+◌, max, Bool, true, false, cond, ◌&&◌, Option, Some, None}
 use Rattle.std.proofs.Common.{List, [], ◌∷◌, ◌++◌, map, refl, ap, subst, ◌∙◌, arith}
 use Rattle.coap_types.specs.Past.{Always}
-use Rattle.coap_types.proofs.Facts.Traces.{Always_back}
 use Rattle.coap_types.specs.declared.endpoint.Endpoint.{Endpoint}
 use Rattle.coap_codec.specs.Message.{Message}
 use Rattle.coap_layer.specs.Taking.{is_then, came, FewCome}
@@ -30,7 +29,7 @@ use Rattle.coap_world.specs.Events.{Config}
 use Rattle.coap_world.specs.HasIds.{HasIds}
 use Rattle.coap_world.specs.Record.{Entry, OfClient, OfServer, Turn, entries_of, client_of, server_trace, Setting}
 use Rattle.coap_world.specs.Record.{DelayOf, PlainOf, gives_it, settings}
-use Rattle.coap_world.specs.Smooth.{TakesNoObservation, most_that_come}
+use Rattle.coap_world.specs.Smooth.{TakesNoObservation, most_that_come, FewNotices, FewTold}
 use Rattle.coap_world.proofs.Delivery.EntriesInTime.{Every, every_join}
 use Rattle.coap_world.proofs.Delivery.HopsAreEntries.{server_layer, far_is}
 use Rattle.coap_world.proofs.Requests.OfACall.{Lawful, lawful_back}
@@ -112,6 +111,17 @@ ticked s d passed h word id tick none f =
     quiet (S.Serves q reply left) never = tt
     quiet (S.Waits q delay) never = tt
 
+-- more notifications were sent by more calls
+notified_more : (since : ℕ) (front t : List R.Call)
+    → count_then moment_of notifies since t ≤ count_then moment_of notifies since (front ++ t)
+notified_more since [] t = omega arith
+notified_more since (c ∷ front) t =
+    by (notifies c && is_then since (moment_of (c ∷ (front ++ t)))) (notified_more since front t)
+  where
+    by : (b : Bool) {n k : ℕ} → n ≤ k → n ≤ cond b (1 + k) k
+    by true h = omega (arith, h)
+    by false h = h
+
 -- more messages came by more entries
 pub came_more : (since : ℕ) (front es : List L.Entry) → came since es ≤ came since (front ++ es)
 came_more since [] es = omega arith
@@ -187,17 +197,20 @@ module _ (config : Config) (observers : (t : List S.Call) → AreObservers confi
       (lower_of config.limits config.server_szx t) (none_here es older observed none before_it c law)
       (none_notified es older observed none before_it)
 
-  -- what holds of the calls of the exchanges holds of them so far
-  exchanges_back : (later t : List S.Call) → NoneNotified (lower_of config.limits config.server_szx (later ++ t))
-      → NoneNotified (lower_of config.limits config.server_szx t)
-  exchanges_back [] t h = h
-  exchanges_back (c ∷ later) t h = exchanges_back later t
-      (Always_back (λ p b. notifies b ≡ false) (lower (own_of config.limits config.server_szx (later ++ t)) c)
-      (lower_of config.limits config.server_szx (later ++ t)) h)
+  -- few so far
+  notified_back : (later t : List S.Call)
+      → FewNotified most_that_come (lower_of config.limits config.server_szx (later ++ t))
+      → FewNotified most_that_come (lower_of config.limits config.server_szx t)
+  notified_back [] t h = h
+  notified_back (c ∷ later) t h = notified_back later t
+      (λ since. (let a = notified_more since (lower (own_of config.limits config.server_szx (later ++ t)) c)
+      (lower_of config.limits config.server_szx (later ++ t)) in
+      let b = h since in omega (arith, a, b)))
 
   module _ (turn : Turn) (past : List Turn) (g : Goes config (turn ∷ past))
       (observed : AreOfObservations config.client_sizes (client_of (entries_of (turn ∷ past))))
-      (none : Always (λ p d. TakesNoObservation d) (client_of (entries_of (turn ∷ past)))) where
+      (none : Always (λ p d. TakesNoObservation d) (client_of (entries_of (turn ∷ past))))
+      (told : FewNotices config (turn ∷ past)) where
     abbrev es : List Entry
     es = entries_of (turn ∷ past)
 
@@ -214,9 +227,8 @@ module _ (config : Config) (observers : (t : List S.Call) → AreObservers confi
         let law : ServerLaw config.limits config.server_szx config.server_setup t =
         server_facts.back config.limits config.server_szx config.server_setup later t
         (subst (ServerLaw config.limits config.server_szx config.server_setup) is whole.server) in
-        let none_t : NoneNotified (lower_of config.limits config.server_szx t) = exchanges_back later t
-        (subst (λ z. NoneNotified (lower_of config.limits config.server_szx z)) is
-        (none_notified es whole observed none (heard_client config observers (turn ∷ past) g.stands))) in
+        let told_t : FewNotified most_that_come (lower_of config.limits config.server_szx t) = notified_back later t
+        (subst (λ z. FewNotified most_that_come (lower_of config.limits config.server_szx z)) is told) in
         let few = (few_arrive config (turn ∷ past) g.stands g.few_client g.few_server).with_ids_at_server in
         let k = front_of config later t in
         let all : server_layer config (server_trace config es) ≡ k.0 ++ server_layer config t =
@@ -226,15 +238,42 @@ module _ (config : Config) (observers : (t : List S.Call) → AreObservers confi
         (subst (λ l. came since l < most_that_come) (far_is config es ∙ all) (few since)) in
         free (lower_of config.limits config.server_szx t) law.exchanges most_that_come
         (max (clock (server_layer config t)) (max (own_of config.limits config.server_szx t).clock turn.event.at))
-        (omega arith) (few_of_none (lower_of config.limits config.server_szx t) none_t) few_t
+        (omega arith) told_t few_t
         (own_first (clock (server_layer config t)) (own_of config.limits config.server_szx t).clock turn.event.at) no_id
+
+  -- fewer were sent by then
+  told_before : (turn : Turn) (past : List Turn) → FewNotices config (turn ∷ past) → FewNotices config past
+  told_before turn past told =
+      let k = calls_in turn.entries (entries_of past) in
+      notified_back k.0 (server_trace config (entries_of past))
+      (subst (λ z. FewNotified most_that_come (lower_of config.limits config.server_szx z)) k.1 told)
+    where
+      calls_in : (later older : List Entry)
+          → (front : List S.Call) × (server_trace config (later ++ older) ≡ front ++ server_trace config older)
+      calls_in [] older = ([], refl)
+      calls_in (OfClient c ∷ later) older = calls_in later older
+      calls_in (OfServer c ∷ later) older = let k = calls_in later older in (c ∷ k.0, ap (λ t. c ∷ t) k.1)
 
   pub has_ids : (turns : List Turn) → Goes config turns
       → AreOfObservations config.client_sizes (client_of (entries_of turns))
-      → Always (λ p d. TakesNoObservation d) (client_of (entries_of turns)) → HasIds config turns
-  has_ids [] g observed none = tt
-  has_ids (turn ∷ past) g observed none = (
-    λ what later t is no_id. at_call turn past g observed none later t is no_id,
+      → Always (λ p d. TakesNoObservation d) (client_of (entries_of turns)) → FewNotices config turns
+      → HasIds config turns
+  has_ids [] g observed none told = tt
+  has_ids (turn ∷ past) g observed none told = (
+    λ what later t is no_id. at_call turn past g observed none told later t is no_id,
     has_ids past (goes_before config turn past g) (calls_before _ turn.entries (entries_of past) observed)
-        (calls_before _ turn.entries (entries_of past) none),
+        (calls_before _ turn.entries (entries_of past) none) (told_before turn past told),
   )
+
+  -- where there is no stranger none is sent
+  pub few_told : (turns : List Turn) → Goes config turns
+      → AreOfObservations config.client_sizes (client_of (entries_of turns))
+      → Always (λ p d. TakesNoObservation d) (client_of (entries_of turns)) → FewTold config turns
+      → FewNotices config turns
+  few_told turns g observed none (inr told) = told
+  few_told turns g observed none (inl no_stranger) =
+      few_of_none (lower_of config.limits config.server_szx (server_trace config (entries_of turns)))
+      (none_notified (entries_of turns)
+      (lawful config _ turns (record_of config turns g.stands)
+      (record { range = g.stands.range; events = g.stands.legal })) observed none
+      (heard_client config observers turns g.stands no_stranger))

@@ -1,5 +1,5 @@
 -- Where each exchange is young, none ends by a Reset: the server rejects no request.
-use Rattle.std.proofs.Common.{◌≡◌, ◌≢◌, inl, inr, ⊎_elim, ◌≤◌, ℕ, ◌+◌, max, Bool, true, Some, None, List, [], ◌∷◌, ◌++◌}
+use Rattle.std.proofs.Common.{◌≡◌, ◌≢◌, inl, inr, ⊎_elim, ◌≤◌, ◌<◌, ℕ, ◌+◌, max, Bool, true, Some, None, List, [], ◌∷◌, ◌++◌}
 use Rattle.std.proofs.Common.{map, refl, ap, sym, subst, ◌∙◌, arith, append_assoc, Result}
 use Rattle.std.proofs.lemmas.List.{map-append}
 use Rattle.coap_types.specs.Past.{Ever, Sometime, Always, Since}
@@ -49,7 +49,7 @@ use Rattle.coap_world.specs.CameFrom.{request_of}
 use Rattle.coap_world.specs.Events.{client_end, server_end, Config}
 use Rattle.coap_world.specs.Hops.{client_asks, client_asked, client_adds, server_adds, hops_in}
 use Rattle.coap_world.specs.Record.{Entry, OfClient, OfServer, client_of, server_trace}
-use Rattle.coap_world.specs.SmoothAnswers.{max_open}
+use Rattle.coap_world.specs.Young.{max_open}
 use Rattle.coap_world.proofs.Delivery.EntriesInTime.{Every}
 use Rattle.coap_world.proofs.Delivery.HopsAreEntries.{client_asked_next, near_is, far_is}
 use Rattle.coap_world.proofs.Smoothly.ConsCarry.{request_spelled, is_request, was_message}
@@ -240,10 +240,10 @@ module _ (config : Config) where
       module _ (server : ForServer config es) (young : YoungAt config t c) (meant : Meant (OfClient c ∷ es)) (at : ℕ)
           (is_open : IsOpenSince config.client_sizes at t) (x : Sending)
           (o : OpenOf server_end config.client_sizes config.client_setup at x t)
-          (r : Runs server_end config.client_sizes config.client_setup at x t) where
-        soon : e.at ≤ at + max_open
-        soon = every_last (λ (y : L.Entry). y.at ≤ at + max_open) newest e
-            (subst (Every (λ (y : L.Entry). y.at ≤ at + max_open)) adds (young.adds at is_open))
+          (r : Runs server_end config.client_sizes config.client_setup at x t) (short : max_open config < 247000) where
+        soon : e.at ≤ at + max_open config
+        soon = every_last (λ (y : L.Entry). y.at ≤ at + max_open config) newest e
+            (subst (Every (λ (y : L.Entry). y.at ≤ at + max_open config)) adds (young.adds at is_open))
 
         by_wait : Waited server_end config.client_sizes config.client_setup r.exchange t → ⊥
         by_wait k = subst (Ever (λ z. is_to from told_here.id z ≡ true)) k.none taken.matches
@@ -279,7 +279,7 @@ module _ (config : Config) where
               bytes = bytes;
               call = ap (λ p. L.Receive p bytes) (there ∙ sym to);
               answer = answer ∙ told_here.is ∙ ap (λ z. L.Becomes (L.Reset z)) id;
-              young = omega (arith, begun_at, in_time);
+              young = omega (arith, begun_at, in_time, short);
             } in
             let given = (Always_back _ (map Near newest) (Near e ∷ hops_in config es)
             (subst (Always (λ past z. (y : L.Entry) (d : Open) → z ≡ Near y → d.to ≡ server_end → IsTold d.bytes
@@ -298,29 +298,29 @@ module _ (config : Config) where
             (by_con (has_con server_end config.client_sizes config.client_setup at x t old o)) by_wait
             (lonely server_end config.client_sizes config.client_setup at x t old r)
 
-      never : ForServer config es → YoungAt config t c → Meant (OfClient c ∷ es) → ⊥
-      never server young meant =
+      never : max_open config < 247000 → ForServer config es → YoungAt config t c → Meant (OfClient c ∷ es) → ⊥
+      never short server young meant =
           let k = (open_runs server_end config.client_sizes config.client_setup t old).is_open told_here.of.exchange
           told_here.of.runs in
           let o = open_of server_end config.client_sizes config.client_setup k.0 t old k.1 in
           let r = runs_of server_end config.client_sizes config.client_setup k.0 o.0 t old o.1 in
-          not_so server young meant k.0 k.1 o.0 o.1 r
+          not_so server young meant k.0 k.1 o.0 o.1 r short
 
-  no_reset : (es : List Entry) (c : C.Call) → Law (c ∷ client_of es) → ForServer config es → YoungAt config (client_of es) c
+  no_reset : max_open config < 247000 → (es : List Entry) (c : C.Call) → Law (c ∷ client_of es) → ForServer config es → YoungAt config (client_of es) c
       → Meant (OfClient c ∷ es) → ends_as c ≢ Some Reset
-  no_reset es (C.Feeds now from bytes w up settled (Some event_is.Reset) sent token kept) law server young meant is =
-      never es now from bytes w up settled sent token kept law server young meant
-  no_reset es (C.Ticks now w below (turn_is.End event_is.Timeout) sent token kept answer) law server young meant is = cc is
-  no_reset es _ law server young meant is = cc is
+  no_reset short es (C.Feeds now from bytes w up settled (Some event_is.Reset) sent token kept) law server young meant is =
+      never es now from bytes w up settled sent token kept law short server young meant
+  no_reset short es (C.Ticks now w below (turn_is.End event_is.Timeout) sent token kept answer) law server young meant is = cc is
+  no_reset short es _ law server young meant is = cc is
 
-  pub never_reset : (es : List Entry) → ForClient config es → ForServer config es
+  pub never_reset : max_open config < 247000 → (es : List Entry) → ForClient config es → ForServer config es
       → Always (YoungAt config) (client_of es) → Meant es → Always (λ past c. ends_as c ≢ Some Reset) (client_of es)
-  never_reset [] law server young meant = tt
-  never_reset (OfServer c ∷ es) law server young meant =
-      never_reset es (client_behind config (OfServer c ∷ []) es law) (server_behind config (OfServer c ∷ []) es server)
+  never_reset short [] law server young meant = tt
+  never_reset short (OfServer c ∷ es) law server young meant =
+      never_reset short es (client_behind config (OfServer c ∷ []) es law) (server_behind config (OfServer c ∷ []) es server)
       young (Always_back _ (map Far (server_adds config (server_trace config es) c)) (hops_in config es) meant)
-  never_reset (OfClient c ∷ es) law server young meant = (
-    no_reset es c law (server_behind config (OfClient c ∷ []) es server) young.0 meant,
-    never_reset es (client_behind config (OfClient c ∷ []) es law) (server_behind config (OfClient c ∷ []) es server)
+  never_reset short (OfClient c ∷ es) law server young meant = (
+    no_reset short es c law (server_behind config (OfClient c ∷ []) es server) young.0 meant,
+    never_reset short es (client_behind config (OfClient c ∷ []) es law) (server_behind config (OfClient c ∷ []) es server)
         young.1 (Always_back _ (map Near (client_adds config (client_of es) c)) (hops_in config es) meant),
   )

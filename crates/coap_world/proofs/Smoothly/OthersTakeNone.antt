@@ -154,6 +154,18 @@ behind_arrival to setup past (d ∷ later) now from bytes up settled event h =
     (quiet_deed (asker.own_of to setup ((later ++ A.Receive now from bytes up settled event ∷ []) ++ past)) d h.0)
     (behind_arrival to setup past later now from bytes up settled event h.1)
 
+-- a tick, and what is done for it
+behind_tick : (to : Endpoint) (setup : Setup) (past later : List A.Call) (now : ℕ) (below : L.Answer) (turn : _)
+    → Every IsDeed later
+    → Behind L.Ticks below (asked_by_client to setup past (later ++ A.Ticks now below turn ∷ []))
+behind_tick to setup past [] now below turn h = behind_last L.Ticks below [] now refl tt
+behind_tick to setup past (d ∷ later) now below turn h =
+    behind_more L.Ticks below
+    (asker_steps.lower (asker.own_of to setup ((later ++ A.Ticks now below turn ∷ []) ++ past)) d)
+    (asked_by_client to setup past (later ++ A.Ticks now below turn ∷ []))
+    (quiet_deed (asker.own_of to setup ((later ++ A.Ticks now below turn ∷ []) ++ past)) d h.0)
+    (behind_tick to setup past later now below turn h.1)
+
 module _ (to : Endpoint) (setup : Setup) (past : List A.Call) (e : Effect) (now word : ℕ) (sent : L.Answer)
     (token : Result (List ℕ) AskRefusal) (kept : Bool) where
   abbrev later : List A.Call
@@ -175,6 +187,14 @@ module _ (to : Endpoint) (setup : Setup) (past : List A.Call) (e : Effect) (now 
       subst (λ l. Behind (L.Receive from bytes) up (asked_by_client to setup past l))
       (append_assoc later first (A.Receive m from bytes up settled event ∷ []))
       (behind_arrival to setup past (later ++ first) m from bytes up settled event both_deeds)
+
+  ticked_behind : (m : ℕ) (below : L.Answer) (turn : _)
+      → Behind L.Ticks below
+      (asked_by_client to setup past (done_for e now word sent token kept (A.Ticks m below turn)))
+  ticked_behind m below turn =
+      subst (λ l. Behind L.Ticks below (asked_by_client to setup past l))
+      (append_assoc later first (A.Ticks m below turn ∷ []))
+      (behind_tick to setup past (later ++ first) m below turn both_deeds)
 
   ticked_quiet : (m : ℕ) (below : L.Answer) (turn : _)
       → Every IsQuiet (asked_by_client to setup past (done_for e now word sent token kept (A.Ticks m below turn)))
@@ -331,6 +351,15 @@ module _ (config : Config) where
       let s = client_law.own_of config.client_sizes past in
       fed_behind server_end config.client_setup (client_law.lower_of config.client_sizes past) (effect s c)
       (max s.clock now) word sent token kept (max s.clock now) from bytes up settled event
+
+  pub client_ticks : (past : List C.Call) (now word : ℕ) (below : L.Answer) (turn : _) (sent : L.Answer)
+      (token : Result (List ℕ) AskRefusal) (kept answer : Bool)
+      → Behind L.Ticks below (client_asks config past (C.Ticks now word below turn sent token kept answer))
+  client_ticks past now word below turn sent token kept answer =
+      let c : C.Call = C.Ticks now word below turn sent token kept answer in
+      let s = client_law.own_of config.client_sizes past in
+      ticked_behind server_end config.client_setup (client_law.lower_of config.client_sizes past) (effect s c)
+      (max s.clock now) word sent token kept (max s.clock now) below turn
 
   pub client_makes : (past : List C.Call) (c : C.Call)
       → Makes (ClientOut c) (client_call c) (client_up c) (client_asks config past c)

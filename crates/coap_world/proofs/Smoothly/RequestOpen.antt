@@ -128,7 +128,7 @@ module _ (server : Endpoint) (sizes : Sizes) (setup : Setup) where
     pub alone : Alone con at x t o
 
   -- what is outstanding behind a call that sends nothing was so before
-  still_open : (c : C.Call) (t : List C.Call) → ClientLaw server sizes setup (c ∷ t) → sends (own_of sizes t) c ≡ None
+  pub still_open : (c : C.Call) (t : List C.Call) → ClientLaw server sizes setup (c ∷ t) → sends (own_of sizes t) c ≡ None
       → (y : Open) → IsOpen (layer_of server sizes setup (c ∷ t)) y → IsOpen (layer_of server sizes setup t) y
   still_open c t law none y o =
       let adds = call_adds server sizes setup t c in

@@ -1,8 +1,9 @@
 -- A request of a smooth run that the server takes is answered in its acknowledgement at once, or waits.
 use Rattle.std.proofs.Common.{◌≡◌, ◌⊎◌, inl, inr, ⊎_elim, ◌≤◌, ◌<◌, ℕ, ◌+◌, true, false, Option, Some, None, List}
-use Rattle.std.proofs.Common.{[], ◌∷◌, ◌++◌, refl, ap, sym, subst, ◌∙◌, arith, append_assoc}
+use Rattle.std.proofs.Common.{[], ◌∷◌, ◌++◌, map, refl, ap, sym, subst, ◌∙◌, arith, append_assoc}
+use Rattle.std.proofs.lemmas.List.{map-append}
 use Rattle.coap_types.specs.Past.{Ever, Sometime, Always, Since}
-use Rattle.coap_types.proofs.Facts.Traces.{Ever_append, Always_back}
+use Rattle.coap_types.proofs.Facts.Traces.{Ever_append, Always_back, Sometime_back}
 use Rattle.coap_types.specs.Recognised.{lacks_critical}
 use Rattle.coap_types.specs.Roles.{role_of}
 use Rattle.coap_types.specs.declared.endpoint.Endpoint.{Endpoint}
@@ -10,9 +11,10 @@ use Rattle.coap_types.specs.declared.direction.Direction.TheVariants.{Response}
 use Rattle.coap_types.specs.declared.message.Kind.TheVariants.{Ack}
 use Rattle.coap_types.specs.declared.role.Role.TheVariants as role
 use Rattle.coap_codec.specs.Message.{Message, Spells}
-use Rattle.coap_layer.specs.Channel.{OnFar, Takes, RepliesTo, RepliesSo}
+use Rattle.coap_layer.specs.Channel.{Hop, Near, Far, far_of, OnFar, OnFarThen, Takes, RepliesTo, RepliesSo}
+use Rattle.coap_layer.specs.EmptyMessages.{ack_bytes}
 use Rattle.coap_layer.specs.Rows.{Stands as Stands_in, LayerLaw}
-use Rattle.coap_layer.specs.Taking.{TakesWithin}
+use Rattle.coap_layer.specs.Taking.{TakesWithin, EndsWithin}
 use Rattle.coap_layer.specs.Trace as L
 use Rattle.coap_layer.specs.Trace.{with_head}
 use Rattle.coap_layer.specs.Words.{Open, handed, handed_in}
@@ -24,7 +26,8 @@ use Rattle.coap_client.specs.Follows.Begins.{WasSent}
 use Rattle.coap_client.specs.Follows.Words.{Sending}
 use Rattle.coap_server.specs.Asks.{lower}
 use Rattle.coap_server.specs.Checks.{verdict_on}
-use Rattle.coap_server.specs.Follows.Attended.{came_in, AllHandedOn, WaitsToAsk, AnswersIt, IsIgnored}
+use Rattle.coap_common.proofs.Facts.AskerReplies.{empty_of, ack_spells}
+use Rattle.coap_server.specs.Follows.Attended.{came_in, AllHandedOn, MakesWait, WaitsToAsk, AnswersIt, IsIgnored}
 use Rattle.coap_server.specs.Follows.Brings.{Comes, HandsUp}
 use Rattle.coap_server.specs.Follows.GoesOut.{responds_with, Sends}
 use Rattle.coap_server.specs.Follows.SentAs.{ack_with, InAck}
@@ -40,8 +43,9 @@ use Rattle.coap_world.specs.Legal.{IsConfig}
 use Rattle.coap_world.specs.Record.{Entry, OfClient, OfServer, client_of, server_trace}
 use Rattle.coap_world.specs.Smooth.{max_age}
 use Rattle.coap_world.proofs.Delivery.EntriesInTime.{Every}
-use Rattle.coap_world.proofs.Delivery.HopsAreEntries.{server_layer, server_next}
+use Rattle.coap_world.proofs.Delivery.HopsAreEntries.{server_layer, server_next, far_far, far_is}
 use Rattle.coap_world.proofs.Requests.OfACall.{Lawful, lawful_back}
+use Rattle.coap_world.proofs.Smoothly.EmptyAck.{acknowledged}
 use Rattle.coap_world.proofs.Smoothly.HandedAs.{as_request}
 use Rattle.coap_world.proofs.Smoothly.OnTime.{OnTime, every_last}
 use Rattle.coap_world.proofs.Smoothly.OthersTakeNone.{IsSilent}
@@ -126,6 +130,10 @@ module _ (config : Config) where
     pub sent : WasSent config.client_sizes sending (client_of past)
     pub same : sending.token ≡ x.token
 
+  abbrev pub IsReplied : Open → Sending → List Entry → Entry → Type 0
+  IsReplied con x past (OfClient c) = ⊥
+  IsReplied con x past (OfServer c) = RepliedAt con x past c
+
   abbrev pub ComesTo : Open → Sending → List Entry → Entry → Type 0
   ComesTo con x past (OfClient c) = ⊥
   ComesTo con x past (OfServer c) = RepliedAt con x past c ⊎ WaitsAt config (con.first + max_age) x past c
@@ -207,22 +215,15 @@ module _ (config : Config) where
           last [] h = inl h
           last (y ∷ l) h = inr (last l h)
 
-      -- a response in its acknowledgement
-      module _ (r : R.Response) (sends : Sends config.limits config.server_szx t c a r) (reply : L.Entry)
-          (mem : Ever (λ y. y ≡ reply) (server_adds config t c)) (ack : InAck a r reply) where
-        response : IsResponse a r
-        response = response_in (lower (own_of config.limits config.server_szx t) c)
-            (lower_of config.limits config.server_szx t) a r law.server.exchanges.rows sends
-
-        small : con.id < 65536
-        small = spells.id
-
+      -- a reply to it
+      module _ (bytes : List ℕ) (reply : L.Entry) (mem : Ever (λ y. y ≡ reply) (server_adds config t c))
+          (call : reply.call ≡ L.Reply client_end con.id bytes) where
         among : Ever (λ y. y ≡ reply) at.later
         among = ⊎_elim (λ w. w) (λ w. absurd (not_last w))
             (Ever_append (λ y. y ≡ reply) at.later (e ∷ []) (subst (Ever (λ y. y ≡ reply)) at.adds mem))
           where
             not_last : Ever (λ y. y ≡ reply) (e ∷ []) → ⊥
-            not_last (inl w) = let k = sym takes.takes.call ∙ ap (λ (y : L.Entry). y.call) w ∙ ack.call in cc k
+            not_last (inl w) = let k = sym takes.takes.call ∙ ap (λ (y : L.Entry). y.call) w ∙ call in cc k
             not_last (inr w) = w
 
         between : PartsAt reply at.later
@@ -242,16 +243,71 @@ module _ (config : Config) where
             let so = (Always_back RepliesSo between.newer (reply ∷ (between.older ++ (e ∷ server_layer config t)))
             (subst (Always RepliesSo) all
             (server_facts.replies config.limits config.server_szx config.server_setup (c ∷ t) law.server))).0 in
-            let k = so a.from a.id.0 (ack_with a r) ack.call in
+            let k = so client_end con.id bytes call in
             sym (since_first (λ h. (handed h ≡ Some k.to_what) × (h.at ≡ reply.at)) between.older (server_layer config t) e
             silent (λ y z none. (let w = sym none ∙ z.0 in cc w)) is_handed k.latest).1
+
+        added : server_adds config t c ≡ between.newer ++ reply ∷ (between.older ++ e ∷ [])
+        added = at.adds ∙ ap (λ l. l ++ e ∷ []) between.is
+            ∙ append_assoc between.newer (reply ∷ between.older) (e ∷ [])
+
+        replies : RepliesTo client_end con bytes ((between.older ++ e ∷ []) ++ server_layer config t) reply
+        replies = subst (λ l. RepliesTo client_end con bytes l reply)
+            (sym (append_assoc between.older (e ∷ []) (server_layer config t)))
+            (record {
+              call = call;
+              to_it = since_behind (λ y. Takes client_end con y × (y.at ≡ reply.at)) between.older
+                  (e ∷ server_layer config t) silent (inl (takes.takes, sym at_once));
+            })
+
+      small : con.id < 65536
+      small = spells.id
+
+      -- an Empty acknowledgement
+      ended : (reply : L.Entry) (mem : Ever (λ y. y ≡ reply) (server_adds config t c))
+          → reply.call ≡ L.Reply client_end con.id (ack_bytes con.id) → (hs : List Hop)
+          → far_of hs ≡ server_layer config t
+          → Sometime (OnFarThen (EndsWithin max_age client_end con)) (map Far (server_adds config t c) ++ hs)
+      ended reply mem call hs far =
+          let b = between (ack_bytes con.id) reply mem call in
+          let when = at_once (ack_bytes con.id) reply mem call in
+          let soon = takes.soon in
+          let is : map Far (server_adds config t c) ++ hs
+          ≡ map Far b.newer ++ (Far reply ∷ (map Far (b.older ++ e ∷ []) ++ hs)) =
+          ap (λ l. map Far l ++ hs) (added (ack_bytes con.id) reply mem call)
+          ∙ (ap (λ l. l ++ hs) (map-append Far b.newer (reply ∷ (b.older ++ e ∷ [])))
+          ∙ append_assoc (map Far b.newer) (map Far (reply ∷ (b.older ++ e ∷ []))) hs) in
+          subst (Sometime (OnFarThen (EndsWithin max_age client_end con))) (sym is)
+          (Sometime_back (OnFarThen (EndsWithin max_age client_end con)) (map Far b.newer)
+          (Far reply ∷ (map Far (b.older ++ e ∷ []) ++ hs)) (inl (record {
+            bytes = ack_bytes con.id;
+            replies = subst (λ l. RepliesTo client_end con (ack_bytes con.id) l reply)
+                (ap (λ l. (b.older ++ e ∷ []) ++ l) (sym far) ∙ sym (far_far (b.older ++ e ∷ []) hs))
+                (replies (ack_bytes con.id) reply mem call);
+            ends = record {
+              message = empty_of Ack con.id;
+              spells = ack_spells con.id small;
+              id = refl;
+              empty = refl;
+              kind = inl refl;
+            };
+            soon = omega (arith, when, soon);
+          })))
+
+      -- a response in its acknowledgement
+      module _ (r : R.Response) (sends : Sends config.limits config.server_szx t c a r) (reply : L.Entry)
+          (mem : Ever (λ y. y ≡ reply) (server_adds config t c)) (ack : InAck a r reply) where
+        response : IsResponse a r
+        response = response_in (lower (own_of config.limits config.server_szx t) c)
+            (lower_of config.limits config.server_szx t) a r law.server.exchanges.rows sends
 
         replied : Lawful config (OfServer c ∷ past) → RepliedAt con x past c
         replied same_law =
             let from = law.came.0 a (verdict_on config.server_szx n) comes refl in
             let understood = (server_facts.recognised config.limits config.server_szx config.server_setup (c ∷ t) law.server
             range.server_szx range.server_limit.1).0.responses a r sends in
-            let when = at_once in
+            let b = between (ack_with a r) reply mem ack.call in
+            let when = at_once (ack_with a r) reply mem ack.call in
             let soon = takes.soon in
             record {
               message = with_head Ack con.id (content_of a r);
@@ -262,20 +318,13 @@ module _ (config : Config) where
               id = refl;
               token = refl;
               understood = understood;
-              newer = between.newer;
-              older = between.older ++ e ∷ [];
+              newer = b.newer;
+              older = b.older ++ e ∷ [];
               reply = reply;
-              adds = at.adds ∙ ap (λ l. l ++ e ∷ []) between.is
-                  ∙ append_assoc between.newer (reply ∷ between.older) (e ∷ []);
+              adds = added (ack_with a r) reply mem ack.call;
               out = ack.out;
               soon = omega (arith, when, soon);
-              replies = subst (λ l. RepliesTo client_end con (ack_with a r) l reply)
-                  (sym (append_assoc between.older (e ∷ []) (server_layer config t)))
-                  (record {
-                    call = ack.call;
-                    to_it = since_behind (λ y. Takes client_end con y × (y.at ≡ reply.at)) between.older
-                        (e ∷ server_layer config t) silent (inl (takes.takes, sym at_once));
-                  });
+              replies = replies (ack_with a r) reply mem ack.call;
               sending = from.sending;
               sent = from.sent;
               same = sym (ap (λ (z : Asked). z.token) from.asked);
@@ -293,6 +342,44 @@ module _ (config : Config) where
           client_end con.bytes takes.takes.call in
           let soon = takes.soon in
           omega (arith, till, soon)
+
+      -- answered in its acknowledgement, or acknowledged by an Empty message
+      replied_or_ended : RepliedAt con x past c ⊎ ((hs : List Hop) → far_of hs ≡ server_layer config t
+          → Sometime (OnFarThen (EndsWithin max_age client_end con)) (map Far (server_adds config t c) ++ hs))
+      replied_or_ended = by ((server_facts.attended config.limits config.server_szx config.server_setup (c ∷ t) law.server).0
+          (a, n) came_is)
+        where
+          found : (P : L.Entry → Type 0) (xs : List L.Entry) → Ever P xs → (y : L.Entry) × Ever (λ z. z ≡ y) xs × P y
+          found P [] h = absurd h
+          found P (y ∷ xs) (inl h) = (y, inl refl, h)
+          found P (y ∷ xs) (inr h) = let k = found P xs h in (k.0, inr k.1, k.2)
+
+          fed_is : c ≡ S.Feeds at.fed.now client_end con.bytes at.fed.word (L.Becomes (L.Request n true)) (Some (a, n))
+              at.fed.handling at.fed.below
+          fed_is = fed ∙ ap (λ o. S.Feeds at.fed.now client_end con.bytes at.fed.word (L.Becomes (L.Request n true)) o
+              at.fed.handling at.fed.below) came
+
+          by : AnswersIt config.limits config.server_szx t c a
+              ⊎ (WaitsToAsk config.limits config.server_szx t c (a, n) ⊎ IsIgnored n)
+              → RepliedAt con x past c ⊎ ((hs : List Hop) → far_of hs ≡ server_layer config t
+              → Sometime (OnFarThen (EndsWithin max_age client_end con)) (map Far (server_adds config t c) ++ hs))
+          by (inl answers) =
+              let out = (server_facts.goes_out config.limits config.server_szx config.server_setup (c ∷ t) law.server).0
+              in
+              let r = out.answers a answers in
+              let sent = (server_facts.sent_as config.limits config.server_szx config.server_setup (c ∷ t) law.server).0 in
+              let w = found (InAck a r.0) (server_adds config t c) (sent.at_once a r.0 hands_it refl r.1) in
+              inl (replied r.0 r.1 w.0 w.1 w.2 law)
+          by (inr (inl waits)) =
+              let acks = acknowledged config t at.fed.now client_end con.bytes at.fed.word (L.Becomes (L.Request n true)) (a, n)
+              at.fed.below at.fed.handling waits.question
+              (subst (λ d. MakesWait config.limits config.server_szx t d a waits.question) fed_is waits.waits)
+              (subst (λ d. ServerLaw config.limits config.server_szx config.server_setup (d ∷ t)) fed_is law.server) in
+              let w = found (λ (y : L.Entry). y.call ≡ L.Reply client_end con.id (ack_bytes con.id)) (server_adds config t c)
+              (subst (λ d. Ever (λ (y : L.Entry). y.call ≡ L.Reply client_end con.id (ack_bytes con.id))
+              (server_adds config t d)) (sym fed_is) acks) in
+              inr (λ hs far. ended w.0 w.1 w.2 hs far)
+          by (inr (inr ignored)) = absurd (ignored.kind refl)
 
       attended : OnTime config t c → ComesTo con x past (OfServer c)
       attended on = by ((server_facts.attended config.limits config.server_szx config.server_setup (c ∷ t) law.server).0
@@ -323,6 +410,36 @@ module _ (config : Config) where
 
     abbrev Taken : L.Entry → Type 0
     Taken e = TakesWithin max_age client_end con e
+
+    abbrev Ended : List Hop → Type 0
+    Ended hs = Sometime (OnFarThen (EndsWithin max_age client_end con)) hs
+
+    -- it is answered in its acknowledgement, or that is Empty
+    pub request_acknowledged : (es : List Entry) → Lawful config es → Ever (OnFar Taken) (hops_in config es)
+        → Sometime (IsReplied con x) es ⊎ Ended (hops_in config es)
+    request_acknowledged [] law h = absurd h
+    request_acknowledged (OfClient c ∷ past) law h =
+        ⊎_elim (λ l. absurd (no_far Taken (client_adds config (client_of past) c) l))
+        (λ r. ⊎_elim (λ k. inl (inr k))
+        (λ k. inr (Sometime_back (OnFarThen (EndsWithin max_age client_end con))
+        (map Near (client_adds config (client_of past) c)) (hops_in config past) k))
+        (request_acknowledged past (lawful_back config past (OfClient c) law) r))
+        (Ever_append (OnFar Taken) (hops_at config past (OfClient c)) (hops_in config past) h)
+    request_acknowledged (OfServer c ∷ past) law h =
+        ⊎_elim here
+        (λ r. ⊎_elim (λ k. inl (inr k))
+        (λ k. inr (Sometime_back (OnFarThen (EndsWithin max_age client_end con))
+        (map Far (server_adds config (trace past) c)) (hops_in config past) k))
+        (request_acknowledged past (lawful_back config past (OfServer c) law) r))
+        (Ever_append (OnFar Taken) (hops_at config past (OfServer c)) (hops_in config past) h)
+      where
+        here : Ever (OnFar Taken) (hops_at config past (OfServer c))
+            → Sometime (IsReplied con x) (OfServer c ∷ past) ⊎ Ended (hops_in config (OfServer c ∷ past))
+        here w =
+            let k = far_found Taken _ w in
+            ⊎_elim (λ r. inl (inl r)) (λ f. inr (f (hops_in config past) (far_is config past)))
+            (replied_or_ended past c law k.0 k.2 (at_server config (trace past) c
+            (law.server.exchanges.left, law.server.exchanges.layer) client_end con.bytes k.0 k.1 k.2.takes.call))
 
     pub request_taken : (es : List Entry) → Lawful config es → Always (OnTime config) (server_trace config es)
         → Ever (OnFar Taken) (hops_in config es) → Sometime (ComesTo con x) es

@@ -1,25 +1,22 @@
 -- A request that had to wait waits still, or a tick answered it.
 use Rattle.std.proofs.Common.{◌≡◌, ◌⊎◌, inl, inr, ⊎_elim, ◌≤◌, ℕ, max, List, [], ◌∷◌, sym, subst, refl}
-use Rattle.std.specs.List.{All}
 use Rattle.coap_types.specs.Past.{Ever, Sometime}
 use Rattle.coap_types.proofs.Facts.Traces.{Ever_back}
 use Rattle.coap_client.specs.Follows.Words.{Sending}
 use Rattle.coap_server.specs.Follows.Waits.{WaitsStill}
 use Rattle.coap_server.specs.Law.{own_of}
 use Rattle.coap_server.specs.Trace as S
-use Rattle.coap_server.specs.Trace.{Delay, Waiting}
+use Rattle.coap_server.specs.Trace.{Waiting}
 use Rattle.coap_server.proofs.Facts.EachCall.{behind}
 use Rattle.coap_server.proofs.Facts.Laws as server_facts
 use Rattle.coap_world.specs.AtOnce.{WaitsAt, WaitsIn, TickAnswers, WaitedIn}
 use Rattle.coap_world.specs.Events.{client_end, Config}
 use Rattle.coap_world.specs.Record.{Entry, OfClient, OfServer, server_trace}
-use Rattle.coap_world.specs.Smooth.{max_delay}
 use Rattle.coap_world.proofs.Delivery.EntriesInTime.{Every}
-use Rattle.coap_world.proofs.Smoothly.DelaysAreShort.{SetsNone, short}
+use Rattle.coap_world.proofs.Smoothly.DelaysAreShort.{SetsNone, IsAmong, among_delays}
 use Rattle.coap_world.proofs.Smoothly.Standing.{ForServer, server_behind}
 
-module _ (config : Config) (delays : All (λ (d : Delay). d.ms ≤ max_delay) config.delays)
-    (when : ℕ) (x : Sending) where
+module _ (config : Config) (when : ℕ) (x : Sending) where
   abbrev Still : Waiting → List Entry → Type 0
   Still w es = WaitsStill config.limits config.server_szx w (server_trace config es)
 
@@ -29,7 +26,7 @@ module _ (config : Config) (delays : All (λ (d : Delay). d.ms ≤ max_delay) co
     pub from : waiting.asked.from ≡ client_end
     pub token : waiting.asked.token ≡ x.token
     pub since : waiting.at ≤ when
-    pub delay : waiting.delay ≤ max_delay
+    pub delay : IsAmong waiting.delay config.delays
     pub waits : Still waiting es ⊎ Sometime (WaitedIn config waiting) es
 
   begins : (past : List Entry) (c : S.Call) → Every SetsNone past → WaitsAt config when x past c → WaitsNow (OfServer c ∷ past)
@@ -47,7 +44,7 @@ module _ (config : Config) (delays : All (λ (d : Delay). d.ms ≤ max_delay) co
         from = k.from;
         token = k.token;
         since = k.soon;
-        delay = short config delays past none k.waits.question.path k.waits.waits.delay
+        delay = among_delays config past none k.waits.question.path k.waits.waits.delay
             ((server_facts.delays_stay config.limits config.server_szx (server_trace config past)).given
             k.waits.question.path k.waits.waits.delay k.waits.waits.has_to.has_delay);
         waits = inl (subst (Ever (λ y. y ≡ w)) (sym k.waits.waits.behind) (Ever_back (λ y. y ≡ w) before (w ∷ []) (inl refl)));

@@ -1,9 +1,8 @@
 -- Where at each tick of the server a Message ID is free, and nothing is observed, no exchange of a smooth run is open for
--- more than 20,000 ms.
+-- longer than a request may have to wait, and 2,999 ms.
 use Rattle.std.proofs.Common.{◌≡◌, ◌⊎◌, inl, inr, ⊎_elim, ◌≤◌, ◌<◌, ℕ, ◌+◌, ◌-◌, max, Bool, true, false, Some, List}
 use Rattle.std.proofs.Common.{[], ◌∷◌, ◌++◌, refl, ap, sym, subst, ◌∙◌, arith, append_assoc}
 use Rattle.std.proofs.Math.Decide.{dec_le}
-use Rattle.std.specs.List.{All}
 use Rattle.coap_types.specs.Past.{Ever, Sometime, Always}
 use Rattle.coap_types.proofs.Facts.Endpoints.{same_endpoint_is}
 use Rattle.coap_types.proofs.Facts.Traces.{Ever_back, Ever_front}
@@ -29,7 +28,7 @@ use Rattle.coap_server.specs.Follows.Observes.{AreObservers}
 use Rattle.coap_server.specs.Follows.Waits.{WaitsStill}
 use Rattle.coap_server.specs.Law.{ServerLaw, own_of}
 use Rattle.coap_server.specs.Trace as S
-use Rattle.coap_server.specs.Trace.{Delay, Waiting}
+use Rattle.coap_server.specs.Trace.{Waiting}
 use Rattle.coap_server.proofs.Facts.Laws as server_facts
 use Rattle.coap_world.specs.AtOnce.{WaitedIn, LastWaits}
 use Rattle.coap_world.specs.Events.{client_end, server_end, Config, TickServer}
@@ -38,8 +37,8 @@ use Rattle.coap_world.specs.Hops.{hops_of, server_adds}
 use Rattle.coap_world.specs.Legal.{IsConfig, AllLegal}
 use Rattle.coap_world.specs.Record.{Entry, OfClient, OfServer, Turn, entries_of, client_of, server_trace}
 use Rattle.coap_world.specs.Separate.{CarriesAnswer}
-use Rattle.coap_world.specs.Smooth.{max_age, max_delay, TakesNoObservation}
-use Rattle.coap_world.specs.SmoothAnswers.{max_open, AreYoung}
+use Rattle.coap_world.specs.Smooth.{max_age, TakesNoObservation}
+use Rattle.coap_world.specs.Young.{longest, max_open, AreYoung}
 use Rattle.coap_world.specs.TicksLeave.{LeavesNone, TicksThen}
 use Rattle.coap_world.proofs.Delivery.HopsAreAChannel as joined
 use Rattle.coap_world.proofs.Delivery.HopsAreEntries.{server_layer, server_next, far_is}
@@ -48,7 +47,9 @@ use Rattle.coap_world.proofs.Smoothly.AtOnce.{Laws, last_waits}
 use Rattle.coap_world.proofs.Smoothly.ByAnswers.{by_answers}
 use Rattle.coap_world.proofs.Smoothly.ConsOfOpen.{OpensAlone, calls_before, of_each, until, alone_before, opened_before}
 use Rattle.coap_world.proofs.Smoothly.ConsOfOpen.{carries_now, carries_since, first_until}
+use Rattle.coap_world.proofs.Smoothly.DelaysAreShort.{no_longer, over_a_second, with_longest, two_at_least}
 use Rattle.coap_world.proofs.Smoothly.ExchangeOpen.{OpenOf, open_of, open_since, last_of}
+use Rattle.coap_world.proofs.Smoothly.NoTimeout.{no_timeouts}
 use Rattle.coap_world.proofs.Smoothly.RequestOpen.{open_was_begun}
 use Rattle.coap_world.proofs.Smoothly.SeparateEnds.{ends_here}
 use Rattle.coap_world.proofs.Smoothly.Standing.{Stands, before, record_of, ForServer, server_behind}
@@ -103,9 +104,9 @@ open_to to t busy = found (outstanding t) busy (λ c h. h)
     }
     found (c ∷ cs) (inr h) lift = found cs h (λ y k. lift y (inr k))
 
-passed : (clock now delay since at : ℕ) → since ≤ at + max_age → delay ≤ max_delay → at + max_delay + max_age ≤ now
+passed : (clock now delay most since at : ℕ) → since ≤ at + max_age → delay ≤ most → at + most + max_age ≤ now
     → delay ≤ max clock now - since
-passed clock now delay since at h k l = omega (arith, h, k, l)
+passed clock now delay most since at h k l = omega (arith, h, k, l)
 
 -- what calls add to the trace of the message layer
 pub front_of : (config : Config) (cs t : List S.Call)
@@ -119,7 +120,11 @@ front_of config (c ∷ cs) t =
     )
 
 module _ (config : Config) (range : IsConfig config) (needs : YoungLaws)
-    (delays : All (λ (d : Delay). d.ms ≤ max_delay) config.delays) where
+    (short : max_open config < 247000) where
+  -- how long a request may have to wait
+  abbrev most : ℕ
+  most = longest config.delays
+
   observers : (t : List S.Call) → AreObservers config.limits config.server_szx t
   observers t = needs.observers config.limits config.server_szx t
 
@@ -186,7 +191,7 @@ module _ (config : Config) (range : IsConfig config) (needs : YoungLaws)
 
   -- a tick of the server behind the end of the delay, where the exchange is still open
   module _ (turn tick : Turn) (past : List Turn) (g : Goes config (turn ∷ tick ∷ past)) (at : ℕ) (x : Sending)
-      (alone : Alone at x (tick ∷ past)) (late : at + max_delay + max_age ≤ tick.event.at)
+      (alone : Alone at x (tick ∷ past)) (late : at + most + max_age ≤ tick.event.at)
       (what : tick.event.what ≡ TickServer) (ids : HasIds config (tick ∷ past)) where
     abbrev es : List Entry
     es = entries_of (tick ∷ past)
@@ -262,11 +267,11 @@ module _ (config : Config) (range : IsConfig config) (needs : YoungLaws)
                 | yes old ↦ absurd (old_is_over (omega (arith, old)) was)
                 | no young ↦ answers_by o.con there
                     (carries_since config range observers at x o.con o.there (tick ∷ past) g_tick.stands
-                    (omega (arith, young, late)) alone there)
+                    (let least = over_a_second config.delays in omega (arith, young, late, least)) alone there)
               ]
 
     -- nothing waits behind it, unless a CON is outstanding
-    waits_no_more : (w : Waiting) → w.asked.from ≡ client_end → w.at ≤ at + max_age → w.delay ≤ max_delay
+    waits_no_more : (w : Waiting) → w.asked.from ≡ client_end → w.at ≤ at + max_age → w.delay ≤ most
         → WaitsStill config.limits config.server_szx w t → Answers x tick.event.at (tick ∷ past)
     waits_no_more w from since delay still =
         by l.none (busy_or_not w.asked.from (outstanding (server_layer config (l.ticks ++ server_trace config (entries_of past)))))
@@ -291,16 +296,16 @@ module _ (config : Config) (range : IsConfig config) (needs : YoungLaws)
             absurd (of_each (λ y. CanAnswer config.limits config.server_szx config.server_setup (l.ticks ++ server_trace config (entries_of past))
             tick.event.at y → ⊥) w (own_of config.limits config.server_szx (l.ticks ++ server_trace config (entries_of past))).waiting none waited
             (record {
-              passed = passed (own_of config.limits config.server_szx (l.ticks ++ server_trace config (entries_of past))).clock tick.event.at w.delay w.at at since delay
+              passed = passed (own_of config.limits config.server_szx (l.ticks ++ server_trace config (entries_of past))).clock tick.event.at w.delay most w.at at since delay
                   late;
               alone = free;
             }))
 
     at_tick : Always (λ p c. TakesNoObservation c) (client_of es) → Answers x tick.event.at (tick ∷ past)
     at_tick none =
-        by (last_waits config needs.laws delays turn (tick ∷ past) g none at
+        by (last_waits config needs.laws turn (tick ∷ past) g none at
         (open_since server_end config.client_sizes config.client_setup at x (client_of es) alone.is_open)
-        (let later_than = g.stands.legal.0.later in omega (arith, later_than, late)))
+        (let later_than = g.stands.legal.0.later in let least = over_a_second config.delays in omega (arith, later_than, late, least)))
       where
         by : LastWaits config at (tick ∷ past) → Answers x tick.event.at (tick ∷ past)
         by k =
@@ -308,14 +313,14 @@ module _ (config : Config) (range : IsConfig config) (needs : YoungLaws)
             sym k.last ∙ last_of server_end config.client_sizes config.client_setup at x (client_of es) alone.is_open in
             let same : k.sending ≡ x = cc both in
             let token = k.token ∙ ap (λ (z : Sending). z.token) same in
-            ⊎_elim (λ still. waits_no_more k.waiting k.from k.since k.delay still)
+            ⊎_elim (λ still. waits_no_more k.waiting k.from k.since (no_longer k.waiting.delay config.delays k.delay) still)
             (λ answered. (let r = tick_began x k.waiting es g_tick.stands.server k.from token answered in
             answers_by r.con r.begun_there r.carries))
             k.waits
 
   -- what is behind a tick is no earlier
-  ticked_since : (at : ℕ) (turn : Turn) (past : List Turn) → Ever (TicksThen (at + max_delay + max_age)) past
-      → AllLegal (turn ∷ past) → at + max_delay + max_age ≤ turn.event.at
+  ticked_since : (at : ℕ) (turn : Turn) (past : List Turn) → Ever (TicksThen (at + most + max_age)) past
+      → AllLegal (turn ∷ past) → at + most + max_age ≤ turn.event.at
   ticked_since at turn [] h legal = absurd h
   ticked_since at turn (u ∷ past) (inl k) legal =
       let from = k.from in let order = legal.0.later in omega (arith, from, order)
@@ -325,8 +330,8 @@ module _ (config : Config) (range : IsConfig config) (needs : YoungLaws)
   -- the tick is found
   find : (turn : Turn) (past : List Turn) → Goes config (turn ∷ past) → HasIds config past
       → Always (λ p c. TakesNoObservation c) (client_of (entries_of past)) → (at : ℕ) (x : Sending) → Alone at x past
-      → Ever (TicksThen (at + max_delay + max_age)) past
-      → Answers x (at + max_delay + max_age + max_age + max_age) past
+      → Ever (TicksThen (at + most + max_age)) past
+      → Answers x (at + most + 1999) past
   find turn [] g ids none at x alone h = absurd h
   find turn (tick ∷ past) g ids none at x alone (inl h) =
       let k = at_tick turn tick past g at x alone h.from h.what ids none in
@@ -361,31 +366,35 @@ module _ (config : Config) (range : IsConfig config) (needs : YoungLaws)
     s_past : Stands config past
     s_past = before config turn past g.stands
 
-    too_old : at + max_open < turn.event.at → ⊥
+    too_old : at + max_open config < turn.event.at → ⊥
     too_old late =
+        let two = two_at_least config.delays in
+        let waits = last_waits config needs.laws turn past g none at is_open (omega (arith, late, two)) in
+        let is = with_longest waits.waiting.delay config.delays waits.delay in
         let k = open_of server_end config.client_sizes config.client_setup at calls s_past.client is_open in
         let x : Sending = k.0 in
         let alone : Alone at x past = record {
           observed = needs.laws.observed server_end config.client_sizes config.client_setup calls s_past.client;
           none = none;
           of_open = needs.hears server_end config.client_sizes config.client_setup calls s_past.client;
-          ends = by_answers config past s_past older
+          ends = by_answers config short past s_past older
+              (no_timeouts config needs.laws needs.in_time past (goes_before config turn past g) none)
               (needs.in_time server_end config.client_sizes config.client_setup calls s_past.client)
               (needs.resets config.client_setup config.server_setup client_end server_end (hops_of config past)
               (joined.channel config _ past (record_of config past s_past) s_past.legal));
           is_open = k.1;
         } in
-        let ticks = (ticks_in_time (turn ∷ past) g.stands.legal g.stands.goes).0 (at + max_delay + max_age)
-        (began_in past s_past at x k.1 (at + max_delay + max_age) (omega arith)) (omega (arith, late)) in
+        let ticks = (ticks_in_time (turn ∷ past) g.stands.legal g.stands.goes).0 (at + most + max_age)
+        (began_in past s_past at x k.1 (at + most + max_age) (omega arith)) (omega (arith, late, is)) in
         let r = find turn past g ids none at x alone ticks in
         let soon = r.soon in
         ends_here config needs.laws turn past g none at is_open x
         (last_of server_end config.client_sizes config.client_setup at x calls k.1) r.con
         (subst (Ever (λ b. begun b ≡ Some r.con)) (sym (far_is config (entries_of past))) r.begun_there) r.carries
-        (omega (arith, soon, late))
+        (omega (arith, soon, late, is))
 
-    is_young : turn.event.at ≤ at + max_open
-    is_young = elim (dec_le turn.event.at (at + max_open)) [
+    is_young : turn.event.at ≤ at + max_open config
+    is_young = elim (dec_le turn.event.at (at + max_open config)) [
       | yes h ↦ h
       | no h ↦ absurd (too_old (omega (arith, h)))
     ]

@@ -12,7 +12,7 @@ use Rattle.coap_server.specs.Trace as S
 use Rattle.coap_world.specs.Events.{Config}
 use Rattle.coap_world.specs.Hops.{client_adds}
 use Rattle.coap_world.specs.Record.{Turn, entries_of, client_of}
-use Rattle.coap_world.specs.SmoothAnswers.{max_open, AreYoung}
+use Rattle.coap_world.specs.Young.{max_open, AreYoung}
 use Rattle.coap_world.proofs.Delivery.ClientInTime as client
 use Rattle.coap_world.proofs.Delivery.EntriesInTime.{Every, every_map, Timely}
 use Rattle.coap_world.proofs.Delivery.OneEndATurn.{ClientTurn, ServerTurn, client_client, client_server}
@@ -37,17 +37,17 @@ opened_in sizes t at (c ∷ cs) past h (inl b) = inl (began_at sizes t at (cs ++
 opened_in sizes t at (c ∷ cs) past h (inr o) = opened_in sizes t at cs past h.1 o.2
 
 module _ (config : Config) where
-  -- No exchange that is open as the call is made began more than 20,000 ms before it.
+  -- No exchange that is open as the call is made began so many ms before it, and more.
   pub record YoungAt (past : List C.Call) (c : C.Call) : Type 0 where
     pub moment : (at : ℕ) → IsOpenSince config.client_sizes at past
-        → moment_of (own_of config.client_sizes past) c ≤ at + max_open
+        → moment_of (own_of config.client_sizes past) c ≤ at + max_open config
     pub adds : (at : ℕ) → IsOpenSince config.client_sizes at past
-        → Every (λ (e : L.Entry). e.at ≤ at + max_open) (client_adds config past c)
+        → Every (λ (e : L.Entry). e.at ≤ at + max_open config) (client_adds config past c)
 
   -- the calls of a turn, at whose event each exchange that is open is young
   module _ (t : ℕ) (past : List C.Call)
-      (young : (at : ℕ) → IsOpenSince config.client_sizes at past → t ≤ at + max_open) where
-    aged : (at : ℕ) → (t ≤ at) ⊎ IsOpenSince config.client_sizes at past → t ≤ at + max_open
+      (young : (at : ℕ) → IsOpenSince config.client_sizes at past → t ≤ at + max_open config) where
+    aged : (at : ℕ) → (t ≤ at) ⊎ IsOpenSince config.client_sizes at past → t ≤ at + max_open config
     aged at (inl h) = omega (arith, h)
     aged at (inr h) = young at h
 
@@ -61,7 +61,7 @@ module _ (config : Config) where
               let old = aged since (opened_in config.client_sizes t since cs past at.1 o) in
               omega (arith, old, till));
           adds = λ since o. (let old = aged since (opened_in config.client_sizes t since cs past at.1 o) in
-              every_map (Timely t (client.Fed c)) (λ (e : L.Entry). e.at ≤ since + max_open)
+              every_map (Timely t (client.Fed c)) (λ (e : L.Entry). e.at ≤ since + max_open config)
               (λ e k. (let z = k.till in omega (arith, z, old))) (client_adds config (cs ++ past) c)
               (client.adds_timely config t (cs ++ past) c by at.0));
         }

@@ -23,7 +23,7 @@ use Rattle.coap_server.proofs.Facts.Laws as server_facts
 use Rattle.coap_world.specs.Events.{client_end, server_end, Config, TickServer}
 use Rattle.coap_world.specs.Hops.{hops_of, across, server_asked}
 use Rattle.coap_world.specs.Record.{Entry, OfClient, OfServer, Turn, entries_of, server_trace}
-use Rattle.coap_world.specs.Smooth.{max_age, most_that_come}
+use Rattle.coap_world.specs.Smooth.{max_age, most_that_come, NoStranger}
 use Rattle.coap_world.proofs.Delivery.ChannelAcross.{channel_across}
 use Rattle.coap_world.proofs.Delivery.EntriesInTime.{Every, every_map}
 use Rattle.coap_world.proofs.Delivery.HopsAreAChannel as joined
@@ -72,7 +72,8 @@ turns_later config (turn ∷ newer) older =
       l.1 ∙ (ap (λ t. l.0 ++ t) k.1 ∙ sym (append_assoc l.0 k.0 (server_trace config (entries_of older)))),
     )
 
-module _ (config : Config) (laws : IdLaws) (turn : Turn) (past : List Turn) (g : Goes config (turn ∷ past)) where
+module _ (config : Config) (laws : IdLaws) (turn : Turn) (past : List Turn) (g : Goes config (turn ∷ past))
+    (none : NoStranger past) where
   old : Goes config past
   old = goes_before config turn past g
 
@@ -83,7 +84,7 @@ module _ (config : Config) (laws : IdLaws) (turn : Turn) (past : List Turn) (g :
       (laws.nons config.server_setup config.client_setup server_end client_end (across hops)
       (channel_across config.client_setup config.server_setup client_end server_end hops
       (joined.channel config _ past (record_of config past old.stands) old.stands.legal)))
-      (laws.observers config)
+      (laws.observers config) none
 
   -- at one of its ticks, behind these calls
   module _ (newer older : List Turn) (tick : Turn) (is : past ≡ newer ++ tick ∷ older) (then : Goes config (tick ∷ older))
@@ -163,9 +164,10 @@ module _ (config : Config) (laws : IdLaws) (turn : Turn) (past : List Turn) (g :
         (goes_before config tick older then),
   )
 
-pub had_ids : (config : Config) → IdLaws → (turns : List Turn) → Goes config turns → HadIds config turns
-had_ids config laws [] g = tt
-had_ids config laws (turn ∷ past) g = (
-  each_tick config laws turn past g [] past refl (goes_before config turn past g),
-  had_ids config laws past (goes_before config turn past g),
+pub had_ids : (config : Config) → IdLaws → (turns : List Turn) → Goes config turns → NoStranger turns
+    → HadIds config turns
+had_ids config laws [] g none = tt
+had_ids config laws (turn ∷ past) g none = (
+  each_tick config laws turn past g none.1 [] past refl (goes_before config turn past g),
+  had_ids config laws past (goes_before config turn past g) none.1,
 )

@@ -20,13 +20,13 @@ use Rattle.coap_world.specs.ShowsHeld.{AllShown}
 use Rattle.coap_world.specs.NoticesTaken.{IsForIt, NoticesAreTaken, RequestsAreOfIt}
 use Rattle.coap_world.specs.StillThere.{AreStillThere}
 use Rattle.coap_world.specs.Legal.{Legal}
-use Rattle.coap_world.specs.Smooth.{Smooth}
+use Rattle.coap_world.specs.Smooth.{SmoothAlone}
 
--- a smooth run
+-- a smooth run without strangers
 pub record SmoothRun (config : Config) (turns : List Turn) : Type 0 where
   pub run : RecordOf config (map (λ (t : Turn). t.event) turns) turns
   pub legal : Legal config turns
-  pub smooth : Smooth config turns
+  pub smooth : SmoothAlone config turns
 
 -- of one run, and of it before its last turn
 pub record Known (config : Config) (x : Observed) (turn : Turn) (past : List Turn) : Type 0 where

@@ -32,7 +32,7 @@ use Rattle.coap_server.proofs.Facts.Laws as server_facts
 use Rattle.coap_world.specs.Events.{client_end, server_end, Config}
 use Rattle.coap_world.specs.Hops.{hops_of, across}
 use Rattle.coap_world.specs.Record.{Turn, entries_of, server_trace}
-use Rattle.coap_world.specs.Smooth.{max_age}
+use Rattle.coap_world.specs.Smooth.{max_age, NoStranger}
 use Rattle.coap_world.specs.TakenInTime.{TakenInTime}
 use Rattle.coap_world.proofs.Delivery.ChannelAcross.{near_across, far_across}
 use Rattle.coap_world.proofs.Delivery.EntriesInTime.{Every}
@@ -70,7 +70,7 @@ IsUp config past now e =
 module _ (config : Config) (turn : Turn) (past : List Turn) (g : Goes config (turn ∷ past))
     (taken : TakenInTime config past turn)
     (nons : NonsTakenWithin config.client_setup.remembered server_end client_end (across (hops_of config past)))
-    (observers : (t : List S.Call) → AreObservers config.limits config.server_szx t) where
+    (observers : (t : List S.Call) → AreObservers config.limits config.server_szx t) (none : NoStranger past) where
   abbrev trace : List S.Call
   trace = server_trace config (entries_of past)
 
@@ -90,7 +90,7 @@ module _ (config : Config) (turn : Turn) (past : List Turn) (g : Goes config (tu
       → IsHandedUp (record { at = con.first; id = con.id })
   con_up con h late =
       let to = cons_to config observers trace old.stands.server
-      (heard_client config observers past old.stands) con h in
+      (heard_client config observers past old.stands none) con h in
       Ever_map (TakesWithin max_age server_end con) (HandsUpSoon (record { at = con.first; id = con.id }))
       (λ e t. (let k = kept_by server_end con.id e t.takes.up in record {
         message = k.message;
@@ -184,5 +184,5 @@ module _ (config : Config) (turn : Turn) (past : List Turn) (g : Goes config (tu
       each_up [] sent refl
       (server_facts.layer config.limits config.server_szx config.server_setup trace old.stands.server)
       (all_respond config.server_setup t old.stands.server.exchanges.rows)
-      (all_to_client config observers trace old.stands.server (heard_client config observers past old.stands))
+      (all_to_client config observers trace old.stands.server (heard_client config observers past old.stands none))
       (all_of_new (start config.server_setup) (answerer.lower_of t))

@@ -22,6 +22,7 @@ use Rattle.coap_world.specs.Current.{Alone}
 use Rattle.coap_world.specs.Events.{client_end, server_end, Config}
 use Rattle.coap_world.specs.Record.{Entry, OfClient, OfServer, Turn, entries_of, client_of, server_trace}
 use Rattle.coap_world.specs.Words.{ServesAt}
+use Rattle.coap_world.specs.Smooth.{NoStranger}
 use Rattle.coap_world.proofs.Delivery.EntriesInTime.{Every, every_join}
 use Rattle.coap_world.proofs.Reports.AskedBy.{asked_by, registered_by}
 use Rattle.coap_world.proofs.Reports.OfObservations.{of_observation}
@@ -164,7 +165,8 @@ module _ (config : Config) (x : Observed) where
         let k = made_of_it n.observer past old alone to made in
         record { to_is = to; path_is = k.path_is; registered = k.registered }
 
-    module _ (turns : List Turn) (s : Stands config turns) (alone : Alone x (client_of (entries_of turns))) where
+    module _ (turns : List Turn) (s : Stands config turns) (none : NoStranger turns)
+        (alone : Alone x (client_of (entries_of turns))) where
       law_there : (newer older : List Entry) → entries_of turns ≡ newer ++ older → Lawful config older
       law_there newer older split = lawful_before config newer older (subst (Lawful config) split
           (lawful config _ turns (record_of config turns s) (record { range = s.range; events = s.legal })))
@@ -178,7 +180,7 @@ module _ (config : Config) (x : Observed) where
           (alone_there newer (OfServer c ∷ older) split)
           (heard_before config observers c (server_trace config older) (heard_behind newer (OfServer c ∷ older)
           (subst (λ es. HeardClient config observers (server_trace config es)) split
-          (heard_client config observers turns s)))) n is
+          (heard_client config observers turns s none)))) n is
 
       pub requests_are_of_it : RequestsAreOfIt config x (entries_of turns)
       requests_are_of_it newer older c r split here from =

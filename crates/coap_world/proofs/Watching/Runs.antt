@@ -49,7 +49,7 @@ in_either {E} (x ∷ xs) ys (z ∷ a) e b h =
 
 module _ (config : Config) where
   pub stands_of : (turns : List Turn) → SmoothRun config turns → Stands config turns
-  stands_of turns r = stands config _ turns r.run r.legal r.smooth
+  stands_of turns r = stands config _ turns r.run r.legal r.smooth.smooth
 
   pub lawful_of : (turns : List Turn) → SmoothRun config turns → Lawful config (entries_of turns)
   lawful_of turns r = lawful config _ turns r.run r.legal
@@ -57,8 +57,8 @@ module _ (config : Config) where
   pub goes_of : (turns : List Turn) → SmoothRun config turns → Goes config turns
   goes_of turns r = record {
     stands = stands_of turns r;
-    few_client = r.smooth.few_to_client;
-    few_server = r.smooth.few_to_server;
+    few_client = r.smooth.smooth.few_to_client;
+    few_server = r.smooth.smooth.few_to_server;
   }
 
   pub run_before : (turn : Turn) (past : List Turn) → SmoothRun config (turn ∷ past) → SmoothRun config past
@@ -66,16 +66,19 @@ module _ (config : Config) where
       let old = before config turn past (stands_of (turn ∷ past) r) in
       let few = goes_before config turn past (goes_of (turn ∷ past) r) in
       let less = fewer_before config turn.entries (entries_of past) in
-      let all = r.smooth.versions in
+      let all = r.smooth.smooth.versions in
       record {
         run = record_of config past old;
         legal = record { range = r.legal.range; events = r.legal.events.1 };
         smooth = record {
-          goes = r.smooth.goes.1;
-          few_to_client = few.few_client;
-          few_to_server = few.few_server;
-          delays = r.smooth.delays;
-          versions = omega (arith, less, all);
+          smooth = record {
+            goes = r.smooth.smooth.goes.1;
+            few_to_client = few.few_client;
+            few_to_server = few.few_server;
+            delays = r.smooth.smooth.delays;
+            versions = omega (arith, less, all);
+          };
+          no_stranger = r.smooth.no_stranger.1;
         };
       }
 

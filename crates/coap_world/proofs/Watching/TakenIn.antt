@@ -34,6 +34,7 @@ use Rattle.coap_world.specs.Current.{Watches, Alone}
 use Rattle.coap_world.specs.Events.{server_end, Config}
 use Rattle.coap_world.specs.Record.{Entry, OfClient, OfServer, Turn, entries_of, client_of, server_trace}
 use Rattle.coap_world.specs.Words.{ReportsAt}
+use Rattle.coap_world.specs.Smooth.{NoStranger}
 use Rattle.coap_world.proofs.Smoothly.ConsCarry.{IsMessage, was_message}
 use Rattle.coap_world.proofs.Smoothly.ConsOfOpen.{calls_before}
 use Rattle.coap_world.proofs.Smoothly.Standing.{Stands, before, client_behind, ForClient, ForServer, server_behind}
@@ -133,12 +134,12 @@ module _ (config : Config) (x : Observed)
       (none_final config x.number older watches.still) m since fed kind w understood
 
   module _ (observers : (t : List S.Call) → AreObservers config.limits config.server_szx t) where
-    taken_there : (past : List Turn) → Stands config past → Alone x (client_of (entries_of past))
+    taken_there : (past : List Turn) → Stands config past → NoStranger past → Alone x (client_of (entries_of past))
         → Watches config x.number (entries_of past) → (newer older : List Entry) (c : S.Call) (n : Notice)
         → entries_of past ≡ newer ++ OfServer c ∷ older
         → notice c ≡ Some n → NoticeComes config n newer older c
         → NoticeIsTaken config x n newer older c
-    taken_there past s alone watches newer older c n split is k =
+    taken_there past s none alone watches newer older c n split is k =
         record {
           comes = k;
           taken = responses_are_taken past s alone k.newest behind k.call (notice_message config k.kind k.id older n)
@@ -157,7 +158,7 @@ module _ (config : Config) (x : Observed)
             ∙ append_assoc k.newest (OfClient k.call ∷ k.between) (OfServer c ∷ older))
 
         there : WasRegistered config.client_sizes x.number n.observer.token (client_of older)
-        there = (notices_are_of_it config x observers past s alone newer older c n split is).registered
+        there = (notices_are_of_it config x observers past s none alone newer older c n split is).registered
 
         understood : lacks_critical Response (notice_message config k.kind k.id older n).options ≡ false
         understood =
@@ -165,14 +166,14 @@ module _ (config : Config) (x : Observed)
             (server_facts.recognised config.limits config.server_szx config.server_setup (c ∷ server_trace config older)
             law s.range.server_szx s.range.server_limit.1).0.notices n is
 
-    pub notices_are_taken : (turns : List Turn) → Stands config turns → Alone x (client_of (entries_of turns))
-        → AllNoticesCome config turns → Always (NoticesAreTaken config x) turns
-    notices_are_taken [] s alone come = tt
-    notices_are_taken (turn ∷ past) s alone come =
+    pub notices_are_taken : (turns : List Turn) → Stands config turns → NoStranger turns
+        → Alone x (client_of (entries_of turns)) → AllNoticesCome config turns → Always (NoticesAreTaken config x) turns
+    notices_are_taken [] s none alone come = tt
+    notices_are_taken (turn ∷ past) s none alone come =
         let old = before config turn past s in
         let alone_there = calls_before _ turn.entries (entries_of past) alone in (
-          λ watches newer older c n split is late. taken_there past old alone_there watches newer older c n split is
+          λ watches newer older c n split is late. taken_there past old none.1 alone_there watches newer older c n split is
               (come.0 newer older c n split is
-              (notices_are_of_it config x observers past old alone_there newer older c n split is).to_is late),
-          notices_are_taken past old alone_there come.1,
+              (notices_are_of_it config x observers past old none.1 alone_there newer older c n split is).to_is late),
+          notices_are_taken past old none.1 alone_there come.1,
         )

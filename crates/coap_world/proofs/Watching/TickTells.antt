@@ -99,7 +99,7 @@ module _ (config : Config) (x : Observed) (held : Held) where
     -- the tick
     tick : InFront (λ p u. TicksThen when u) newer base
     tick = in_front (λ p u. TicksThen when u) newer base
-        (ticks_soon turn past k.run.legal.events k.run.smooth.goes when
+        (ticks_soon turn past k.run.legal.events k.run.smooth.smooth.goes when
         (Ever_back (λ (t : Turn). t.event.at < when) newer base (inl (omega arith))) (omega (arith, early)))
         (none_then first.event.at base low)
 

@@ -8,7 +8,7 @@ use Rattle.coap_world.specs.Events.{TickServer, Deliver, client_end}
 use Rattle.coap_world.specs.LegalEvents.{event}
 use Rattle.coap_world.specs.Record.{OfClient, OfServer, Turn, entries_of, client_of, server_of}
 use Rattle.coap_world.specs.LegalRuns.{from_client, from_server, t, slow, get_bytes, empty_ack, separate_bytes}
-use Rattle.coap_world.specs.Smooth.{Smooth, to_client as client_came, to_server as server_came, NoneObserved}
+use Rattle.coap_world.specs.Smooth.{max_delay, Smooth, to_client as client_came, to_server as server_came, NoneObserved}
 use Rattle.coap_world.specs.SmoothRuns.{DefersLate}
 use Rattle.coap_world.specs.Words.{changes_in}
 use Rattle.coap_world.proofs.Witness.InWords.{of_one}
@@ -21,7 +21,7 @@ use Rattle.coap_world.proofs.Witness.Gets.Client.{got}
 use Rattle.coap_world.proofs.Witness.DefersLate.Client as client
 use Rattle.coap_world.proofs.Witness.DefersLate.Server as server
 use Rattle.coap_world.proofs.Witness.Defers.{slow_range}
-use Rattle.coap_world.proofs.Witness.TurnTests.{all_smooth, a_run}
+use Rattle.coap_world.proofs.Witness.TurnTests.{all_smooth, no_stranger, a_run}
 
 abbrev turns : List Turn
 turns =
@@ -61,7 +61,7 @@ smooth = record {
   goes = all_smooth turns refl;
   few_to_client = few_of 0 client_came (client_of (entries_of turns)) (omega arith);
   few_to_server = few_of 0 server_came (server_of (entries_of turns)) (omega arith);
-  delays = of_one (λ (d : Delay). d.ms ≤ 10000) (record { path = t; ms = 1000 }) (omega arith);
+  delays = of_one (λ (d : Delay). d.ms ≤ max_delay) (record { path = t; ms = 1000 }) (omega arith);
   versions = (let n : changes_in slow (entries_of turns) ≡ 1 = refl in omega (arith, n));
 }
 
@@ -73,5 +73,6 @@ deferred_late = record {
   run = a_run turns refl made client.lawful server.lawful slow_range ranges refl refl;
   reports = refl;
   smooth = smooth;
+  no_stranger = no_stranger turns refl;
   none_observed = none_observed;
 }

@@ -8,7 +8,7 @@ use Rattle.coap_world.specs.Legal.{IsDelay, IsConfig}
 use Rattle.coap_world.specs.LegalEvents.{event}
 use Rattle.coap_world.specs.Record.{OfClient, OfServer, Turn, entries_of, client_of, server_of}
 use Rattle.coap_world.specs.LegalRuns.{from_client, from_server, t, get_bytes, empty_ack, separate_bytes}
-use Rattle.coap_world.specs.Smooth.{Smooth, to_client as client_came, to_server as server_came}
+use Rattle.coap_world.specs.Smooth.{max_delay, Smooth, to_client as client_came, to_server as server_came}
 use Rattle.coap_world.specs.SmoothRuns.{slowest, DefersLongest}
 use Rattle.coap_world.specs.Words.{changes_in}
 use Rattle.coap_world.proofs.Witness.InWords.{configured, of_one, t_is}
@@ -21,7 +21,7 @@ use Rattle.coap_world.proofs.Witness.Gets.Client.{got}
 use Rattle.coap_world.proofs.Witness.DefersLate.Client.{awaits}
 use Rattle.coap_world.proofs.Witness.DefersLongest.Client as client
 use Rattle.coap_world.proofs.Witness.DefersLongest.Server as server
-use Rattle.coap_world.proofs.Witness.TurnTests.{all_smooth, a_run}
+use Rattle.coap_world.proofs.Witness.TurnTests.{all_smooth, no_stranger, a_run}
 
 range : IsConfig slowest
 range = configured (record { path = t; ms = 10000 } ∷ [])
@@ -85,7 +85,7 @@ smooth = record {
   goes = all_smooth turns refl;
   few_to_client = few_of 0 client_came (client_of (entries_of turns)) (omega arith);
   few_to_server = few_of 0 server_came (server_of (entries_of turns)) (omega arith);
-  delays = of_one (λ (d : Delay). d.ms ≤ 10000) (record { path = t; ms = 10000 }) (omega arith);
+  delays = of_one (λ (d : Delay). d.ms ≤ max_delay) (record { path = t; ms = 10000 }) (omega arith);
   versions = (let n : changes_in slowest (entries_of turns) ≡ 1 = refl in omega (arith, n));
 }
 
@@ -94,6 +94,7 @@ deferred_longest = record {
   run = a_run turns refl made client.lawful server.lawful range ranges refl refl;
   reports = refl;
   smooth = smooth;
+  no_stranger = no_stranger turns refl;
   none_observed = none_taken (client_of (entries_of turns)) refl;
   old = inl (refl, client.open_12);
 }

@@ -5,18 +5,20 @@ use Rattle.std.proofs.Common.{Some, ◌≡◌, ◌≤◌, inl, inr, List, [], �
 use Rattle.std.proofs.lemmas.List.Elements.{All-nil}
 use Rattle.std.specs.Prelude.{codes}
 use Rattle.coap_server.specs.Trace.{Delay}
-use Rattle.coap_world.specs.CurrentRuns.{ShowsLate, third_bytes, second_ack}
+use Rattle.coap_world.specs.Current.{HoldsFor, WasShown}
+use Rattle.coap_world.specs.CurrentRuns as runs
+use Rattle.coap_world.specs.CurrentRuns.{ShowsLate, third, third_bytes, second_ack}
 use Rattle.coap_world.specs.Events.{Deliver, TickServer, client_end}
 use Rattle.coap_world.specs.LegalEvents.{event, at_with}
 use Rattle.coap_world.specs.LegalRuns.{config, t, puts, from_client, from_server, empty_ack, plain}
 use Rattle.coap_world.specs.Record.{OfClient, OfServer, Turn, entries_of, client_of, server_of}
-use Rattle.coap_world.specs.Smooth.{Smooth, to_client as client_came, to_server as server_came}
+use Rattle.coap_world.specs.Smooth.{max_delay, Smooth, to_client as client_came, to_server as server_came}
 use Rattle.coap_world.specs.Words.{changes_in}
 use Rattle.coap_world.proofs.Witness.InWords.{config_range, t_is}
-use Rattle.coap_world.proofs.Witness.ObservedAlone.{alone_of}
+use Rattle.coap_world.proofs.Witness.ObservedAlone.{alone_of, short_of, open_of, kept_of}
 use Rattle.coap_world.proofs.Witness.SmoothTurns.{few_of}
 use Rattle.coap_world.proofs.Witness.TurnsMade.{idles, a_turn, client_turn, server_turn, to_server, to_client, AllMade}
-use Rattle.coap_world.proofs.Witness.TurnsMade.{client_rests, rested, idled, server_ticked, change_taken, to_the_client}
+use Rattle.coap_world.proofs.Witness.TurnsMade.{client_rests, server_idles, rested, idled, server_ticked, change_taken, to_the_client}
 use Rattle.coap_world.proofs.Witness.TurnsMade.{to_the_server, ◌⨾◌}
 use Rattle.coap_world.proofs.Witness.Observed.{turns_before, made_before, ranges}
 use Rattle.coap_world.proofs.Witness.Observed.Server as first
@@ -25,10 +27,13 @@ use Rattle.coap_world.proofs.Witness.ShowsLate.Server as server
 use Rattle.coap_types.proofs.Facts.Bytes.{bytes_are}
 use Rattle.coap_world.specs.ObservationRuns.{second_bytes}
 use Rattle.coap_world.proofs.Witness.Observed.Client.{value}
-use Rattle.coap_world.proofs.Witness.TurnTests.{InRanges, all_smooth, a_run}
+use Rattle.coap_world.proofs.Witness.TurnTests.{InRanges, all_smooth, no_stranger, a_run}
 
 abbrev turns : List Turn
 turns =
+    server_idles 5003 ∷
+    a_turn (event 5003 (Deliver 5)) (map OfServer (server_turn [] server.last_acked)) ∷
+    client_rests 5000 ∷
     a_turn (event 4003 (Deliver 4))
     (map OfClient (client_turn (value 3 (codes "c") ∷ []) (to_server second_ack ∷ []) client.third)) ∷
     a_turn (event 4003 TickServer) (map OfServer (server_turn [] (idles 4003 0 0 ∷ []))) ∷
@@ -50,6 +55,10 @@ turns =
 
 made : AllMade turns
 made =
+    idled 5003 0 0 ⨾
+    (let g = from_client 4003 second_ack in
+    (g, inl (refl, refl), to_the_server 5003 g [] refl _ _ _ _)) ⨾
+    rested 5000 ⨾
     (let g = from_server 3003 client_end third_bytes in
     (g, inl (refl, refl), to_the_client 4003 g (value 3 (codes "c") ∷ []) (to_server second_ack ∷ []) refl _ _ _ _ _ _)) ⨾
     idled 4003 0 0 ⨾
@@ -78,15 +87,33 @@ smooth = record {
   goes = all_smooth turns refl;
   few_to_client = few_of 0 client_came (client_of (entries_of turns)) (omega arith);
   few_to_server = few_of 0 server_came (server_of (entries_of turns)) (omega arith);
-  delays = All-nil (λ (d : Delay). d.ms ≤ 10000);
+  delays = All-nil (λ (d : Delay). d.ms ≤ max_delay);
   versions = (let n : changes_in config (entries_of turns) ≡ 3 = refl in omega (arith, n));
 }
+
+-- since the change at 3 the path held this, and a value was reported by then
+held_for : HoldsFor config t third 5003 turns
+held_for =
+    refl ⨾ inr (refl ⨾ inr (refl ⨾ inr (refl ⨾ inr (refl ⨾ inr (refl ⨾ inr (refl ⨾ inr (refl ⨾ inr (refl ⨾ inr (refl ⨾ inr (refl ⨾ inr (refl ⨾ inr (refl ⨾ inr (refl ⨾ inr (refl ⨾ inr ((refl, inl (omega arith)))))))))))))))))
+
+was_shown : WasShown config 0 5003 turns
+was_shown =
+    inr (inr (inr (inr (inr (inr (inr (inr (inr (inr (inr (inr (inr (inr (inr (inl (omega arith, (runs.value 1 (codes "a"), refl)))))))))))))))))
 
 pub shows_late : ShowsLate
 shows_late = record {
   run = a_run turns refl made client.lawful server.lawful config_range in_range refl refl;
-  smooth = smooth;
+  smooth = record { smooth = smooth; no_stranger = no_stranger turns refl };
   alone = alone_of (client_of (entries_of turns)) refl;
-  old = inr (inr (inl (record { moment = refl; held = refl; shown = refl })));
-  new = inl (record { moment = refl; held = refl; shown = refl });
+  old = inr (inr (inr (inr (inr (inl (record { moment = refl; held = refl; shown = refl }))))));
+  new = inr (inr (inr (inl (record { moment = refl; held = refl; shown = refl }))));
+  short = short_of config t (entries_of turns) refl;
+  speaks = inl (record {
+    moment = refl;
+    holds = held_for;
+    was_shown = was_shown;
+    watches = record
+        { kept = kept_of 0 (client_of (entries_of turns)) refl; still = open_of config 0 (entries_of turns) refl };
+  });
+  then = inl (record { moment = refl; held = refl; shown = refl });
 }

@@ -4,20 +4,8 @@ use Rattle.std.proofs.Common.{◌∷◌, length, ap, arith, subst, cond, Ok, Err
 use Rattle.coap_types.specs.Past.{Sometime, Always, all_of}
 use Rattle.coap_layer.specs.Machine.State.{usual}
 use Rattle.coap_client.specs.Trace as C
-use Rattle.coap_world.specs.Events.{What, Deliver}
 use Rattle.coap_world.specs.Record.{Given, Turn, given_in}
 use Rattle.coap_world.specs.Smooth.{max_age, is_then, count_came, FewCome, WasDelivered, NoneIsLate, TakesNoObservation}
-
--- a delivery of a lower number, or another event
-abbrev pub IsLower : ℕ → What → Type 0
-IsLower n (Deliver m) = m < n
-IsLower n what = Unit {0}
-
-pub none_higher : (n : ℕ) (past : List Turn) → Always (λ before (turn : Turn). IsLower n turn.event.what) past → (m : ℕ)
-    → WasDelivered m past → m < n
-none_higher n [] all m h = absurd h
-none_higher n (turn ∷ past) all m (inl h) = subst (IsLower n) h all.0
-none_higher n (turn ∷ past) all m (inr h) = none_higher n past all.1 m h
 
 -- each datagram is young, or was delivered
 late_of : (past : List Turn) (at : ℕ) (gs : List Given)

@@ -8,7 +8,8 @@ use Rattle.coap_world.specs.Events.{Calls, Sets, TickClient, Deliver}
 use Rattle.coap_world.specs.Legal.{IsRequest}
 use Rattle.coap_world.specs.LegalEvents.{event}
 use Rattle.coap_world.specs.Record.{OfClient, OfServer, Turn, entries_of}
-use Rattle.coap_world.specs.SmoothAnswers.{AreYoung, EndByAnswers}
+use Rattle.coap_world.specs.SmoothAnswers.{EndByAnswers}
+use Rattle.coap_world.specs.Young.{AreYoung}
 use Rattle.coap_world.specs.SmoothRuns.{Unanswered}
 use Rattle.coap_types.proofs.Facts.Bytes.{bytes_are}
 use Rattle.coap_world.proofs.Witness.InWords.{config_range, path_of_one, no_tags}

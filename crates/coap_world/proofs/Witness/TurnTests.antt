@@ -9,8 +9,8 @@ use Rattle.coap_world.specs.Events.{client_end, server_end, What, TickClient, Ti
 use Rattle.coap_world.specs.Events.{StrangerToServer, Config, Event}
 use Rattle.coap_world.specs.Legal.{max_delivery, NotBefore, MayCome, InRange, IsLegal, AllLegal, IsConfig}
 use Rattle.coap_world.specs.Record.{Given, Turn, given_in, client_of, server_trace, entries_of}
-use Rattle.coap_world.specs.Smooth.{max_age, WasDelivered, ComesInOrder, HasTicked, IsOfAnEnd, GoesSmoothly}
-use Rattle.coap_world.proofs.Witness.SmoothTurns.{IsLower, none_higher, none_late}
+use Rattle.coap_world.specs.Smooth.{max_age, WasDelivered, HasTicked, IsOfAnEnd, NoStranger, GoesSmoothly}
+use Rattle.coap_world.proofs.Witness.SmoothTurns.{none_late}
 use Rattle.coap_client.specs.Law.{ClientLaw}
 use Rattle.coap_server.specs.Law.{ServerLaw}
 use Rattle.coap_world.specs.LegalRuns.{Runs}
@@ -107,31 +107,6 @@ all_legal (t ∷ past) h e =
 
 -- smooth turns
 
-abbrev is_lower : ℕ → What → Bool
-is_lower n (Deliver m) = nat_lt m n
-is_lower n _ = true
-
-lower : (n : ℕ) (what : What) → is_lower n what ≡ true → IsLower n what
-lower n (Deliver m) e = ltb-true m n e
-lower n _ e = tt
-
-abbrev are_lower : ℕ → List Turn → Bool
-are_lower n [] = true
-are_lower n (t ∷ past) = is_lower n t.event.what && are_lower n past
-
-all_lower : (n : ℕ) (past : List Turn) → are_lower n past ≡ true
-    → Always (λ before (t : Turn). IsLower n t.event.what) past
-all_lower n [] e = tt
-all_lower n (t ∷ past) e = let k = and_parts _ _ e in (lower n t.event.what k.0, all_lower n past k.1)
-
-abbrev is_in_order : List Turn → What → Bool
-is_in_order past (Deliver n) = are_lower n past
-is_in_order past _ = true
-
-in_order : (past : List Turn) (what : What) → is_in_order past what ≡ true → ComesInOrder past what
-in_order past (Deliver n) e = none_higher n past (all_lower n past e)
-in_order past _ e = tt
-
 abbrev is_delivery : ℕ → What → Bool
 is_delivery n (Deliver m) = eqb m n
 is_delivery n _ = false
@@ -216,25 +191,21 @@ of_an_end _ e = tt
 
 abbrev is_smooth : List Turn → Turn → Bool
 is_smooth past t =
-    is_in_order past t.event.what && (are_in_time past t.event.at (all_of given_in past)
+    are_in_time past t.event.at (all_of given_in past)
     && ((ticks_by ticks_client t.event.at past || are_recent t.event.at past)
     && ((ticks_by ticks_server t.event.at past || are_recent t.event.at past)
-    && (is_of_an_end t.event.what && not t.refused))))
+    && not t.refused))
 
 goes : (past : List Turn) (t : Turn) → is_smooth past t ≡ true → GoesSmoothly past t
 goes past t e =
-    let order = and_parts _ _ e in
-    let time = and_parts _ _ order.1 in
+    let time = and_parts _ _ e in
     let client = and_parts _ _ time.1 in
     let server = and_parts _ _ client.1 in
-    let rest = and_parts _ _ server.1 in
     record {
-      in_order = in_order past t.event.what order.0;
       in_time = none_late past t.event.at (in_time past t.event.at (all_of given_in past) time.0);
       client_ticks = has_ticked ticks_client TickClient is_client t.event.at past client.0;
       server_ticks = has_ticked ticks_server TickServer is_server t.event.at past server.0;
-      of_an_end = of_an_end t.event.what rest.0;
-      all_made = not-true t.refused rest.1;
+      all_made = not-true t.refused server.1;
     }
 
 abbrev pub are_smooth : List Turn → Bool
@@ -244,6 +215,16 @@ are_smooth (t ∷ past) = is_smooth past t && are_smooth past
 pub all_smooth : (turns : List Turn) → are_smooth turns ≡ true → Always GoesSmoothly turns
 all_smooth [] e = tt
 all_smooth (t ∷ past) e = let k = and_parts _ _ e in (goes past t k.0, all_smooth past k.1)
+
+-- no stranger sends anything
+
+abbrev pub are_of_ends : List Turn → Bool
+are_of_ends [] = true
+are_of_ends (t ∷ past) = is_of_an_end t.event.what && are_of_ends past
+
+pub no_stranger : (turns : List Turn) → are_of_ends turns ≡ true → NoStranger turns
+no_stranger [] e = tt
+no_stranger (t ∷ past) e = let k = and_parts _ _ e in (of_an_end t.event.what k.0, no_stranger past k.1)
 
 -- a run
 

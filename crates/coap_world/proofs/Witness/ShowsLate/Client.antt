@@ -48,8 +48,11 @@ calls_8 = client_turn [] [] (rests 4000 ∷ []) ++ calls_7
 abbrev calls_9 : List C.Call
 calls_9 = client_turn [] [] (rests 4002 ∷ []) ++ calls_8
 
+abbrev calls_10 : List C.Call
+calls_10 = client_turn (value 3 (codes "c") ∷ []) (to_server second_ack ∷ []) third ++ calls_9
+
 abbrev pub calls : List C.Call
-calls = client_turn (value 3 (codes "c") ∷ []) (to_server second_ack ∷ []) third ++ calls_9
+calls = client_turn [] [] (rests 5000 ∷ []) ++ calls_10
 
 pub lawful : ClientLaw server_end sizes (usual 0) calls
 unfolding messages

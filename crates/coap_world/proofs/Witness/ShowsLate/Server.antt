@@ -12,9 +12,9 @@ use Rattle.coap_world.specs.Events.{client_end}
 use Rattle.coap_observe.specs.Observers.{Observer}
 use Rattle.coap_exchange.specs.declared.answerer.Due.TheVariants as due
 use Rattle.coap_world.specs.ObservationRuns.{first_bytes, second_bytes}
-use Rattle.coap_world.specs.CurrentRuns.{third_bytes}
+use Rattle.coap_world.specs.CurrentRuns.{third_bytes, second_ack}
 use Rattle.coap_world.proofs.Witness.OneHeld.{one, further}
-use Rattle.coap_world.proofs.Witness.Observed.Server.{held, a, b, content, observer, first_set, fed, second_set, served}
+use Rattle.coap_world.proofs.Witness.Observed.Server.{held, b, content, observer, first_set, fed, second_set, served}
 use Rattle.coap_world.proofs.Witness.Observed.Server.{first_change, second}
 use Rattle.coap_world.proofs.Witness.TurnsMade.{server_turn, to_client, idles}
 use Rattle.coap_world.proofs.Witness.Tests.{messages, server_lawful}
@@ -46,11 +46,17 @@ abbrev pub tells_third : List S.Call
 tells_third =
     idles 3003 0 0 ∷ S.Ticks 3003 0 L.Idle false due.Idle 0 (S.Notifies again (content 3 (codes "c"))) 1 true ∷ []
 
-abbrev pub calls : List S.Call
-calls = server_turn [] (idles 4003 0 0 ∷ []) ++ (server_turn (to_client third_bytes ∷ []) tells_third ++
+abbrev pub last_acked : List S.Call
+last_acked = S.Feeds 5003 client_end second_ack 0 (L.Becomes (L.Acked 1)) None S.Silent L.Nothing ∷ []
+
+abbrev calls_till : List S.Call
+calls_till = server_turn [] (idles 4003 0 0 ∷ []) ++ (server_turn (to_client third_bytes ∷ []) tells_third ++
     (server_turn [] acked ++ (server_turn [] (idles 2003 0 1 ∷ []) ++ (server_turn [] (idles 1003 0 1 ∷ []) ++
     (server_turn [] third_set ++ (server_turn (to_client second_bytes ∷ []) tells_second ++
     (server_turn [] second_set ++ (server_turn (to_client first_bytes ∷ []) fed ++ (server_turn [] first_set)))))))))
+
+abbrev pub calls : List S.Call
+calls = server_turn [] (idles 5003 0 0 ∷ []) ++ (server_turn [] last_acked ++ calls_till)
 
 pub lawful : ServerLaw limits 6 (usual 0) calls
 unfolding messages

@@ -2,7 +2,8 @@ use Rattle.coap_world.proofs.Age.Promised.{fresh_in_pace}
 use Rattle.coap_world.proofs.Progress.EachPosition.{never_faults}
 use Rattle.coap_world.proofs.Reports.Promised.{agrees_by, exchanges_bounded_by}
 use Rattle.coap_world.specs.Record.{entries_of}
-use Rattle.coap_world.specs.SmoothAnswers.{AllAnswer, AreYoung, EndByAnswers}
+use Rattle.coap_world.specs.SmoothAnswers.{AllAnswer, EndByAnswers}
+use Rattle.coap_world.specs.Young.{AreYoung}
 use Rattle.coap_world.proofs.laws.agreement.Goals as goal
 
 pub returns-clause-agrees : goal.returns-clause-agrees
@@ -19,10 +20,10 @@ returns-clause-no_fault c = never_faults
 
 -- each exchange is young, so each ends by an answer, so each request is sent, so calls come to what they should
 pub returns-clause-smooth : goal.returns-clause-smooth
-returns-clause-smooth c config events turns run legal smooth none =
-    let young : AreYoung config turns = c.open_law.ensures.young config events turns run legal smooth none in
+returns-clause-smooth c config events turns run legal smooth told none =
+    let young : AreYoung config turns = c.open_law.ensures.young config events turns run legal smooth told none in
     let ends : EndByAnswers config (entries_of turns) =
-    c.open_law.ensures.by_answers config events turns run legal smooth young in
+    c.open_law.ensures.by_answers config events turns run legal smooth none young in
     let all : AllAnswer config turns = record {
       none = none;
       by_answers = ends;
@@ -30,6 +31,7 @@ returns-clause-smooth c config events turns run legal smooth none =
     } in
     record {
       young = young;
+      reported = c.reported_law.ensures.reported config events turns run legal smooth young all;
       by_answers = ends;
       gets = c.answered_law.ensures.gets config events turns run legal all;
       changes = c.answered_law.ensures.changes config events turns run legal all;

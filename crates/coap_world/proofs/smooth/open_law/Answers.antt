@@ -6,8 +6,10 @@ use Rattle.coap_world.proofs.Smoothly.AllTaken.{all_taken, goes_in, Beneath}
 use Rattle.coap_world.proofs.Smoothly.ArrivesInTime.{all_in_time}
 use Rattle.coap_world.proofs.Smoothly.AtOnce.{old_wait, Laws}
 use Rattle.coap_world.proofs.Smoothly.ByAnswers.{by_answers}
+use Rattle.coap_world.proofs.Smoothly.DelaysAreShort.{open_within}
 use Rattle.coap_world.proofs.Smoothly.FewArrive.{few_arrive}
-use Rattle.coap_world.proofs.Smoothly.IdsFree.{has_ids}
+use Rattle.coap_world.proofs.Smoothly.IdsFree.{has_ids, few_told}
+use Rattle.coap_world.proofs.Smoothly.NoTimeout.{no_timeouts}
 use Rattle.coap_world.proofs.Smoothly.SeparateEnds.{separate_ends}
 use Rattle.coap_world.proofs.Smoothly.Standing.{stands, record_of}
 use Rattle.coap_world.proofs.Smoothly.TicksAnswer.{ticks_answer}
@@ -52,9 +54,11 @@ returns-clause-taken c config events turns run legal smooth =
     turns (goes_in config events turns run legal smooth)
 
 pub returns-clause-by_answers : goal.returns-clause-by_answers
-returns-clause-by_answers c config events turns run legal smooth young =
+returns-clause-by_answers c config events turns run legal smooth none young =
     let s = stands config events turns run legal smooth in
-    by_answers config turns s young
+    by_answers config (open_within config.delays smooth.delays) turns s young
+    (no_timeouts config (laws (goal.at.returns-clause-by_answers c).After-server_law)
+    c.client_exchanges_law.ensures.ends_in_time turns (goes_in config events turns run legal smooth) none)
     (c.client_exchanges_law.ensures.ends_in_time server_end config.client_sizes config.client_setup
     (client_of (entries_of turns)) run.client)
     (c.channel_law.ensures.resets config.client_setup config.server_setup client_end server_end
@@ -64,7 +68,6 @@ pub returns-clause-at_once : goal.returns-clause-at_once
 returns-clause-at_once c config events turns run legal smooth none =
     old_wait config
     (laws (goal.at.returns-clause-at_once c).After-server_law)
-    smooth.delays
     turns
     (goes_in config events turns run legal smooth)
     none
@@ -87,18 +90,17 @@ pub returns-clause-often : goal.returns-clause-often
 returns-clause-often c config events turns run legal smooth = ticks_in_time turns legal.events smooth.goes
 
 pub returns-clause-ids : goal.returns-clause-ids
-returns-clause-ids c config events turns run legal smooth none =
-    has_ids config
-    (λ t. c.server_law.ensures.observers config.limits config.server_szx t)
-    (λ t law. c.answerer_law.ensures.id_free config.server_setup t law)
-    turns
-    (goes_in config events turns run legal smooth)
-    (c.client_values_law.ensures.of_observations server_end config.client_sizes config.client_setup
-    (client_of (entries_of turns)) run.client)
-    none
+returns-clause-ids c config events turns run legal smooth told none =
+    let goes = goes_in config events turns run legal smooth in
+    let observed = c.client_values_law.ensures.of_observations server_end config.client_sizes config.client_setup
+    (client_of (entries_of turns)) run.client in
+    has_ids config (λ t. c.server_law.ensures.observers config.limits config.server_szx t)
+    (λ t law. c.answerer_law.ensures.id_free config.server_setup t law) turns goes observed none
+    (few_told config (λ t. c.server_law.ensures.observers config.limits config.server_szx t)
+    (λ t law. c.answerer_law.ensures.id_free config.server_setup t law) turns goes observed none told)
 
 pub returns-clause-young : goal.returns-clause-young
-returns-clause-young c config events turns run legal smooth none =
+returns-clause-young c config events turns run legal smooth told none =
     are_young config legal.range
     (record {
       laws = laws (goal.at.returns-clause-young c).After-server_law;
@@ -107,8 +109,8 @@ returns-clause-young c config events turns run legal smooth none =
       hears = c.client_exchanges_law.ensures.hears_of_open;
       observers = c.server_law.ensures.observers;
     })
-    smooth.delays
+    (open_within config.delays smooth.delays)
     turns
     (goes_in config events turns run legal smooth)
-    (returns-clause-ids c config events turns run legal smooth none)
+    (returns-clause-ids c config events turns run legal smooth told none)
     none

@@ -1,6 +1,7 @@
 use Rattle.coap_world.proofs.Delivery.SmoothGaps.{times_out_roughly}
 use Rattle.coap_world.proofs.Witness.DefersLate.{deferred_late}
 use Rattle.coap_world.proofs.Witness.DefersLongest.{deferred_longest}
+use Rattle.coap_world.proofs.Witness.PutsLate.{put_late}
 use Rattle.coap_world.proofs.Witness.ShowsLate.{shows_late}
 use Rattle.coap_world.proofs.Witness.StaysOld.{stays_old}
 use Rattle.coap_world.proofs.Witness.TimesOut.{unanswered}
@@ -10,6 +11,7 @@ pub returns : goal.returns
 returns c = record {
   late = deferred_late;
   longest = deferred_longest;
+  put = put_late;
   rough = times_out_roughly;
   unanswered = unanswered;
   shown = shows_late;

@@ -47,7 +47,8 @@ returns-clause-ids c config events turns run legal smooth =
       observers = λ k t. c.server_law.ensures.observers k.limits k.server_szx t;
     })
     turns
-    (goes_in config events turns run legal smooth)
+    (goes_in config events turns run legal smooth.smooth)
+    smooth.no_stranger
 
 pub returns-clause-comes : goal.returns-clause-comes
 returns-clause-comes c config events turns run legal smooth =
@@ -64,23 +65,23 @@ returns-clause-comes c config events turns run legal smooth =
       small = c.layer_law.ensures.small;
     })
     turns
-    (goes_in config events turns run legal smooth)
+    (goes_in config events turns run legal smooth.smooth)
 
 pub returns-clause-of_it : goal.returns-clause-of_it
 returns-clause-of_it c config events turns run legal smooth x alone =
     notices_are_of_it config x (λ t. c.server_law.ensures.observers config.limits config.server_szx t)
-    turns (stands config events turns run legal smooth) alone
+    turns (stands config events turns run legal smooth.smooth) smooth.no_stranger alone
 
 pub returns-clause-requests : goal.returns-clause-requests
 returns-clause-requests c config events turns run legal smooth x alone =
     requests_are_of_it config x (λ t. c.server_law.ensures.observers config.limits config.server_szx t)
-    turns (stands config events turns run legal smooth) alone
+    turns (stands config events turns run legal smooth.smooth) smooth.no_stranger alone
 
 pub returns-clause-notices : goal.returns-clause-notices
 returns-clause-notices c config events turns run legal smooth x alone =
     notices_are_taken config x c.client_exchanges_law.ensures.answers_heard
     c.client_watches_law.ensures.notices_heard (λ t. c.server_law.ensures.observers config.limits config.server_szx t)
-    turns (stands config events turns run legal smooth) alone
+    turns (stands config events turns run legal smooth.smooth) smooth.no_stranger alone
     (returns-clause-comes c config events turns run legal smooth)
 
 pub returns-clause-there : goal.returns-clause-there
@@ -113,9 +114,9 @@ returns-clause-there c config events turns run legal smooth x alone =
     config legal.range x turns
     (record {
       goes = record {
-        stands = stands config events turns run legal smooth;
-        few_client = smooth.few_to_client;
-        few_server = smooth.few_to_server;
+        stands = stands config events turns run legal smooth.smooth;
+        few_client = smooth.smooth.few_to_client;
+        few_server = smooth.smooth.few_to_server;
       };
       law = lawful config events turns run legal;
       formats = formats_in turns run.made legal.events;
@@ -126,14 +127,14 @@ returns-clause-there c config events turns run legal smooth x alone =
     })
     (returns-clause-comes c config events turns run legal smooth)
     (heard_for config x c.client_exchanges_law.ensures.answers_heard c.client_watches_law.ensures.notices_heard turns
-    (stands config events turns run legal smooth) alone)
+    (stands config events turns run legal smooth.smooth) alone)
 
 pub returns-clause-rise : goal.returns-clause-rise
 returns-clause-rise c config events turns run legal = versions_rise config (entries_of turns) run.server
 
 pub returns-clause-numbers : goal.returns-clause-numbers
 returns-clause-numbers c config events turns run legal smooth =
-    versions_are_numbers config (entries_of turns) run.server smooth.versions
+    versions_are_numbers config (entries_of turns) run.server smooth.smooth.versions
 
 pub returns-clause-shows : goal.returns-clause-shows
 returns-clause-shows c config events turns run legal x alone fits limit =
@@ -170,5 +171,5 @@ returns-clause-current c config events turns run legal smooth x alone fits limit
       numbers = λ us r. returns-clause-numbers c config _ us r.run r.legal r.smooth;
     })
     limits turns
-    (record { run = record_of config turns (stands config events turns run legal smooth); legal = legal; smooth = smooth })
+    (record { run = record_of config turns (stands config events turns run legal smooth.smooth); legal = legal; smooth = smooth })
     alone.alone fits
